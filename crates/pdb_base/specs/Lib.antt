@@ -1,0 +1,9 @@
+pub mod Refusal
+pub mod ErrorText
+pub mod Answer
+pub mod Place
+pub mod Reading
+pub mod Refused
+
+-- the words of the libraries below that the contracts of this one speak in
+pub use Rattle.byteorder.specs.Endian

@@ -1,0 +1,212 @@
+//! Why a call of this library was refused.
+
+ghost use Rattle.std.specs.Prelude.{◌≡◌, Some};
+ghost use Rattle.pdb_base.specs.declared.error.Error.TheVariants.{IoError, OutOfMemory};
+ghost use Rattle.pdb_base.specs.Refusal.{refusal_of};
+ghost use Rattle.pdb_base.specs.ErrorText.{hexadecimal_of_four, text_of};
+
+use std::alloc::{AllocError, AllocFailed};
+use std::{fmt, io, result};
+
+/// The result of a call that a program database can refuse.
+pub type Result<T> = result::Result<T, Error>;
+
+/// Why a call was refused.
+///
+/// Some variants belong to parts of a program database that are read by libraries above this one;
+/// they stand here so that all of them share one type of error.
+#[derive(Debug, Drop)]
+pub enum Error {
+    /// The file begins with the magic of no known format.
+    UnrecognizedFileFormat,
+
+    /// A page number is 0, or above the number of pages that the header says are used.
+    PageReferenceOutOfRange(u32),
+
+    /// The page size in the header is no power of two, or not from 256 to 8,388,608 bytes.
+    InvalidPageSize(u32),
+
+    /// The directory has no stream of this number, or says that it is absent.
+    StreamNotFound(u32),
+
+    /// No stream has the name that was asked for.
+    StreamNameNotFound,
+
+    /// The length of the named stream is no multiple of the length of its records.
+    InvalidStreamLength(&'static str),
+
+    /// The source of the file failed, or ended before the bytes that were asked for.
+    IoError(io::Error),
+
+    /// Bytes end before what should stand there does.
+    UnexpectedEof,
+
+    /// The file uses a part of the format that this library does not read.
+    UnimplementedFeature(&'static str),
+
+    /// There is no stream of global symbols.
+    GlobalSymbolsNotFound,
+
+    /// A symbol's length leaves no room for its kind.
+    SymbolTooShort,
+
+    /// No symbol of this kind is read.
+    UnimplementedSymbolKind(u16),
+
+    /// The header of an item table breaks the rule that the text names.
+    InvalidTypeInformationHeader(&'static str),
+
+    /// An item's length leaves no room for its kind.
+    TypeTooShort,
+
+    /// The table has no item of this index.
+    TypeNotFound(u32),
+
+    /// The index is not known to the finder yet, which knows those up to the second number.
+    TypeNotIndexed(u32, u32),
+
+    /// No record of this kind is read.
+    UnimplementedTypeKind(u16),
+
+    /// The index does not refer to another module.
+    NotACrossModuleRef(u32),
+
+    /// The imports name no such reference to another module.
+    CrossModuleRefNotFound(u32),
+
+    /// A number begins with a prefix that says no width.
+    UnexpectedNumericPrefix(u16),
+
+    /// The file has no address map.
+    AddressMapNotFound,
+
+    /// No debug subsection of this kind is read.
+    UnimplementedDebugSubsection(u32),
+
+    /// No checksum of this kind is read.
+    UnimplementedFileChecksumKind(u8),
+
+    /// No file's checksum stands at this offset.
+    InvalidFileChecksumOffset(u32),
+
+    /// The module has no line information.
+    LinesNotFound,
+
+    /// A compressed annotation ends early, or spells no number.
+    InvalidCompressedAnnotation,
+
+    /// No binary annotation of this number is read.
+    UnknownBinaryAnnotation(u32),
+
+    /// Memory was asked for and refused.
+    OutOfMemory,
+}
+
+/// A number as `0x` and at least four hexadecimal digits.
+#[derive(Clone, Copy)]
+struct Hexadecimal(u32);
+
+impl fmt::Display for Hexadecimal {
+    ghost output = { λ n. Some (hexadecimal_of_four n.0) };
+
+    #[tactic(auto, using(crate::proofs::Padding::padded_with_zeros))]
+    fn fmt<W: fmt::Write>(&self, f: &mut fmt::Formatter<W>) -> fmt::Result {
+        let number = self.0;
+        write!(f, "0x{number:04x}")
+    }
+}
+
+impl fmt::Display for Error {
+    ghost output = { λ e. text_of (refusal_of e) };
+
+    fn fmt<W: fmt::Write>(&self, f: &mut fmt::Formatter<W>) -> fmt::Result {
+        match self {
+            Error::UnrecognizedFileFormat => write!(f, "UnrecognizedFileFormat"),
+            Error::PageReferenceOutOfRange(page) => {
+                write!(f, "MSF referred to page number ({page}) out of range")
+            }
+            Error::InvalidPageSize(size) => {
+                write!(f, "The MSF header specifies an invalid page size ({size} bytes)")
+            }
+            Error::StreamNotFound(number) => {
+                write!(f, "The requested stream ({number}) is not stored in this file")
+            }
+            Error::StreamNameNotFound => write!(f, "StreamNameNotFound"),
+            Error::InvalidStreamLength(stream) => {
+                write!(f, "{stream} stream has an invalid length or alignment for its records")
+            }
+            Error::IoError(error) => write!(f, "IO error while reading PDB: {error}"),
+            Error::UnexpectedEof => write!(f, "UnexpectedEof"),
+            Error::UnimplementedFeature(feature) => {
+                write!(f, "Unimplemented PDB feature: {feature}")
+            }
+            Error::GlobalSymbolsNotFound => write!(f, "GlobalSymbolsNotFound"),
+            Error::SymbolTooShort => write!(f, "SymbolTooShort"),
+            Error::UnimplementedSymbolKind(kind) => {
+                write!(f, "Support for symbols of kind {} is not implemented", Hexadecimal(*kind as u32))
+            }
+            Error::InvalidTypeInformationHeader(rule) => {
+                write!(f, "The type information header was invalid: {rule}")
+            }
+            Error::TypeTooShort => write!(f, "TypeTooShort"),
+            Error::TypeNotFound(index) => write!(f, "Type {index} not found"),
+            Error::TypeNotIndexed(index, covered) => {
+                write!(f, "Type {index} not indexed (index covers {covered})")
+            }
+            Error::UnimplementedTypeKind(kind) => {
+                write!(f, "Support for types of kind {} is not implemented", Hexadecimal(*kind as u32))
+            }
+            Error::NotACrossModuleRef(index) => {
+                write!(f, "Type {} is not a cross module reference", Hexadecimal(*index))
+            }
+            Error::CrossModuleRefNotFound(index) => {
+                write!(f, "Cross module reference {} not found in imports", Hexadecimal(*index))
+            }
+            Error::UnexpectedNumericPrefix(prefix) => write!(
+                f,
+                "Variable-length numeric parsing encountered an unexpected prefix ({})",
+                Hexadecimal(*prefix as u32)
+            ),
+            Error::AddressMapNotFound => write!(f, "AddressMapNotFound"),
+            Error::UnimplementedDebugSubsection(kind) => {
+                write!(f, "Debug module subsection of kind {} is not implemented", Hexadecimal(*kind))
+            }
+            Error::UnimplementedFileChecksumKind(kind) => {
+                write!(f, "Unknown source file checksum kind {kind}")
+            }
+            Error::InvalidFileChecksumOffset(offset) => {
+                write!(f, "Invalid source file checksum offset 0x{offset:x}")
+            }
+            Error::LinesNotFound => write!(f, "LinesNotFound"),
+            Error::InvalidCompressedAnnotation => write!(f, "InvalidCompressedAnnotation"),
+            Error::UnknownBinaryAnnotation(number) => {
+                write!(f, "Unknown binary annotation {number}")
+            }
+            Error::OutOfMemory => write!(f, "OutOfMemory"),
+        }
+    }
+}
+
+impl From<io::Error> for Error {
+    ghost from_gives = { λ cause e. e ≡ IoError cause };
+
+    fn from(cause: io::Error) -> Error {
+        Error::IoError(cause)
+    }
+}
+
+impl From<AllocError> for Error {
+    ghost from_gives = { λ _ e. e ≡ OutOfMemory };
+
+    fn from(_cause: AllocError) -> Error {
+        Error::OutOfMemory
+    }
+}
+
+impl<T: Drop> From<AllocFailed<T>> for Error {
+    ghost from_gives = { λ _ e. e ≡ OutOfMemory };
+
+    fn from(_cause: AllocFailed<T>) -> Error {
+        Error::OutOfMemory
+    }
+}

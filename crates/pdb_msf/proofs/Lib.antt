@@ -1,0 +1,4 @@
+pub mod PlacesLemmas
+pub mod WordLemmas
+pub mod PageLemmas
+pub mod EntryLemmas

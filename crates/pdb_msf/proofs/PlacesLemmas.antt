@@ -1,0 +1,105 @@
+-- The places that slices name, and the bytes that stand there.
+use Rattle.std.proofs.Common.{◌≡◌, ℕ, zero, suc, ◌+◌, ◌-◌, ◌<◌, ◌≤◌, ◌==◌, Bool, true, false, ◌&&◌, ◌||◌, ltb, leb, eqb, List, [], ◌∷◌, ◌++◌, length, get_or, take, drop, map, refl, sym, ap, ◌∙◌, arith, slice_index, length-append, Some, None}
+use Rattle.std.specs.List.{flat_map, list_all, range_with_len}
+use Rattle.std.proofs.lemmas.Grind.{flat_map-append, common_steps}
+use Rattle.std.proofs.lemmas.Bool.Decides.{nat_tests}
+use Rattle.std.proofs.lemmas.List.Folds.{list_all-append}
+use Rattle.std.proofs.lemmas.List.{append-nil, get_or-take, get_or-drop, length-take, length-drop, take-append-le, take_all, ext_get_or, length-map, map-id}
+use Rattle.std.proofs.lemmas.List.FromFn.{length-range_with_len, get_or-map-range_with_len, get_or-range_with_len, take-map-range_with_len}
+use Rattle.pdb_msf.specs.declared.source.SourceSlice.{SourceSlice}
+use Rattle.pdb_msf.specs.Source.{slice_places, places, bytes_at}
+use Rattle.pdb_msf.specs.Within.{is_within}
+
+-- ---- one slice more
+
+-- one slice more names its places behind those before
+pub places_push : (slices : List SourceSlice) (slice : SourceSlice) → places (slices ++ slice ∷ []) ≡ places slices ++ slice_places slice
+places_push slices slice =
+    flat_map-append slice_places slices (slice ∷ []) ∙ ap (λ (more : List ℕ). places slices ++ more) (append-nil (slice_places slice))
+
+pub length-places_push : (slices : List SourceSlice) (slice : SourceSlice) → length (places (slices ++ slice ∷ [])) ≡ length (places slices) + slice.size
+length-places_push slices slice =
+    ap length (places_push slices slice) ∙ length-append (places slices) (slice_places slice) ∙ ap (λ (n : ℕ). length (places slices) + n) (length-range_with_len slice.offset slice.size)
+
+-- ---- the bytes there
+
+-- the bytes of a part of a file, place by place
+pub part_by_places : (file : List ℕ) (offset size : ℕ) → offset + size ≤ length file → map (slice_index file) (range_with_len offset size) ≡ take size (drop offset file)
+part_by_places file offset size within =
+    ext_get_or 0 _ _ (omega (arith, length-map (range_with_len offset size) (slice_index file), length-range_with_len offset size, length-take size (drop offset file), length-drop offset file))
+    (λ i lt. let in_range : i < size = omega (arith, length-map (range_with_len offset size) (slice_index file), length-range_with_len offset size) in
+        get_or-map-range_with_len (slice_index file) offset size i (offset + i) 0 in_range refl
+        ∙ sym (get_or-take size (drop offset file) i 0 in_range ∙ get_or-drop offset file i 0))
+
+-- the bytes of a slice that is within a file
+pub bytes_of_slice : (file : List ℕ) (slice : SourceSlice) → is_within (length file) slice ≡ true → (slice.size ≡ 0 → ⊥) → take (slice.offset + slice.size - slice.offset) (drop slice.offset file) ≡ map (slice_index file) (slice_places slice)
+bytes_of_slice file slice within some =
+    let reach : slice.offset + slice.size ≤ length file = grind (arith, nat_tests) in
+    ap (λ (n : ℕ). take n (drop slice.offset file)) (omega arith) ∙ sym (part_by_places file slice.offset slice.size reach)
+
+-- ---- places within a file
+
+-- all numbers from one on are below a limit just where the last one is
+range_below : (from count limit : ℕ) → list_all (λ place. ltb place limit) (range_with_len from count) ≡ (count == 0 || leb (from + count) limit)
+range_below from zero limit = refl
+range_below from (suc zero) limit = grind (arith, nat_tests)
+range_below from (suc (suc more)) limit = let e = range_below (from + 1) (suc more) limit in grind (arith, nat_tests)
+
+slice_within : (limit : ℕ) (slice : SourceSlice) → is_within limit slice ≡ list_all (λ place. ltb place limit) (slice_places slice)
+slice_within limit slice = let e = range_below slice.offset slice.size limit in grind (arith, nat_tests)
+
+-- slices are within a file just where all their places are
+pub all_within_is : (limit : ℕ) (slices : List SourceSlice) → list_all (is_within limit) slices ≡ list_all (λ place. ltb place limit) (places slices)
+all_within_is limit [] = refl
+all_within_is limit (slice ∷ slices) =
+    ap (λ (b : Bool). b && list_all (is_within limit) slices) (slice_within limit slice)
+    ∙ ap (λ (b : Bool). list_all (λ place. ltb place limit) (slice_places slice) && b) (all_within_is limit slices)
+    ∙ sym (list_all-append (λ place. ltb place limit) (slice_places slice) (places slices))
+
+pub bytes_within : (file : List ℕ) (slices : List SourceSlice) → list_all (is_within (length file)) slices ≡ true → bytes_at file (places slices) ≡ Some (map (slice_index file) (places slices))
+unfolding bytes_at
+bytes_within file slices within = rw (← all_within_is (length file) slices, within) refl
+
+pub bytes_past : (file : List ℕ) (slices : List SourceSlice) → list_all (is_within (length file)) slices ≡ false → bytes_at file (places slices) ≡ None
+unfolding bytes_at
+bytes_past file slices past = rw (← all_within_is (length file) slices, past) refl
+
+-- the front of a file
+abbrev front_of : ℕ → List SourceSlice
+front_of size = record { offset = 0; size = size } ∷ []
+
+pub front_there : (file : List ℕ) (size : ℕ) → size ≤ length file → bytes_at file (places (front_of size)) ≡ Some (take size file)
+front_there file size long =
+    let within : is_within (length file) (record { offset = 0; size = size }) ≡ true = grind (arith, nat_tests) in
+    bytes_within file (front_of size) (rw within refl)
+    ∙ ap (λ (bytes : List ℕ). Some bytes) (ap (map (slice_index file)) (append-nil (range_with_len 0 size)) ∙ part_by_places file 0 size (omega arith))
+
+pub front_cut : (file : List ℕ) (size : ℕ) → length file < size → bytes_at file (places (front_of size)) ≡ None
+front_cut file size short =
+    let past : is_within (length file) (record { offset = 0; size = size }) ≡ false = grind (arith, nat_tests) in
+    bytes_past file (front_of size) (rw past refl)
+
+-- ---- fewer places
+
+take-range_with_len : (from count n : ℕ) → n ≤ count → take n (range_with_len from count) ≡ range_with_len from n
+take-range_with_len from count n le =
+    ap (take n) (sym (map-id (range_with_len from count))) ∙ take-map-range_with_len (λ (x : ℕ). x) from count n le ∙ map-id (range_with_len from n)
+
+take-append-ge : (n : ℕ) (xs ys : List ℕ) → length xs ≤ n → take n (xs ++ ys) ≡ xs ++ take (n - length xs) ys
+take-append-ge n [] ys le = grind (arith, common_steps)
+take-append-ge zero (x ∷ xs) ys le = absurd (omega arith)
+take-append-ge (suc n) (x ∷ xs) ys le = ap (λ (r : List ℕ). x ∷ r) (take-append-ge n xs ys (omega arith) ∙ ap (λ (k : ℕ). xs ++ take k ys) (omega arith))
+
+-- without its last slice a list still has the first n places, if there are that many
+pub take-places_pop : (n : ℕ) (slices shorter : List SourceSlice) (last : SourceSlice) → slices ≡ shorter ++ last ∷ [] → n ≤ length (places shorter) → take n (places shorter) ≡ take n (places slices)
+take-places_pop n slices shorter last is le =
+    sym (ap (λ (s : List SourceSlice). take n (places s)) is ∙ ap (take n) (places_push shorter last) ∙ take-append-le n (places shorter) (slice_places last) le)
+
+-- and with its last slice cut it has just these
+pub take-places_cut : (n : ℕ) (slices shorter : List SourceSlice) (last : SourceSlice) → slices ≡ shorter ++ last ∷ [] → length (places shorter) ≤ n → n ≤ length (places shorter) + last.size
+    → places (shorter ++ record { offset = last.offset; size = n - length (places shorter) } ∷ []) ≡ take n (places slices)
+take-places_cut n slices shorter last is low high =
+    places_push shorter (record { offset = last.offset; size = n - length (places shorter) })
+    ∙ sym (ap (λ (s : List SourceSlice). take n (places s)) is ∙ ap (take n) (places_push shorter last)
+        ∙ take-append-ge n (places shorter) (slice_places last) low
+        ∙ ap (λ (r : List ℕ). places shorter ++ r) (take-range_with_len last.offset last.size (n - length (places shorter)) (omega arith)))

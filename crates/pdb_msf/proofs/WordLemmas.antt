@@ -1,0 +1,190 @@
+-- Reading numbers from bytes, and the words that bytes spell.
+use Rattle.std.proofs.Common.{◌≡◌, ℕ, zero, suc, ◌+◌, ◌-◌, ◌*◌, ◌<◌, ◌≤◌, Bool, true, false, List, [], ◌∷◌, ◌++◌, length, get_or, take, drop, map, refl, sym, ap, ◌∙◌, arith, Option, Some, None, Result, Ok, Err, ltb, inl, inr}
+use Rattle.std.proofs.lemmas.Bool.{cases_lt, le-ltb, lt-ltb}
+use Rattle.std.specs.List.{slice_get, range_with_len, sum_by}
+use Rattle.std.proofs.lemmas.List.{map-append, drop-drop}
+use Rattle.std.proofs.lemmas.List.FromFn.{map-range_with_len_more}
+use Rattle.std.proofs.lemmas.Bool.Decides.{nat_tests}
+use Rattle.std.proofs.lemmas.Option.{slice_get_within, get_or_from_slice_get}
+use Rattle.std.proofs.lemmas.List.Sums.{sum_by_more}
+use Rattle.pdb_base.specs.Endian.{little_number}
+use Rattle.pdb_base.specs.Refusal.{Refusal, unexpected_eof}
+use Rattle.pdb_base.specs.Answer.{Answer, ◌>>=◌, collected}
+use Rattle.pdb_base.specs.Reading.{front_at, number_at}
+use Rattle.pdb_msf.specs.Pages.{words, present, judged, page_number, page_numbers}
+
+-- ---- answers
+
+abbrev pub ok : {A : Type 0} → A → Answer A
+ok x = Ok x
+
+pub ok_is : {A : Type 0} (x y : A) → ok x ≡ ok y → x ≡ y
+ok_is x y e = cc
+
+abbrev err : {A : Type 0} → Refusal → Answer A
+err e = Err e
+
+ok_is_no_err : {A : Type 0} (x : A) (e : Refusal) → ok x ≡ Err e → ⊥
+ok_is_no_err x e h = cc
+
+-- the values of two answers, one after the other
+pub bind_ok : {A B : Type 0} (r : Answer A) (f : A → Answer B) (y : B) → (r >>= f) ≡ Ok y → (x : A) × (r ≡ Ok x) × (f x ≡ Ok y)
+bind_ok (Ok x) f y e = (x, refl, e)
+bind_ok (Err d) f y e = absurd cc
+
+-- ---- one word
+
+number_whole : (a b c d : ℕ) (rest : List ℕ) → number_at 4 (a ∷ b ∷ c ∷ d ∷ rest) ≡ Ok (little_number 4 (a ∷ b ∷ c ∷ d ∷ []), rest)
+unfolding number_at front_at
+number_whole a b c d rest =
+    let long : ltb (length (a ∷ b ∷ c ∷ d ∷ rest)) 4 ≡ false = le-ltb (length (a ∷ b ∷ c ∷ d ∷ rest)) 4 (omega arith) in
+    rw long refl
+
+-- a number of four bytes that stands at the front is the first word, and the others follow
+pub word_read : (bytes : List ℕ) (x : ℕ × List ℕ) → number_at 4 bytes ≡ Ok x → words bytes ≡ x.0 ∷ words x.1
+unfolding number_at front_at
+word_read [] x e = absurd cc
+word_read (a ∷ []) x e = absurd cc
+word_read (a ∷ b ∷ []) x e = absurd cc
+word_read (a ∷ b ∷ c ∷ []) x e = absurd cc
+word_read (a ∷ b ∷ c ∷ d ∷ rest) x e =
+    ap (λ (p : ℕ × List ℕ). p.0 ∷ words p.1) (ok_is (little_number 4 (a ∷ b ∷ c ∷ d ∷ []), rest) x (sym (number_whole a b c d rest) ∙ e))
+
+-- where none stands there are no words
+pub word_missing : (bytes : List ℕ) (e : Refusal) → number_at 4 bytes ≡ Err e → (words bytes ≡ []) × (e ≡ unexpected_eof)
+unfolding number_at front_at
+word_missing [] e h = (refl, cc)
+word_missing (a ∷ []) e h = (refl, cc)
+word_missing (a ∷ b ∷ []) e h = (refl, cc)
+word_missing (a ∷ b ∷ c ∷ []) e h = (refl, cc)
+word_missing (a ∷ b ∷ c ∷ d ∷ rest) e h = absurd (ok_is_no_err (little_number 4 (a ∷ b ∷ c ∷ d ∷ []), rest) e (sym (number_whole a b c d rest) ∙ h))
+
+-- ---- many words
+
+words-drop_one : (bytes : List ℕ) → words (drop 4 bytes) ≡ drop 1 (words bytes)
+words-drop_one [] = refl
+words-drop_one (a ∷ []) = refl
+words-drop_one (a ∷ b ∷ []) = refl
+words-drop_one (a ∷ b ∷ c ∷ []) = refl
+words-drop_one (a ∷ b ∷ c ∷ d ∷ rest) = refl
+
+-- without so many words of bytes, so many words fewer
+pub words-drop : (count : ℕ) (bytes : List ℕ) → words (drop (4 * count) bytes) ≡ drop count (words bytes)
+words-drop zero bytes = refl
+words-drop (suc count) bytes =
+    let more : 4 * suc count ≡ 4 + 4 * count = omega arith in
+    let one : 1 + count ≡ suc count = omega arith in
+    ap (λ (n : ℕ). words (drop n bytes)) more
+    ∙ ap words (sym (drop-drop (4 * count) 4 bytes))
+    ∙ words-drop count (drop 4 bytes)
+    ∙ ap (drop count) (words-drop_one bytes)
+    ∙ drop-drop count 1 (words bytes)
+    ∙ ap (λ (n : ℕ). drop n (words bytes)) one
+
+-- bytes have as many words as they have whole fours
+length-words : (bytes : List ℕ) → (4 * length (words bytes) ≤ length bytes) × (length bytes < 4 * length (words bytes) + 4)
+length-words [] = (omega arith, omega arith)
+length-words (a ∷ []) = (omega arith, omega arith)
+length-words (a ∷ b ∷ []) = (omega arith, omega arith)
+length-words (a ∷ b ∷ c ∷ []) = (omega arith, omega arith)
+length-words (a ∷ b ∷ c ∷ d ∷ rest) = let more = length-words rest in (omega (arith, more.0), omega (arith, more.1))
+
+front_whole : (count : ℕ) (bytes : List ℕ) → count ≤ length bytes → front_at count bytes ≡ Ok (take count bytes, drop count bytes)
+unfolding front_at
+front_whole count bytes long = let test : ltb (length bytes) count ≡ false = le-ltb (length bytes) count long in rw test refl
+
+front_cut : (count : ℕ) (bytes : List ℕ) → length bytes < count → front_at count bytes ≡ Err unexpected_eof
+unfolding front_at
+front_cut count bytes short = let test : ltb (length bytes) count ≡ true = lt-ltb (length bytes) count short in rw test refl
+
+err_is : {A : Type 0} (d e : Refusal) → err {A = A} d ≡ Err e → d ≡ e
+err_is d e h = cc
+
+-- so many words are skipped just where there are so many
+pub words_skipped : (count : ℕ) (bytes : List ℕ) (x : List ℕ × List ℕ) → front_at (4 * count) bytes ≡ Ok x → (count ≤ length (words bytes)) × (words x.1 ≡ drop count (words bytes))
+words_skipped count bytes x e =
+    let bounds = length-words bytes in
+    elim (cases_lt (length bytes) (4 * count)) [
+      | inl short ↦ absurd (ok_is_no_err x unexpected_eof (sym e ∙ front_cut (4 * count) bytes short))
+      | inr long ↦ (omega (arith, bounds.0, bounds.1), sym (ap (λ (p : List ℕ × List ℕ). words p.1) (ok_is (take (4 * count) bytes, drop (4 * count) bytes) x (sym (front_whole (4 * count) bytes long) ∙ e))) ∙ words-drop count bytes)
+    ]
+
+pub words_short : (count : ℕ) (bytes : List ℕ) (e : Refusal) → front_at (4 * count) bytes ≡ Err e → (length (words bytes) < count) × (e ≡ unexpected_eof)
+words_short count bytes e h =
+    let bounds = length-words bytes in
+    elim (cases_lt (length bytes) (4 * count)) [
+      | inl short ↦ (omega (arith, bounds.0, bounds.1), err_is e unexpected_eof (sym h ∙ front_cut (4 * count) bytes short))
+      | inr long ↦ absurd (ok_is_no_err (take (4 * count) bytes, drop (4 * count) bytes) e (sym (front_whole (4 * count) bytes long) ∙ h))
+    ]
+
+-- ---- in turn
+
+slice_get-drop : {X : Type 0} (i : ℕ) (xs : List X) → slice_get (drop i xs) 0 ≡ slice_get xs i
+slice_get-drop zero xs = refl
+slice_get-drop (suc i) [] = refl
+slice_get-drop (suc i) (x ∷ xs) = slice_get-drop i xs
+
+-- the word in place i of all is the next one after i words
+pub next_word : (all : List ℕ) (i : ℕ) (bytes : List ℕ) (x : ℕ × List ℕ) → words bytes ≡ drop i all → number_at 4 bytes ≡ Ok x → (slice_get all i ≡ Some x.0) × (words x.1 ≡ drop (i + 1) all)
+next_word all i bytes x here e =
+    let is : x.0 ∷ words x.1 ≡ drop i all = sym (word_read bytes x e) ∙ here in
+    (sym (slice_get-drop i all) ∙ ap (λ (ws : List ℕ). slice_get ws 0) (sym is), ap (drop 1) is ∙ drop-drop 1 i all)
+
+pub no_word : (all : List ℕ) (i : ℕ) (bytes : List ℕ) (e : Refusal) → words bytes ≡ drop i all → number_at 4 bytes ≡ Err e → (slice_get all i ≡ None) × (e ≡ unexpected_eof)
+no_word all i bytes e here h =
+    let missing = word_missing bytes e h in
+    (sym (slice_get-drop i all) ∙ ap (λ (ws : List ℕ). slice_get ws 0) (sym here ∙ missing.0), missing.1)
+
+pub word_within : (all : List ℕ) (i word : ℕ) → slice_get all i ≡ Some word → i < length all
+word_within all i word is = slice_get_within all i word is
+
+pub word_past : (all : List ℕ) (i : ℕ) → slice_get all i ≡ None → length all ≤ i
+word_past [] i is = omega arith
+word_past (word ∷ all) zero is = absurd cc
+word_past (word ∷ all) (suc i) is = let rest = word_past all i is in omega arith
+
+-- a sum over one word more
+pub total_more : (f : ℕ → ℕ) (all : List ℕ) (i word : ℕ) → slice_get all i ≡ Some word → sum_by f (take (i + 1) all) ≡ sum_by f (take i all) + f word
+total_more f all i word is =
+    sum_by_more f all i 0 (slice_get_within all i word is) ∙ ap (λ (w : ℕ). sum_by f (take i all) + f w) (get_or_from_slice_get all i word 0 is)
+
+-- numbers up to one, that one, and those behind
+range_split : (from i more : ℕ) → range_with_len from (i + suc more) ≡ range_with_len from i ++ (from + i) ∷ range_with_len (from + i + 1) more
+range_split from zero more =
+    let count : 0 + suc more ≡ suc more = omega arith in
+    let first : from ≡ from + 0 = omega arith in
+    ap (range_with_len from) count ∙ ap (λ (n : ℕ). n ∷ range_with_len (n + 1) more) first
+range_split from (suc i) more =
+    let count : suc i + suc more ≡ suc (i + suc more) = omega arith in
+    let first : from + 1 + i ≡ from + suc i = omega arith in
+    ap (range_with_len from) count
+    ∙ ap (λ (r : List ℕ). from ∷ r) (range_split (from + 1) i more ∙ ap (λ (n : ℕ). range_with_len (from + 1) i ++ n ∷ range_with_len (n + 1) more) first)
+
+collected-append_ok : {A : Type 0} (answers more : List (Answer A)) (xs ys : List A) → collected answers ≡ Ok xs → collected more ≡ Ok ys → collected (answers ++ more) ≡ Ok (xs ++ ys)
+collected-append_ok {A} [] more xs ys e f = f ∙ ap (λ (zs : List A). Ok (zs ++ ys)) (ok_is [] xs e)
+collected-append_ok {A} (Ok x ∷ answers) more xs ys e f =
+    let b = bind_ok (collected answers) (λ zs. Ok (x ∷ zs)) xs e in
+    rw (collected-append_ok answers more b.0 ys b.1 f) (ap (λ (zs : List A). Ok (zs ++ ys)) (ok_is (x ∷ b.0) xs b.2))
+collected-append_ok {A} (Err d ∷ answers) more xs ys e f = absurd cc
+
+collected-append_err : {A : Type 0} (answers more : List (Answer A)) (xs : List A) (r : Refusal) → collected answers ≡ Ok xs → collected more ≡ Err r → collected (answers ++ more) ≡ Err r
+collected-append_err [] more xs r e f = f
+collected-append_err (Ok x ∷ answers) more xs r e f =
+    let b = bind_ok (collected answers) (λ zs. Ok (x ∷ zs)) xs e in
+    rw (collected-append_err answers more b.0 r b.1 f) refl
+collected-append_err (Err d ∷ answers) more xs r e f = absurd cc
+
+-- the answers in turn, one more of which gives a value
+pub collected_more : {A : Type 0} (f : ℕ → Answer A) (i : ℕ) (xs : List A) (x : A) → collected (map f (range_with_len 0 i)) ≡ Ok xs → f i ≡ Ok x → collected (map f (range_with_len 0 (i + 1))) ≡ Ok (xs ++ x ∷ [])
+collected_more f i xs x so_far here =
+    ap collected (map-range_with_len_more f 0 i i (omega arith))
+    ∙ collected-append_ok (map f (range_with_len 0 i)) (f i ∷ []) xs (x ∷ []) so_far (rw here refl)
+
+-- the first of them that refuses is the refusal of all
+pub collected_stops : {A : Type 0} (f : ℕ → Answer A) (i count : ℕ) (xs : List A) (r : Refusal) → i < count → collected (map f (range_with_len 0 i)) ≡ Ok xs → f i ≡ Err r → collected (map f (range_with_len 0 count)) ≡ Err r
+collected_stops f i count xs r within so_far here =
+    let all : count ≡ i + suc (count - i - 1) = omega arith in
+    ap (λ (n : ℕ). collected (map f (range_with_len 0 n))) all
+    ∙ ap (λ (r : List ℕ). collected (map f r)) (range_split 0 i (count - i - 1) ∙ ap (λ (n : ℕ). range_with_len 0 i ++ n ∷ range_with_len (n + 1) (count - i - 1)) (omega arith))
+    ∙ ap collected (map-append f (range_with_len 0 i) (i ∷ range_with_len (i + 1) (count - i - 1)))
+    ∙ collected-append_err (map f (range_with_len 0 i)) (f i ∷ map f (range_with_len (i + 1) (count - i - 1))) xs r so_far (rw here refl)

@@ -1,0 +1,44 @@
+use Rattle.std.proofs.Common.{◌≡◌, ℕ, refl, ap, sym, ◌∙◌, arith, inl, List, map, Ok, Err}
+use Rattle.std.specs.List.{range_with_len}
+use Rattle.pdb_base.specs.Place.{left}
+use Rattle.pdb_base.specs.Answer.{collected}
+use Rattle.pdb_base.specs.Refused.{passed_on}
+use Rattle.pdb_base.specs.Refusal.{refusal_of}
+use Rattle.pdb_msf.specs.Pages.{words, page_number, page_numbers}
+use Rattle.pdb_msf.proofs.WordLemmas.{next_word, no_word, collected_more, collected_stops}
+use Rattle.pdb_msf.proofs.header.Geometry.page_numbers.Goals as goal
+
+pub loop-preserved : goal.loop-preserved
+loop-preserved c =
+    let all = words (left c.args.buffer.now) in
+    let next = next_word all c.loop.counter _ _ c.loop.invariant.rest c.in_ok-word.ensures.read in
+    let here : page_number c.args.self.pages_used all c.loop.counter ≡ Ok c.in_ok-number.number = rw next.0 c.in_ok-number.ensures in
+    record {
+      rest = next.1;
+      so_far = collected_more (page_number c.args.self.pages_used all) c.loop.counter c.loop.numbers.items c.in_ok-number.number c.loop.invariant.so_far here
+        ∙ ap (λ (numbers : List ℕ). Ok numbers) (sym c.in_ok-push.ensures.items);
+      counted = omega (arith, c.in_ok-push.ensures.len, c.loop.invariant.counted);
+    }
+
+pub returns-in_err-word-clause-numbers : goal.returns-in_err-word-clause-numbers
+unfolding page_numbers
+returns-in_err-word-clause-numbers c =
+    let all = words (left c.args.buffer.now) in
+    let none = no_word all c.loop.counter _ _ c.loop.invariant.rest c.in_err-word.ensures.read in
+    let here : page_number c.args.self.pages_used all c.loop.counter ≡ Err (refusal_of c.in_err-word.field-0.0) = rw (none.0, none.1) refl in
+    rw (passed_on _ _ c.from_residual.ensures.1) (inl (collected_stops (page_number c.args.self.pages_used all) c.loop.counter c.args.count c.loop.numbers.items _ c.loop-test.true c.loop.invariant.so_far here))
+
+pub returns-in_err-number-clause-numbers : goal.returns-in_err-number-clause-numbers
+unfolding page_numbers
+returns-in_err-number-clause-numbers c =
+    let all = words (left c.args.buffer.now) in
+    let next = next_word all c.loop.counter _ _ c.loop.invariant.rest c.in_ok-word.ensures.read in
+    let here : page_number c.args.self.pages_used all c.loop.counter ≡ Err (refusal_of c.in_err-number.field-0.0) = rw next.0 c.in_err-number.ensures in
+    rw (passed_on _ _ c.from_residual-in_err-number.ensures.1) (inl (collected_stops (page_number c.args.self.pages_used all) c.loop.counter c.args.count c.loop.numbers.items _ c.loop-test.true c.loop.invariant.so_far here))
+
+pub returns-clause-numbers : goal.returns-clause-numbers
+unfolding page_numbers
+returns-clause-numbers c =
+    let all = words (left c.args.buffer.now) in
+    let end : c.args.count ≡ c.loop.counter = omega arith in
+    ap (λ (n : ℕ). collected (map (page_number c.args.self.pages_used all) (range_with_len 0 n))) end ∙ c.loop.invariant.so_far

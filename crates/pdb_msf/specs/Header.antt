@@ -1,0 +1,74 @@
+-- The header of a file in the MSF 7.00 format (the layout of `BIGMSF_HDR` in Microsoft's msf.cpp):
+-- 32 bytes of magic, then u32 page size, free page map, pages used, directory size and a reserved
+-- one, and from byte 52 on the list of the pages that hold the directory's page numbers.
+use Rattle.std.specs.Prelude.{◌≡◌, ℕ, ◌*◌, Bool, IsTrue, ◌&&◌, not, nat_eq, nat_lt, nat_le, if◌then◌else◌, List, length, take, drop, Result, Ok, Err, codes}
+use Rattle.std.specs.List.{starts_with}
+use Rattle.std.specs.Int.{is_power_of_two}
+use Rattle.pdb_base.specs.Refusal.{Refusal, unexpected_eof, unimplemented_feature, unrecognized_file_format, invalid_page_size}
+use Rattle.pdb_base.specs.Answer.{Answer, ◌>>=◌, required}
+use Rattle.pdb_base.specs.Reading.{front_at, number_at}
+use Rattle.pdb_msf.specs.declared.magic.small.TheConstants as small
+use Rattle.pdb_msf.specs.declared.magic.big.TheConstants as big
+use Rattle.pdb_msf.specs.declared.header.Geometry.{Geometry}
+use Rattle.pdb_msf.specs.declared.header.Header.{Header}
+use Rattle.pdb_msf.specs.Pages.{pages, words, page_numbers}
+
+-- a power of two from 256 to 8,388,608
+abbrev pub is_page_size : ℕ → Bool
+is_page_size size = is_power_of_two size && (nat_le 0x100 size && nat_le size 0x800000)
+
+-- what a header says: its numbers, and the pages in which the directory's page numbers stand
+pub record Head : Type 0 where
+  pub geometry : Geometry
+  pub location : List ℕ
+
+-- what a header that was read says
+abbrev pub header_view : Header → Head
+header_view header = record { geometry = header.geometry; location = header.location.items }
+
+-- the magic of the format that is read; that of the one before it is refused by name
+unfoldable pub magic_of : List ℕ → Answer (Unit {0})
+magic_of view = do
+  whole ← required (nat_le 52 (length view)) unexpected_eof
+  newer ← required (not (starts_with nat_eq view small.MAGIC.now)) (unimplemented_feature (codes "small MSF file format"))
+  required (starts_with nat_eq view big.MAGIC.now) unrecognized_file_format
+
+-- the fields of a header in their order, and the bytes behind them
+unfoldable pub fields_of : List ℕ → Answer (Geometry × List ℕ)
+fields_of view = do
+  magic ← front_at 32 view
+  page_size ← number_at 4 magic.1
+  free_page_map ← number_at 4 page_size.1
+  pages_used ← number_at 4 free_page_map.1
+  directory_size ← number_at 4 pages_used.1
+  reserved ← number_at 4 directory_size.1
+  Ok (record { page_size = page_size.0; pages_used = pages_used.0; directory_size = directory_size.0 }, reserved.1)
+
+-- how many pages hold the directory, and how many hold the numbers of those
+abbrev pub directory_pages : Geometry → ℕ
+directory_pages geometry = pages geometry.page_size geometry.directory_size
+
+abbrev pub location_pages : Geometry → ℕ
+location_pages geometry = pages geometry.page_size (4 * directory_pages geometry)
+
+-- A header that was read has a good page size, and as many pages of location as the directory takes.
+pub record IsHeader (header : Header) : Type 0 where
+  pub sized : IsTrue (is_page_size header.geometry.page_size)
+  pub located : length header.location.items ≡ location_pages header.geometry
+
+-- the header at the front of a file
+unfoldable pub head_of : List ℕ → Answer Head
+head_of view = do
+  magic ← magic_of view
+  fields ← fields_of view
+  sized ← required (is_page_size fields.0.page_size) (invalid_page_size fields.0.page_size)
+  location ← page_numbers fields.0.pages_used (location_pages fields.0) (words fields.1)
+  Ok (record { geometry = fields.0; location = location })
+
+-- the front of a file, which is no database where it is shorter
+unfoldable pub opening : ℕ → List ℕ → Answer (List ℕ)
+opening size file = if nat_lt (length file) size then Err unrecognized_file_format else Ok (take size file)
+
+-- the header of a file, within its first 4096 bytes
+unfoldable pub opened : List ℕ → Answer Head
+opened file = opening 4096 file >>= head_of

@@ -1,0 +1,8 @@
+pub mod Source
+pub mod Kept
+pub mod Within
+pub mod Pages
+pub mod PageList
+pub mod Header
+pub mod Directory
+pub mod File

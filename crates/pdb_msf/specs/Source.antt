@@ -1,0 +1,57 @@
+-- What a source of bytes stands for, and what its views show.
+use Rattle.std.specs.Prelude.{◌≡◌, ◌≢◌, ◌⊎◌, ℕ, ◌<◌, ◌≤◌, Bool, IsTrue, nat_lt, if◌then◌else◌, List, length, map, slice_index, Option, Some, None, Result, Ok, Err}
+use Rattle.std.specs.List.{flat_map, list_all, range_with_len}
+use Rattle.std.specs.declared.io.Error.{Error}
+use Rattle.std.specs.declared.io.ErrorKind.{ErrorKind}
+use Rattle.std.specs.declared.io.ErrorKind.TheVariants.{UnexpectedEof, OutOfMemory}
+use Rattle.std.specs.IoError.{error_kind}
+use Rattle.pdb_base.specs.Refusal.{Refusal, io_error}
+use Rattle.pdb_base.specs.Answer.{Answer}
+use Rattle.pdb_msf.specs.declared.source.SourceSlice.{SourceSlice}
+
+-- A source stands for fixed bytes, for how many faults it has met so far, and for whether it is
+-- sound: a sound source fails only at the end of its bytes, or for want of memory.
+pub record State : Type 0 where
+  pub bytes : List ℕ
+  pub faults : ℕ
+  pub is_sound : Bool
+
+-- What a view keeps: the bytes never change, the count of faults never falls, and a sound source
+-- stays sound and meets no fault.
+pub record IsKept (old new : State) : Type 0 where
+  pub bytes : new.bytes ≡ old.bytes
+  pub counts : old.faults ≤ new.faults
+  pub sound : IsTrue old.is_sound → IsTrue new.is_sound × (new.faults ≡ old.faults)
+
+-- the source met a fault between the two
+abbrev pub HasFailed : State → State → Type 0
+HasFailed old new = old.faults < new.faults
+
+-- the places of the bytes that a slice names
+abbrev pub slice_places : SourceSlice → List ℕ
+slice_places slice = range_with_len slice.offset slice.size
+
+-- the places that slices name, slice after slice
+abbrev pub places : List SourceSlice → List ℕ
+places slices = flat_map slice_places slices
+
+-- the bytes at these places of a file, or nothing where one of the places is past its end
+unfoldable pub bytes_at : List ℕ → List ℕ → Option (List ℕ)
+bytes_at file at = if list_all (λ place. nat_lt place (length file)) at then Some (map (slice_index file) at) else None
+
+-- neither the end of the bytes nor want of memory
+pub record IsOther (kind : ErrorKind) : Type 0 where
+  pub no_end : kind ≢ UnexpectedEof
+  pub no_want : kind ≢ OutOfMemory
+
+-- A view shows the bytes that are meant. It is refused as ending where there are none, for want of
+-- memory, or by another fault, which is so only where `failed` holds.
+abbrev pub Shows : {V : Type 0} → Type 0 → (V → List ℕ) → Result V Error → Option (List ℕ) → Type 0
+Shows failed bytes (Ok view) meant = meant ≡ Some (bytes view)
+Shows failed bytes (Err e) meant =
+    ((error_kind e ≡ UnexpectedEof) × (meant ≡ None)) ⊎ ((error_kind e ≡ OutOfMemory) ⊎ (IsOther (error_kind e) × failed))
+
+-- the bytes that were found, or else that the file ends too soon
+abbrev pub found : Option (List ℕ) → Answer (List ℕ)
+found (Some bytes) = Ok bytes
+found None = Err (io_error UnexpectedEof)

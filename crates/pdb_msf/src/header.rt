@@ -1,0 +1,150 @@
+//! The header of a file.
+
+ghost use Rattle.std.specs.Prelude.{◌≡◌, ◌<◌, ◌≤◌, ◌*◌, ◌^◌, length, vec_len, IfOk};
+ghost use Rattle.pdb_base.specs.Answer.{Answers, Gives};
+ghost use Rattle.pdb_base.specs.Place.{left};
+ghost use Rattle.pdb_msf.specs.Pages.{pages, words, judged, page_numbers};
+ghost use Rattle.pdb_msf.specs.Header.{is_page_size, magic_of, fields_of, head_of, header_view, IsHeader, directory_pages, location_pages};
+
+use crate::magic::{big, small};
+use pdb_base::{Error, ParseBuffer, Result};
+use std::alloc::Global;
+
+/// How many bytes the fields of a header take.
+const FIELDS_SIZE: usize = 52;
+
+/// The fixed numbers of a header.
+#[derive(Clone, Copy, Debug)]
+pub struct Geometry {
+    /// Bytes in a page: a power of two from 256 to 8,388,608.
+    pub page_size: u32,
+    /// The highest page number that may be used.
+    pub pages_used: u32,
+    /// Bytes in the directory.
+    pub directory_size: u32,
+}
+
+/// What a header says.
+#[derive(Debug, Drop)]
+pub struct Header {
+    pub geometry: Geometry,
+    /// The pages in which the directory's page numbers stand.
+    pub location: Vec<u32>,
+}
+
+impl Geometry {
+    /// How many pages hold so many bytes.
+    #[tactic(auto, unfolding(crate::specs::Pages::pages))]
+    pub fn pages(self, bytes: usize) -> usize
+        requires { 0 < self.page_size }
+        ensures pages { result ≡ pages self.page_size bytes }
+        ensures few { result ≤ bytes }
+    {
+        bytes.div_ceil(self.page_size as usize)
+    }
+
+    /// How many pages hold the directory.
+    pub fn directory_pages(self) -> usize
+        requires { 0 < self.page_size }
+        ensures pages { result ≡ directory_pages self }
+        ensures few { result < 2 ^ 32 }
+    {
+        self.pages(self.directory_size as usize)
+    }
+
+    /// How many pages hold the numbers of the directory's pages, four bytes each.
+    pub fn location_pages(self) -> usize
+        requires { 0 < self.page_size }
+        ensures { result ≡ location_pages self }
+    {
+        self.pages(4 * self.directory_pages())
+    }
+
+    /// A page number that may be used: not 0, and not above the pages used.
+    pub fn judge(self, number: u32) -> Result<u32>
+        ensures { Gives (λ n. n) result (judged self.pages_used number) }
+    {
+        if number == 0 || number > self.pages_used {
+            return Err(Error::PageReferenceOutOfRange(number));
+        }
+        Ok(number)
+    }
+
+    /// The next `count` words as page numbers, each judged in turn.
+    pub fn page_numbers(
+        self,
+        alloc: Global,
+        buffer: &mut ParseBuffer<'_>,
+        count: usize,
+    ) -> Result<Vec<u32>>
+        ensures numbers { Answers (λ v. v.items) result (page_numbers self.pages_used count (words (left buffer.old))) }
+        ensures count { IfOk result (λ v. vec_len v ≡ count) }
+    {
+        let mut numbers = Vec::new(alloc);
+        for _ in 0..count {
+            let word = buffer.parse_u32()?;
+            let number = self.judge(word)?;
+            numbers.push(number)?;
+        }
+        Ok(numbers)
+    }
+}
+
+/// Whether the page size is one that the format has.
+fn is_page_size(size: u32) -> bool
+    ensures { result ≡ is_page_size size }
+{
+    size.is_power_of_two() && (0x100..=0x800000).contains(&size)
+}
+
+/// Refuses a file of another format by its first bytes.
+#[tactic(auto, unfolding(crate::specs::Header::magic_of))]
+fn check_magic(view: &[u8]) -> Result<()>
+    ensures { Gives (λ x. x) result (magic_of view.now) }
+{
+    if view.len() < FIELDS_SIZE {
+        return Err(Error::UnexpectedEof);
+    }
+    if view.starts_with(small::MAGIC) {
+        return Err(Error::UnimplementedFeature("small MSF file format"));
+    }
+    if !view.starts_with(big::MAGIC) {
+        return Err(Error::UnrecognizedFileFormat);
+    }
+    Ok(())
+}
+
+/// Reads the fields of a header, the magic among them.
+#[tactic(auto, unfolding(crate::specs::Header::fields_of))]
+fn read_fields(buffer: &mut ParseBuffer<'_>) -> Result<Geometry>
+    ensures { Gives (λ geometry. (geometry, left buffer.new)) result (fields_of (left buffer.old)) }
+{
+    buffer.take(big::MAGIC.len())?;
+    let page_size = buffer.parse_u32()?;
+    let _free_page_map = buffer.parse_u32()?;
+    let pages_used = buffer.parse_u32()?;
+    let directory_size = buffer.parse_u32()?;
+    let _reserved = buffer.parse_u32()?;
+    Ok(Geometry {
+        page_size,
+        pages_used,
+        directory_size,
+    })
+}
+
+/// Reads the header at the front of a file.
+#[tactic(auto, unfolding(crate::specs::Header::head_of))]
+pub fn read_header(alloc: Global, view: &[u8]) -> Result<Header>
+    ensures head { Answers header_view result (head_of view.now) }
+    ensures sound { IfOk result IsHeader }
+{
+    check_magic(view)?;
+    let mut buffer = ParseBuffer::from(view);
+    let geometry = read_fields(&mut buffer)?;
+    if !is_page_size(geometry.page_size) {
+        return Err(Error::InvalidPageSize(geometry.page_size));
+    }
+    let count = geometry.location_pages();
+    let location = geometry.page_numbers(alloc, &mut buffer, count)?;
+    Ok(Header { geometry, location })
+}

@@ -1,0 +1,15 @@
+//! The container of a program database: pages, and the streams that lie scattered over them.
+#![tactic(auto)]
+
+mod directory;
+mod header;
+mod magic;
+mod msf;
+mod page_list;
+mod source;
+mod stream;
+
+pub use magic::{big, small};
+pub use msf::{BigMSF, Msf, open_msf};
+pub use source::{ReadView, Source, SourceSlice, SourceView};
+pub use stream::Stream;

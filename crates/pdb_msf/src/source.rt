@@ -1,0 +1,152 @@
+//! Where the bytes of a file come from.
+
+ghost use Rattle.std.specs.Prelude.{◌≡◌, ℕ, List, length, map, true, IsTrue, IfOk, slice_index};
+ghost use Rattle.pdb_msf.specs.Source.{State, IsKept, HasFailed, Shows, bytes_at, places, slice_places};
+ghost use Rattle.std.specs.List.{list_all};
+ghost use Rattle.pdb_msf.specs.Within.{is_within};
+
+use std::alloc::{AllocError, Global};
+use std::io;
+use std::io::ErrorKind;
+use std::marker::Model;
+
+/// A part of a source: `size` bytes from `offset` on.
+#[derive(Clone, Copy, Debug, PartialEq, Eq)]
+pub struct SourceSlice {
+    /// Where the part begins, in bytes from the start of the source.
+    pub offset: u64,
+    /// How many bytes it has.
+    pub size: usize,
+}
+
+/// Bytes that a source showed.
+pub trait SourceView {
+    // The bytes that are shown.
+    ghost shown: { Self → List ℕ };
+
+    /// The bytes, slice after slice as they were asked for.
+    fn as_slice(&self) -> &[u8]
+        ensures { result.now ≡ shown self.now };
+}
+
+/// The view of a source that reads its bytes into memory.
+#[derive(Debug, Drop)]
+pub struct ReadView {
+    bytes: Vec<u8>,
+}
+
+impl Model for ReadView {
+    ghost use Rattle.std.specs.Prelude.{List, ℕ};
+
+    ghost Value = { List ℕ };
+
+    ghost view = { λ v. v.bytes.items };
+}
+
+impl ReadView {
+    /// A view of these bytes.
+    pub fn new(bytes: Vec<u8>) -> Self
+        ensures { result ≡ bytes.items }
+    {
+        ReadView { bytes }
+    }
+
+    /// The bytes themselves.
+    pub(crate) fn into_bytes(self) -> Vec<u8>
+        ensures { result.items ≡ self }
+    {
+        let ReadView { bytes } = self;
+        bytes
+    }
+}
+
+impl SourceView for ReadView {
+    ghost shown = { λ v. v };
+
+    fn as_slice(&self) -> &[u8] {
+        self.bytes.as_slice()
+    }
+}
+
+/// Where the bytes of a file come from.
+///
+/// A source stands for fixed bytes. It may fail in other ways than by ending, and counts when it
+/// does; a sound source does not.
+pub trait Source {
+    // The bytes, the count of faults so far, and whether the source is sound.
+    ghost state: { Self → State };
+
+    /// The bytes that the slices name, slice after slice.
+    ///
+    /// # Errors
+    /// Kind `UnexpectedEof` only where a slice of any bytes passes the end, `OutOfMemory` only for
+    /// want of memory, and any other only where the source's count of faults rises.
+    fn view(&mut self, alloc: Global, slices: &[SourceSlice]) -> Result<ReadView, io::Error>
+        ensures view { Shows (HasFailed (state self.old) (state self.new)) (λ v. v) result
+            (bytes_at (state self.old).bytes (places slices.now)) }
+        ensures kept { IsKept (state self.old) (state self.new) };
+}
+
+impl Source for Vec<u8> {
+    ghost state = { λ file. record { bytes = file.items; faults = 0; is_sound = true } };
+
+    #[tactic(auto, using(crate::proofs::PlacesLemmas::bytes_within, crate::proofs::PlacesLemmas::bytes_past))]
+    fn view(&mut self, alloc: Global, slices: &[SourceSlice]) -> Result<ReadView, io::Error> {
+        let file = self.as_slice();
+        if !all_within(file.len(), slices) {
+            return Err(io::Error::from(ErrorKind::UnexpectedEof));
+        }
+        let Some(size) = total_size(slices) else {
+            return Err(io::Error::from(ErrorKind::OutOfMemory));
+        };
+        Ok(ReadView::new(copied(alloc, file, slices, size)?))
+    }
+}
+
+// Whether no slice of any bytes passes the end of a file of this length.
+fn all_within(len: usize, slices: &[SourceSlice]) -> bool
+    ensures { result ≡ list_all (is_within len) slices.now }
+{
+    slices.iter().all(|slice| {
+        slice.size == 0 || slice.offset <= len as u64 && slice.size <= len - slice.offset as usize
+    })
+}
+
+// The sizes of all slices together, if that is a number.
+fn total_size(slices: &[SourceSlice]) -> Option<usize> {
+    let mut total = 0usize;
+    for slice in slices {
+        total = total.checked_add(slice.size)?;
+    }
+    Some(total)
+}
+
+// The bytes of slices that are all within the file, into memory that is asked for once.
+fn copied(
+    alloc: Global,
+    file: &[u8],
+    slices: &[SourceSlice],
+    size: usize,
+) -> Result<Vec<u8>, AllocError>
+    requires { IsTrue (list_all (is_within (length file.now)) slices.now) }
+    ensures { IfOk result (λ bytes. bytes.items ≡ map (slice_index file.now) (places slices.now)) }
+{
+    let mut bytes = Vec::with_capacity(alloc, size)?;
+    for slice in slices {
+        bytes.extend_from_slice(part(file, *slice))?;
+    }
+    Ok(bytes)
+}
+
+// The bytes that one slice names.
+#[tactic(auto, using(crate::proofs::PlacesLemmas::bytes_of_slice))]
+fn part(file: &[u8], slice: SourceSlice) -> &[u8]
+    requires { IsTrue (is_within (length file.now) slice) }
+    ensures { result.now ≡ map (slice_index file.now) (slice_places slice) }
+{
+    if slice.size == 0 {
+        return &[];
+    }
+    let start = slice.offset as usize;
+    &file[start..start + slice.size]
+}

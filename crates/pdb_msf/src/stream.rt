@@ -1,0 +1,55 @@
+//! The bytes of one stream.
+
+ghost use Rattle.std.specs.Prelude.{◌≡◌, ◌<◌, length};
+
+use pdb_base::ParseBuffer;
+use std::marker::Model;
+
+/// The bytes of one stream of a file, or of its front where they were limited.
+#[derive(Debug, Drop)]
+pub struct Stream {
+    bytes: Vec<u8>,
+}
+
+impl Model for Stream {
+    ghost use Rattle.std.specs.Prelude.{List, ℕ, ◌<◌, length};
+
+    ghost Value = { List ℕ };
+
+    ghost view = { λ s. s.bytes.items };
+
+    ghost invariant = { λ s. length s.bytes.items < 0xffffffff };
+}
+
+impl Stream {
+    /// A stream of these bytes, of which there are fewer than 4,294,967,295.
+    pub fn new(bytes: Vec<u8>) -> Self
+        requires { length bytes.items < 0xffffffff }
+        ensures { result ≡ bytes.items }
+    {
+        Stream { bytes }
+    }
+
+    /// The bytes.
+    pub fn as_slice(&self) -> &[u8]
+        ensures bytes { result.now ≡ self.now }
+        ensures short { length self.now < 0xffffffff }
+    {
+        self.bytes.as_slice()
+    }
+
+    /// The bytes themselves.
+    pub fn into_bytes(self) -> Vec<u8>
+        ensures { result.items ≡ self }
+    {
+        let Stream { bytes } = self;
+        bytes
+    }
+
+    /// A buffer at the start of the bytes.
+    pub fn parse_buffer(&self) -> ParseBuffer<'_>
+        ensures { result ≡ record { slice = self.now; pos = 0 } }
+    {
+        ParseBuffer::from(self.as_slice())
+    }
+}
