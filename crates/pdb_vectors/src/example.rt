@@ -1,9 +1,9 @@
 //! The example file S1, small enough to be written out by hand.
 
-ghost use Rattle.std.specs.Prelude.{◌≡◌, ◌+◌, ◌≤◌, ◌++◌, length, vec_len, IfOk, OnOk};
+ghost use Rattle.std.specs.Prelude.{◌≡◌, ◌+◌, ◌≤◌, ◌++◌, length, vec_len, IfOk, IfErr, OnOk};
 ghost use Rattle.pdb_vectors.specs.Example.{page, s1_bytes};
 
-use pdb_container::Result;
+use pdb_container::{Error, Result};
 use std::alloc::Global;
 
 /// Bytes in a page of S1.
@@ -28,6 +28,7 @@ fn push_page(file: &mut Vec<u8>, front: &[u8], fill: u8) -> Result<()>
     requires { length front.now ≤ 512 }
     ensures page { OnOk result (file.new.items ≡ file.old.items ++ page front.now fill) }
     ensures len { OnOk result (vec_len file.new ≡ vec_len file.old + 512) }
+    ensures want { IfErr result (λ e. e ≡ Error.OutOfMemory) }
 {
     let len = file.len() + PAGE_SIZE;
     file.extend_from_slice(front)?;
@@ -44,6 +45,7 @@ fn push_page(file: &mut Vec<u8>, front: &[u8], fill: u8) -> Result<()>
 pub fn s1(alloc: Global) -> Result<Vec<u8>>
     ensures bytes { IfOk result (λ file. file.items ≡ s1_bytes) }
     ensures len { IfOk result (λ file. vec_len file ≡ 4096) }
+    ensures want { IfErr result (λ e. e ≡ Error.OutOfMemory) }
 {
     let mut file = Vec::with_capacity(alloc, 8 * PAGE_SIZE)?;
     push_page(&mut file, HEADER, 0)?;

@@ -4,3 +4,6 @@
 mod example;
 
 pub use example::s1;
+
+#[cfg(test)]
+mod tests;

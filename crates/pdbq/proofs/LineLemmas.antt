@@ -1,0 +1,28 @@
+-- Lines of hexadecimal digits, one after another.
+use Rattle.std.proofs.Common.{◌≡◌, ℕ, ◌+◌, ◌-◌, ◌*◌, ◌<◌, ◌≤◌, List, [], ◌∷◌, ◌++◌, length, take, drop, map, refl, sym, ap, ◌∙◌, arith, min}
+use Rattle.std.specs.List.{flat_map, range_with_len}
+use Rattle.std.proofs.lemmas.Grind.{flat_map-append}
+use Rattle.std.proofs.lemmas.List.{append-nil, map-id, take_min, length-drop}
+use Rattle.std.proofs.lemmas.List.FromFn.{map-range_with_len_more}
+use Rattle.pdbq.specs.Printed.{hex_line, line_of}
+
+range_more : (n : ℕ) → range_with_len 0 (n + 1) ≡ range_with_len 0 n ++ n ∷ []
+range_more n =
+    sym (map-id (range_with_len 0 (n + 1))) ∙ map-range_with_len_more (λ (x : ℕ). x) 0 n n (omega arith)
+    ∙ ap (λ (r : List ℕ). r ++ n ∷ []) (map-id (range_with_len 0 n))
+
+-- the lines of bytes up to one
+abbrev pub lines_to : List ℕ → ℕ → List ℕ
+lines_to all n = flat_map (λ k. hex_line (line_of all k)) (range_with_len 0 n)
+
+pub lines_more : (all : List ℕ) (n : ℕ) → lines_to all (n + 1) ≡ lines_to all n ++ hex_line (line_of all n)
+lines_more all n =
+    ap (flat_map (λ k. hex_line (line_of all k))) (range_more n)
+    ∙ flat_map-append (λ k. hex_line (line_of all k)) (range_with_len 0 n) (n ∷ [])
+    ∙ ap (λ (r : List ℕ). lines_to all n ++ r) (append-nil (hex_line (line_of all n)))
+
+-- the bytes between where a line begins and where it or the whole ends
+pub line_cut : (all : List ℕ) (n : ℕ) → take (min (length all) (32 * n + 32) - 32 * n) (drop (32 * n) all) ≡ line_of all n
+line_cut all n =
+    let cut : min (length all) (32 * n + 32) - 32 * n ≡ min 32 (length (drop (32 * n) all)) = omega (arith, length-drop (32 * n) all) in
+    ap (λ (k : ℕ). take k (drop (32 * n) all)) cut ∙ take_min 32 (drop (32 * n) all)
