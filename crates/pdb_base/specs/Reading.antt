@@ -1,7 +1,7 @@
 -- What stands at the front of bytes, with the bytes behind it.
-use Rattle.std.specs.Prelude.{ℕ, List, length, take, drop, Result, Ok, Err, nat_lt, if◌then◌else◌}
+use Rattle.std.specs.Prelude.{ℕ, List, length, take, drop, Ok, Err, nat_lt, if◌then◌else◌}
 use Rattle.byteorder.specs.Endian.{little_number}
-use Rattle.pdb_base.specs.Refusal.{Refusal, unexpected_eof}
+use Rattle.pdb_base.specs.Refusal.{unexpected_eof}
 use Rattle.pdb_base.specs.Answer.{Answer, ◌>>=◌}
 
 -- the first so many bytes

@@ -3,6 +3,7 @@
 
 mod buffer;
 mod error;
+pub mod laws;
 
 pub use buffer::ParseBuffer;
 pub use error::{Error, Result};

@@ -5,10 +5,9 @@ use Rattle.std.proofs.lemmas.List.{length-drop, drop-drop}
 use Rattle.std.proofs.lemmas.Option.{slice_get_within}
 use Rattle.std.specs.List.{slice_get}
 use Rattle.pdb_base.specs.Refusal.{Refusal, unexpected_eof, stream_not_found}
-use Rattle.pdb_base.specs.Answer.{Answer}
 use Rattle.pdb_msf.specs.declared.header.Geometry.{Geometry}
 use Rattle.pdb_msf.specs.Pages.{pages, words, page_numbers}
-use Rattle.pdb_msf.specs.Directory.{Entry, absent, pages_before, entry_of}
+use Rattle.pdb_msf.specs.Directory.{absent, pages_before, entry_of}
 
 pub no_count : (g : Geometry) (n : ℕ) (all : List ℕ) → slice_get all 0 ≡ None → entry_of g n all ≡ Err unexpected_eof
 unfolding entry_of

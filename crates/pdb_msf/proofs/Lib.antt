@@ -2,3 +2,4 @@ pub mod PlacesLemmas
 pub mod WordLemmas
 pub mod PageLemmas
 pub mod EntryLemmas
+pub mod LawLemmas

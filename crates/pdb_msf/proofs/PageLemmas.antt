@@ -1,10 +1,10 @@
 -- The places of whole pages, by the index of each byte.
-use Rattle.std.proofs.Common.{◌≡◌, ℕ, zero, suc, ◌+◌, ◌-◌, ◌*◌, ◌/◌, ◌%◌, ◌<◌, ◌≤◌, List, [], ◌∷◌, ◌++◌, length, get_or, take, drop, map, refl, sym, ap, ◌∙◌, arith, slice_index, length-append, min, ◌^◌, ◌⊎◌, inl, inr, Result, Ok, Err, Some, None, Bool, true, false, cond, ltb, subst}
+use Rattle.std.proofs.Common.{◌≡◌, ℕ, ◌+◌, ◌*◌, ◌/◌, ◌%◌, ◌<◌, ◌≤◌, List, [], ◌∷◌, ◌++◌, length, get_or, take, map, refl, sym, ap, ◌∙◌, arith, slice_index, length-append, ◌^◌, ◌⊎◌, inl, inr, Result, Ok, Err, Some, None, Bool, true, false, cond, ltb, subst}
 use Rattle.std.specs.List.{flat_map, list_all, range_with_len}
 use Rattle.std.proofs.Math.Nat.{mod-lt}
 use Rattle.std.proofs.lemmas.Bool.{cases_lt}
 use Rattle.std.proofs.lemmas.Nat.{div-add-mod', div_below, mul-le}
-use Rattle.std.proofs.lemmas.Grind.{flat_map-append, common_steps, div_ceil_times}
+use Rattle.std.proofs.lemmas.Grind.{flat_map-append, div_ceil_times}
 use Rattle.std.proofs.lemmas.List.{append-nil, get_or-take, length-take, take_more, length-take-le, ext_get_or, length-map}
 use Rattle.std.proofs.lemmas.List.FromFn.{length-range_with_len, get_or-map-range_with_len, get_or-range_with_len, length-map-range_with_len}
 use Rattle.std.proofs.lemmas.List.Concat.{get_or-flat_map}
@@ -16,7 +16,7 @@ use Rattle.pdb_msf.specs.Header.{is_page_size}
 use Rattle.pdb_msf.specs.PageList.{page_places}
 use Rattle.pdb_msf.specs.Source.{bytes_at, found}
 use Rattle.pdb_msf.specs.Pages.{pages, place_of}
-use Rattle.pdb_msf.proofs.WordLemmas.{ok_is}
+use Rattle.pdb_base.specs.Collected.{ok_is}
 
 -- the places of all bytes of these pages
 abbrev pub all_places : ℕ → List ℕ → List ℕ
@@ -93,7 +93,7 @@ pages_le page_size bytes positive =
       | inr few ↦ few
     ]
 
-bool_cases : (b : Bool) → (b ≡ true) ⊎ (b ≡ false)
+pub bool_cases : (b : Bool) → (b ≡ true) ⊎ (b ≡ false)
 bool_cases true = inl refl
 bool_cases false = inr refl
 

@@ -1,36 +1,17 @@
 -- Reading numbers from bytes, and the words that bytes spell.
-use Rattle.std.proofs.Common.{◌≡◌, ℕ, zero, suc, ◌+◌, ◌-◌, ◌*◌, ◌<◌, ◌≤◌, Bool, true, false, List, [], ◌∷◌, ◌++◌, length, get_or, take, drop, map, refl, sym, ap, ◌∙◌, arith, Option, Some, None, Result, Ok, Err, ltb, inl, inr}
+use Rattle.std.proofs.Common.{◌≡◌, ℕ, zero, suc, ◌+◌, ◌-◌, ◌*◌, ◌<◌, ◌≤◌, true, false, List, [], ◌∷◌, ◌++◌, length, take, drop, map, refl, sym, ap, ◌∙◌, arith, Some, None, Ok, Err, ltb, inl, inr}
 use Rattle.std.proofs.lemmas.Bool.{cases_lt, le-ltb, lt-ltb}
 use Rattle.std.specs.List.{slice_get, range_with_len, sum_by}
 use Rattle.std.proofs.lemmas.List.{map-append, drop-drop}
 use Rattle.std.proofs.lemmas.List.FromFn.{map-range_with_len_more}
-use Rattle.std.proofs.lemmas.Bool.Decides.{nat_tests}
 use Rattle.std.proofs.lemmas.Option.{slice_get_within, get_or_from_slice_get}
 use Rattle.std.proofs.lemmas.List.Sums.{sum_by_more}
 use Rattle.pdb_base.specs.Endian.{little_number}
 use Rattle.pdb_base.specs.Refusal.{Refusal, unexpected_eof}
-use Rattle.pdb_base.specs.Answer.{Answer, ◌>>=◌, collected}
+use Rattle.pdb_base.specs.Answer.{Answer, collected}
+use Rattle.pdb_base.specs.Collected.{ok_is, err_is, ok_is_no_err, collected-append_ok, collected-append_err}
 use Rattle.pdb_base.specs.Reading.{front_at, number_at}
-use Rattle.pdb_msf.specs.Pages.{words, present, judged, page_number, page_numbers}
-
--- ---- answers
-
-abbrev pub ok : {A : Type 0} → A → Answer A
-ok x = Ok x
-
-pub ok_is : {A : Type 0} (x y : A) → ok x ≡ ok y → x ≡ y
-ok_is x y e = cc
-
-abbrev err : {A : Type 0} → Refusal → Answer A
-err e = Err e
-
-ok_is_no_err : {A : Type 0} (x : A) (e : Refusal) → ok x ≡ Err e → ⊥
-ok_is_no_err x e h = cc
-
--- the values of two answers, one after the other
-pub bind_ok : {A B : Type 0} (r : Answer A) (f : A → Answer B) (y : B) → (r >>= f) ≡ Ok y → (x : A) × (r ≡ Ok x) × (f x ≡ Ok y)
-bind_ok (Ok x) f y e = (x, refl, e)
-bind_ok (Err d) f y e = absurd cc
+use Rattle.pdb_msf.specs.Pages.{words}
 
 -- ---- one word
 
@@ -97,9 +78,6 @@ front_cut : (count : ℕ) (bytes : List ℕ) → length bytes < count → front_
 unfolding front_at
 front_cut count bytes short = let test : ltb (length bytes) count ≡ true = lt-ltb (length bytes) count short in rw test refl
 
-err_is : {A : Type 0} (d e : Refusal) → err {A = A} d ≡ Err e → d ≡ e
-err_is d e h = cc
-
 -- so many words are skipped just where there are so many
 pub words_skipped : (count : ℕ) (bytes : List ℕ) (x : List ℕ × List ℕ) → front_at (4 * count) bytes ≡ Ok x → (count ≤ length (words bytes)) × (words x.1 ≡ drop count (words bytes))
 words_skipped count bytes x e =
@@ -159,20 +137,6 @@ range_split from (suc i) more =
     let first : from + 1 + i ≡ from + suc i = omega arith in
     ap (range_with_len from) count
     ∙ ap (λ (r : List ℕ). from ∷ r) (range_split (from + 1) i more ∙ ap (λ (n : ℕ). range_with_len (from + 1) i ++ n ∷ range_with_len (n + 1) more) first)
-
-collected-append_ok : {A : Type 0} (answers more : List (Answer A)) (xs ys : List A) → collected answers ≡ Ok xs → collected more ≡ Ok ys → collected (answers ++ more) ≡ Ok (xs ++ ys)
-collected-append_ok {A} [] more xs ys e f = f ∙ ap (λ (zs : List A). Ok (zs ++ ys)) (ok_is [] xs e)
-collected-append_ok {A} (Ok x ∷ answers) more xs ys e f =
-    let b = bind_ok (collected answers) (λ zs. Ok (x ∷ zs)) xs e in
-    rw (collected-append_ok answers more b.0 ys b.1 f) (ap (λ (zs : List A). Ok (zs ++ ys)) (ok_is (x ∷ b.0) xs b.2))
-collected-append_ok {A} (Err d ∷ answers) more xs ys e f = absurd cc
-
-collected-append_err : {A : Type 0} (answers more : List (Answer A)) (xs : List A) (r : Refusal) → collected answers ≡ Ok xs → collected more ≡ Err r → collected (answers ++ more) ≡ Err r
-collected-append_err [] more xs r e f = f
-collected-append_err (Ok x ∷ answers) more xs r e f =
-    let b = bind_ok (collected answers) (λ zs. Ok (x ∷ zs)) xs e in
-    rw (collected-append_err answers more b.0 r b.1 f) refl
-collected-append_err (Err d ∷ answers) more xs r e f = absurd cc
 
 -- the answers in turn, one more of which gives a value
 pub collected_more : {A : Type 0} (f : ℕ → Answer A) (i : ℕ) (xs : List A) (x : A) → collected (map f (range_with_len 0 i)) ≡ Ok xs → f i ≡ Ok x → collected (map f (range_with_len 0 (i + 1))) ≡ Ok (xs ++ x ∷ [])

@@ -1,8 +1,8 @@
 -- The directory of a file: u32 count of streams, a u32 size for each, then the page numbers of the
 -- first stream, of the second and so on, as many for each as its size takes.
-use Rattle.std.specs.Prelude.{◌≡◌, ℕ, ◌+◌, ◌*◌, ◌<◌, not, nat_lt, nat_le, ◌==◌, if◌then◌else◌, List, length, take, drop, slice_get, Option, Some, None, Result, Ok, Err}
+use Rattle.std.specs.Prelude.{◌≡◌, ℕ, ◌+◌, ◌*◌, ◌<◌, not, nat_lt, nat_le, ◌==◌, if◌then◌else◌, List, length, take, drop, slice_get, Ok, Err}
 use Rattle.std.specs.List.{sum_by}
-use Rattle.pdb_base.specs.Refusal.{Refusal, unexpected_eof, stream_not_found}
+use Rattle.pdb_base.specs.Refusal.{unexpected_eof, stream_not_found}
 use Rattle.pdb_base.specs.Answer.{Answer, ◌>>=◌, required}
 use Rattle.pdb_msf.specs.Source.{found}
 use Rattle.pdb_msf.specs.Pages.{pages, scatter, words, present, page_numbers}

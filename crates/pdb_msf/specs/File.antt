@@ -1,11 +1,10 @@
 -- The streams of a file.
-use Rattle.std.specs.Prelude.{ℕ, min, List, Option, Some, None, Result, Ok, Err}
-use Rattle.pdb_base.specs.Refusal.{Refusal}
+use Rattle.std.specs.Prelude.{ℕ, min, List, Option, Some, None}
 use Rattle.pdb_base.specs.Answer.{Answer, ◌>>=◌}
 use Rattle.pdb_msf.specs.Source.{found}
 use Rattle.pdb_msf.specs.Pages.{scatter, words}
 use Rattle.pdb_msf.specs.Header.{Head}
-use Rattle.pdb_msf.specs.Directory.{Entry, entry_of, directory_of}
+use Rattle.pdb_msf.specs.Directory.{entry_of, directory_of}
 
 -- an open file: its source, and what its header says
 pub record Opened (S : Type 0) : Type 0 where

@@ -6,3 +6,4 @@ pub mod PageList
 pub mod Header
 pub mod Directory
 pub mod File
+pub mod Laws

@@ -1,10 +1,10 @@
 -- A file is cut into pages of one size, which are named by their numbers. What it holds lies
 -- scattered over pages.
-use Rattle.std.specs.Prelude.{ℕ, ◌+◌, ◌*◌, ◌/◌, ◌%◌, Bool, ◌&&◌, nat_lt, nat_le, if◌then◌else◌, List, [], ◌∷◌, map, slice_index, slice_get, Option, Some, None, Result, Ok, Err}
+use Rattle.std.specs.Prelude.{ℕ, ◌+◌, ◌*◌, ◌/◌, ◌%◌, ◌&&◌, nat_lt, nat_le, if◌then◌else◌, List, [], ◌∷◌, map, slice_index, slice_get, Option, Some, None, Ok, Err}
 use Rattle.std.specs.Int.{div_ceil}
 use Rattle.std.specs.List.{range_with_len}
 use Rattle.pdb_base.specs.Endian.{little_number}
-use Rattle.pdb_base.specs.Refusal.{Refusal, unexpected_eof, page_reference_out_of_range}
+use Rattle.pdb_base.specs.Refusal.{unexpected_eof, page_reference_out_of_range}
 use Rattle.pdb_base.specs.Answer.{Answer, ◌>>=◌, collected}
 use Rattle.pdb_msf.specs.Source.{bytes_at}
 

@@ -5,7 +5,7 @@ use Rattle.std.specs.declared.io.Error.{Error}
 use Rattle.std.specs.declared.io.ErrorKind.{ErrorKind}
 use Rattle.std.specs.declared.io.ErrorKind.TheVariants.{UnexpectedEof, OutOfMemory}
 use Rattle.std.specs.IoError.{error_kind}
-use Rattle.pdb_base.specs.Refusal.{Refusal, io_error}
+use Rattle.pdb_base.specs.Refusal.{io_error}
 use Rattle.pdb_base.specs.Answer.{Answer}
 use Rattle.pdb_msf.specs.declared.source.SourceSlice.{SourceSlice}
 

@@ -3,6 +3,7 @@
 
 mod directory;
 mod header;
+pub mod laws;
 mod magic;
 mod msf;
 mod page_list;

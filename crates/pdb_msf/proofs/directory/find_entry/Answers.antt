@@ -1,5 +1,5 @@
 -- Each exit says how far the look-up came; `EntryLemmas` says what is assigned there.
-use Rattle.std.proofs.Common.{◌≡◌, ℕ, ◌+◌, ◌-◌, ◌*◌, ◌^◌, ◌<◌, ◌≤◌, drop, arith, ap, sym, ◌∙◌, inl, inr}
+use Rattle.std.proofs.Common.{◌≡◌, ◌+◌, ◌-◌, drop, ap, sym, ◌∙◌, inl, inr}
 use Rattle.std.proofs.lemmas.Bool.{le-ltb, eq-eqb}
 use Rattle.pdb_base.specs.Place.{Place, left}
 use Rattle.pdb_base.specs.Refused.{passed_on}

@@ -1,4 +1,4 @@
-use Rattle.std.proofs.Common.{◌≡◌, ℕ, ◌<◌, ◌≤◌, length, take, arith, ap, sym, refl, ◌∙◌, Ok, ltb, true, false}
+use Rattle.std.proofs.Common.{◌≡◌, ℕ, ◌<◌, ◌≤◌, length, arith, ap, sym, refl, Ok, ltb, true, false}
 use Rattle.std.proofs.lemmas.Bool.{lt-ltb, le-ltb}
 use Rattle.pdb_base.specs.Place.{left}
 use Rattle.pdb_base.specs.Refused.{passed_on}

@@ -1,5 +1,4 @@
-use Rattle.std.proofs.Common.{◌≡◌, ℕ, ◌*◌, ◌≤◌, ◌<◌, length, arith, ap, ◌∙◌}
-use Rattle.pdb_msf.specs.Pages.{pages}
+use Rattle.std.proofs.Common.{◌≡◌, ◌*◌, length, arith, ap, ◌∙◌}
 use Rattle.pdb_msf.specs.Header.{location_pages, directory_pages}
 use Rattle.pdb_msf.proofs.PageLemmas.{page_size_bounds, pages_reach, pages_le}
 use Rattle.pdb_msf.proofs.directory.read_directory.Goals as goal

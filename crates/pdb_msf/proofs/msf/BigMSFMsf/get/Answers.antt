@@ -1,4 +1,4 @@
-use Rattle.std.proofs.Common.{◌≡◌, ◌*◌, ◌≤◌, length, ap, ◌∙◌, arith}
+use Rattle.std.proofs.Common.{◌≡◌, length, ap, ◌∙◌, arith}
 use Rattle.pdb_msf.specs.Pages.{pages}
 use Rattle.pdb_msf.proofs.PageLemmas.{page_size_bounds, pages_reach, pages_few}
 use Rattle.pdb_msf.proofs.msf.BigMSFMsf.get.Goals as goal

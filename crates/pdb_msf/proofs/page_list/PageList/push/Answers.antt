@@ -1,5 +1,4 @@
-use Rattle.std.proofs.Common.{◌*◌, arith, ap, length, ◌∙◌}
-use Rattle.pdb_msf.specs.Source.{places}
+use Rattle.std.proofs.Common.{◌*◌, arith}
 use Rattle.pdb_msf.proofs.PlacesLemmas.{length-places_push}
 use Rattle.pdb_msf.proofs.page_list.PageList.push.Goals as goal
 

@@ -1,4 +1,4 @@
-use Rattle.std.proofs.Common.{◌≡◌, ℕ, ◌+◌, ◌-◌, ◌≤◌, List, [], ◌∷◌, ◌++◌, length, take, arith, ap, sym, ◌∙◌}
+use Rattle.std.proofs.Common.{◌≡◌, ℕ, ◌+◌, ◌-◌, [], ◌∷◌, ◌++◌, length, take, arith, ap, sym, ◌∙◌}
 use Rattle.pdb_msf.specs.Source.{places}
 use Rattle.pdb_msf.proofs.PlacesLemmas.{length-places_push, take-places_pop, take-places_cut}
 use Rattle.std.proofs.lemmas.List.{take_all, length-take}

@@ -1,0 +1,8 @@
+use Rattle.pdb_base.specs.Collected.{collects_all, refuses_as_first}
+use Rattle.pdb_base.proofs.laws.collected.Goals as goal
+
+pub returns-clause-all : goal.returns-clause-all
+returns-clause-all g c answers = collects_all answers
+
+pub returns-clause-first : goal.returns-clause-first
+returns-clause-first g c answers = refuses_as_first answers
