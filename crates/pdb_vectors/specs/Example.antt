@@ -1,5 +1,5 @@
 -- The example file S1: eight pages of 512 bytes, the last of them page 7.
-use Rattle.std.specs.Prelude.{ℕ, ◌-◌, List, [], ◌++◌, length, replicate, codes}
+use Rattle.std.specs.Prelude.{ℕ, ◌-◌, List, [], ◌++◌, length, replicate}
 use Rattle.pdb_vectors.specs.declared.example.TheConstants.{HEADER, DIRECTORY, LOCATION, HELLO}
 
 -- a page that begins with these bytes and is filled up with one byte

@@ -1,13 +1,12 @@
 -- One query to a vector of bytes, which is a sound source.
-use Rattle.std.proofs.Common.{◌≡◌, List, [], ◌∷◌, ◌++◌, ℕ, Ok, Err, refl, sym, ap, ◌∙◌, subst, inl, inr}
+use Rattle.std.proofs.Common.{◌≡◌, List, [], ◌∷◌, ◌++◌, ℕ, Ok, refl, subst, inl, inr}
 use Rattle.std.specs.Prelude.{◌⊎◌, IsTrue, true}
 use Rattle.std.specs.Global.{Vec}
 use Rattle.pdb_container.specs.declared.Error.{Error}
-use Rattle.pdb_container.specs.declared.Error.TheVariants as errors
 use Rattle.pdb_container.specs.declared.query.Query.{Query}
 use Rattle.pdb_container.specs.declared.query.Reply.{Reply}
-use Rattle.pdb_container.specs.Refusal.{Refusal, refusal_of, out_of_memory}
-use Rattle.pdb_container.specs.Answer.{Answer, ◌>>=◌, RefusesUnless}
+use Rattle.pdb_container.specs.Refusal.{refusal_of, out_of_memory}
+use Rattle.pdb_container.specs.Answer.{Answer, RefusesUnless}
 use Rattle.pdb_container.specs.Header.{Head, opened}
 use Rattle.pdb_container.specs.Reply.{Said, IsReply, AreReplies, IsRun, reply_of}
 use Rattle.pdbq.specs.declared.outcome.Outcome.{Outcome}

@@ -1,4 +1,4 @@
-use Rattle.std.proofs.Common.{◌≡◌, ◌+◌, ◌≤◌, vec_len, ◌∙◌, arith, None}
+use Rattle.std.proofs.Common.{◌∙◌, arith, None}
 use Rattle.pdb_msf.specs.Kept.{kept_then}
 use Rattle.pdb_container.specs.declared.query.Query.TheVariants as queries
 use Rattle.pdb_container.proofs.ReplyLemmas.{asked_once}

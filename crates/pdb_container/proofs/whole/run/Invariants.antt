@@ -1,7 +1,6 @@
-use Rattle.std.proofs.Common.{◌≡◌, ◌≤◌, ◌+◌, length, take, vec_len, vec_capacity}
+use Rattle.std.proofs.Common.{◌≡◌, ◌≤◌, length, take, vec_len, vec_capacity}
 use Rattle.std.specs.Prelude.{IsTrue}
 use Rattle.pdb_msf.specs.Source.{IsKept}
-use Rattle.pdb_msf.specs.Header.{opened}
 use Rattle.pdb_container.specs.Reply.{AreReplies}
 use Rattle.pdb_container.proofs.whole.run.Given as goal
 

@@ -1,4 +1,4 @@
-use Rattle.std.proofs.Common.{◌≡◌, ℕ, ◌+◌, ◌-◌, ◌*◌, List, ◌++◌, length, take, drop, ap, sym, ◌∙◌}
+use Rattle.std.proofs.Common.{ℕ, ◌-◌, ◌*◌, List, ◌++◌, take, drop, ap, sym, ◌∙◌}
 use Rattle.pdbq.specs.Printed.{hex_line}
 use Rattle.pdbq.proofs.LineLemmas.{lines_to, lines_more, line_cut}
 use Rattle.pdbq.proofs.outcome.hex_lines.Goals as goal
