@@ -1,2 +1,4 @@
 pub mod Padding
 pub mod SpellingLemmas
+pub mod Refused
+pub mod Collected

@@ -3,9 +3,7 @@ pub mod ErrorText
 pub mod Answer
 pub mod Place
 pub mod Reading
-pub mod Refused
 pub mod Laws
-pub mod Collected
 
 -- the words of the libraries below that the contracts of this one speak in
 pub use Rattle.byteorder.specs.Endian

@@ -5,7 +5,7 @@ use Rattle.std.proofs.Common.{subst, sym}
 use Rattle.pdb_base.specs.Answer.{Answer}
 use Rattle.std.specs.Prelude.{IsTrue}
 use Rattle.pdb_msf.specs.Source.{State, IsKept, HasFailed}
-use Rattle.pdb_msf.specs.Kept.{unsound_before}
+use Rattle.pdb_msf.proofs.Kept.{unsound_before}
 use Rattle.pdb_msf.specs.Header.{Head}
 use Rattle.pdb_container.specs.declared.query.Query.{Query}
 use Rattle.pdb_container.specs.declared.query.Reply.{Reply}

@@ -4,12 +4,10 @@ pub mod Reply
 pub use Rattle.pdb_base.specs.Refusal
 pub use Rattle.pdb_base.specs.ErrorText
 pub use Rattle.pdb_base.specs.Answer
-pub use Rattle.pdb_base.specs.Refused
 pub use Rattle.pdb_base.specs.Place
 pub use Rattle.pdb_base.specs.Reading
 pub use Rattle.pdb_base.specs.Endian
 pub use Rattle.pdb_msf.specs.Source
-pub use Rattle.pdb_msf.specs.Kept
 pub use Rattle.pdb_msf.specs.Pages
 pub use Rattle.pdb_msf.specs.Header
 pub use Rattle.pdb_msf.specs.Directory

@@ -11,7 +11,7 @@ use Rattle.std.specs.List.{list_all, range_with_len, slice_get}
 use Rattle.pdb_base.specs.Refusal.{Refusal, page_reference_out_of_range}
 use Rattle.pdb_base.specs.Answer.{Answer, collected}
 use Rattle.pdb_base.specs.Reading.{front_at, number_at}
-use Rattle.pdb_base.specs.Collected.{ok, err, ok_is, err_is, ok_is_no_err, bind_ok, collects_all}
+use Rattle.pdb_base.proofs.Collected.{ok, err, ok_is, err_is, ok_is_no_err, bind_ok, collects_all}
 use Rattle.pdb_msf.specs.Source.{bytes_at, found}
 use Rattle.pdb_msf.specs.Pages.{pages, place_of, scatter, words, present, judged, page_number, page_numbers}
 use Rattle.pdb_msf.specs.Header.{Head, fields_of}

@@ -3,3 +3,4 @@ pub mod WordLemmas
 pub mod PageLemmas
 pub mod EntryLemmas
 pub mod LawLemmas
+pub mod Kept

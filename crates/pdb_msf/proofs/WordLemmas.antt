@@ -9,7 +9,7 @@ use Rattle.std.proofs.lemmas.List.Sums.{sum_by_more}
 use Rattle.pdb_base.specs.Endian.{little_number}
 use Rattle.pdb_base.specs.Refusal.{Refusal, unexpected_eof}
 use Rattle.pdb_base.specs.Answer.{Answer, collected}
-use Rattle.pdb_base.specs.Collected.{ok_is, err_is, ok_is_no_err, collected-append_ok, collected-append_err}
+use Rattle.pdb_base.proofs.Collected.{ok_is, err_is, ok_is_no_err, collected-append_ok, collected-append_err}
 use Rattle.pdb_base.specs.Reading.{front_at, number_at}
 use Rattle.pdb_msf.specs.Pages.{words}
 

@@ -1,5 +1,4 @@
 pub mod Source
-pub mod Kept
 pub mod Within
 pub mod Pages
 pub mod PageList

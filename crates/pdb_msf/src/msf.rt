@@ -120,7 +120,7 @@ fn view_front<S: Source>(source: &mut S, alloc: Global, size: usize) -> Result<R
 /// `UnrecognizedFileFormat` for other magic; `InvalidPageSize`; `UnexpectedEof` or
 /// `PageReferenceOutOfRange` for the first number of the pages that locate the directory that is
 /// missing or bad. `OutOfMemory` where memory is asked for and refused.
-#[tactic(auto, unfolding(crate::specs::Header::opened), using(crate::specs::Kept::unsound))]
+#[tactic(auto, unfolding(crate::specs::Header::opened), using(crate::proofs::Kept::unsound))]
 pub fn open_msf<S: Source + Drop>(alloc: Global, mut source: S) -> Result<BigMSF<S>>
     ensures head { AnswersUnless (¬ IsTrue (S.state source).is_sound) (λ m. m.head) result (opened (S.state source).bytes) }
     ensures kept { IfOk result (λ m. IsKept (S.state source) (S.state m.source)) }

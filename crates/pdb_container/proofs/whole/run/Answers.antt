@@ -1,5 +1,5 @@
 use Rattle.std.proofs.Common.{◌∙◌, arith, None}
-use Rattle.pdb_msf.specs.Kept.{kept_then}
+use Rattle.pdb_msf.proofs.Kept.{kept_then}
 use Rattle.pdb_container.specs.declared.query.Query.TheVariants as queries
 use Rattle.pdb_container.proofs.ReplyLemmas.{asked_once}
 use Rattle.pdb_container.proofs.whole.run.Goals as goal

@@ -2,7 +2,7 @@
 use Rattle.std.proofs.Common.{◌≡◌, ◌+◌, ◌-◌, drop, ap, sym, ◌∙◌, inl, inr}
 use Rattle.std.proofs.lemmas.Bool.{le-ltb, eq-eqb}
 use Rattle.pdb_base.specs.Place.{Place, left}
-use Rattle.pdb_base.specs.Refused.{passed_on}
+use Rattle.pdb_base.proofs.Refused.{passed_on}
 use Rattle.pdb_msf.specs.Pages.{pages, words, page_numbers}
 use Rattle.pdb_msf.specs.Directory.{absent, pages_before}
 use Rattle.pdb_msf.proofs.WordLemmas.{next_word, no_word, words_skipped, words_short}

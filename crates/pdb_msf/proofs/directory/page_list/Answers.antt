@@ -2,7 +2,7 @@ use Rattle.std.proofs.Common.{◌≡◌, ℕ, ◌*◌, ◌^◌, ◌≤◌, lengt
 use Rattle.std.proofs.lemmas.List.{length-take-le, take_all}
 use Rattle.std.proofs.lemmas.Nat.{mul-le}
 use Rattle.pdb_msf.specs.PageList.{Listed}
-use Rattle.pdb_base.specs.Collected.{ok}
+use Rattle.pdb_base.proofs.Collected.{ok}
 use Rattle.pdb_msf.proofs.PageLemmas.{all_places, length-all_places, places_by_index}
 use Rattle.pdb_msf.proofs.directory.page_list.Goals as goal
 

@@ -1,7 +1,7 @@
 use Rattle.std.proofs.Common.{◌≡◌, ℕ, ◌<◌, ◌≤◌, length, arith, ap, sym, refl, Ok, ltb, true, false}
 use Rattle.std.proofs.lemmas.Bool.{lt-ltb, le-ltb}
 use Rattle.pdb_base.specs.Place.{left}
-use Rattle.pdb_base.specs.Refused.{passed_on}
+use Rattle.pdb_base.proofs.Refused.{passed_on}
 use Rattle.pdb_msf.specs.Pages.{words}
 use Rattle.pdb_msf.specs.Directory.{pages_taken, pages_before}
 use Rattle.pdb_msf.proofs.WordLemmas.{next_word, no_word, word_within, word_past, total_more}

@@ -3,7 +3,7 @@ use Rattle.std.specs.List.{range_with_len}
 use Rattle.std.proofs.lemmas.List.FromFn.{length-map-range_with_len}
 use Rattle.pdb_msf.specs.Source.{places}
 use Rattle.pdb_msf.specs.Pages.{place_of}
-use Rattle.pdb_base.specs.Collected.{ok_is}
+use Rattle.pdb_base.proofs.Collected.{ok_is}
 use Rattle.pdb_msf.proofs.PageLemmas.{length_viewed}
 use Rattle.pdb_msf.proofs.directory.read_scattered.Goals as goal
 

@@ -2,7 +2,7 @@ use Rattle.std.proofs.Common.{◌≡◌, ℕ, refl, ap, sym, ◌∙◌, arith, i
 use Rattle.std.specs.List.{range_with_len}
 use Rattle.pdb_base.specs.Place.{left}
 use Rattle.pdb_base.specs.Answer.{collected}
-use Rattle.pdb_base.specs.Refused.{passed_on}
+use Rattle.pdb_base.proofs.Refused.{passed_on}
 use Rattle.pdb_base.specs.Refusal.{refusal_of}
 use Rattle.pdb_msf.specs.Pages.{words, page_number, page_numbers}
 use Rattle.pdb_msf.proofs.WordLemmas.{next_word, no_word, collected_more, collected_stops}
