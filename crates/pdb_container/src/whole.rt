@@ -24,8 +24,8 @@ fn ask<S: Source>(alloc: Global, file: &mut BigMSF<S>, query: Query) -> Reply
     }
 }
 
-/// Opens a file and asks it all queries: one reply to each, in order. A refused query does not touch
-/// the next.
+/// Opens a file and asks it all queries: one reply to each, in order. On a sound source a refused query
+/// does not touch the next.
 ///
 /// # Errors
 /// What `open_msf` refuses, or `OutOfMemory` where there is no room for the list of replies.

@@ -1,14 +1,15 @@
 -- The places that slices name, and the bytes that stand there.
-use Rattle.std.proofs.Common.{◌≡◌, ℕ, zero, suc, ◌+◌, ◌-◌, ◌<◌, ◌≤◌, ◌==◌, Bool, true, false, ◌&&◌, ◌||◌, ltb, leb, List, [], ◌∷◌, ◌++◌, length, take, drop, map, refl, sym, ap, ◌∙◌, arith, slice_index, length-append, Some, None}
+use Rattle.std.proofs.Common.{get_or, ◌≡◌, ℕ, zero, suc, ◌+◌, ◌-◌, ◌^◌, ◌<◌, ◌≤◌, ◌==◌, Bool, true, false, ◌&&◌, ◌||◌, ltb, leb, List, [], ◌∷◌, ◌++◌, length, take, drop, map, refl, sym, ap, ◌∙◌, arith, slice_index, length-append, Some, None}
 use Rattle.std.specs.List.{list_all, range_with_len}
 use Rattle.std.proofs.lemmas.Grind.{flat_map-append, common_steps}
+use Rattle.std.proofs.lemmas.Bool.{le-ltb, lt-ltb}
 use Rattle.std.proofs.lemmas.Bool.Decides.{nat_tests}
 use Rattle.std.proofs.lemmas.List.Folds.{list_all-append}
-use Rattle.std.proofs.lemmas.List.{append-nil, get_or-take, get_or-drop, length-take, length-drop, take-append-le, ext_get_or, length-map, map-id}
+use Rattle.std.proofs.lemmas.List.{append-nil, get_or-take, get_or-drop, length-take, length-drop, take-append-le, take_more, ext_get_or, length-map, map-id}
 use Rattle.std.proofs.lemmas.List.FromFn.{length-range_with_len, get_or-map-range_with_len, take-map-range_with_len}
 use Rattle.pdb_msf.specs.declared.source.SourceSlice.{SourceSlice}
 use Rattle.pdb_msf.specs.Source.{slice_places, places, bytes_at}
-use Rattle.pdb_msf.specs.Within.{is_within}
+use Rattle.pdb_msf.specs.Within.{is_within, fitting}
 
 -- ---- one slice more
 
@@ -20,6 +21,44 @@ places_push slices slice =
 pub length-places_push : (slices : List SourceSlice) (slice : SourceSlice) → length (places (slices ++ slice ∷ [])) ≡ length (places slices) + slice.size
 length-places_push slices slice =
     ap length (places_push slices slice) ∙ length-append (places slices) (slice_places slice) ∙ ap (λ (n : ℕ). length (places slices) + n) (length-range_with_len slice.offset slice.size)
+
+length-places_more : (slices : List SourceSlice) (i : ℕ) (d : SourceSlice) → i < length slices → length (places (take (i + 1) slices)) ≡ length (places (take i slices)) + (get_or slices i d).size
+length-places_more slices i d within =
+    ap (λ (s : List SourceSlice). length (places s)) (take_more slices i d within) ∙ length-places_push (take i slices) (get_or slices i d)
+
+-- fewer slices name no more places
+length-places_take : (slices : List SourceSlice) (i : ℕ) → length (places (take i slices)) ≤ length (places slices)
+length-places_take [] zero = omega arith
+length-places_take [] (suc i) = omega arith
+length-places_take (slice ∷ slices) zero = omega arith
+length-places_take (slice ∷ slices) (suc i) =
+    let rest = length-places_take slices i in
+    let some = length-append (slice_places slice) (places (take i slices)) in
+    let all = length-append (slice_places slice) (places slices) in
+    omega (arith, rest, some, all)
+
+-- a slice that names no place
+abbrev pub nowhere : SourceSlice
+nowhere = record { offset = 0; size = 0 }
+
+-- a sum that fits
+pub size_more : (slices : List SourceSlice) (i : ℕ) (d : SourceSlice) (total next : ℕ) → i < length slices → total ≡ length (places (take i slices)) → next ≡ total + (get_or slices i d).size → next ≡ length (places (take (i + 1) slices))
+size_more slices i d total next within is sum = let more = length-places_more slices i d within in omega (arith, is, sum, more)
+
+-- and one that does not
+pub size_past : (slices : List SourceSlice) (i : ℕ) (d : SourceSlice) (total : ℕ) → i < length slices → total ≡ length (places (take i slices)) → 2 ^ 64 ≤ total + (get_or slices i d).size → fitting (length (places slices)) ≡ None
+unfolding fitting
+size_past slices i d total within is past =
+    let more = length-places_more slices i d within in
+    let most = length-places_take slices (i + 1) in
+    let test : ltb (length (places slices)) (2 ^ 64) ≡ false = le-ltb (length (places slices)) (2 ^ 64) (omega (arith, is, past, more, most)) in
+    rw test refl
+
+pub size_fits : (slices : List SourceSlice) (total : ℕ) → total ≡ length (places slices) → total < 2 ^ 64 → fitting (length (places slices)) ≡ Some total
+unfolding fitting
+size_fits slices total is small =
+    let test : ltb (length (places slices)) (2 ^ 64) ≡ true = lt-ltb (length (places slices)) (2 ^ 64) (omega (arith, is, small)) in
+    rw test (ap (λ (n : ℕ). Some n) (sym is))
 
 -- ---- the bytes there
 

@@ -1,6 +1,6 @@
 //! The header of a file.
 
-ghost use Rattle.std.specs.Prelude.{◌≡◌, ◌<◌, ◌≤◌, ◌*◌, ◌^◌, length, vec_len, IfOk};
+ghost use Rattle.std.specs.Prelude.{◌≡◌, ◌<◌, ◌≤◌, ◌*◌, ◌^◌, length, drop, vec_len, IfOk, OnOk};
 ghost use Rattle.pdb_base.specs.Answer.{Answers, Gives};
 ghost use Rattle.pdb_base.specs.Place.{left};
 ghost use Rattle.pdb_msf.specs.Pages.{pages, words, judged, page_numbers};
@@ -79,6 +79,7 @@ impl Geometry {
     ) -> Result<Vec<u32>>
         ensures numbers { Answers (λ v. v.items) result (page_numbers self.pages_used count (words (left buffer.old))) }
         ensures count { IfOk result (λ v. vec_len v ≡ count) }
+        ensures rest { OnOk result (words (left buffer.new) ≡ drop count (words (left buffer.old))) }
     {
         let mut numbers = Vec::new(alloc);
         for _ in 0..count {

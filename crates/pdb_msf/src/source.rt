@@ -3,7 +3,7 @@
 ghost use Rattle.std.specs.Prelude.{◌≡◌, ℕ, List, length, map, true, IsTrue, IfOk, slice_index};
 ghost use Rattle.pdb_msf.specs.Source.{State, IsKept, HasFailed, Shows, bytes_at, places, slice_places};
 ghost use Rattle.std.specs.List.{list_all};
-ghost use Rattle.pdb_msf.specs.Within.{is_within};
+ghost use Rattle.pdb_msf.specs.Within.{is_within, fitting};
 
 use std::alloc::{AllocError, Global};
 use std::io;
@@ -113,7 +113,9 @@ fn all_within(len: usize, slices: &[SourceSlice]) -> bool
 }
 
 // The sizes of all slices together, if that is a number.
-fn total_size(slices: &[SourceSlice]) -> Option<usize> {
+fn total_size(slices: &[SourceSlice]) -> Option<usize>
+    ensures { result ≡ fitting (length (places slices.now)) }
+{
     let mut total = 0usize;
     for slice in slices {
         total = total.checked_add(slice.size)?;

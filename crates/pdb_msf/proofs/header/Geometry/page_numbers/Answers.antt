@@ -1,4 +1,4 @@
-use Rattle.std.proofs.Common.{◌≡◌, ℕ, refl, ap, sym, ◌∙◌, arith, inl, List, map, Ok, Err}
+use Rattle.std.proofs.Common.{◌≡◌, ℕ, refl, ap, sym, ◌∙◌, arith, inl, List, drop, map, Ok, Err}
 use Rattle.std.specs.List.{range_with_len}
 use Rattle.pdb_base.specs.Place.{left}
 use Rattle.pdb_base.specs.Answer.{collected}
@@ -42,3 +42,8 @@ returns-clause-numbers c =
     let all = words (left c.args.buffer.now) in
     let end : c.args.count ≡ c.loop.counter = omega arith in
     ap (λ (n : ℕ). collected (map (page_number c.args.self.pages_used all) (range_with_len 0 n))) end ∙ c.loop.invariant.so_far
+
+pub returns-clause-rest : goal.returns-clause-rest
+returns-clause-rest c =
+    let end : c.loop.counter ≡ c.args.count = omega arith in
+    c.loop.invariant.rest ∙ ap (λ (n : ℕ). drop n (words (left c.args.buffer.now))) end
