@@ -69,6 +69,6 @@ first_refusal {A} (Err d ∷ answers) e h = ([], answers, ap (λ (r : Refusal). 
 
 pub refuses_as_first : {A : Type 0} (answers : List (Answer A)) → RefusesAsFirst answers
 refuses_as_first {A} answers = (
-    first_refusal answers,
-    λ e before behind is. ap (λ (r : List (Answer A)). collected r) is ∙ collected-append_err (map ok before) (err e ∷ behind) before e (collected-values before) refl
+  first_refusal answers,
+  λ e before behind is. ap (λ (r : List (Answer A)). collected r) is ∙ collected-append_err (map ok before) (err e ∷ behind) before e (collected-values before) refl,
 )

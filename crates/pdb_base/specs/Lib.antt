@@ -4,6 +4,5 @@ pub mod Answer
 pub mod Place
 pub mod Reading
 pub mod Laws
-
 -- the words of the libraries below that the contracts of this one speak in
 pub use Rattle.byteorder.specs.Endian

@@ -126,14 +126,23 @@ impl fmt::Display for Error {
                 write!(f, "MSF referred to page number ({page}) out of range")
             }
             Error::InvalidPageSize(size) => {
-                write!(f, "The MSF header specifies an invalid page size ({size} bytes)")
+                write!(
+                    f,
+                    "The MSF header specifies an invalid page size ({size} bytes)"
+                )
             }
             Error::StreamNotFound(number) => {
-                write!(f, "The requested stream ({number}) is not stored in this file")
+                write!(
+                    f,
+                    "The requested stream ({number}) is not stored in this file"
+                )
             }
             Error::StreamNameNotFound => write!(f, "StreamNameNotFound"),
             Error::InvalidStreamLength(stream) => {
-                write!(f, "{stream} stream has an invalid length or alignment for its records")
+                write!(
+                    f,
+                    "{stream} stream has an invalid length or alignment for its records"
+                )
             }
             Error::IoError(error) => write!(f, "IO error while reading PDB: {error}"),
             Error::UnexpectedEof => write!(f, "UnexpectedEof"),
@@ -143,7 +152,11 @@ impl fmt::Display for Error {
             Error::GlobalSymbolsNotFound => write!(f, "GlobalSymbolsNotFound"),
             Error::SymbolTooShort => write!(f, "SymbolTooShort"),
             Error::UnimplementedSymbolKind(kind) => {
-                write!(f, "Support for symbols of kind {} is not implemented", Hexadecimal(*kind as u32))
+                write!(
+                    f,
+                    "Support for symbols of kind {} is not implemented",
+                    Hexadecimal(*kind as u32)
+                )
             }
             Error::InvalidTypeInformationHeader(rule) => {
                 write!(f, "The type information header was invalid: {rule}")
@@ -154,13 +167,25 @@ impl fmt::Display for Error {
                 write!(f, "Type {index} not indexed (index covers {covered})")
             }
             Error::UnimplementedTypeKind(kind) => {
-                write!(f, "Support for types of kind {} is not implemented", Hexadecimal(*kind as u32))
+                write!(
+                    f,
+                    "Support for types of kind {} is not implemented",
+                    Hexadecimal(*kind as u32)
+                )
             }
             Error::NotACrossModuleRef(index) => {
-                write!(f, "Type {} is not a cross module reference", Hexadecimal(*index))
+                write!(
+                    f,
+                    "Type {} is not a cross module reference",
+                    Hexadecimal(*index)
+                )
             }
             Error::CrossModuleRefNotFound(index) => {
-                write!(f, "Cross module reference {} not found in imports", Hexadecimal(*index))
+                write!(
+                    f,
+                    "Cross module reference {} not found in imports",
+                    Hexadecimal(*index)
+                )
             }
             Error::UnexpectedNumericPrefix(prefix) => write!(
                 f,
@@ -169,7 +194,11 @@ impl fmt::Display for Error {
             ),
             Error::AddressMapNotFound => write!(f, "AddressMapNotFound"),
             Error::UnimplementedDebugSubsection(kind) => {
-                write!(f, "Debug module subsection of kind {} is not implemented", Hexadecimal(*kind))
+                write!(
+                    f,
+                    "Debug module subsection of kind {} is not implemented",
+                    Hexadecimal(*kind)
+                )
             }
             Error::UnimplementedFileChecksumKind(kind) => {
                 write!(f, "Unknown source file checksum kind {kind}")

@@ -9,13 +9,11 @@ ghost use Rattle.pdb_base.specs.Laws.{CollectsAll, RefusesAsFirst, ReadsSpelling
 pub fn collected<A>()
     ensures all { (answers : List (Answer A)) → CollectsAll answers }
     ensures first { (answers : List (Answer A)) → RefusesAsFirst answers }
-{
-}
+{}
 
 /// A number is read from the front of bytes that begin with its spelling, the lowest byte first, and
 /// from too few bytes none is.
 #[tactic(auto, using(crate::proofs::SpellingLemmas::reads_spelling))]
 pub fn numbers()
     ensures { (width : ℕ) (bytes : List ℕ) → ReadsSpelling width bytes }
-{
-}
+{}

@@ -1,5 +1,4 @@
 pub mod Reply
-
 -- the words of the libraries below that the contracts of this one speak in
 pub use Rattle.pdb_base.specs.Refusal
 pub use Rattle.pdb_base.specs.ErrorText

@@ -25,14 +25,14 @@ use Rattle.pdb_msf.proofs.WordLemmas.{collected_more, collected_stops}
 
 pub is_least : (page_size bytes : ℕ) → 0 < page_size → IsLeast page_size bytes (pages page_size bytes)
 is_least page_size bytes positive = record {
-    reaches = pages_reach page_size bytes positive;
-    least = λ other reached.
-        let tight = pages_tight page_size bytes positive in
-        elim (cases_lt other (pages page_size bytes)) [
-          | inl more ↦ absurd (let product : (other + 1) * page_size ≤ pages page_size bytes * page_size = mul-le (other + 1) page_size (pages page_size bytes) page_size (omega arith) (omega arith) in
-                let one : (other + 1) * page_size ≡ other * page_size + page_size = omega arith in omega arith)
-          | inr least ↦ least
-        ]
+  reaches = pages_reach page_size bytes positive;
+  least = λ other reached.
+      let tight = pages_tight page_size bytes positive in
+      elim (cases_lt other (pages page_size bytes)) [
+        | inl more ↦ absurd (let product : (other + 1) * page_size ≤ pages page_size bytes * page_size = mul-le (other + 1) page_size (pages page_size bytes) page_size (omega arith) (omega arith) in
+            let one : (other + 1) * page_size ≡ other * page_size + page_size = omega arith in omega arith)
+        | inr least ↦ least
+      ];
 }
 
 -- ---- what is scattered
@@ -51,8 +51,8 @@ place_past : (limit : ℕ) (at : List ℕ) → list_all (λ place. ltb place lim
 place_past limit [] e = absurd cc
 place_past limit (place ∷ at) e = elim (cases_lt place limit) [
   | inl within ↦ let test : ltb place limit ≡ true = lt-ltb place limit within in
-        let rest = place_past limit at (subst (λ (b : Bool). (b && list_all (λ p. ltb p limit) at) ≡ false) test e) in
-        (suc rest.0, omega (arith, rest.1), rest.2)
+      let rest = place_past limit at (subst (λ (b : Bool). (b && list_all (λ p. ltb p limit) at) ≡ false) test e) in
+      (suc rest.0, omega (arith, rest.1), rest.2)
   | inr past ↦ (0, omega arith, past)
 ]
 
@@ -68,18 +68,17 @@ unfolding bytes_at
 found_by_index file f size bytes e = elim (bool_cases (list_all (λ place. ltb place (length file)) (map f (range_with_len 0 size)))) [
   | inr none ↦ absurd (some_is_not_none bytes (sym (subst (λ (b : Bool). cond b (Some (map (slice_index file) (map f (range_with_len 0 size)))) None ≡ Some bytes) none e)))
   | inl all ↦
-        let is : map (slice_index file) (map f (range_with_len 0 size)) ≡ bytes =
-            some_is (map (slice_index file) (map f (range_with_len 0 size))) bytes (subst (λ (b : Bool). cond b (Some (map (slice_index file) (map f (range_with_len 0 size)))) None ≡ Some bytes) all e) in
-        let long : length (map f (range_with_len 0 size)) ≡ size = length-map-range_with_len f 0 size in
-        (
-            sym (ap length is) ∙ length-map (map f (range_with_len 0 size)) (slice_index file) ∙ long,
-            λ i lt.
-                let inside : i < length (map f (range_with_len 0 size)) = omega (arith, long) in
-                let at : get_or (map f (range_with_len 0 size)) i 0 ≡ f i = get_or-map-range_with_len f 0 size i i 0 lt (omega arith) in
-                let within : get_or (map f (range_with_len 0 size)) i 0 < length file = place_within (length file) (map f (range_with_len 0 size)) i all inside in
-                slice_get-get_or file (f i) 0 (omega (arith, at, within))
-                ∙ ap (λ (x : ℕ). Some x) (sym (sym (ap (λ (r : List ℕ). get_or r i 0) is) ∙ get_or-map (slice_index file) (map f (range_with_len 0 size)) i 0 0 inside ∙ ap (slice_index file) at))
-        )
+      let is : map (slice_index file) (map f (range_with_len 0 size)) ≡ bytes =
+      some_is (map (slice_index file) (map f (range_with_len 0 size))) bytes (subst (λ (b : Bool). cond b (Some (map (slice_index file) (map f (range_with_len 0 size)))) None ≡ Some bytes) all e) in
+      let long : length (map f (range_with_len 0 size)) ≡ size = length-map-range_with_len f 0 size in (
+        sym (ap length is) ∙ length-map (map f (range_with_len 0 size)) (slice_index file) ∙ long,
+        λ i lt.
+            let inside : i < length (map f (range_with_len 0 size)) = omega (arith, long) in
+            let at : get_or (map f (range_with_len 0 size)) i 0 ≡ f i = get_or-map-range_with_len f 0 size i i 0 lt (omega arith) in
+            let within : get_or (map f (range_with_len 0 size)) i 0 < length file = place_within (length file) (map f (range_with_len 0 size)) i all inside in
+            slice_get-get_or file (f i) 0 (omega (arith, at, within))
+            ∙ ap (λ (x : ℕ). Some x) (sym (sym (ap (λ (r : List ℕ). get_or r i 0) is) ∙ get_or-map (slice_index file) (map f (range_with_len 0 size)) i 0 0 inside ∙ ap (slice_index file) at)),
+      )
 ]
 
 missing_by_index : (file : List ℕ) (f : ℕ → ℕ) (size : ℕ) → bytes_at file (map f (range_with_len 0 size)) ≡ None → (i : ℕ) × (i < size) × (length file ≤ f i)
@@ -87,10 +86,10 @@ unfolding bytes_at
 missing_by_index file f size e = elim (bool_cases (list_all (λ place. ltb place (length file)) (map f (range_with_len 0 size)))) [
   | inl all ↦ absurd (some_is_not_none (map (slice_index file) (map f (range_with_len 0 size))) (subst (λ (b : Bool). cond b (Some (map (slice_index file) (map f (range_with_len 0 size)))) None ≡ None) all e))
   | inr none ↦
-        let past = place_past (length file) (map f (range_with_len 0 size)) none in
-        let lt : past.0 < size = omega (arith, past.1, length-map-range_with_len f 0 size) in
-        let at : get_or (map f (range_with_len 0 size)) past.0 0 ≡ f past.0 = get_or-map-range_with_len f 0 size past.0 past.0 0 lt (omega arith) in
-        (past.0, lt, omega (arith, at, past.2))
+      let past = place_past (length file) (map f (range_with_len 0 size)) none in
+      let lt : past.0 < size = omega (arith, past.1, length-map-range_with_len f 0 size) in
+      let at : get_or (map f (range_with_len 0 size)) past.0 0 ≡ f past.0 = get_or-map-range_with_len f 0 size past.0 past.0 0 lt (omega arith) in
+      (past.0, lt, omega (arith, at, past.2))
 ]
 
 option_cases : {A : Type 0} (o : Option A) → ((x : A) × (o ≡ Some x)) ⊎ (o ≡ None)
@@ -101,19 +100,19 @@ option_cases (Some x) = inl (x, refl)
 only_by_index : (file : List ℕ) (f : ℕ → ℕ) (size : ℕ) (bytes : List ℕ) → length bytes ≡ size → ((i : ℕ) → i < size → slice_get file (f i) ≡ Some (slice_index bytes i)) → bytes_at file (map f (range_with_len 0 size)) ≡ Some bytes
 only_by_index file f size bytes len each = elim (option_cases (bytes_at file (map f (range_with_len 0 size)))) [
   | inr none ↦ absurd (let past = missing_by_index file f size none in
-        let within : f past.0 < length file = slice_get_within file (f past.0) (slice_index bytes past.0) (each past.0 past.1) in omega (arith, past.2, within))
+      let within : f past.0 < length file = slice_get_within file (f past.0) (slice_index bytes past.0) (each past.0 past.1) in omega (arith, past.2, within))
   | inl there ↦ let are = found_by_index file f size there.0 there.1 in
-        there.1 ∙ ap (λ (r : List ℕ). Some r) (ext_get_or 0 there.0 bytes (are.0 ∙ sym len)
-            (λ i lt. let inside : i < size = omega (arith, are.0, lt) in
-                some_is (slice_index there.0 i) (slice_index bytes i) (sym (are.1 i inside) ∙ each i inside)))
+      there.1 ∙ ap (λ (r : List ℕ). Some r) (ext_get_or 0 there.0 bytes (are.0 ∙ sym len)
+      (λ i lt. let inside : i < size = omega (arith, are.0, lt) in
+      some_is (slice_index there.0 i) (slice_index bytes i) (sym (are.1 i inside) ∙ each i inside)))
 ]
 
 pub scatters : (file : List ℕ) (page_size : ℕ) (numbers : List ℕ) (size : ℕ) → Scatters file page_size numbers size
 unfolding scatter
 scatters file page_size numbers size = record {
-    found = λ bytes e. let are = found_by_index file (place_of page_size numbers) size bytes e in record { len = are.0; each = are.1 };
-    only = λ bytes are. only_by_index file (place_of page_size numbers) size bytes are.len are.each;
-    missing = missing_by_index file (place_of page_size numbers) size
+  found = λ bytes e. let are = found_by_index file (place_of page_size numbers) size bytes e in record { len = are.0; each = are.1 };
+  only = λ bytes are. only_by_index file (place_of page_size numbers) size bytes are.len are.each;
+  missing = missing_by_index file (place_of page_size numbers) size;
 }
 
 -- ---- the header
@@ -142,12 +141,12 @@ word_there (Some there) word e = ap (λ (n : ℕ). Some n) (ok_is there word e)
 judged_good : (pages_used word number : ℕ) → judged pages_used word ≡ Ok number → (word ≡ number) × (0 < word) × (word ≤ pages_used)
 judged_good pages_used word number e = elim (bool_cases (ltb 0 word && leb word pages_used)) [
   | inr bad ↦ absurd (ok_is_no_err number (page_reference_out_of_range word)
-        (sym (subst (λ (b : Bool). cond b (ok word) (err (page_reference_out_of_range word)) ≡ ok number) bad e)))
+      (sym (subst (λ (b : Bool). cond b (ok word) (err (page_reference_out_of_range word)) ≡ ok number) bad e)))
   | inl good ↦ (
-        ok_is word number (subst (λ (b : Bool). cond b (ok word) (err (page_reference_out_of_range word)) ≡ ok number) good e),
-        grind (arith, nat_tests),
-        grind (arith, nat_tests)
-    )
+    ok_is word number (subst (λ (b : Bool). cond b (ok word) (err (page_reference_out_of_range word)) ≡ ok number) good e),
+    grind (arith, nat_tests),
+    grind (arith, nat_tests),
+  )
 ]
 
 good_number : (pages_used : ℕ) (words : List ℕ) (i number : ℕ) → page_number pages_used words i ≡ Ok number → (slice_get words i ≡ Some number) × (0 < number) × (number ≤ pages_used)
@@ -162,15 +161,15 @@ are_good pages_used count words numbers e =
     let are = (collects_all (map (page_number pages_used words) (range_with_len 0 count))).0 numbers e in
     let long : length numbers ≡ count = sym (length-map numbers (λ n. ok n)) ∙ sym (ap length are) ∙ length-map-range_with_len (page_number pages_used words) 0 count in
     record {
-        len = long;
-        each = λ i number is.
-            let within : i < length numbers = slice_get_within numbers i number is in
-            let here : page_number pages_used words i ≡ Ok number =
-                sym (get_or-map-range_with_len (page_number pages_used words) 0 count i i (Ok 0) (omega (arith, long, within)) (omega arith))
-                ∙ ap (λ (r : List (Answer ℕ)). get_or r i (Ok 0)) are
-                ∙ get_or-map (λ n. ok n) numbers i 0 (Ok 0) within
-                ∙ ap (λ (n : ℕ). ok n) (get_or_from_slice_get numbers i number 0 is) in
-            good_number pages_used words i number here
+      len = long;
+      each = λ i number is.
+          let within : i < length numbers = slice_get_within numbers i number is in
+          let here : page_number pages_used words i ≡ Ok number =
+          sym (get_or-map-range_with_len (page_number pages_used words) 0 count i i (Ok 0) (omega (arith, long, within)) (omega arith))
+          ∙ ap (λ (r : List (Answer ℕ)). get_or r i (Ok 0)) are
+          ∙ get_or-map (λ n. ok n) numbers i 0 (Ok 0) within
+          ∙ ap (λ (n : ℕ). ok n) (get_or_from_slice_get numbers i number 0 is) in
+          good_number pages_used words i number here;
     }
 
 answer_cases : {A : Type 0} (r : Answer A) → ((x : A) × (r ≡ Ok x)) ⊎ ((e : Refusal) × (r ≡ Err e))
@@ -182,18 +181,18 @@ first_in : {A : Type 0} (f : ℕ → Answer A) (count : ℕ) (e : Refusal) → c
 first_in f zero e h = absurd cc
 first_in {A} f (suc count) e h = elim (answer_cases (collected (map f (range_with_len 0 count)))) [
   | inr refused ↦
-        let before = first_in f count refused.0 refused.1 in
-        let all = collected_stops f before.0 (suc count) before.2 refused.0 (omega (arith, before.1)) before.3 before.4 in
-        (before.0, omega (arith, before.1), before.2, before.3, before.4 ∙ ap (λ (d : Refusal). err d) (err_is {A = List A} refused.0 e (sym all ∙ h)))
+      let before = first_in f count refused.0 refused.1 in
+      let all = collected_stops f before.0 (suc count) before.2 refused.0 (omega (arith, before.1)) before.3 before.4 in
+      (before.0, omega (arith, before.1), before.2, before.3, before.4 ∙ ap (λ (d : Refusal). err d) (err_is {A = List A} refused.0 e (sym all ∙ h)))
   | inl there ↦ elim (answer_cases (f count)) [
-      | inr refused ↦
-            let all = collected_stops f count (suc count) there.0 refused.0 (omega arith) there.1 refused.1 in
-            (count, omega arith, there.0, there.1, refused.1 ∙ ap (λ (d : Refusal). err d) (err_is {A = List A} refused.0 e (sym all ∙ h)))
-      | inl here ↦ absurd (
-            let next : count + 1 ≡ suc count = omega arith in
-            let all = collected_more f count there.0 here.0 there.1 here.1 in
-            ok_is_no_err (there.0 ++ here.0 ∷ []) e (sym all ∙ ap (λ (n : ℕ). collected (map f (range_with_len 0 n))) next ∙ h))
-    ]
+    | inr refused ↦
+        let all = collected_stops f count (suc count) there.0 refused.0 (omega arith) there.1 refused.1 in
+        (count, omega arith, there.0, there.1, refused.1 ∙ ap (λ (d : Refusal). err d) (err_is {A = List A} refused.0 e (sym all ∙ h)))
+    | inl here ↦ absurd (
+        let next : count + 1 ≡ suc count = omega arith in
+        let all = collected_more f count there.0 here.0 there.1 here.1 in
+        ok_is_no_err (there.0 ++ here.0 ∷ []) e (sym all ∙ ap (λ (n : ℕ). collected (map f (range_with_len 0 n))) next ∙ h))
+  ]
 ]
 
 pub first_fault : (pages_used count : ℕ) (words : List ℕ) (fault : Refusal) → page_numbers pages_used count words ≡ Err fault → FirstFault pages_used count words fault
@@ -213,8 +212,8 @@ cut_is : (file : List ℕ) (page_size : ℕ) (numbers : List ℕ) (size limit : 
 cut_is file page_size numbers size limit bytes e =
     let are = (scatters file page_size numbers size).found bytes e in
     (scatters file page_size numbers (min size limit)).only (take limit bytes) (record {
-        len = length-take limit bytes ∙ grind (arith, nat_tests, are.len);
-        each = λ i lt. are.each i (omega arith) ∙ ap (λ (x : ℕ). Some x) (sym (get_or-take limit bytes i 0 (omega arith)))
+      len = length-take limit bytes ∙ grind (arith, nat_tests, are.len);
+      each = λ i lt. are.each i (omega arith) ∙ ap (λ (x : ℕ). Some x) (sym (get_or-take limit bytes i 0 (omega arith)));
     })
 
 pub cuts_only : (file : List ℕ) (head : Head) (n limit : ℕ) → CutsOnly file head n limit

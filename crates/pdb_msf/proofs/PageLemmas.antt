@@ -42,10 +42,10 @@ place_by_index page_size numbers i positive within =
     let page : i / page_size < length numbers = div_below i page_size (length numbers) positive within in
     let byte : i % page_size < page_size = mod-lt i positive in
     let before : length (all_places page_size (take (i / page_size) numbers)) ≡ i / page_size * page_size =
-        length-all_places page_size (take (i / page_size) numbers) ∙ ap (λ (n : ℕ). n * page_size) (length-take-le (i / page_size) numbers (omega arith)) in
+    length-all_places page_size (take (i / page_size) numbers) ∙ ap (λ (n : ℕ). n * page_size) (length-take-le (i / page_size) numbers (omega arith)) in
     let at : length (all_places page_size (take (i / page_size) numbers)) + i % page_size ≡ i = ap (λ (n : ℕ). n + i % page_size) before ∙ div-add-mod' i page_size in
     let in_page : i % page_size < length (page_places page_size (get_or numbers (i / page_size) 0)) =
-        omega (arith, length-range_with_len (get_or numbers (i / page_size) 0 * page_size) page_size) in
+    omega (arith, length-range_with_len (get_or numbers (i / page_size) 0 * page_size) page_size) in
     ap (λ (n : ℕ). get_or (all_places page_size numbers) n 0) (sym at)
     ∙ get_or-flat_map (page_places page_size) numbers (i / page_size) (i % page_size) 0 0 page in_page
     ∙ get_or-range_with_len (get_or numbers (i / page_size) 0 * page_size) page_size (i % page_size) 0 byte
@@ -57,9 +57,9 @@ places_by_index page_size numbers size positive within =
     let long : length (take size (all_places page_size numbers)) ≡ size = length-take size (all_places page_size numbers) ∙ omega arith in
     ext_get_or 0 _ _ (long ∙ sym (length-map-range_with_len (place_of page_size numbers) 0 size))
     (λ i lt. let inside : i < size = omega arith in
-        get_or-take size (all_places page_size numbers) i 0 inside
-        ∙ place_by_index page_size numbers i positive (omega arith)
-        ∙ sym (get_or-map-range_with_len (place_of page_size numbers) 0 size i i 0 inside (omega arith)))
+    get_or-take size (all_places page_size numbers) i 0 inside
+    ∙ place_by_index page_size numbers i positive (omega arith)
+    ∙ sym (get_or-map-range_with_len (place_of page_size numbers) 0 size i i 0 inside (omega arith)))
 
 -- so many pages do hold so many bytes
 pub pages_reach : (page_size bytes : ℕ) → 0 < page_size → bytes ≤ pages page_size bytes * page_size
@@ -89,7 +89,7 @@ pages_le page_size bytes positive =
     let tight = pages_tight page_size bytes positive in
     elim (cases_lt bytes (pages page_size bytes)) [
       | inl many ↦ absurd (let product : (bytes + 1) * page_size ≤ pages page_size bytes * page_size = mul-le (bytes + 1) page_size (pages page_size bytes) page_size (omega arith) (omega arith) in
-            let some : bytes * 1 ≤ bytes * page_size = mul-le bytes 1 bytes page_size (omega arith) (omega arith) in omega arith)
+          let some : bytes * 1 ≤ bytes * page_size = mul-le bytes 1 bytes page_size (omega arith) (omega arith) in omega arith)
       | inr few ↦ few
     ]
 
@@ -102,7 +102,7 @@ pub length_found : (file at bytes : List ℕ) → found (bytes_at file at) ≡ O
 unfolding bytes_at
 length_found file at bytes e = elim (bool_cases (list_all (λ place. ltb place (length file)) at)) [
   | inl all ↦ let shown : found (Some (map (slice_index file) at)) ≡ Ok bytes = subst (λ (b : Bool). found (cond b (Some (map (slice_index file) at)) None) ≡ Ok bytes) all e in
-    sym (ap length (ok_is (map (slice_index file) at) bytes shown)) ∙ length-map at (slice_index file)
+      sym (ap length (ok_is (map (slice_index file) at) bytes shown)) ∙ length-map at (slice_index file)
   | inr none ↦ absurd (let shown : found None ≡ Ok bytes = subst (λ (b : Bool). found (cond b (Some (map (slice_index file) at)) None) ≡ Ok bytes) none e in cc)
 ]
 

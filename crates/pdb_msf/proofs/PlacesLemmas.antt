@@ -67,8 +67,8 @@ pub part_by_places : (file : List ℕ) (offset size : ℕ) → offset + size ≤
 part_by_places file offset size within =
     ext_get_or 0 _ _ (omega (arith, length-map (range_with_len offset size) (slice_index file), length-range_with_len offset size, length-take size (drop offset file), length-drop offset file))
     (λ i lt. let in_range : i < size = omega (arith, length-map (range_with_len offset size) (slice_index file), length-range_with_len offset size) in
-        get_or-map-range_with_len (slice_index file) offset size i (offset + i) 0 in_range refl
-        ∙ sym (get_or-take size (drop offset file) i 0 in_range ∙ get_or-drop offset file i 0))
+    get_or-map-range_with_len (slice_index file) offset size i (offset + i) 0 in_range refl
+    ∙ sym (get_or-take size (drop offset file) i 0 in_range ∙ get_or-drop offset file i 0))
 
 -- the bytes of a slice that is within a file
 pub bytes_of_slice : (file : List ℕ) (slice : SourceSlice) → is_within (length file) slice ≡ true → (slice.size ≡ 0 → ⊥) → take (slice.offset + slice.size - slice.offset) (drop slice.offset file) ≡ map (slice_index file) (slice_places slice)
@@ -140,5 +140,5 @@ pub take-places_cut : (n : ℕ) (slices shorter : List SourceSlice) (last : Sour
 take-places_cut n slices shorter last is low high =
     places_push shorter (record { offset = last.offset; size = n - length (places shorter) })
     ∙ sym (ap (λ (s : List SourceSlice). take n (places s)) is ∙ ap (take n) (places_push shorter last)
-        ∙ take-append-ge n (places shorter) (slice_places last) low
-        ∙ ap (λ (r : List ℕ). places shorter ++ r) (take-range_with_len last.offset last.size (n - length (places shorter)) (omega arith)))
+    ∙ take-append-ge n (places shorter) (slice_places last) low
+    ∙ ap (λ (r : List ℕ). places shorter ++ r) (take-range_with_len last.offset last.size (n - length (places shorter)) (omega arith)))

@@ -81,11 +81,7 @@ pub fn read_scattered<S: Source>(
 
 /// Reads the directory.
 #[tactic(auto, unfolding(crate::specs::Directory::directory_of))]
-pub fn read_directory<S: Source>(
-    source: &mut S,
-    alloc: Global,
-    header: &Header,
-) -> Result<ReadView>
+pub fn read_directory<S: Source>(source: &mut S, alloc: Global, header: &Header) -> Result<ReadView>
     requires { IsHeader header.now }
     ensures bytes { AnswersUnless (HasFailed (S.state source.old) (S.state source.new)) (λ v. v) result
         (directory_of (S.state source.old).bytes (header_view header.now)) }
@@ -93,7 +89,13 @@ pub fn read_directory<S: Source>(
 {
     let geometry = header.geometry;
     let count = geometry.directory_pages();
-    let location = read_scattered(source, alloc, geometry.page_size, &header.location, 4 * count)?;
+    let location = read_scattered(
+        source,
+        alloc,
+        geometry.page_size,
+        &header.location,
+        4 * count,
+    )?;
     let mut buffer = ParseBuffer::from(location.as_slice());
     let numbers = geometry.page_numbers(alloc, &mut buffer, count)?;
     let size = geometry.directory_size as usize;

@@ -168,10 +168,12 @@ mod tests {
             assert!(rt; matches!(geometry.judge(number), Ok(good) if good == number));
         }
         for number in [0, 16, 17] {
-            assert!(rt; matches!(
+            assert!(rt;
+                matches!(
                 geometry.judge(number),
                 Err(Error::PageReferenceOutOfRange(bad)) if bad == number
-            ));
+            )
+            );
         }
     }
 }

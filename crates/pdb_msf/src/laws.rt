@@ -10,35 +10,30 @@ ghost use Rattle.pdb_msf.specs.Laws.{IsLeast, Scatters, StandAtOffsets, AreGood,
 /// So many bytes take the least number of pages that holds them.
 pub fn pages()
     ensures { (page_size bytes : ℕ) → 0 < page_size → IsLeast page_size bytes (pages page_size bytes) }
-{
-}
+{}
 
 /// What is scattered over pages is found byte by byte: byte i in page i / page size of the list, at
 /// i % page size. It is not where one of these places is past the end of the file.
 #[tactic(auto, using(crate::proofs::LawLemmas::scatters))]
 pub fn scatter()
     ensures { (file : List ℕ) (page_size : ℕ) (numbers : List ℕ) (size : ℕ) → Scatters file page_size numbers size }
-{
-}
+{}
 
 /// A header has its page size at byte 32, its pages used at 40, its directory size at 44, and the
 /// pages that locate the directory from byte 52 on.
 #[tactic(auto, using(crate::proofs::LawLemmas::stand_at_offsets))]
 pub fn header()
     ensures { (view : List ℕ) → StandAtOffsets view }
-{
-}
+{}
 
 /// Page numbers are read as they stand, where all are good, and else refused by the first fault.
 pub fn page_numbers()
     ensures good { (pages_used count : ℕ) (words numbers : List ℕ) → page_numbers pages_used count words ≡ Ok numbers → AreGood pages_used count words numbers }
     ensures fault { (pages_used count : ℕ) (words : List ℕ) (fault : Refusal) → page_numbers pages_used count words ≡ Err fault → FirstFault pages_used count words fault }
-{
-}
+{}
 
 /// A limit cuts what a stream answers to its first bytes, and else changes nothing.
 #[tactic(auto, using(crate::proofs::LawLemmas::cuts_only))]
 pub fn limits()
     ensures { (file : List ℕ) (head : Head) (n limit : ℕ) → CutsOnly file head n limit }
-{
-}
+{}

@@ -10,7 +10,7 @@ loop-query-preserved g c =
     let before = c.loop-query.invariant.kept in
     let now = c.ask.ensures.source in
     let replied = asked_once (state c.args.source) (state c.loop-query.file.source) (state c.ask.new.file.source) c.loop-query.file.head c.args.queries.now c.loop-query.query-index (queries.Stream 0 None)
-        c.loop-query.replies.items c.ask.result before now c.loop-query-test.true c.loop-query.invariant.replied c.ask.ensures.reply in
+    c.loop-query.replies.items c.ask.result before now c.loop-query-test.true c.loop-query.invariant.replied c.ask.ensures.reply in
     record {
       kept = kept_then _ _ _ before now;
       head = c.ask.ensures.head ∙ c.loop-query.invariant.head;

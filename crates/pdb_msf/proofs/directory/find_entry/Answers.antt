@@ -111,4 +111,4 @@ returns-clause-entry c =
     let reached = skips g n all _ _ _ _ own skipped.0 in
     let numbers = ap (λ words. page_numbers g.pages_used (pages g.page_size c.in_ok-size.size) words) (sym (skipped.1 ∙ own_numbers g n all _ _ _ _ own)) in
     entry_found g n all _ _ c.in_ok-size.size c.in_ok-pages.pages.items own.sized reached
-        (numbers ∙ ap (λ count. page_numbers g.pages_used count (words (left c.take.new.self))) (sym c.pages.ensures.pages) ∙ c.in_ok-pages.ensures.numbers)
+    (numbers ∙ ap (λ count. page_numbers g.pages_used count (words (left c.take.new.self))) (sym c.pages.ensures.pages) ∙ c.in_ok-pages.ensures.numbers)

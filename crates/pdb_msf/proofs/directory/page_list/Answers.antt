@@ -13,9 +13,9 @@ push-requires c =
     let i = c.loop-number.number-index in
     let few : i * c.args.page_size ≤ 2 ^ 40 * 0x800000 = mul-le i c.args.page_size (2 ^ 40) 0x800000 (omega arith) (omega arith) in
     let len : length c.loop-number.list.places ≡ i * c.args.page_size =
-        ap (λ (l : Listed). length l.places) c.loop-number.invariant
-        ∙ length-all_places c.args.page_size (take i numbers)
-        ∙ ap (λ (n : ℕ). n * c.args.page_size) (length-take-le i numbers (omega arith)) in
+    ap (λ (l : Listed). length l.places) c.loop-number.invariant
+    ∙ length-all_places c.args.page_size (take i numbers)
+    ∙ ap (λ (n : ℕ). n * c.args.page_size) (length-take-le i numbers (omega arith)) in
     let size : c.loop-number.list.page_size ≡ c.args.page_size = ap (λ (l : Listed). l.page_size) c.loop-number.invariant in
     omega arith
 
@@ -23,8 +23,8 @@ pub returns : goal.returns
 returns c =
     let numbers = c.args.numbers.now in
     let all : c.loop-number.list.places ≡ all_places c.args.page_size numbers =
-        ap (λ (l : Listed). l.places) c.loop-number.invariant
-        ∙ ap (all_places c.args.page_size) (take_all c.loop-number.number-index numbers c.loop-number-test.false) in
+    ap (λ (l : Listed). l.places) c.loop-number.invariant
+    ∙ ap (all_places c.args.page_size) (take_all c.loop-number.number-index numbers c.loop-number-test.false) in
     let kept : c.truncate.new.self.places ≡ take c.args.size (all_places c.args.page_size numbers) =
-        ap (λ (l : Listed). l.places) c.truncate.ensures ∙ ap (take c.args.size) all in
+    ap (λ (l : Listed). l.places) c.truncate.ensures ∙ ap (take c.args.size) all in
     ap (λ (places : List ℕ). ok places) (sym (kept ∙ places_by_index c.args.page_size numbers c.args.size c.requires.size.0 c.requires.reached))

@@ -16,7 +16,7 @@ loop-preserved c =
     record {
       rest = next.1;
       so_far = collected_more (page_number c.args.self.pages_used all) c.loop.counter c.loop.numbers.items c.in_ok-number.number c.loop.invariant.so_far here
-        ∙ ap (λ (numbers : List ℕ). Ok numbers) (sym c.in_ok-push.ensures.items);
+          ∙ ap (λ (numbers : List ℕ). Ok numbers) (sym c.in_ok-push.ensures.items);
       counted = omega (arith, c.in_ok-push.ensures.len, c.loop.invariant.counted);
     }
 
