@@ -11,10 +11,12 @@ const PAGE_SIZE: usize = 512;
 
 /// The header: page size 512, free page map 1, 8 pages used, a directory of 32 bytes, and page 3 in
 /// the list.
-pub const HEADER: &[u8] = b"Microsoft C/C++ MSF 7.00\r\n\x1a\x44\x53\x00\x00\x00\x00\x02\x00\x00\x01\x00\x00\x00\x08\x00\x00\x00\x20\x00\x00\x00\x00\x00\x00\x00\x03\x00\x00\x00";
+pub const HEADER: &[u8] =
+    b"Microsoft C/C++ MSF 7.00\r\n\x1a\x44\x53\x00\x00\x00\x00\x02\x00\x00\x01\x00\x00\x00\x08\x00\x00\x00\x20\x00\x00\x00\x00\x00\x00\x00\x03\x00\x00\x00";
 
 /// The directory: four streams, of 0 and 600 bytes, absent, and of 5 bytes; pages 6 and 5, and page 7.
-pub const DIRECTORY: &[u8] = b"\x04\x00\x00\x00\x00\x00\x00\x00\x58\x02\x00\x00\xff\xff\xff\xff\x05\x00\x00\x00\x06\x00\x00\x00\x05\x00\x00\x00\x07\x00\x00\x00";
+pub const DIRECTORY: &[u8] =
+    b"\x04\x00\x00\x00\x00\x00\x00\x00\x58\x02\x00\x00\xff\xff\xff\xff\x05\x00\x00\x00\x06\x00\x00\x00\x05\x00\x00\x00\x07\x00\x00\x00";
 
 /// The number of the directory's page.
 pub const LOCATION: &[u8] = b"\x02\x00\x00\x00";
@@ -41,7 +43,7 @@ fn push_page(file: &mut Vec<u8>, front: &[u8], fill: u8) -> Result<()>
 ///
 /// # Errors
 /// `OutOfMemory` where memory is refused.
-#[tactic(auto, unfolding(crate::specs::Example::s1_bytes))]
+#[tactic(auto, using(crate::proofs::Constants::is_header, crate::proofs::Constants::is_directory, crate::proofs::Constants::is_location, crate::proofs::Constants::is_hello), unfolding(crate::specs::Example::s1_bytes))]
 pub fn s1(alloc: Global) -> Result<Vec<u8>>
     ensures bytes { IfOk result (λ file. file.items ≡ s1_bytes) }
     ensures len { IfOk result (λ file. vec_len file ≡ 4096) }

@@ -2,8 +2,8 @@
 
 use super::*;
 use pdb_container::{
-    Error, Msf, ParseBuffer, Query, ReadView, Reply, Source, SourceSlice, SourceView, Stream, open_msf,
-    run,
+    Error, Msf, ParseBuffer, Query, ReadView, Reply, Source, SourceSlice, SourceView, Stream,
+    open_msf, run,
 };
 use std::alloc::Global;
 use std::io;
@@ -58,9 +58,19 @@ fn streams(rt: HostRuntime) -> Result<(), Fail> {
         (&[], 1, Some(513), &whole[..513.min(whole.len())]),
         (&[], 1, Some(0), b""),
         (&[], 1, Some(601), whole),
-        (&[], 2, None, b"The requested stream (2) is not stored in this file"),
+        (
+            &[],
+            2,
+            None,
+            b"The requested stream (2) is not stored in this file",
+        ),
         (&[], 3, None, b"hello"),
-        (&[], 4, None, b"The requested stream (4) is not stored in this file"),
+        (
+            &[],
+            4,
+            None,
+            b"The requested stream (4) is not stored in this file",
+        ),
         (&page_8, 3, None, SOURCE_ENDS),
         (&page_8, 3, Some(0), b""),
         (&page_9, 3, None, out_of_range),
@@ -96,10 +106,22 @@ fn openings(rt: HostRuntime) -> Result<(), Fail> {
     let rows = [
         ("S1", s1(alloc)?, b"".as_slice()),
         ("no directory", edited(alloc, &[(DIRECTORY_SIZE, 0)])?, b""),
-        ("an ELF file", Vec::from_slice(alloc, b"\x7f\x45\x4c\x46")?, b"UnrecognizedFileFormat"),
+        (
+            "an ELF file",
+            Vec::from_slice(alloc, b"\x7f\x45\x4c\x46")?,
+            b"UnrecognizedFileFormat",
+        ),
         ("4095 bytes", short, b"UnrecognizedFileFormat"),
-        ("other magic", edited(alloc, &[(0, b'm')])?, b"UnrecognizedFileFormat"),
-        ("MSF 2.00", small, b"Unimplemented PDB feature: small MSF file format"),
+        (
+            "other magic",
+            edited(alloc, &[(0, b'm')])?,
+            b"UnrecognizedFileFormat",
+        ),
+        (
+            "MSF 2.00",
+            small,
+            b"Unimplemented PDB feature: small MSF file format",
+        ),
         (
             "page size 768",
             edited(alloc, &[(33, 3)])?,
@@ -161,7 +183,10 @@ fn sources_and_buffers(rt: HostRuntime) -> Result<(), Fail> {
     let mut buffer = stream.parse_buffer();
     assert_eq!(rt; buffer.parse_u32()?, 0x0403_0201);
     assert!(rt; matches!(buffer.parse_u32(), Err(Error::UnexpectedEof)));
-    assert_eq!(rt; (buffer.pos(), buffer.len(), buffer.is_empty()), (4, 2, false));
+    assert_eq!(rt;
+        (buffer.pos(), buffer.len(), buffer.is_empty()),
+        (4, 2, false)
+    );
     assert_eq!(rt; buffer.take(2)?, b"ab".as_slice());
     assert!(rt; ParseBuffer::from(b"".as_slice()).is_empty());
     Ok(())
@@ -172,7 +197,10 @@ fn texts(rt: HostRuntime) -> Result<(), Fail> {
     let alloc = rt.alloc();
     let source = io::Error::new(ErrorKind::Other, "the disk is gone");
     let rows = [
-        (Error::IoError(source), "IO error while reading PDB: the disk is gone"),
+        (
+            Error::IoError(source),
+            "IO error while reading PDB: the disk is gone",
+        ),
         (
             Error::UnexpectedNumericPrefix(0x8005),
             "Variable-length numeric parsing encountered an unexpected prefix (0x8005)",
@@ -181,8 +209,14 @@ fn texts(rt: HostRuntime) -> Result<(), Fail> {
             Error::UnimplementedTypeKind(0x000a),
             "Support for types of kind 0x000a is not implemented",
         ),
-        (Error::InvalidFileChecksumOffset(0xa), "Invalid source file checksum offset 0xa"),
-        (Error::TypeNotIndexed(7, 5), "Type 7 not indexed (index covers 5)"),
+        (
+            Error::InvalidFileChecksumOffset(0xa),
+            "Invalid source file checksum offset 0xa",
+        ),
+        (
+            Error::TypeNotIndexed(7, 5),
+            "Type 7 not indexed (index covers 5)",
+        ),
         (Error::OutOfMemory, "OutOfMemory"),
     ];
     for (error, want) in rows {

@@ -40,12 +40,14 @@ pub record IsAnswered (said : Said) (outcome : Outcome) : Type 0 where
   pub out : outcome.out.items ≡ printed said
   pub err : outcome.err.items ≡ []
 
--- status 1: the refusal's text on a line of standard error, where that text is the library's own,
--- and nothing on standard output
+-- status 1: a text on a line of standard error, the refusal's own where that is stated, and nothing
+-- on standard output
 pub record IsRefused (refusal : Refusal) (outcome : Outcome) : Type 0 where
   pub status : outcome.status ≡ 1
   pub out : outcome.out.items ≡ []
-  pub err : IfSome (text_of refusal) (λ text. outcome.err.items ≡ text ++ line_feed ∷ [])
+  pub text : List ℕ
+  pub err : outcome.err.items ≡ text ++ line_feed ∷ []
+  pub own : IfSome (text_of refusal) (λ own. text ≡ own)
 
 -- status 2: the words that the program takes on a line of standard error
 pub record IsUsage (outcome : Outcome) : Type 0 where

@@ -1,5 +1,7 @@
 //! Reads standard input whole.
 
+ghost use Rattle.std.specs.Prelude.{◌≡◌, IfOk, IfSome};
+
 use pdb_container::Result;
 use std::alloc::Global;
 use std::io;
@@ -16,7 +18,9 @@ const MOST_READS: u32 = u32::MAX;
 /// # Errors
 /// `IoError` where a read fails, or of kind `Other` where the input has not ended after 4,294,967,295
 /// reads; `OutOfMemory` where memory is refused. A read that was interrupted is asked again.
-pub fn read_all(alloc: Global, input: &mut impl Read) -> Result<Vec<u8>> {
+pub fn read_all<R: Read>(alloc: Global, input: &mut R) -> Result<Vec<u8>>
+    ensures bytes { IfOk result (λ file. IfSome (R.remaining input.old) (λ xs. file.items ≡ xs)) }
+{
     let mut block = vec![in alloc; 0; BLOCK_SIZE]?;
     let mut bytes = Vec::new(alloc);
     for _ in 0..MOST_READS {

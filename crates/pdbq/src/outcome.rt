@@ -57,11 +57,12 @@ fn refused(alloc: Global, error: &Error) -> Result<Outcome>
     ensures ok { IfOk result (IsRefused (refusal_of error.now)) }
     ensures want { IfErr result (λ e. e ≡ Error.OutOfMemory) }
 {
-    let text = format!(in alloc; "{error}\n")?;
+    let mut err = format!(in alloc; "{error}")?.into_bytes();
+    err.push(b'\n')?;
     Ok(Outcome {
         status: 1,
         out: Vec::new(alloc),
-        err: text.into_bytes(),
+        err,
     })
 }
 

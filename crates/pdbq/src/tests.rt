@@ -31,7 +31,12 @@ fn prints(rt: HostRuntime) -> Result<(), Fail> {
     let rows: [(&[&str], u8, &[u8], &str); 14] = [
         (&[], 0, example.as_bytes(), ""),
         (&["stream", "1"], 0, example.as_bytes(), ""),
-        (&["stream", "0x00000001", "0xFFFFFFFF"], 0, example.as_bytes(), ""),
+        (
+            &["stream", "0x00000001", "0xFFFFFFFF"],
+            0,
+            example.as_bytes(),
+            "",
+        ),
         (&["stream", "1", "513"], 0, &limited, ""),
         (&["stream", "0"], 0, b"", ""),
         (&["stream", "0000000003", "0x2"], 0, b"6865\n", ""),

@@ -12,11 +12,11 @@ returns-in-Some-Bytes-clause-ok c =
     let last = is_answer c.args.file.items c.args.query c.in-Ok.replies c.pop.new.self.items _ c.in-Ok.ensures c.in-Some-Bytes.ensures.items in
     let is = subst (λ (reply : Reply). IsReply Never reply meant) c.in-Some-Bytes.field-0-is last in
     inl (answered_outcome (bytes c.in-Some-Bytes.stream.items) meant _ is
-        (record {
-            status = refl;
-            out = c.in_ok-hex_lines-in-Some-Bytes.ensures.ok ∙ ap hex_lines c.deref.ensures.value;
-            err = c.new.ensures.items;
-        }))
+    (record {
+      status = refl;
+      out = c.in_ok-hex_lines-in-Some-Bytes.ensures.ok ∙ ap hex_lines c.deref.ensures.value;
+      err = c.new.ensures.items;
+    }))
 
 pub returns-in-Some-Refused-clause-ok : goal.returns-in-Some-Refused-clause-ok
 returns-in-Some-Refused-clause-ok c =

@@ -10,10 +10,10 @@ loop-digit-preserved c =
     let i = c.loop-digit.digit-index in
     let digit = c.in_ok-digit.ensures.value in
     let value : c.loop-digit.value * c.args.base + digit_value (get_or digits i 0) ≡ c.in_ok-value.value =
-        omega (arith, digit.1, c.in_ok-shifted.ensures.1, c.in_ok-value.ensures.1) in
+    omega (arith, digit.1, c.in_ok-shifted.ensures.1, c.in_ok-value.ensures.1) in
     record {
       read = subst (λ (value : ℕ). HasRead c.args.base digits (i + 1) value) value
-        (read_more c.args.base digits i c.loop-digit.value c.loop-digit-test.true c.loop-digit.invariant.read digit.0);
+          (read_more c.args.base digits i c.loop-digit.value c.loop-digit-test.true c.loop-digit.invariant.read digit.0);
       fits = omega (arith, c.in_ok-value.ensures.0, c.in_ok-value.ensures.1);
     }
 
