@@ -4,6 +4,8 @@
 mod buffer;
 mod error;
 pub mod laws;
+mod raw_string;
 
 pub use buffer::ParseBuffer;
 pub use error::{Error, Result};
+pub use raw_string::RawString;
