@@ -1,5 +1,8 @@
 //! The worked rows. Errors are told by their texts.
 
+mod addresses;
+mod buffers;
+
 use super::*;
 use pdb_container::{
     Error, Msf, ParseBuffer, Query, ReadView, Reply, Source, SourceSlice, SourceView, Stream,
