@@ -12,12 +12,12 @@ next_multiple place number some =
     let below : place % number < number = mod-lt place positive in
     elim (cases_lt 0 (place % number)) [
       | inl past ↦
-            let one : min 1 (place % number) ≡ 1 = omega arith in
-            let step : (number - place % number) % number ≡ number - place % number = mod-eq_of_lt (omega arith) in
-            let next : (place / number + 1) * number ≡ place / number * number + number = omega arith in
-            rw (one, step) (omega (arith, next, whole))
+          let one : min 1 (place % number) ≡ 1 = omega arith in
+          let step : (number - place % number) % number ≡ number - place % number = mod-eq_of_lt (omega arith) in
+          let next : (place / number + 1) * number ≡ place / number * number + number = omega arith in
+          rw (one, step) (omega (arith, next, whole))
       | inr none ↦
-            let exact : place % number ≡ 0 = omega arith in
-            let step : (number - 0) % number ≡ 0 = ap (λ (n : ℕ). n % number) (omega arith) ∙ mod_self number in
-            rw (exact, step) (omega (arith, whole, exact))
+          let exact : place % number ≡ 0 = omega arith in
+          let step : (number - 0) % number ≡ 0 = ap (λ (n : ℕ). n % number) (omega arith) ∙ mod_self number in
+          rw (exact, step) (omega (arith, whole, exact))
     ]

@@ -28,8 +28,8 @@ front_is : (count : ℕ) (bytes : List ℕ) (x : List ℕ × List ℕ) → front
 front_is count bytes x e = elim (cases_lt (length bytes) count) [
   | inl short ↦ absurd (ok_is_no_err x unexpected_eof (sym e ∙ cut count bytes short))
   | inr long ↦
-        let is : (take count bytes, drop count bytes) ≡ x = ok_is (take count bytes, drop count bytes) x (sym (whole count bytes long) ∙ e) in
-        (sym (ap (λ (p : List ℕ × List ℕ). length p.0) is) ∙ length-take-le count bytes long, sym (ap (λ (p : List ℕ × List ℕ). p.0 ++ p.1) is) ∙ take-append-drop count bytes)
+      let is : (take count bytes, drop count bytes) ≡ x = ok_is (take count bytes, drop count bytes) x (sym (whole count bytes long) ∙ e) in
+      (sym (ap (λ (p : List ℕ × List ℕ). length p.0) is) ∙ length-take-le count bytes long, sym (ap (λ (p : List ℕ × List ℕ). p.0 ++ p.1) is) ∙ take-append-drop count bytes)
 ]
 
 front_of : (front rest : List ℕ) → front_at (length front) (front ++ rest) ≡ Ok (front, rest)
@@ -47,35 +47,35 @@ number_of width front rest len = rw (← len, front_of front rest) refl
 pub numbers : (width : ℕ) → ReadsWhatIsSpelled (SpellsNumber width) (number_at width)
 unfolding number_at
 numbers width = record {
-    found = λ bytes number rest e.
-        let front = bind_ok (front_at width bytes) (λ f. Ok (little_number width f.0, f.1)) (number, rest) e in
-        let parts = front_is width bytes front.0 front.1 in
-        let is : (little_number width front.0.0, front.0.1) ≡ (number, rest) = ok_is (little_number width front.0.0, front.0.1) (number, rest) front.2 in
-        record {
-            front = front.0.0;
-            spelled = record { len = parts.0; is = ap (λ (p : ℕ × List ℕ). p.0) is };
-            is = ap (λ (p : ℕ × List ℕ). front.0.0 ++ p.1) (sym is) ∙ parts.1
-        };
-    only = λ bytes number rest begins.
-        ap (number_at width) (sym begins.is) ∙ number_of width begins.front rest begins.spelled.len
-        ∙ ap (λ (n : ℕ). ok (n, rest)) begins.spelled.is
+  found = λ bytes number rest e.
+      let front = bind_ok (front_at width bytes) (λ f. Ok (little_number width f.0, f.1)) (number, rest) e in
+      let parts = front_is width bytes front.0 front.1 in
+      let is : (little_number width front.0.0, front.0.1) ≡ (number, rest) = ok_is (little_number width front.0.0, front.0.1) (number, rest) front.2 in
+      record {
+        front = front.0.0;
+        spelled = record { len = parts.0; is = ap (λ (p : ℕ × List ℕ). p.0) is };
+        is = ap (λ (p : ℕ × List ℕ). front.0.0 ++ p.1) (sym is) ∙ parts.1;
+      };
+  only = λ bytes number rest begins.
+      ap (number_at width) (sym begins.is) ∙ number_of width begins.front rest begins.spelled.len
+      ∙ ap (λ (n : ℕ). ok (n, rest)) begins.spelled.is;
 }
 
 pub signed_numbers : (signed : Width) (width : ℕ) → ReadsWhatIsSpelled (SpellsSigned signed width) (signed_at signed width)
 unfolding signed_at
 signed_numbers signed width = record {
-    found = λ bytes number rest e.
-        let plain = bind_ok (number_at width bytes) (λ n. Ok (cast_signed signed n.0, n.1)) (number, rest) e in
-        let begins = (numbers width).found bytes plain.0.0 plain.0.1 plain.1 in
-        let is : (cast_signed signed plain.0.0, plain.0.1) ≡ (number, rest) = ok_is (cast_signed signed plain.0.0, plain.0.1) (number, rest) plain.2 in
-        record {
-            front = begins.front;
-            spelled = record { bits = plain.0.0; spelled = begins.spelled; is = ap (λ (p : ℤ × List ℕ). p.0) is };
-            is = ap (λ (p : ℤ × List ℕ). begins.front ++ p.1) (sym is) ∙ begins.is
-        };
-    only = λ bytes number rest begins.
-        let plain = (numbers width).only bytes begins.spelled.bits rest (record { front = begins.front; spelled = begins.spelled.spelled; is = begins.is }) in
-        rw plain (ap (λ (z : ℤ). ok (z, rest)) begins.spelled.is)
+  found = λ bytes number rest e.
+      let plain = bind_ok (number_at width bytes) (λ n. Ok (cast_signed signed n.0, n.1)) (number, rest) e in
+      let begins = (numbers width).found bytes plain.0.0 plain.0.1 plain.1 in
+      let is : (cast_signed signed plain.0.0, plain.0.1) ≡ (number, rest) = ok_is (cast_signed signed plain.0.0, plain.0.1) (number, rest) plain.2 in
+      record {
+        front = begins.front;
+        spelled = record { bits = plain.0.0; spelled = begins.spelled; is = ap (λ (p : ℤ × List ℕ). p.0) is };
+        is = ap (λ (p : ℤ × List ℕ). begins.front ++ p.1) (sym is) ∙ begins.is;
+      };
+  only = λ bytes number rest begins.
+      let plain = (numbers width).only bytes begins.spelled.bits rest (record { front = begins.front; spelled = begins.spelled.spelled; is = begins.is }) in
+      rw plain (ap (λ (z : ℤ). ok (z, rest)) begins.spelled.is);
 }
 
 -- ---- texts
@@ -97,9 +97,9 @@ text_found (suc byte ∷ bytes) text rest e =
     let rests = text_found bytes behind.0.0 behind.0.1 behind.1 in
     let is : (suc byte ∷ behind.0.0, behind.0.1) ≡ (text, rest) = ok_is (suc byte ∷ behind.0.0, behind.0.1) (text, rest) behind.2 in
     let begins : Begins SpellsText (suc byte ∷ bytes) (suc byte ∷ behind.0.0) behind.0.1 = record {
-        front = suc byte ∷ rests.front;
-        spelled = record { no_nul = (λ h. absurd (omega (arith, h)), rests.spelled.no_nul); is = ap (λ (r : List ℕ). suc byte ∷ r) rests.spelled.is };
-        is = ap (λ (r : List ℕ). suc byte ∷ r) rests.is
+      front = suc byte ∷ rests.front;
+      spelled = record { no_nul = (λ h. absurd (omega (arith, h)), rests.spelled.no_nul); is = ap (λ (r : List ℕ). suc byte ∷ r) rests.spelled.is };
+      is = ap (λ (r : List ℕ). suc byte ∷ r) rests.is;
     } in
     subst (λ (p : List ℕ × List ℕ). Begins SpellsText (suc byte ∷ bytes) p.0 p.1) is begins
 
@@ -111,11 +111,11 @@ text_of (byte ∷ text) rest none =
 
 pub texts : ReadsWhatIsSpelled SpellsText text_at
 texts = record {
-    found = text_found;
-    only = λ bytes text rest begins.
-        let all : bytes ≡ text ++ 0 ∷ rest =
-            sym begins.is ∙ ap (λ (f : List ℕ). f ++ rest) (sym begins.spelled.is) ∙ append_assoc text (0 ∷ []) rest in
-        ap text_at all ∙ text_of text rest begins.spelled.no_nul
+  found = text_found;
+  only = λ bytes text rest begins.
+      let all : bytes ≡ text ++ 0 ∷ rest =
+      sym begins.is ∙ ap (λ (f : List ℕ). f ++ rest) (sym begins.spelled.is) ∙ append_assoc text (0 ∷ []) rest in
+      ap text_at all ∙ text_of text rest begins.spelled.no_nul;
 }
 
 one_byte : (front : List ℕ) (n : ℕ) → length front ≡ 1 → little_number 1 front ≡ n → front ≡ n ∷ []
@@ -126,20 +126,20 @@ one_byte (byte ∷ other ∷ front) n len is = absurd (omega (arith, len))
 pub counted_texts : ReadsWhatIsSpelled SpellsCounted counted_at
 unfolding counted_at
 counted_texts = record {
-    found = λ bytes text rest e.
-        let len = bind_ok (number_at 1 bytes) (λ n. front_at n.0 n.1) (text, rest) e in
-        let begins = (numbers 1).found bytes len.0.0 len.0.1 len.1 in
-        let parts = front_is len.0.0 len.0.1 (text, rest) len.2 in
-        let byte : begins.front ≡ length text ∷ [] = one_byte begins.front len.0.0 begins.spelled.len begins.spelled.is ∙ ap (λ (n : ℕ). n ∷ []) (sym parts.0) in
-        record {
-            front = length text ∷ text;
-            spelled = refl;
-            is = ap (λ (r : List ℕ). length text ∷ r) parts.1 ∙ ap (λ (f : List ℕ). f ++ len.0.1) (sym byte) ∙ begins.is
-        };
-    only = λ bytes text rest begins.
-        let all : bytes ≡ (length text ∷ []) ++ (text ++ rest) = sym begins.is ∙ ap (λ (f : List ℕ). f ++ rest) (sym begins.spelled) in
-        let one : little_number 1 (length text ∷ []) ≡ length text = omega arith in
-        let byte : number_at 1 ((length text ∷ []) ++ (text ++ rest)) ≡ Ok (length text, text ++ rest) =
-            number_of 1 (length text ∷ []) (text ++ rest) refl ∙ ap (λ (n : ℕ). ok (n, text ++ rest)) one in
-        rw (all, byte) (front_of text rest)
+  found = λ bytes text rest e.
+      let len = bind_ok (number_at 1 bytes) (λ n. front_at n.0 n.1) (text, rest) e in
+      let begins = (numbers 1).found bytes len.0.0 len.0.1 len.1 in
+      let parts = front_is len.0.0 len.0.1 (text, rest) len.2 in
+      let byte : begins.front ≡ length text ∷ [] = one_byte begins.front len.0.0 begins.spelled.len begins.spelled.is ∙ ap (λ (n : ℕ). n ∷ []) (sym parts.0) in
+      record {
+        front = length text ∷ text;
+        spelled = refl;
+        is = ap (λ (r : List ℕ). length text ∷ r) parts.1 ∙ ap (λ (f : List ℕ). f ++ len.0.1) (sym byte) ∙ begins.is;
+      };
+  only = λ bytes text rest begins.
+      let all : bytes ≡ (length text ∷ []) ++ (text ++ rest) = sym begins.is ∙ ap (λ (f : List ℕ). f ++ rest) (sym begins.spelled) in
+      let one : little_number 1 (length text ∷ []) ≡ length text = omega arith in
+      let byte : number_at 1 ((length text ∷ []) ++ (text ++ rest)) ≡ Ok (length text, text ++ rest) =
+      number_of 1 (length text ∷ []) (text ++ rest) refl ∙ ap (λ (n : ℕ). ok (n, text ++ rest)) one in
+      rw (all, byte) (front_of text rest);
 }

@@ -65,10 +65,10 @@ pub one_read : (old new : Place) (n : ℕ) → StaysWithin old new → number_at
 one_read old new n stays is = elim (cases_lt (length (left old)) 1) [
   | inl short ↦ absurd (ok_is_no_err (n, left new) unexpected_eof (sym is ∙ missing (left old) short))
   | inr long ↦
-        let behind : drop 1 (left old) ≡ left new = ap (λ (x : ℕ × List ℕ). x.1) (ok_is (little_number 1 (take 1 (left old)), drop 1 (left old)) (n, left new) (sym (whole (left old) long) ∙ is)) in
-        let lengths : length (drop 1 (left old)) ≡ length (left new) = ap length behind in
-        let same : length new.slice ≡ length old.slice = ap length stays.slice in
-        let pos : new.pos ≡ old.pos + min 1 (length (left old)) =
-            omega (arith, long, lengths, same, stays.pos, length-drop 1 (left old), length-drop old.pos old.slice, length-drop new.pos new.slice) in
-        ap (λ (s : List ℕ). record { slice = s; pos = new.pos }) stays.slice ∙ ap (λ (p : ℕ). record { slice = old.slice; pos = p }) pos
+      let behind : drop 1 (left old) ≡ left new = ap (λ (x : ℕ × List ℕ). x.1) (ok_is (little_number 1 (take 1 (left old)), drop 1 (left old)) (n, left new) (sym (whole (left old) long) ∙ is)) in
+      let lengths : length (drop 1 (left old)) ≡ length (left new) = ap length behind in
+      let same : length new.slice ≡ length old.slice = ap length stays.slice in
+      let pos : new.pos ≡ old.pos + min 1 (length (left old)) =
+      omega (arith, long, lengths, same, stays.pos, length-drop 1 (left old), length-drop old.pos old.slice, length-drop new.pos new.slice) in
+      ap (λ (s : List ℕ). record { slice = s; pos = new.pos }) stays.slice ∙ ap (λ (p : ℕ). record { slice = old.slice; pos = p }) pos
 ]

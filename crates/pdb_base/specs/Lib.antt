@@ -6,6 +6,5 @@ pub mod Reading
 pub mod Text
 pub mod Spelling
 pub mod Laws
-
 -- the words of the libraries below that the contracts of this one speak in
 pub use Rattle.byteorder.specs.Endian

@@ -12,16 +12,14 @@ ghost use Rattle.pdb_base.specs.Spelling.{ReadsWhatIsSpelled, SpellsNumber, Spel
 pub fn collected<A>()
     ensures all { (answers : List (Answer A)) → CollectsAll answers }
     ensures first { (answers : List (Answer A)) → RefusesAsFirst answers }
-{
-}
+{}
 
 /// A number is read from the front of bytes that begin with its spelling, the lowest byte first, and
 /// from too few bytes none is.
 #[tactic(auto, using(crate::proofs::SpellingLemmas::reads_spelling))]
 pub fn numbers()
     ensures { (width : ℕ) (bytes : List ℕ) → ReadsSpelling width bytes }
-{
-}
+{}
 
 /// What is read of bytes is what a front of them spells, and of any bytes at most one front spells a
 /// value.
@@ -31,5 +29,4 @@ pub fn spellings()
     ensures signed { (signed : Width) (width : ℕ) → ReadsWhatIsSpelled (SpellsSigned signed width) (signed_at signed width) }
     ensures texts { ReadsWhatIsSpelled SpellsText text_at }
     ensures counted { ReadsWhatIsSpelled SpellsCounted counted_at }
-{
-}
+{}

@@ -19,12 +19,18 @@ fn ends<T: Drop>(answer: pdb_container::Result<T>) -> bool {
 fn numbers(rt: HostRuntime) -> Result<(), Fail> {
     let mut buffer = buffer_of(4);
     for want in 1..5u8 {
-        assert_eq!(rt; (buffer.peek_u8()?, buffer.peek_u8()?, buffer.parse_u8()?), (want, want, want));
+        assert_eq!(rt;
+            (buffer.peek_u8()?, buffer.peek_u8()?, buffer.parse_u8()?),
+            (want, want, want)
+        );
     }
     assert!(rt; ends(buffer.peek_u8()) && ends(buffer.parse_u8()) && buffer.pos() == 4);
 
     let mut buffer = buffer_of(3);
-    assert_eq!(rt; (buffer.peek_u16()?, buffer.peek_u16()?, buffer.parse_u16()?), (0x0201, 0x0201, 0x0201));
+    assert_eq!(rt;
+        (buffer.peek_u16()?, buffer.peek_u16()?, buffer.parse_u16()?),
+        (0x0201, 0x0201, 0x0201)
+    );
     assert!(rt; ends(buffer.peek_u16()) && ends(buffer.parse_u16()) && buffer.pos() == 2);
     buffer.take(1)?;
     assert!(rt; ends(buffer.parse_u16()));
@@ -41,7 +47,10 @@ fn numbers(rt: HostRuntime) -> Result<(), Fail> {
     assert!(rt; ends(buffer.parse_u64()));
 
     let mut buffer = ParseBuffer::from(b"\xfe\xff\xff\xff\x05\x06\x07".as_slice());
-    assert_eq!(rt; (buffer.parse_i32()?, buffer.pos(), buffer.len()), (-2, 4, 3));
+    assert_eq!(rt;
+        (buffer.parse_i32()?, buffer.pos(), buffer.len()),
+        (-2, 4, 3)
+    );
     assert!(rt; ends(buffer.parse_i32()) && ends(buffer.parse_u32()));
 
     let mut buffer = ParseBuffer::from(b"\xff\xff\xff\xff\xff\xff\xff\xff\x00".as_slice());
@@ -65,11 +74,20 @@ fn places(rt: HostRuntime) -> Result<(), Fail> {
     buffer.truncate(2)?;
     assert_eq!(rt; (buffer.pos(), buffer.len()), (2, 0));
 
-    for (bytes, taken, left) in [("1234", 3, 0), ("1234", 1, 0), ("12345", 3, 1), ("12345", 4, 1)] {
+    for (bytes, taken, left) in [
+        ("1234", 3, 0),
+        ("1234", 1, 0),
+        ("12345", 3, 1),
+        ("12345", 4, 1),
+    ] {
         let mut buffer = ParseBuffer::from(bytes.as_bytes());
         buffer.take(taken)?;
         buffer.align(4)?;
-        assert_eq!(rt; (buffer.pos(), buffer.len()), (4, left), "{bytes} behind {taken}");
+        assert_eq!(rt;
+            (buffer.pos(), buffer.len()),
+            (4, left),
+            "{bytes} behind {taken}"
+        );
     }
     let mut buffer = buffer_of(3);
     buffer.take(3)?;
@@ -94,7 +112,10 @@ fn strings(rt: HostRuntime) -> Result<(), Fail> {
     }
     assert!(rt; ends(buffer.parse_u8_pascal_string()) && buffer.pos() == 14);
 
-    for (bytes, text) in [(b"f\xffo".as_slice(), "f\u{fffd}o"), (b"foo".as_slice(), "foo")] {
+    for (bytes, text) in [
+        (b"f\xffo".as_slice(), "f\u{fffd}o"),
+        (b"foo".as_slice(), "foo"),
+    ] {
         let raw = RawString::from(bytes);
         let lossy = raw.to_string(alloc)?;
         assert_eq!(rt; lossy.as_str(), text);
