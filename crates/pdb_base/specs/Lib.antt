@@ -2,6 +2,8 @@ pub mod Refusal
 pub mod ErrorText
 pub mod Answer
 pub mod Place
+pub mod Index
+pub mod Count
 pub mod Reading
 pub mod Text
 pub mod Spelling

@@ -4,7 +4,10 @@
 mod query;
 mod whole;
 
-pub use pdb_base::{Error, ParseBuffer, RawString, Result};
+pub use pdb_base::{
+    Count, Error, FallibleIterator, FileIndex, IdIndex, ItemIndex, Local, ParseBuffer, RawString,
+    Register, Result, StreamIndex, SymbolIndex, TypeIndex,
+};
 pub use pdb_msf::{
     BigMSF, Msf, ReadView, Source, SourceSlice, SourceView, Stream, big, open_msf, small,
 };

@@ -2,6 +2,7 @@
 
 mod addresses;
 mod buffers;
+mod indexes;
 
 use super::*;
 use pdb_container::{
