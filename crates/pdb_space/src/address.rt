@@ -1,7 +1,8 @@
 //! Addresses of a loaded image.
 
-ghost use Rattle.std.specs.Prelude.{◌≡◌, ◌+◌, ◌-◌, ◌≤◌, Some};
+ghost use Rattle.std.specs.Prelude.{◌≡◌, ◌+◌, ◌-◌, ◌≤◌, Some, codes};
 ghost use Rattle.pdb_base.specs.ErrorText.{hexadecimal};
+ghost use Rattle.pdb_base.specs.Index.{debug_text};
 ghost use Rattle.pdb_space.specs.Sum.{Fits, clipped, distance_from, fitting, wrapped, wrapped_distance_from};
 
 use std::fmt;
@@ -9,7 +10,7 @@ use std::marker::Model;
 use std::ops::{Add, AddAssign, Sub};
 
 /// An address in an image as it is loaded, in bytes from the image's base.
-#[derive(Debug, Default, PartialEq, Eq, PartialOrd, Ord, Hash, Clone, Copy)]
+#[derive(Default, PartialEq, Eq, PartialOrd, Ord, Hash, Clone, Copy)]
 pub struct Rva(pub u32);
 
 impl Model for Rva {
@@ -129,5 +130,14 @@ impl fmt::Display for Rva {
     fn fmt<W: fmt::Write>(&self, f: &mut fmt::Formatter<W>) -> fmt::Result {
         let number = self.0;
         write!(f, "0x{number:x}")
+    }
+}
+
+/// The name of the type around what `Display` prints.
+impl fmt::Debug for Rva {
+    ghost debug_output = { λ address. Some (debug_text (codes "Rva") address) };
+
+    fn fmt<W: fmt::Write>(&self, f: &mut fmt::Formatter<W>) -> fmt::Result {
+        write!(f, "Rva({self})")
     }
 }

@@ -75,6 +75,8 @@ fn operators(rt: HostRuntime) -> Result<(), Fail> {
     assert_eq!(rt; (u32::from(address), address - Rva(0x30)), (0x42, 0x12));
     let text = address.to_string(alloc)?;
     assert_eq!(rt; text.as_str(), "0x42");
+    let text = format!(in alloc; "{address:?}")?;
+    assert_eq!(rt; text.as_str(), "Rva(0x42)");
     assert!(rt; Rva(1) < Rva(2) && Rva::default() == Rva(0));
 
     let mut address = PdbInternalRva::from(LAST - 2) + 1;
