@@ -2,7 +2,11 @@ pub mod Refusal
 pub mod ErrorText
 pub mod Answer
 pub mod Place
+pub mod Index
+pub mod Count
 pub mod Reading
+pub mod Text
+pub mod Spelling
 pub mod Laws
 -- the words of the libraries below that the contracts of this one speak in
 pub use Rattle.byteorder.specs.Endian

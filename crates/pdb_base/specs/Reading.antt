@@ -1,5 +1,6 @@
 -- What stands at the front of bytes, with the bytes behind it.
-use Rattle.std.specs.Prelude.{ℕ, List, length, take, drop, Ok, Err, nat_lt, if◌then◌else◌}
+use Rattle.std.specs.Prelude.{ℤ, ◌==◌, [], ◌∷◌, ℕ, List, length, take, drop, Ok, Err, nat_lt, if◌then◌else◌}
+use Rattle.std.specs.Int.{Width, cast_signed}
 use Rattle.byteorder.specs.Endian.{little_number}
 use Rattle.pdb_base.specs.Refusal.{unexpected_eof}
 use Rattle.pdb_base.specs.Answer.{Answer, ◌>>=◌}
@@ -13,3 +14,26 @@ unfoldable pub number_at : ℕ → List ℕ → Answer (ℕ × List ℕ)
 number_at width bytes = do
   front ← front_at width bytes
   Ok (little_number width front.0, front.1)
+
+-- the number that two's complement of that width makes of it
+unfoldable pub signed_at : Width → ℕ → List ℕ → Answer (ℤ × List ℕ)
+signed_at width bytes_wide bytes = do
+  number ← number_at bytes_wide bytes
+  Ok (cast_signed width number.0, number.1)
+
+-- the number that stands there, without what is behind it
+unfoldable pub peeked : ℕ → List ℕ → Answer ℕ
+peeked width bytes = do
+  number ← number_at width bytes
+  Ok number.0
+
+-- the text up to the first NUL, and what is behind the NUL
+abbrev pub text_at : List ℕ → Answer (List ℕ × List ℕ)
+text_at [] = Err unexpected_eof
+text_at (byte ∷ bytes) = if byte == 0 then Ok ([], bytes) else text_at bytes >>= λ text. Ok (byte ∷ text.0, text.1)
+
+-- the text behind a byte that says its length
+unfoldable pub counted_at : List ℕ → Answer (List ℕ × List ℕ)
+counted_at bytes = do
+  len ← number_at 1 bytes
+  front_at len.0 len.1

@@ -1,18 +1,21 @@
 //! A slice of bytes that is parsed from its front.
 
-ghost use Rattle.std.specs.Prelude.{◌≡◌, ◌↔◌, [], length, IsTrue, OnErr};
+ghost use Rattle.std.specs.Prelude.{◌≡◌, ◌≢◌, ◌+◌, ◌↔◌, [], length, min, IsTrue, OnErr};
+ghost use Rattle.std.specs.Int.{w32, w64};
 ghost use Rattle.pdb_base.specs.Answer.{Gives};
-ghost use Rattle.pdb_base.specs.Place.{left, StaysWithin};
-ghost use Rattle.pdb_base.specs.Reading.{front_at, number_at};
+ghost use Rattle.pdb_base.specs.Place.{left, StaysWithin, aligned, cut};
+ghost use Rattle.pdb_base.specs.Reading.{front_at, number_at, signed_at, peeked, text_at, counted_at};
 
 use crate::error::{Error, Result};
+use crate::raw_string::RawString;
 use byteorder::{ByteOrder, LittleEndian};
+use memchr::memchr;
 use std::marker::Model;
 
 /// A slice of bytes and a position in it, from which fields are read one after another.
 ///
 /// A read that is refused moves nothing.
-#[derive(Debug, Drop)]
+#[derive(Clone, Debug, Drop)]
 pub struct ParseBuffer<'b> {
     slice: &'b [u8],
     pos: usize,
@@ -38,6 +41,13 @@ impl<'b> From<&'b [u8]> for ParseBuffer<'b> {
 }
 
 impl<'b> ParseBuffer<'b> {
+    /// What is left to read.
+    fn rest(&self) -> &'b [u8]
+        ensures { result.now ≡ left self.now }
+    {
+        &self.slice[self.pos..]
+    }
+
     /// How many bytes are left to read.
     pub fn len(&self) -> usize
         ensures { result ≡ length (left self.now) }
@@ -77,6 +87,74 @@ impl<'b> ParseBuffer<'b> {
         Ok(&self.slice[start..start + count])
     }
 
+    /// Goes to a position, to the end where it is past that.
+    pub fn seek(&mut self, pos: usize)
+        ensures { self.new ≡ record self.old { pos = min pos (length self.old.slice) } }
+    {
+        self.pos = pos.min(self.slice.len());
+    }
+
+    /// Goes forward to the next position that is a multiple of `alignment`; stays at one that is.
+    ///
+    /// # Errors
+    /// `UnexpectedEof` where that is past the end.
+    #[tactic(auto, unfolding(crate::specs::Place::aligned), using(crate::proofs::MultipleLemmas::next_multiple))]
+    pub fn align(&mut self, alignment: usize) -> Result<()>
+        requires { alignment ≢ 0 }
+        ensures place { Gives (λ _. self.new) result (aligned alignment self.old) }
+        ensures err { OnErr result (self.new ≡ self.old) }
+    {
+        let step = (alignment - self.pos % alignment) % alignment;
+        if self.slice.len() - self.pos < step {
+            return Err(Error::UnexpectedEof);
+        }
+        self.pos += step;
+        Ok(())
+    }
+
+    /// Cuts the slice to its first `len` bytes. A position behind them moves to the new end.
+    ///
+    /// # Errors
+    /// `UnexpectedEof` where the slice has fewer bytes.
+    #[tactic(auto, unfolding(crate::specs::Place::cut))]
+    pub fn truncate(&mut self, len: usize) -> Result<()>
+        ensures place { Gives (λ _. self.new) result (cut len self.old) }
+        ensures err { OnErr result (self.new ≡ self.old) }
+    {
+        if self.slice.len() < len {
+            return Err(Error::UnexpectedEof);
+        }
+        self.slice = &self.slice[..len];
+        self.pos = self.pos.min(len);
+        Ok(())
+    }
+
+    /// Reads a `u8`.
+    ///
+    /// # Errors
+    /// `UnexpectedEof` where no byte is left.
+    #[tactic(auto, unfolding(crate::specs::Reading::number_at, crate::specs::Reading::front_at))]
+    pub fn parse_u8(&mut self) -> Result<u8>
+        ensures read { Gives (λ number. (number, left self.new)) result (number_at 1 (left self.old)) }
+        ensures place { StaysWithin self.old self.new }
+        ensures err { OnErr result (self.new ≡ self.old) }
+    {
+        Ok(self.take(1)?[0])
+    }
+
+    /// Reads a `u16`, its lowest byte first.
+    ///
+    /// # Errors
+    /// `UnexpectedEof` where fewer than two bytes are left.
+    #[tactic(auto, unfolding(crate::specs::Reading::number_at, crate::specs::Reading::front_at))]
+    pub fn parse_u16(&mut self) -> Result<u16>
+        ensures read { Gives (λ number. (number, left self.new)) result (number_at 2 (left self.old)) }
+        ensures place { StaysWithin self.old self.new }
+        ensures err { OnErr result (self.new ≡ self.old) }
+    {
+        Ok(LittleEndian::read_u16(self.take(2)?))
+    }
+
     /// Reads a `u32`, its lowest byte first.
     ///
     /// # Errors
@@ -88,5 +166,98 @@ impl<'b> ParseBuffer<'b> {
         ensures err { OnErr result (self.new ≡ self.old) }
     {
         Ok(LittleEndian::read_u32(self.take(4)?))
+    }
+    /// Reads a `u64`, its lowest byte first.
+    ///
+    /// # Errors
+    /// `UnexpectedEof` where fewer than eight bytes are left.
+    #[tactic(auto, unfolding(crate::specs::Reading::number_at, crate::specs::Reading::front_at))]
+    pub fn parse_u64(&mut self) -> Result<u64>
+        ensures read { Gives (λ number. (number, left self.new)) result (number_at 8 (left self.old)) }
+        ensures place { StaysWithin self.old self.new }
+        ensures err { OnErr result (self.new ≡ self.old) }
+    {
+        Ok(LittleEndian::read_u64(self.take(8)?))
+    }
+
+    /// Reads an `i32`, its lowest byte first.
+    ///
+    /// # Errors
+    /// `UnexpectedEof` where fewer than four bytes are left.
+    #[tactic(auto, unfolding(crate::specs::Reading::signed_at, crate::specs::Reading::number_at, crate::specs::Reading::front_at))]
+    pub fn parse_i32(&mut self) -> Result<i32>
+        ensures read { Gives (λ number. (number, left self.new)) result (signed_at w32 4 (left self.old)) }
+        ensures place { StaysWithin self.old self.new }
+        ensures err { OnErr result (self.new ≡ self.old) }
+    {
+        Ok(LittleEndian::read_i32(self.take(4)?))
+    }
+
+    /// Reads an `i64`, its lowest byte first.
+    ///
+    /// # Errors
+    /// `UnexpectedEof` where fewer than eight bytes are left.
+    #[tactic(auto, unfolding(crate::specs::Reading::signed_at, crate::specs::Reading::number_at, crate::specs::Reading::front_at))]
+    pub fn parse_i64(&mut self) -> Result<i64>
+        ensures read { Gives (λ number. (number, left self.new)) result (signed_at w64 8 (left self.old)) }
+        ensures place { StaysWithin self.old self.new }
+        ensures err { OnErr result (self.new ≡ self.old) }
+    {
+        Ok(LittleEndian::read_i64(self.take(8)?))
+    }
+
+    /// The next `u8`, without reading it.
+    ///
+    /// # Errors
+    /// `UnexpectedEof` where no byte is left.
+    #[tactic(auto, unfolding(crate::specs::Reading::peeked))]
+    pub fn peek_u8(&self) -> Result<u8>
+        ensures { Gives (λ number. number) result (peeked 1 (left self.now)) }
+    {
+        ParseBuffer::from(self.rest()).parse_u8()
+    }
+
+    /// The next `u16`, its lowest byte first, without reading it.
+    ///
+    /// # Errors
+    /// `UnexpectedEof` where fewer than two bytes are left.
+    #[tactic(auto, unfolding(crate::specs::Reading::peeked))]
+    pub fn peek_u16(&self) -> Result<u16>
+        ensures { Gives (λ number. number) result (peeked 2 (left self.now)) }
+    {
+        ParseBuffer::from(self.rest()).parse_u16()
+    }
+    /// Reads the text up to the next NUL, and passes by the NUL.
+    ///
+    /// # Errors
+    /// `UnexpectedEof` where no NUL is left.
+    #[tactic(auto, using(crate::proofs::TextLemmas::text_found, crate::proofs::TextLemmas::text_cut))]
+    pub fn parse_cstring(&mut self) -> Result<RawString<'b>>
+        ensures read { Gives (λ text. (text.0.now, left self.new)) result (text_at (left self.old)) }
+        ensures place { StaysWithin self.old self.new }
+        ensures err { OnErr result (self.new ≡ self.old) }
+    {
+        let rest = self.rest();
+        let Some(len) = memchr(0, rest) else {
+            return Err(Error::UnexpectedEof);
+        };
+        self.pos += len + 1;
+        Ok(RawString::from(&rest[..len]))
+    }
+
+    /// Reads the text behind a `u8` that says its length.
+    ///
+    /// # Errors
+    /// `UnexpectedEof` where no byte is left, or fewer than the length says. A length byte that was
+    /// there is then read, and nothing else.
+    #[tactic(auto, unfolding(crate::specs::Reading::counted_at))]
+    pub fn parse_u8_pascal_string(&mut self) -> Result<RawString<'b>>
+        ensures read { Gives (λ text. (text.0.now, left self.new)) result (counted_at (left self.old)) }
+        ensures place { StaysWithin self.old self.new }
+        ensures err { OnErr result (self.new ≡ record self.old { pos = self.old.pos + min 1 (length (left self.old)) }) }
+    {
+        let len = self.parse_u8()?;
+        let text = self.take(len as usize)?;
+        Ok(RawString::from(text))
     }
 }

@@ -3,7 +3,10 @@
 
 ghost use Rattle.std.specs.Prelude.{ℕ, List};
 ghost use Rattle.pdb_base.specs.Answer.{Answer};
+ghost use Rattle.std.specs.Int.{Width};
 ghost use Rattle.pdb_base.specs.Laws.{CollectsAll, RefusesAsFirst, ReadsSpelling};
+ghost use Rattle.pdb_base.specs.Reading.{number_at, signed_at, text_at, counted_at};
+ghost use Rattle.pdb_base.specs.Spelling.{ReadsWhatIsSpelled, SpellsNumber, SpellsSigned, SpellsText, SpellsCounted};
 
 /// Answers in order are all their values, or the refusal of the first of them that refuses.
 pub fn collected<A>()
@@ -16,4 +19,14 @@ pub fn collected<A>()
 #[tactic(auto, using(crate::proofs::SpellingLemmas::reads_spelling))]
 pub fn numbers()
     ensures { (width : ℕ) (bytes : List ℕ) → ReadsSpelling width bytes }
+{}
+
+/// What is read of bytes is what a front of them spells, and of any bytes at most one front spells a
+/// value.
+#[tactic(auto, using(crate::proofs::SpellingLaws::numbers, crate::proofs::SpellingLaws::signed_numbers, crate::proofs::SpellingLaws::texts, crate::proofs::SpellingLaws::counted_texts))]
+pub fn spellings()
+    ensures numbers { (width : ℕ) → ReadsWhatIsSpelled (SpellsNumber width) (number_at width) }
+    ensures signed { (signed : Width) (width : ℕ) → ReadsWhatIsSpelled (SpellsSigned signed width) (signed_at signed width) }
+    ensures texts { ReadsWhatIsSpelled SpellsText text_at }
+    ensures counted { ReadsWhatIsSpelled SpellsCounted counted_at }
 {}

@@ -1,9 +1,21 @@
-//! What every part of a program database's reader stands on: errors, and a buffer to parse from.
+//! What every part of a program database's reader stands on: errors, a buffer to parse from, text and
+//! indexes.
 #![tactic(auto)]
 
 mod buffer;
+mod count;
 mod error;
+mod fallible_iterator;
+mod index;
+pub mod index_laws;
+mod item_index;
 pub mod laws;
+mod raw_string;
 
 pub use buffer::ParseBuffer;
+pub use count::Count;
 pub use error::{Error, Result};
+pub use fallible_iterator::FallibleIterator;
+pub use index::{FileIndex, IdIndex, Local, Register, StreamIndex, SymbolIndex, TypeIndex};
+pub use item_index::ItemIndex;
+pub use raw_string::RawString;

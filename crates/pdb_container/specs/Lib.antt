@@ -11,3 +11,5 @@ pub use Rattle.pdb_msf.specs.Pages
 pub use Rattle.pdb_msf.specs.Header
 pub use Rattle.pdb_msf.specs.Directory
 pub use Rattle.pdb_msf.specs.File
+pub use Rattle.pdb_space.specs.Sum
+pub use Rattle.pdb_space.specs.SectionPlace

@@ -1,5 +1,9 @@
 //! The worked rows. Errors are told by their texts.
 
+mod addresses;
+mod buffers;
+mod indexes;
+
 use super::*;
 use pdb_container::{
     Error, Msf, ParseBuffer, Query, ReadView, Reply, Source, SourceSlice, SourceView, Stream,

@@ -1,0 +1,86 @@
+//! Text as a program database holds it.
+
+ghost use Rattle.std.specs.Prelude.{◌≡◌, ◌↔◌, [], length, Some, IsTrue, IfOk, IfErr};
+ghost use Rattle.std.specs.Str.{IsUtf8};
+ghost use Rattle.std.specs.Cow.{IsOwnedStr, cow_str_bytes};
+ghost use Rattle.pdb_base.specs.declared.error.Error.TheVariants.{OutOfMemory};
+ghost use Rattle.pdb_base.specs.Text.{lossy};
+
+use crate::error::Result;
+use bstr::{BStr, ByteSlice};
+use std::alloc::Global;
+use std::borrow::CowStr;
+use std::fmt;
+
+/// The bytes of a name or another text. Most are UTF-8, and none need be.
+#[derive(Clone, Copy, Debug, Default, PartialEq, Eq, PartialOrd, Ord, Hash)]
+pub struct RawString<'b>(&'b [u8]);
+
+impl<'b> RawString<'b> {
+    /// The bytes, without the NUL or the length that stood beside them.
+    pub fn as_bytes(&self) -> &'b [u8]
+        ensures { result.now ≡ self.now.0.now }
+    {
+        self.0
+    }
+
+    /// How many bytes there are.
+    pub fn len(&self) -> usize
+        ensures { result ≡ length self.now.0.now }
+    {
+        self.0.len()
+    }
+
+    /// Whether there is no byte.
+    pub fn is_empty(&self) -> bool
+        ensures { IsTrue result ↔ (self.now.0.now ≡ []) }
+    {
+        self.0.is_empty()
+    }
+
+    /// The text, with U+FFFD for each run of bytes that is no character. It borrows where the bytes
+    /// are UTF-8.
+    ///
+    /// # Errors
+    /// `OutOfMemory` where the bytes are not UTF-8 and memory is refused.
+    pub fn to_string(&self, alloc: Global) -> Result<CowStr<'b>>
+        ensures text { IfOk result (λ text. cow_str_bytes text ≡ lossy self.now.0.now) }
+        ensures borrowed { IsUtf8 self.now.0.now → IfOk result (λ text. ¬ IsOwnedStr text) }
+        ensures want { IfErr result (λ e. (e ≡ OutOfMemory) × ¬ IsUtf8 self.now.0.now) }
+    {
+        Ok(self.0.to_str_lossy(alloc)?)
+    }
+}
+
+impl<'b> From<&'b [u8]> for RawString<'b> {
+    ghost from_gives = { λ bytes text. text.0.now ≡ bytes.now };
+
+    fn from(bytes: &'b [u8]) -> Self {
+        RawString(bytes)
+    }
+}
+
+impl<'b> From<&'b str> for RawString<'b> {
+    ghost from_gives = { λ bytes text. text.0.now ≡ bytes.now };
+
+    fn from(text: &'b str) -> Self {
+        RawString(text.as_bytes())
+    }
+}
+
+impl<'b> From<RawString<'b>> for &'b [u8] {
+    ghost from_gives = { λ text bytes. bytes.now ≡ text.0.now };
+
+    fn from(text: RawString<'b>) -> Self {
+        text.0
+    }
+}
+
+impl<'b> fmt::Display for RawString<'b> {
+    ghost output = { λ text. Some (lossy text.0.now) };
+
+    fn fmt<W: fmt::Write>(&self, f: &mut fmt::Formatter<W>) -> fmt::Result {
+        let text = BStr::new(self.0);
+        write!(f, "{text}")
+    }
+}
