@@ -7,6 +7,7 @@ pub mod Count
 pub mod Reading
 pub mod Text
 pub mod Spelling
+pub mod Bits
 pub mod Laws
 -- the words of the libraries below that the contracts of this one speak in
 pub use Rattle.byteorder.specs.Endian

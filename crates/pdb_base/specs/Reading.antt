@@ -4,6 +4,15 @@ use Rattle.std.specs.Int.{Width, cast_signed}
 use Rattle.byteorder.specs.Endian.{little_number}
 use Rattle.pdb_base.specs.Refusal.{unexpected_eof}
 use Rattle.pdb_base.specs.Answer.{Answer, ◌>>=◌}
+use Rattle.pdb_base.specs.declared.parse.Le.{Le}
+
+-- the rule that of a number the lowest byte comes first
+abbrev pub lowest_first : Le
+lowest_first = record {}
+
+-- what is read, as another value that it stands for
+abbrev pub read_as : {A B : Type 0} → (A → B) → Answer (A × List ℕ) → Answer (B × List ℕ)
+read_as meant read = read >>= λ value. Ok (meant value.0, value.1)
 
 -- the first so many bytes
 unfoldable pub front_at : ℕ → List ℕ → Answer (List ℕ × List ℕ)

@@ -1,12 +1,13 @@
 //! A slice of bytes that is parsed from its front.
 
 ghost use Rattle.std.specs.Prelude.{◌≡◌, ◌≢◌, ◌+◌, ◌↔◌, [], length, min, IsTrue, OnErr};
-ghost use Rattle.std.specs.Int.{w32, w64};
+ghost use Rattle.std.specs.Int.{w16, w32, w64};
 ghost use Rattle.pdb_base.specs.Answer.{Gives};
 ghost use Rattle.pdb_base.specs.Place.{left, StaysWithin, aligned, cut};
-ghost use Rattle.pdb_base.specs.Reading.{front_at, number_at, signed_at, peeked, text_at, counted_at};
+ghost use Rattle.pdb_base.specs.Reading.{front_at, lowest_first, number_at, signed_at, peeked, text_at, counted_at};
 
 use crate::error::{Error, Result};
+use crate::parse::{Le, Parse};
 use crate::raw_string::RawString;
 use byteorder::{ByteOrder, LittleEndian};
 use memchr::memchr;
@@ -129,6 +130,32 @@ impl<'b> ParseBuffer<'b> {
         Ok(())
     }
 
+    /// Reads a value by the rule that the context says.
+    ///
+    /// # Errors
+    /// As `Parse::parse_from` of the value.
+    pub fn parse_with<T: Parse<C>, C>(&mut self, context: C) -> Result<T>
+        ensures read { Gives (λ value. (value, left self.new)) result (T.reads context (left self.old)) }
+        ensures place { StaysWithin self.old self.new }
+        ensures err { OnErr result (self.new ≡ self.old) }
+    {
+        let (value, len) = T::parse_from(self.rest(), context)?;
+        self.pos += len;
+        Ok(value)
+    }
+
+    /// Reads a value, the lowest byte of each number first.
+    ///
+    /// # Errors
+    /// As `Parse::parse_from` of the value.
+    pub fn parse<T: Parse<Le>>(&mut self) -> Result<T>
+        ensures read { Gives (λ value. (value, left self.new)) result (T.reads lowest_first (left self.old)) }
+        ensures place { StaysWithin self.old self.new }
+        ensures err { OnErr result (self.new ≡ self.old) }
+    {
+        self.parse_with(Le)
+    }
+
     /// Reads a `u8`.
     ///
     /// # Errors
@@ -178,6 +205,19 @@ impl<'b> ParseBuffer<'b> {
         ensures err { OnErr result (self.new ≡ self.old) }
     {
         Ok(LittleEndian::read_u64(self.take(8)?))
+    }
+
+    /// Reads an `i16`, its lowest byte first.
+    ///
+    /// # Errors
+    /// `UnexpectedEof` where fewer than two bytes are left.
+    #[tactic(auto, unfolding(crate::specs::Reading::signed_at, crate::specs::Reading::number_at, crate::specs::Reading::front_at))]
+    pub fn parse_i16(&mut self) -> Result<i16>
+        ensures read { Gives (λ number. (number, left self.new)) result (signed_at w16 2 (left self.old)) }
+        ensures place { StaysWithin self.old self.new }
+        ensures err { OnErr result (self.new ≡ self.old) }
+    {
+        Ok(LittleEndian::read_i16(self.take(2)?))
     }
 
     /// Reads an `i32`, its lowest byte first.

@@ -1,12 +1,14 @@
 //! What the definitions that contracts cite say in other words. The functions do nothing: each
 //! contract is a law.
 
-ghost use Rattle.std.specs.Prelude.{ℕ, List};
+ghost use Rattle.std.specs.Prelude.{◌≡◌, ℕ, List};
 ghost use Rattle.pdb_base.specs.Answer.{Answer};
 ghost use Rattle.std.specs.Int.{Width};
 ghost use Rattle.pdb_base.specs.Laws.{CollectsAll, RefusesAsFirst, ReadsSpelling};
 ghost use Rattle.pdb_base.specs.Reading.{number_at, signed_at, text_at, counted_at};
 ghost use Rattle.pdb_base.specs.Spelling.{ReadsWhatIsSpelled, SpellsNumber, SpellsSigned, SpellsText, SpellsCounted};
+
+use crate::item_index::ItemIndex;
 
 /// Answers in order are all their values, or the refusal of the first of them that refuses.
 pub fn collected<A>()
@@ -29,4 +31,10 @@ pub fn spellings()
     ensures signed { (signed : Width) (width : ℕ) → ReadsWhatIsSpelled (SpellsSigned signed width) (signed_at signed width) }
     ensures texts { ReadsWhatIsSpelled SpellsText text_at }
     ensures counted { ReadsWhatIsSpelled SpellsCounted counted_at }
+{}
+
+/// The conversions of an index to a number and of a number to an index undo each other.
+pub fn conversions<I: ItemIndex>()
+    ensures back { (index again : I) (n : ℕ) → I.converts index n → I.from_gives n again → again ≡ index }
+    ensures forth { (n again : ℕ) (index : I) → I.from_gives n index → I.converts index again → again ≡ n }
 {}

@@ -7,9 +7,10 @@ mod count;
 mod error;
 mod fallible_iterator;
 mod index;
-pub mod index_laws;
 mod item_index;
 pub mod laws;
+mod parse;
+mod parse_index;
 mod raw_string;
 
 pub use buffer::ParseBuffer;
@@ -18,4 +19,5 @@ pub use error::{Error, Result};
 pub use fallible_iterator::FallibleIterator;
 pub use index::{FileIndex, IdIndex, Local, Register, StreamIndex, SymbolIndex, TypeIndex};
 pub use item_index::ItemIndex;
+pub use parse::{Le, Parse};
 pub use raw_string::RawString;

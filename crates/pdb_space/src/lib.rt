@@ -8,6 +8,7 @@ mod address;
 mod internal_address;
 mod internal_section_offset;
 pub mod laws;
+mod parse_address;
 mod section_offset;
 
 pub use address::Rva;
