@@ -10,8 +10,10 @@ mod internal_section_offset;
 pub mod laws;
 mod parse_address;
 mod section_offset;
+mod string_ref;
 
 pub use address::Rva;
 pub use internal_address::PdbInternalRva;
 pub use internal_section_offset::PdbInternalSectionOffset;
 pub use section_offset::SectionOffset;
+pub use string_ref::StringRef;
