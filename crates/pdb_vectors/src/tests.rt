@@ -3,6 +3,7 @@
 mod addresses;
 mod buffers;
 mod indexes;
+mod values;
 
 use super::*;
 use pdb_container::{
