@@ -1,7 +1,13 @@
 pub mod Padding
+pub mod ReadingLemmas
 pub mod SpellingLemmas
 pub mod Refused
 pub mod Collected
 pub mod MultipleLemmas
 pub mod TextLemmas
 pub mod SpellingLaws
+pub mod NumericLemmas
+pub mod NumericLaws
+pub mod AlignmentLaws
+pub mod BitLaws
+pub mod BitLemmas

@@ -1,40 +1,33 @@
 -- Readers read just what is spelled.
-use Rattle.std.proofs.Common.{◌≡◌, ◌≢◌, ℕ, ℤ, zero, suc, ◌+◌, ◌-◌, ◌<◌, ◌≤◌, ◌==◌, ◌⊎◌, inl, inr, Bool, true, false, ltb, List, [], ◌∷◌, ◌++◌, length, take, drop, refl, sym, ap, ◌∙◌, arith, length-append, subst, Ok, Err}
+use Rattle.std.proofs.Common.{◌≡◌, ◌≢◌, ℕ, ℤ, zero, suc, ◌==◌, inl, inr, true, false, List, [], ◌∷◌, ◌++◌, length, take, drop, refl, sym, ap, ◌∙◌, arith, length-append, subst, Ok}
 use Rattle.std.specs.List.{AllByRecursion}
 use Rattle.std.specs.Int.{Width, cast_signed}
 use Rattle.std.proofs.Math.Seq.{drop-append_seam, take-append_seam}
-use Rattle.std.proofs.lemmas.Bool.{cases_lt, le-ltb, lt-ltb, ne_eqb}
+use Rattle.std.proofs.lemmas.Bool.{cases_lt, ne_eqb}
 use Rattle.std.proofs.Math.Dec.{eqb-suc-zero}
 use Rattle.std.proofs.lemmas.List.{take-append-drop, length-take-le, append_assoc}
 use Rattle.byteorder.specs.Endian.{little_number}
-use Rattle.pdb_base.specs.Refusal.{Refusal, unexpected_eof}
-use Rattle.pdb_base.specs.Answer.{Answer, ◌>>=◌}
+use Rattle.pdb_base.specs.Refusal.{unexpected_eof}
+use Rattle.pdb_base.specs.Answer.{◌>>=◌}
 use Rattle.pdb_base.specs.Reading.{front_at, number_at, signed_at, text_at, counted_at}
 use Rattle.pdb_base.specs.Spelling.{SpellsNumber, SpellsSigned, SpellsText, SpellsCounted, Begins, ReadsWhatIsSpelled}
 use Rattle.pdb_base.proofs.Collected.{ok, ok_is, ok_is_no_err, bind_ok}
+use Rattle.pdb_base.proofs.ReadingLemmas.{front_whole, front_cut}
 
 -- ---- the front
-
-whole : (count : ℕ) (bytes : List ℕ) → count ≤ length bytes → front_at count bytes ≡ Ok (take count bytes, drop count bytes)
-unfolding front_at
-whole count bytes long = let test : ltb (length bytes) count ≡ false = le-ltb (length bytes) count long in rw test refl
-
-cut : (count : ℕ) (bytes : List ℕ) → length bytes < count → front_at count bytes ≡ Err unexpected_eof
-unfolding front_at
-cut count bytes short = let test : ltb (length bytes) count ≡ true = lt-ltb (length bytes) count short in rw test refl
 
 -- what a front is
 front_is : (count : ℕ) (bytes : List ℕ) (x : List ℕ × List ℕ) → front_at count bytes ≡ Ok x → (length x.0 ≡ count) × (x.0 ++ x.1 ≡ bytes)
 front_is count bytes x e = elim (cases_lt (length bytes) count) [
-  | inl short ↦ absurd (ok_is_no_err x unexpected_eof (sym e ∙ cut count bytes short))
+  | inl short ↦ absurd (ok_is_no_err x unexpected_eof (sym e ∙ front_cut count bytes short))
   | inr long ↦
-      let is : (take count bytes, drop count bytes) ≡ x = ok_is (take count bytes, drop count bytes) x (sym (whole count bytes long) ∙ e) in
+      let is : (take count bytes, drop count bytes) ≡ x = ok_is (take count bytes, drop count bytes) x (sym (front_whole count bytes long) ∙ e) in
       (sym (ap (λ (p : List ℕ × List ℕ). length p.0) is) ∙ length-take-le count bytes long, sym (ap (λ (p : List ℕ × List ℕ). p.0 ++ p.1) is) ∙ take-append-drop count bytes)
 ]
 
 front_of : (front rest : List ℕ) → front_at (length front) (front ++ rest) ≡ Ok (front, rest)
 front_of front rest =
-    whole (length front) (front ++ rest) (omega (arith, length-append front rest))
+    front_whole (length front) (front ++ rest) (omega (arith, length-append front rest))
     ∙ ap (λ (f : List ℕ). ok (f, drop (length front) (front ++ rest))) (take-append_seam front rest)
     ∙ ap (λ (r : List ℕ). ok (front, r)) (drop-append_seam front rest)
 

@@ -1,9 +1,13 @@
 -- What the definitions of `Answer` and `Reading` say in other words.
-use Rattle.std.specs.Prelude.{◌≡◌, ℕ, ◌<◌, ◌^◌, List, ◌∷◌, ◌++◌, length, map, Ok, Err}
+use Rattle.std.specs.Prelude.{◌≡◌, ◌↔◌, ℕ, ◌+◌, ◌*◌, ◌%◌, ◌<◌, ◌≤◌, ◌^◌, List, ◌∷◌, ◌++◌, length, map, None, Ok, Err, IsBitSet}
 use Rattle.byteorder.specs.Endian.{little_bytes}
-use Rattle.pdb_base.specs.Refusal.{Refusal, unexpected_eof}
+use Rattle.pdb_base.specs.Refusal.{Refusal, unexpected_eof, unexpected_numeric_prefix}
 use Rattle.pdb_base.specs.Answer.{Answer, collected}
+use Rattle.pdb_base.specs.Bits.{bits}
+use Rattle.pdb_base.specs.Place.{Place, aligned}
 use Rattle.pdb_base.specs.Reading.{number_at}
+use Rattle.pdb_base.specs.Numeric.{NumberKind, least_leaf, kind_behind}
+use Rattle.pdb_base.specs.Spelling.{SpellsNumber, Begins}
 
 -- Answers have all their values collected just where each is a value.
 abbrev pub CollectsAll : {A : Type 0} → List (Answer A) → Type 0
@@ -23,3 +27,41 @@ abbrev pub ReadsSpelling : ℕ → List ℕ → Type 0
 ReadsSpelling width bytes =
     ((number : ℕ) (rest : List ℕ) → number < 256 ^ width → bytes ≡ little_bytes width number ++ rest → number_at width bytes ≡ Ok (number, rest))
     × (length bytes < width → number_at width bytes ≡ Err unexpected_eof)
+
+-- Bytes begin with a whole prefix that announces no number.
+pub record BeginsBadly (leaves : List (ℕ × NumberKind)) (bytes : List ℕ) (prefix : ℕ) : Type 0 where
+  pub rest : List ℕ
+  pub begins : Begins (SpellsNumber 2) bytes prefix rest
+  pub large : least_leaf ≤ prefix
+  pub unknown : kind_behind leaves prefix ≡ None
+
+-- A whole prefix that announces no number is refused by its name; where there is none, bytes are
+-- refused only since they end too soon.
+pub record RefusesPrefixFirst {A : Type 0} (leaves : List (ℕ × NumberKind)) (read : List ℕ → Answer (A × List ℕ)) : Type 0 where
+  pub named : (bytes : List ℕ) (prefix : ℕ) → BeginsBadly leaves bytes prefix → read bytes ≡ Err (unexpected_numeric_prefix prefix)
+  pub short : (bytes : List ℕ) (e : Refusal) → ((prefix : ℕ) → ¬ BeginsBadly leaves bytes prefix) → read bytes ≡ Err e → e ≡ unexpected_eof
+
+-- the least multiple of a number at or above a place
+pub record IsNextMultiple (number place next : ℕ) : Type 0 where
+  pub multiple : next % number ≡ 0
+  pub above : place ≤ next
+  pub least : (other : ℕ) → other % number ≡ 0 → place ≤ other → next ≤ other
+
+-- A place moves to the least multiple of the alignment at or above it, where the slice reaches that.
+pub record AlignsToNext (alignment : ℕ) (place : Place) : Type 0 where
+  pub next : ℕ
+  pub is_next : IsNextMultiple alignment place.pos next
+  pub within : next ≤ length place.slice → aligned alignment place ≡ Ok (record place { pos = next })
+  pub past : length place.slice < next → aligned alignment place ≡ Err unexpected_eof
+
+-- bits are put together of the lowest among them and of those above
+abbrev pub ArePutTogether : ℕ → ℕ → ℕ → ℕ → Type 0
+ArePutTogether word place low high = bits word place (low + high) ≡ bits word (place + low) high * 2 ^ low + bits word place low
+
+-- a number that so many bits hold is what they say
+abbrev pub IsAllItsBits : ℕ → ℕ → Type 0
+IsAllItsBits word count = word < 2 ^ count → bits word 0 count ≡ word
+
+-- one bit is 1 just where it is set
+abbrev pub TellsOneBit : ℕ → ℕ → Type 0
+TellsOneBit word place = (bits word place 1 ≡ 1) ↔ IsBitSet word place

@@ -1,9 +1,11 @@
 -- What bytes spell: which front of bytes spells which value, said without reading them.
-use Rattle.std.specs.Prelude.{◌≡◌, ◌≢◌, ℕ, ℤ, List, [], ◌∷◌, ◌++◌, length, Ok}
+use Rattle.std.specs.Prelude.{◌≡◌, ◌≢◌, ◌<◌, ◌⊎◌, ℕ, ℤ, List, [], ◌∷◌, ◌++◌, length, Some, Ok}
 use Rattle.std.specs.List.{AllByRecursion}
 use Rattle.std.specs.Int.{Width, cast_signed}
 use Rattle.byteorder.specs.Endian.{little_number}
+use Rattle.pdb_base.specs.declared.variant.Variant.{Variant}
 use Rattle.pdb_base.specs.Answer.{Answer}
+use Rattle.pdb_base.specs.Numeric.{NumberKind, u16, Numeral, least_leaf, numeric_leaves, unsigned_leaves, kind_behind, bytes_of, variant_of}
 
 -- a number in so many bytes, the lowest first
 pub record SpellsNumber (width number : ℕ) (front : List ℕ) : Type 0 where
@@ -24,6 +26,38 @@ pub record SpellsText (text front : List ℕ) : Type 0 where
 -- a byte that says how long a text is, and the text
 abbrev pub SpellsCounted : List ℕ → List ℕ → Type 0
 SpellsCounted text front = length text ∷ text ≡ front
+
+-- a number below 0x8000, which stands for itself in two bytes
+pub record SpellsItself (numeral : Numeral) (front : List ℕ) : Type 0 where
+  pub kind : numeral.kind ≡ u16
+  pub small : numeral.number < least_leaf
+  pub spelled : SpellsNumber 2 numeral.number front
+
+-- a prefix in two bytes that says what the number is, and behind it the number
+pub record SpellsPrefixed (leaves : List (ℕ × NumberKind)) (numeral : Numeral) (front : List ℕ) : Type 0 where
+  pub prefix : ℕ
+  pub says : kind_behind leaves prefix ≡ Some numeral.kind
+  pub head : List ℕ
+  pub head_spelled : SpellsNumber 2 prefix head
+  pub tail : List ℕ
+  pub tail_spelled : SpellsNumber (bytes_of numeral.kind) numeral.number tail
+  pub is : head ++ tail ≡ front
+
+-- a number of variable width, where these leaves are its prefixes
+abbrev pub SpellsNumeral : List (ℕ × NumberKind) → Numeral → List ℕ → Type 0
+SpellsNumeral leaves numeral front = SpellsItself numeral front ⊎ SpellsPrefixed leaves numeral front
+
+-- a number of variable width without a sign
+pub record SpellsNum (number : ℕ) (front : List ℕ) : Type 0 where
+  pub numeral : Numeral
+  pub spelled : SpellsNumeral unsigned_leaves numeral front
+  pub is : numeral.number ≡ number
+
+-- a number of variable width, in its width
+pub record SpellsVariant (value : Variant) (front : List ℕ) : Type 0 where
+  pub numeral : Numeral
+  pub spelled : SpellsNumeral numeric_leaves numeral front
+  pub is : variant_of numeral ≡ value
 
 -- Bytes begin with a front that spells a value, and go on with the rest.
 pub record Begins {A : Type 0} (Spells : A → List ℕ → Type 0) (bytes : List ℕ) (value : A) (rest : List ℕ) : Type 0 where

@@ -41,7 +41,23 @@ impl<'b> From<&'b [u8]> for ParseBuffer<'b> {
     }
 }
 
+/// An empty slice.
+impl<'b> Default for ParseBuffer<'b> {
+    ghost is_default = { λ buffer. buffer ≡ record { slice = []; pos = 0 } };
+
+    fn default() -> Self {
+        ParseBuffer::from([].as_slice())
+    }
+}
+
 impl<'b> ParseBuffer<'b> {
+    /// The slice, whatever was read of it.
+    pub(crate) fn whole(&self) -> &'b [u8]
+        ensures { result.now ≡ self.now.slice }
+    {
+        self.slice
+    }
+
     /// What is left to read.
     fn rest(&self) -> &'b [u8]
         ensures { result.now ≡ left self.now }
@@ -194,6 +210,7 @@ impl<'b> ParseBuffer<'b> {
     {
         Ok(LittleEndian::read_u32(self.take(4)?))
     }
+
     /// Reads a `u64`, its lowest byte first.
     ///
     /// # Errors
@@ -267,6 +284,7 @@ impl<'b> ParseBuffer<'b> {
     {
         ParseBuffer::from(self.rest()).parse_u16()
     }
+
     /// Reads the text up to the next NUL, and passes by the NUL.
     ///
     /// # Errors

@@ -1,12 +1,14 @@
 //! What the definitions that contracts cite say in other words. The functions do nothing: each
 //! contract is a law.
 
-ghost use Rattle.std.specs.Prelude.{◌≡◌, ℕ, List};
+ghost use Rattle.std.specs.Prelude.{◌≡◌, ◌≢◌, ℕ, List};
 ghost use Rattle.pdb_base.specs.Answer.{Answer};
 ghost use Rattle.std.specs.Int.{Width};
-ghost use Rattle.pdb_base.specs.Laws.{CollectsAll, RefusesAsFirst, ReadsSpelling};
+ghost use Rattle.pdb_base.specs.Laws.{CollectsAll, RefusesAsFirst, ReadsSpelling, RefusesPrefixFirst, AlignsToNext, ArePutTogether, IsAllItsBits, TellsOneBit};
+ghost use Rattle.pdb_base.specs.Place.{Place};
 ghost use Rattle.pdb_base.specs.Reading.{number_at, signed_at, text_at, counted_at};
-ghost use Rattle.pdb_base.specs.Spelling.{ReadsWhatIsSpelled, SpellsNumber, SpellsSigned, SpellsText, SpellsCounted};
+ghost use Rattle.pdb_base.specs.Numeric.{unsigned_leaves, numeric_leaves, num_at, variant_at};
+ghost use Rattle.pdb_base.specs.Spelling.{ReadsWhatIsSpelled, SpellsNumber, SpellsSigned, SpellsText, SpellsCounted, SpellsNum, SpellsVariant};
 
 use crate::item_index::ItemIndex;
 
@@ -25,12 +27,38 @@ pub fn numbers()
 
 /// What is read of bytes is what a front of them spells, and of any bytes at most one front spells a
 /// value.
-#[tactic(auto, using(crate::proofs::SpellingLaws::numbers, crate::proofs::SpellingLaws::signed_numbers, crate::proofs::SpellingLaws::texts, crate::proofs::SpellingLaws::counted_texts))]
+#[tactic(auto, using(crate::proofs::SpellingLaws::numbers, crate::proofs::SpellingLaws::signed_numbers, crate::proofs::SpellingLaws::texts, crate::proofs::SpellingLaws::counted_texts, crate::proofs::NumericLaws::nums, crate::proofs::NumericLaws::variants))]
 pub fn spellings()
     ensures numbers { (width : ℕ) → ReadsWhatIsSpelled (SpellsNumber width) (number_at width) }
     ensures signed { (signed : Width) (width : ℕ) → ReadsWhatIsSpelled (SpellsSigned signed width) (signed_at signed width) }
     ensures texts { ReadsWhatIsSpelled SpellsText text_at }
     ensures counted { ReadsWhatIsSpelled SpellsCounted counted_at }
+    ensures nums { ReadsWhatIsSpelled SpellsNum num_at }
+    ensures variants { ReadsWhatIsSpelled SpellsVariant variant_at }
+{}
+
+/// A number of variable width is refused by its prefix where that is whole and announces no number,
+/// and else only since the bytes end before the number does.
+#[tactic(auto, using(crate::proofs::NumericLaws::num_refusals, crate::proofs::NumericLaws::variant_refusals))]
+pub fn refused_prefixes()
+    ensures nums { RefusesPrefixFirst unsigned_leaves num_at }
+    ensures variants { RefusesPrefixFirst numeric_leaves variant_at }
+{}
+
+/// A position is aligned to the least multiple of the alignment at or above it, where the slice
+/// reaches that.
+#[tactic(auto, using(crate::proofs::AlignmentLaws::aligns_to_next))]
+pub fn alignment()
+    ensures { (alignment : ℕ) (place : Place) → alignment ≢ 0 → AlignsToNext alignment place }
+{}
+
+/// Bits are put together of the lower and the higher ones, all bits of a number are the number, and one
+/// bit tells whether it is set.
+#[tactic(auto, using(crate::proofs::BitLaws::put_together, crate::proofs::BitLaws::all_bits, crate::proofs::BitLaws::one_bit))]
+pub fn bit_fields()
+    ensures together { (word place low high : ℕ) → ArePutTogether word place low high }
+    ensures all { (word count : ℕ) → IsAllItsBits word count }
+    ensures one { (word place : ℕ) → TellsOneBit word place }
 {}
 
 /// The conversions of an index to a number and of a number to an index undo each other.

@@ -1,17 +1,21 @@
-//! What every part of a program database's reader stands on: errors, a buffer to parse from, text and
-//! indexes.
+//! What every part of a program database's reader stands on: errors, a buffer to parse from, numbers,
+//! text and indexes.
 #![tactic(auto)]
 
+pub mod bits;
 mod buffer;
+mod buffer_text;
 mod count;
 mod error;
 mod fallible_iterator;
 mod index;
 mod item_index;
 pub mod laws;
+mod numeric;
 mod parse;
 mod parse_index;
 mod raw_string;
+mod variant;
 
 pub use buffer::ParseBuffer;
 pub use count::Count;
@@ -21,3 +25,4 @@ pub use index::{FileIndex, IdIndex, Local, Register, StreamIndex, SymbolIndex, T
 pub use item_index::ItemIndex;
 pub use parse::{Le, Parse};
 pub use raw_string::RawString;
+pub use variant::Variant;

@@ -4,9 +4,11 @@ ghost use Rattle.std.specs.Prelude.{◌≡◌, ◌≤◌, ℕ, List, length, dro
 ghost use Rattle.std.specs.Int.{w8, w16, w32, w64};
 ghost use Rattle.pdb_base.specs.Answer.{Answer, Gives};
 ghost use Rattle.pdb_base.specs.Reading.{number_at, signed_at};
+ghost use Rattle.pdb_base.specs.Numeric.{variant_at};
 
 use crate::buffer::ParseBuffer;
 use crate::error::Result;
+use crate::variant::Variant;
 
 /// The rule that of a number the lowest byte comes first (little-endian).
 #[derive(Clone, Copy, Debug, Default, PartialEq, Eq)]
@@ -106,5 +108,16 @@ impl Parse<Le> for i64 {
         let mut buffer = ParseBuffer::from(bytes);
         let number = buffer.parse_i64()?;
         Ok((number, buffer.pos()))
+    }
+}
+
+/// A number in the width that its prefix announces, as `ParseBuffer::parse_variant` reads it.
+impl Parse<Le> for Variant {
+    ghost reads = { λ _. variant_at };
+
+    fn parse_from(bytes: &[u8], _: Le) -> Result<(Variant, usize)> {
+        let mut buffer = ParseBuffer::from(bytes);
+        let value = buffer.parse_variant()?;
+        Ok((value, buffer.pos()))
     }
 }

@@ -13,3 +13,9 @@ pub use Rattle.pdb_msf.specs.Directory
 pub use Rattle.pdb_msf.specs.File
 pub use Rattle.pdb_space.specs.Sum
 pub use Rattle.pdb_space.specs.SectionPlace
+pub use Rattle.pdb_frames.specs.Span
+pub use Rattle.pdb_frames.specs.FrameNumbers
+pub use Rattle.pdb_frames.specs.Stored
+pub use Rattle.pdb_frames.specs.Frames
+pub use Rattle.pdb_frames.specs.Merge
+pub use Rattle.pdb_frames.specs.Table

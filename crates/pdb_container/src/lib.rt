@@ -1,16 +1,117 @@
-//! Program databases (PDB): the container, what it replies to queries, and addresses.
+//! Program databases (PDB): the container and what it replies to queries, tables of items, values of
+//! records, names, addresses and how they are translated, and frames.
 #![tactic(auto)]
 
 mod query;
 mod whole;
 
-pub use pdb_base::{
-    Count, Error, FallibleIterator, FileIndex, IdIndex, ItemIndex, Le, Local, Parse, ParseBuffer,
-    RawString, Register, Result, StreamIndex, SymbolIndex, TypeIndex,
-};
-pub use pdb_msf::{
-    BigMSF, Msf, ReadView, Source, SourceSlice, SourceView, Stream, big, open_msf, small,
-};
-pub use pdb_space::{PdbInternalRva, PdbInternalSectionOffset, Rva, SectionOffset, StringRef};
-pub use query::{Query, Reply};
+pub use pdb_base::Count;
+pub use pdb_base::Error;
+pub use pdb_base::FallibleIterator;
+pub use pdb_base::FileIndex;
+pub use pdb_base::IdIndex;
+pub use pdb_base::ItemIndex;
+pub use pdb_base::Le;
+pub use pdb_base::Local;
+pub use pdb_base::Parse;
+pub use pdb_base::ParseBuffer;
+pub use pdb_base::RawString;
+pub use pdb_base::Register;
+pub use pdb_base::Result;
+pub use pdb_base::StreamIndex;
+pub use pdb_base::SymbolIndex;
+pub use pdb_base::TypeIndex;
+pub use pdb_base::Variant;
+pub use pdb_flags::FieldAttributes;
+pub use pdb_flags::FunctionAttributes;
+pub use pdb_flags::PointerAttributes;
+pub use pdb_flags::PointerKind;
+pub use pdb_flags::PointerMode;
+pub use pdb_flags::TypeProperties;
+pub use pdb_frames::AddrRange;
+pub use pdb_frames::FrameData;
+pub use pdb_frames::FrameDataIter;
+pub use pdb_frames::FrameTable;
+pub use pdb_frames::FrameType;
+pub use pdb_frames::NewFrameData;
+pub use pdb_frames::OldFrameData;
+pub use pdb_msf::BigMSF;
+pub use pdb_msf::Msf;
+pub use pdb_msf::PageList;
+pub use pdb_msf::ReadView;
+pub use pdb_msf::Source;
+pub use pdb_msf::SourceSlice;
+pub use pdb_msf::SourceView;
+pub use pdb_msf::Stream;
+pub use pdb_msf::big;
+pub use pdb_msf::open_msf;
+pub use pdb_msf::small;
+pub use pdb_space::AddressMap;
+pub use pdb_space::ImageSectionHeader;
+pub use pdb_space::OMAPRecord;
+pub use pdb_space::OMAPRecords;
+pub use pdb_space::OMAPTable;
+pub use pdb_space::PdbInternalRva;
+pub use pdb_space::PdbInternalRvaRangeIter;
+pub use pdb_space::PdbInternalSectionOffset;
+pub use pdb_space::RangeIter;
+pub use pdb_space::Rva;
+pub use pdb_space::RvaRangeIter;
+pub use pdb_space::SectionCharacteristics;
+pub use pdb_space::SectionOffset;
+pub use pdb_space::StringRef;
+pub use pdb_space::StringTable;
+pub use pdb_tpi::Header;
+pub use pdb_tpi::Id;
+pub use pdb_tpi::IdFinder;
+pub use pdb_tpi::IdInformation;
+pub use pdb_tpi::IdIter;
+pub use pdb_tpi::Item;
+pub use pdb_tpi::ItemFinder;
+pub use pdb_tpi::ItemInformation;
+pub use pdb_tpi::ItemIter;
+pub use pdb_tpi::Slice;
+pub use pdb_tpi::Type;
+pub use pdb_tpi::TypeFinder;
+pub use pdb_tpi::TypeInformation;
+pub use pdb_tpi::TypeIter;
+pub use pdb_tpi::constants;
+pub use pdb_values::ArgumentList;
+pub use pdb_values::ArrayType;
+pub use pdb_values::BaseClassType;
+pub use pdb_values::BitfieldType;
+pub use pdb_values::BuildInfoId;
+pub use pdb_values::ClassKind;
+pub use pdb_values::ClassType;
+pub use pdb_values::EnumerateType;
+pub use pdb_values::EnumerationType;
+pub use pdb_values::FieldList;
+pub use pdb_values::FunctionId;
+pub use pdb_values::IdData;
+pub use pdb_values::Indirection;
+pub use pdb_values::MemberFunctionId;
+pub use pdb_values::MemberFunctionType;
+pub use pdb_values::MemberType;
+pub use pdb_values::MethodList;
+pub use pdb_values::MethodListEntry;
+pub use pdb_values::MethodType;
+pub use pdb_values::ModifierType;
+pub use pdb_values::NestedType;
+pub use pdb_values::OverloadedMethodType;
+pub use pdb_values::PointerType;
+pub use pdb_values::PrimitiveKind;
+pub use pdb_values::PrimitiveType;
+pub use pdb_values::ProcedureType;
+pub use pdb_values::StaticMemberType;
+pub use pdb_values::StringId;
+pub use pdb_values::StringListId;
+pub use pdb_values::TypeData;
+pub use pdb_values::UnionType;
+pub use pdb_values::UserDefinedTypeSourceFileRef;
+pub use pdb_values::UserDefinedTypeSourceId;
+pub use pdb_values::VirtualBaseClassType;
+pub use pdb_values::VirtualFunctionTablePointerType;
+pub use pdb_values::type_data_for_primitive;
+pub use query::Query;
+pub use query::Reply;
 pub use whole::run;

@@ -1,6 +1,6 @@
 -- What the definitions say in other words.
 use Rattle.std.proofs.Common.{◌≡◌, ℕ, zero, suc, ◌+◌, ◌*◌, ◌<◌, ◌≤◌, ◌⊎◌, inl, inr, Bool, true, false, ltb, leb, cond, ◌&&◌, min, List, [], ◌∷◌, ◌++◌, length, get_or, take, drop, map, refl, sym, ap, ◌∙◌, arith, subst, slice_index, Option, Some, None, Ok, Err}
-use Rattle.std.proofs.lemmas.Bool.{cases_lt, le-ltb, lt-ltb}
+use Rattle.std.proofs.lemmas.Bool.{cases_Bool, cases_lt, le-ltb, lt-ltb}
 use Rattle.std.proofs.lemmas.Bool.Decides.{nat_tests}
 use Rattle.std.proofs.lemmas.Nat.{mul-le}
 use Rattle.std.proofs.lemmas.List.{ext_get_or, get_or-map, get_or-take, length-map, length-take, length-drop, drop-drop}
@@ -10,7 +10,8 @@ use Rattle.std.proofs.lemmas.Option.{slice_get-get_or, slice_get_within, get_or_
 use Rattle.std.specs.List.{list_all, range_with_len, slice_get}
 use Rattle.pdb_base.specs.Refusal.{Refusal, page_reference_out_of_range}
 use Rattle.pdb_base.specs.Answer.{Answer, collected}
-use Rattle.pdb_base.specs.Reading.{front_at, number_at}
+use Rattle.pdb_base.specs.Reading.{number_at}
+use Rattle.pdb_base.proofs.ReadingLemmas.{front_whole, number_whole}
 use Rattle.pdb_base.proofs.Collected.{ok, err, ok_is, err_is, ok_is_no_err, bind_ok, collects_all}
 use Rattle.pdb_msf.specs.Source.{bytes_at, found}
 use Rattle.pdb_msf.specs.Pages.{pages, place_of, scatter, words, present, judged, page_number, page_numbers}
@@ -18,7 +19,7 @@ use Rattle.pdb_msf.specs.Header.{Head, fields_of}
 use Rattle.pdb_msf.specs.Directory.{entry_of, directory_of}
 use Rattle.pdb_msf.specs.File.{stream_of}
 use Rattle.pdb_msf.specs.Laws.{IsLeast, Scatters, word_at, StandAtOffsets, AreGood, FirstFault, CutsOnly}
-use Rattle.pdb_msf.proofs.PageLemmas.{pages_reach, pages_tight, bool_cases}
+use Rattle.pdb_msf.proofs.PageLemmas.{pages_reach, pages_tight}
 use Rattle.pdb_msf.proofs.WordLemmas.{collected_more, collected_stops}
 
 -- ---- pages
@@ -65,7 +66,7 @@ place_within limit at i all within = elim (cases_lt (get_or at i 0) limit) [
 found_by_index : (file : List ℕ) (f : ℕ → ℕ) (size : ℕ) (bytes : List ℕ) → bytes_at file (map f (range_with_len 0 size)) ≡ Some bytes
     → (length bytes ≡ size) × ((i : ℕ) → i < size → slice_get file (f i) ≡ Some (slice_index bytes i))
 unfolding bytes_at
-found_by_index file f size bytes e = elim (bool_cases (list_all (λ place. ltb place (length file)) (map f (range_with_len 0 size)))) [
+found_by_index file f size bytes e = elim (cases_Bool (list_all (λ place. ltb place (length file)) (map f (range_with_len 0 size)))) [
   | inr none ↦ absurd (some_is_not_none bytes (sym (subst (λ (b : Bool). cond b (Some (map (slice_index file) (map f (range_with_len 0 size)))) None ≡ Some bytes) none e)))
   | inl all ↦
       let is : map (slice_index file) (map f (range_with_len 0 size)) ≡ bytes =
@@ -83,7 +84,7 @@ found_by_index file f size bytes e = elim (bool_cases (list_all (λ place. ltb p
 
 missing_by_index : (file : List ℕ) (f : ℕ → ℕ) (size : ℕ) → bytes_at file (map f (range_with_len 0 size)) ≡ None → (i : ℕ) × (i < size) × (length file ≤ f i)
 unfolding bytes_at
-missing_by_index file f size e = elim (bool_cases (list_all (λ place. ltb place (length file)) (map f (range_with_len 0 size)))) [
+missing_by_index file f size e = elim (cases_Bool (list_all (λ place. ltb place (length file)) (map f (range_with_len 0 size)))) [
   | inl all ↦ absurd (some_is_not_none (map (slice_index file) (map f (range_with_len 0 size))) (subst (λ (b : Bool). cond b (Some (map (slice_index file) (map f (range_with_len 0 size)))) None ≡ None) all e))
   | inr none ↦
       let past = place_past (length file) (map f (range_with_len 0 size)) none in
@@ -118,19 +119,14 @@ scatters file page_size numbers size = record {
 -- ---- the header
 
 next_word : (view : List ℕ) (offset after : ℕ) → offset + 4 ≡ after → after ≤ length view → number_at 4 (drop offset view) ≡ Ok (word_at offset view, drop after view)
-unfolding number_at front_at
 next_word view offset after is long =
-    let test : ltb (length (drop offset view)) 4 ≡ false = le-ltb (length (drop offset view)) 4 (omega (arith, length-drop offset view)) in
-    rw test (ap (λ (n : List ℕ). Ok (word_at offset view, n)) (drop-drop 4 offset view ∙ ap (λ (n : ℕ). drop n view) is))
-
-front_word : (view : List ℕ) → 32 ≤ length view → front_at 32 view ≡ Ok (take 32 view, drop 32 view)
-unfolding front_at
-front_word view long = let test : ltb (length view) 32 ≡ false = le-ltb (length view) 32 long in rw test refl
+    number_whole 4 (drop offset view) (omega (arith, length-drop offset view))
+    ∙ ap (λ (n : List ℕ). Ok (word_at offset view, n)) (drop-drop 4 offset view ∙ ap (λ (n : ℕ). drop n view) is)
 
 pub stand_at_offsets : (view : List ℕ) → StandAtOffsets view
 unfolding fields_of
 stand_at_offsets view long =
-    rw (front_word view (omega arith), next_word view 32 36 refl (omega arith), next_word view 36 40 refl (omega arith), next_word view 40 44 refl (omega arith), next_word view 44 48 refl (omega arith), next_word view 48 52 refl (omega arith)) refl
+    rw (front_whole 32 view (omega arith), next_word view 32 36 refl (omega arith), next_word view 36 40 refl (omega arith), next_word view 40 44 refl (omega arith), next_word view 44 48 refl (omega arith), next_word view 48 52 refl (omega arith)) refl
 
 -- ---- page numbers
 
@@ -139,7 +135,7 @@ word_there None word e = absurd cc
 word_there (Some there) word e = ap (λ (n : ℕ). Some n) (ok_is there word e)
 
 judged_good : (pages_used word number : ℕ) → judged pages_used word ≡ Ok number → (word ≡ number) × (0 < word) × (word ≤ pages_used)
-judged_good pages_used word number e = elim (bool_cases (ltb 0 word && leb word pages_used)) [
+judged_good pages_used word number e = elim (cases_Bool (ltb 0 word && leb word pages_used)) [
   | inr bad ↦ absurd (ok_is_no_err number (page_reference_out_of_range word)
       (sym (subst (λ (b : Bool). cond b (ok word) (err (page_reference_out_of_range word)) ≡ ok number) bad e)))
   | inl good ↦ (

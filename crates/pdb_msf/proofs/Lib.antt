@@ -1,4 +1,6 @@
 pub mod PlacesLemmas
+pub mod SliceLemmas
+pub mod RunLemmas
 pub mod WordLemmas
 pub mod PageLemmas
 pub mod EntryLemmas

@@ -1,8 +1,8 @@
 -- The places of whole pages, by the index of each byte.
-use Rattle.std.proofs.Common.{◌≡◌, ℕ, ◌+◌, ◌*◌, ◌/◌, ◌%◌, ◌<◌, ◌≤◌, List, [], ◌∷◌, ◌++◌, length, get_or, take, map, refl, sym, ap, ◌∙◌, arith, slice_index, length-append, ◌^◌, ◌⊎◌, inl, inr, Result, Ok, Err, Some, None, Bool, true, false, cond, ltb, subst}
+use Rattle.std.proofs.Common.{◌≡◌, ℕ, ◌+◌, ◌*◌, ◌/◌, ◌%◌, ◌<◌, ◌≤◌, List, [], ◌∷◌, ◌++◌, length, get_or, take, map, sym, ap, ◌∙◌, arith, slice_index, length-append, ◌^◌, inl, inr, Result, Ok, Err, Some, None, Bool, cond, ltb, subst}
 use Rattle.std.specs.List.{flat_map, list_all, range_with_len}
 use Rattle.std.proofs.Math.Nat.{mod-lt}
-use Rattle.std.proofs.lemmas.Bool.{cases_lt}
+use Rattle.std.proofs.lemmas.Bool.{cases_Bool, cases_lt}
 use Rattle.std.proofs.lemmas.Nat.{div-add-mod', div_below, mul-le}
 use Rattle.std.proofs.lemmas.Grind.{flat_map-append, div_ceil_times}
 use Rattle.std.proofs.lemmas.List.{append-nil, get_or-take, length-take, take_more, length-take-le, ext_get_or, length-map}
@@ -93,14 +93,10 @@ pages_le page_size bytes positive =
       | inr few ↦ few
     ]
 
-pub bool_cases : (b : Bool) → (b ≡ true) ⊎ (b ≡ false)
-bool_cases true = inl refl
-bool_cases false = inr refl
-
 -- what was found at so many places has so many bytes
 pub length_found : (file at bytes : List ℕ) → found (bytes_at file at) ≡ Ok bytes → length bytes ≡ length at
 unfolding bytes_at
-length_found file at bytes e = elim (bool_cases (list_all (λ place. ltb place (length file)) at)) [
+length_found file at bytes e = elim (cases_Bool (list_all (λ place. ltb place (length file)) at)) [
   | inl all ↦ let shown : found (Some (map (slice_index file) at)) ≡ Ok bytes = subst (λ (b : Bool). found (cond b (Some (map (slice_index file) at)) None) ≡ Ok bytes) all e in
       sym (ap length (ok_is (map (slice_index file) at) bytes shown)) ∙ length-map at (slice_index file)
   | inr none ↦ absurd (let shown : found None ≡ Ok bytes = subst (λ (b : Bool). found (cond b (Some (map (slice_index file) at)) None) ≡ Ok bytes) none e in cc)

@@ -5,7 +5,7 @@ use Rattle.std.proofs.lemmas.Grind.{flat_map-append, common_steps}
 use Rattle.std.proofs.lemmas.Bool.{le-ltb, lt-ltb}
 use Rattle.std.proofs.lemmas.Bool.Decides.{nat_tests}
 use Rattle.std.proofs.lemmas.List.Folds.{list_all-append}
-use Rattle.std.proofs.lemmas.List.{append-nil, get_or-take, get_or-drop, length-take, length-drop, take-append-le, take_more, ext_get_or, length-map, map-id}
+use Rattle.std.proofs.lemmas.List.{append-nil, get_or-take, get_or-drop, length-take, length-drop, take_more, ext_get_or, length-map, map-id}
 use Rattle.std.proofs.lemmas.List.FromFn.{length-range_with_len, get_or-map-range_with_len, take-map-range_with_len}
 use Rattle.pdb_msf.specs.declared.source.SourceSlice.{SourceSlice}
 use Rattle.pdb_msf.specs.Source.{slice_places, places, bytes_at}
@@ -120,25 +120,11 @@ front_cut file size short =
 
 -- ---- fewer places
 
-take-range_with_len : (from count n : ℕ) → n ≤ count → take n (range_with_len from count) ≡ range_with_len from n
+pub take-range_with_len : (from count n : ℕ) → n ≤ count → take n (range_with_len from count) ≡ range_with_len from n
 take-range_with_len from count n le =
     ap (take n) (sym (map-id (range_with_len from count))) ∙ take-map-range_with_len (λ (x : ℕ). x) from count n le ∙ map-id (range_with_len from n)
 
-take-append-ge : (n : ℕ) (xs ys : List ℕ) → length xs ≤ n → take n (xs ++ ys) ≡ xs ++ take (n - length xs) ys
+pub take-append-ge : (n : ℕ) (xs ys : List ℕ) → length xs ≤ n → take n (xs ++ ys) ≡ xs ++ take (n - length xs) ys
 take-append-ge n [] ys le = grind (arith, common_steps)
 take-append-ge zero (x ∷ xs) ys le = absurd (omega arith)
 take-append-ge (suc n) (x ∷ xs) ys le = ap (λ (r : List ℕ). x ∷ r) (take-append-ge n xs ys (omega arith) ∙ ap (λ (k : ℕ). xs ++ take k ys) (omega arith))
-
--- without its last slice a list still has the first n places, if there are that many
-pub take-places_pop : (n : ℕ) (slices shorter : List SourceSlice) (last : SourceSlice) → slices ≡ shorter ++ last ∷ [] → n ≤ length (places shorter) → take n (places shorter) ≡ take n (places slices)
-take-places_pop n slices shorter last is le =
-    sym (ap (λ (s : List SourceSlice). take n (places s)) is ∙ ap (take n) (places_push shorter last) ∙ take-append-le n (places shorter) (slice_places last) le)
-
--- and with its last slice cut it has just these
-pub take-places_cut : (n : ℕ) (slices shorter : List SourceSlice) (last : SourceSlice) → slices ≡ shorter ++ last ∷ [] → length (places shorter) ≤ n → n ≤ length (places shorter) + last.size
-    → places (shorter ++ record { offset = last.offset; size = n - length (places shorter) } ∷ []) ≡ take n (places slices)
-take-places_cut n slices shorter last is low high =
-    places_push shorter (record { offset = last.offset; size = n - length (places shorter) })
-    ∙ sym (ap (λ (s : List SourceSlice). take n (places s)) is ∙ ap (take n) (places_push shorter last)
-    ∙ take-append-ge n (places shorter) (slice_places last) low
-    ∙ ap (λ (r : List ℕ). places shorter ++ r) (take-range_with_len last.offset last.size (n - length (places shorter)) (omega arith)))

@@ -1,6 +1,6 @@
 -- Reading numbers from bytes, and the words that bytes spell.
-use Rattle.std.proofs.Common.{◌≡◌, ℕ, zero, suc, ◌+◌, ◌-◌, ◌*◌, ◌<◌, ◌≤◌, true, false, List, [], ◌∷◌, ◌++◌, length, take, drop, map, refl, sym, ap, ◌∙◌, arith, Some, None, Ok, Err, ltb, inl, inr}
-use Rattle.std.proofs.lemmas.Bool.{cases_lt, le-ltb, lt-ltb}
+use Rattle.std.proofs.Common.{◌≡◌, ℕ, zero, suc, ◌+◌, ◌-◌, ◌*◌, ◌<◌, ◌≤◌, List, [], ◌∷◌, ◌++◌, length, take, drop, map, refl, sym, ap, ◌∙◌, arith, Some, None, Ok, Err, inl, inr}
+use Rattle.std.proofs.lemmas.Bool.{cases_lt}
 use Rattle.std.specs.List.{slice_get, range_with_len, sum_by}
 use Rattle.std.proofs.lemmas.List.{map-append, drop-drop}
 use Rattle.std.proofs.lemmas.List.FromFn.{map-range_with_len_more}
@@ -11,15 +11,13 @@ use Rattle.pdb_base.specs.Refusal.{Refusal, unexpected_eof}
 use Rattle.pdb_base.specs.Answer.{Answer, collected}
 use Rattle.pdb_base.proofs.Collected.{ok_is, err_is, ok_is_no_err, collected-append_ok, collected-append_err}
 use Rattle.pdb_base.specs.Reading.{front_at, number_at}
+use Rattle.pdb_base.proofs.ReadingLemmas.{front_whole, front_cut, number_whole}
 use Rattle.pdb_msf.specs.Pages.{words}
 
 -- ---- one word
 
-number_whole : (a b c d : ℕ) (rest : List ℕ) → number_at 4 (a ∷ b ∷ c ∷ d ∷ rest) ≡ Ok (little_number 4 (a ∷ b ∷ c ∷ d ∷ []), rest)
-unfolding number_at front_at
-number_whole a b c d rest =
-    let long : ltb (length (a ∷ b ∷ c ∷ d ∷ rest)) 4 ≡ false = le-ltb (length (a ∷ b ∷ c ∷ d ∷ rest)) 4 (omega arith) in
-    rw long refl
+word_whole : (a b c d : ℕ) (rest : List ℕ) → number_at 4 (a ∷ b ∷ c ∷ d ∷ rest) ≡ Ok (little_number 4 (a ∷ b ∷ c ∷ d ∷ []), rest)
+word_whole a b c d rest = number_whole 4 (a ∷ b ∷ c ∷ d ∷ rest) (omega arith)
 
 -- a number of four bytes that stands at the front is the first word, and the others follow
 pub word_read : (bytes : List ℕ) (x : ℕ × List ℕ) → number_at 4 bytes ≡ Ok x → words bytes ≡ x.0 ∷ words x.1
@@ -29,7 +27,7 @@ word_read (a ∷ []) x e = absurd cc
 word_read (a ∷ b ∷ []) x e = absurd cc
 word_read (a ∷ b ∷ c ∷ []) x e = absurd cc
 word_read (a ∷ b ∷ c ∷ d ∷ rest) x e =
-    ap (λ (p : ℕ × List ℕ). p.0 ∷ words p.1) (ok_is (little_number 4 (a ∷ b ∷ c ∷ d ∷ []), rest) x (sym (number_whole a b c d rest) ∙ e))
+    ap (λ (p : ℕ × List ℕ). p.0 ∷ words p.1) (ok_is (little_number 4 (a ∷ b ∷ c ∷ d ∷ []), rest) x (sym (word_whole a b c d rest) ∙ e))
 
 -- where none stands there are no words
 pub word_missing : (bytes : List ℕ) (e : Refusal) → number_at 4 bytes ≡ Err e → (words bytes ≡ []) × (e ≡ unexpected_eof)
@@ -38,7 +36,7 @@ word_missing [] e h = (refl, cc)
 word_missing (a ∷ []) e h = (refl, cc)
 word_missing (a ∷ b ∷ []) e h = (refl, cc)
 word_missing (a ∷ b ∷ c ∷ []) e h = (refl, cc)
-word_missing (a ∷ b ∷ c ∷ d ∷ rest) e h = absurd (ok_is_no_err (little_number 4 (a ∷ b ∷ c ∷ d ∷ []), rest) e (sym (number_whole a b c d rest) ∙ h))
+word_missing (a ∷ b ∷ c ∷ d ∷ rest) e h = absurd (ok_is_no_err (little_number 4 (a ∷ b ∷ c ∷ d ∷ []), rest) e (sym (word_whole a b c d rest) ∙ h))
 
 -- ---- many words
 
@@ -69,14 +67,6 @@ length-words (a ∷ []) = (omega arith, omega arith)
 length-words (a ∷ b ∷ []) = (omega arith, omega arith)
 length-words (a ∷ b ∷ c ∷ []) = (omega arith, omega arith)
 length-words (a ∷ b ∷ c ∷ d ∷ rest) = let more = length-words rest in (omega (arith, more.0), omega (arith, more.1))
-
-front_whole : (count : ℕ) (bytes : List ℕ) → count ≤ length bytes → front_at count bytes ≡ Ok (take count bytes, drop count bytes)
-unfolding front_at
-front_whole count bytes long = let test : ltb (length bytes) count ≡ false = le-ltb (length bytes) count long in rw test refl
-
-front_cut : (count : ℕ) (bytes : List ℕ) → length bytes < count → front_at count bytes ≡ Err unexpected_eof
-unfolding front_at
-front_cut count bytes short = let test : ltb (length bytes) count ≡ true = lt-ltb (length bytes) count short in rw test refl
 
 -- so many words are skipped just where there are so many
 pub words_skipped : (count : ℕ) (bytes : List ℕ) (x : List ℕ × List ℕ) → front_at (4 * count) bytes ≡ Ok x → (count ≤ length (words bytes)) × (words x.1 ≡ drop count (words bytes))

@@ -2,6 +2,7 @@ pub mod Source
 pub mod Within
 pub mod Pages
 pub mod PageList
+pub mod Runs
 pub mod Header
 pub mod Directory
 pub mod File

@@ -1,12 +1,39 @@
--- What a list of pages stands for: places in a file.
-use Rattle.std.specs.Prelude.{ℕ, ◌*◌, List}
-use Rattle.std.specs.List.{range_with_len}
+-- What a list of pages stands for: slices of a file, in which pages that follow one another are joined.
+use Rattle.std.specs.Prelude.{ℕ, ◌+◌, ◌-◌, ◌*◌, ◌==◌, nat_le, if◌then◌else◌, Bool, List, [], ◌∷◌, fold}
+use Rattle.pdb_msf.specs.declared.source.SourceSlice.{SourceSlice}
+use Rattle.pdb_msf.specs.Source.{slice_places}
 
--- the size of a page, and the place in the file of each byte
+-- the size of a page, the slices that the pages are joined into, and whether these were truncated
 pub record Listed : Type 0 where
   pub page_size : ℕ
-  pub places : List ℕ
+  pub slices : List SourceSlice
+  pub is_truncated : Bool
+
+-- the slice that is one page
+abbrev pub page_slice : ℕ → ℕ → SourceSlice
+page_slice page_size page = record { offset = page * page_size; size = page_size }
 
 -- the places of the bytes of one page
 abbrev pub page_places : ℕ → ℕ → List ℕ
-page_places page_size page = range_with_len (page * page_size) page_size
+page_places page_size page = slice_places (page_slice page_size page)
+
+-- two slices, or one where the second begins just where the first ends
+unfoldable pub joined : SourceSlice → SourceSlice → List SourceSlice
+joined slice next =
+    if slice.offset + slice.size == next.offset then record slice { size = slice.size + next.size } ∷ [] else slice ∷ next ∷ []
+
+-- slices with one more behind them, joined to the last of them where it begins just where that ends
+unfoldable pub with_slice : List SourceSlice → SourceSlice → List SourceSlice
+with_slice [] more = more ∷ []
+with_slice (slice ∷ []) more = joined slice more
+with_slice (slice ∷ (next ∷ slices)) more = slice ∷ with_slice (next ∷ slices) more
+
+-- the slices of pages that are added in turn, to none at first
+abbrev pub slices_of : ℕ → List ℕ → List SourceSlice
+slices_of page_size pages = fold (λ slices page. with_slice slices (page_slice page_size page)) [] pages
+
+-- the first n bytes of slices: the slices that they fill, and the front of the next one if bytes are left
+unfoldable pub first_of : ℕ → List SourceSlice → List SourceSlice
+first_of n [] = []
+first_of n (slice ∷ slices) =
+    if nat_le slice.size n then slice ∷ first_of (n - slice.size) slices else (if n == 0 then [] else record slice { size = n } ∷ [])

@@ -48,7 +48,7 @@ fn page_list(alloc: Global, page_size: u32, numbers: &[u32], size: usize) -> Res
     requires size { (0 < page_size) × (page_size ≤ 0x800000) }
     requires reached { size ≤ length numbers.now * page_size }
     requires few { length numbers.now ≤ 2 ^ 40 }
-    ensures { Answers (λ l. l.places) result (Ok (map (place_of page_size numbers.now) (range_with_len 0 size))) }
+    ensures { Answers (λ l. places l.slices) result (Ok (map (place_of page_size numbers.now) (range_with_len 0 size))) }
 {
     let mut list = PageList::new(alloc, page_size);
     for number in numbers {

@@ -4,6 +4,7 @@
 ghost use Rattle.std.specs.Prelude.{◌≡◌, ℕ, ◌<◌, List, Ok, Err};
 ghost use Rattle.pdb_base.specs.Refusal.{Refusal};
 ghost use Rattle.pdb_msf.specs.Pages.{pages, page_numbers};
+ghost use Rattle.pdb_msf.specs.Runs.{AreJoined};
 ghost use Rattle.pdb_msf.specs.Header.{Head};
 ghost use Rattle.pdb_msf.specs.Laws.{IsLeast, Scatters, StandAtOffsets, AreGood, FirstFault, CutsOnly};
 
@@ -17,6 +18,13 @@ pub fn pages()
 #[tactic(auto, using(crate::proofs::LawLemmas::scatters))]
 pub fn scatter()
     ensures { (file : List ℕ) (page_size : ℕ) (numbers : List ℕ) (size : ℕ) → Scatters file page_size numbers size }
+{}
+
+/// Pages that are added in turn are joined into slices just by their longest runs: a slice is a run
+/// of pages each one above the page before, and no two neighbours could be joined.
+#[tactic(auto, using(crate::proofs::RunLemmas::are_joined))]
+pub fn page_list()
+    ensures { (page_size : ℕ) (pages : List ℕ) → 0 < page_size → AreJoined page_size pages }
 {}
 
 /// A header has its page size at byte 32, its pages used at 40, its directory size at 44, and the

@@ -12,5 +12,6 @@ mod stream;
 
 pub use magic::{big, small};
 pub use msf::{BigMSF, Msf, open_msf};
+pub use page_list::PageList;
 pub use source::{ReadView, Source, SourceSlice, SourceView};
 pub use stream::Stream;

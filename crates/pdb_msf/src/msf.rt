@@ -1,9 +1,9 @@
 //! Files in the multi-stream format (MSF), the container of a program database.
 
 ghost use Rattle.std.specs.Prelude.{◌≡◌, ◌≤◌, IsTrue, IfOk};
-ghost use Rattle.pdb_base.specs.Answer.{AnswersUnless};
+ghost use Rattle.pdb_base.specs.Answer.{Answers, AnswersUnless};
 ghost use Rattle.pdb_msf.specs.Source.{HasFailed, IsKept};
-ghost use Rattle.pdb_msf.specs.Header.{opening, opened};
+ghost use Rattle.pdb_msf.specs.Header.{head_of, opening, opened};
 ghost use Rattle.pdb_msf.specs.File.{Opened, limited, stream_of};
 
 use crate::directory::{find_entry, read_directory, read_scattered, view};
@@ -61,6 +61,33 @@ impl<S: Source> Model for BigMSF<S> {
     ghost view = { λ m. record { source = m.source; head = header_view m.header } };
 
     ghost invariant = { λ m. IsHeader m.header };
+}
+
+impl<S: Source + Drop> BigMSF<S> {
+    /// A file whose header stands at the front of a view. A refused source is dropped.
+    ///
+    /// # Errors
+    /// The first of these, in this order: `UnexpectedEof` where the view has fewer than 52 bytes;
+    /// `UnimplementedFeature` for the format MSF 2.00; `UnrecognizedFileFormat` for other magic;
+    /// `InvalidPageSize`; `UnexpectedEof` or `PageReferenceOutOfRange` for the first number of the
+    /// pages that locate the directory that is missing or bad. `OutOfMemory` where memory is asked
+    /// for and refused.
+    pub fn new(alloc: Global, source: S, header_view: ReadView) -> Result<BigMSF<S>>
+        ensures head { Answers (λ m. m.head) result (head_of header_view) }
+        ensures source { IfOk result (λ m. m.source ≡ source) }
+    {
+        let header = read_header(alloc, header_view.as_slice())?;
+        Ok(BigMSF { source, header })
+    }
+}
+
+impl<S: Source> BigMSF<S> {
+    /// The source from which the bytes come, as the views so far left it.
+    pub fn source(&self) -> &S
+        ensures { result.now ≡ self.now.source }
+    {
+        &self.source
+    }
 }
 
 impl<S: Source> Msf<S> for BigMSF<S> {
@@ -126,6 +153,5 @@ pub fn open_msf<S: Source + Drop>(alloc: Global, mut source: S) -> Result<BigMSF
     ensures kept { IfOk result (λ m. IsKept (S.state source) (S.state m.source)) }
 {
     let view = view_front(&mut source, alloc, OPENING_SIZE)?;
-    let header = read_header(alloc, view.as_slice())?;
-    Ok(BigMSF { source, header })
+    BigMSF::new(alloc, source, view)
 }

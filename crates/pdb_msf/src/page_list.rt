@@ -1,8 +1,8 @@
 //! The places of pages in a file.
 
-ghost use Rattle.std.specs.Prelude.{◌≡◌, ℕ, ◌+◌, ◌^◌, ◌<◌, ◌≤◌, ◌++◌, [], false, true, length, take, OnOk, OnErr, IfErr};
+ghost use Rattle.std.specs.Prelude.{◌≡◌, ◌==◌, ◌+◌, ◌^◌, ◌<◌, ◌≤◌, ◌∷◌, ◌++◌, [], false, true, length, take, IsOk, OnOk, OnErr, IfErr};
 ghost use Rattle.pdb_msf.specs.Source.{places};
-ghost use Rattle.pdb_msf.specs.PageList.{page_places};
+ghost use Rattle.pdb_msf.specs.PageList.{first_of, page_places, page_slice, with_slice};
 
 use crate::source::SourceSlice;
 use pdb_base::{Error, Result};
@@ -10,11 +10,15 @@ use std::alloc::Global;
 use std::marker::Model;
 
 /// The places in a file of what is scattered over pages, as slices of a source.
+///
+/// A page whose number is one above that of the page before it lengthens the last slice. Any other
+/// page begins a slice, also one that comes again and one that goes back.
 #[derive(Debug, Drop)]
 pub struct PageList {
     page_size: u32,
-    len: usize,
     slices: Vec<SourceSlice>,
+    len: usize,
+    is_truncated: bool,
 }
 
 impl Model for PageList {
@@ -24,43 +28,54 @@ impl Model for PageList {
 
     ghost Value = { Listed };
 
-    ghost view = { λ l. record { page_size = l.page_size; places = places l.slices.items } };
+    ghost view = { λ l. record { page_size = l.page_size; slices = l.slices.items; is_truncated = l.is_truncated } };
 
     ghost invariant = { λ l. (l.len ≡ length (places l.slices.items)) × (l.page_size ≤ 0x800000) };
 }
 
 impl PageList {
-    /// A list of no pages of `page_size` bytes.
+    /// A list of no pages of `page_size` bytes, from 1 to 8,388,608.
     pub fn new(alloc: Global, page_size: u32) -> Self
-        requires { page_size ≤ 0x800000 }
-        ensures { result ≡ record { page_size = page_size; places = [] } }
+        requires positive { 1 ≤ page_size }
+        requires small { page_size ≤ 0x800000 }
+        ensures { result ≡ record { page_size = page_size; slices = []; is_truncated = false } }
     {
         PageList {
             page_size,
-            len: 0,
             slices: Vec::new(alloc),
+            len: 0,
+            is_truncated: false,
         }
     }
 
-    /// Adds the places of a page at the end.
+    /// Adds a page at the end. The list was not truncated, and its length in bytes stays below 2^64.
+    ///
+    /// # Errors
+    /// `OutOfMemory` where memory is refused, which is asked for only where the page begins a
+    /// slice. The list stays as it was.
     pub fn push(&mut self, page: u32) -> Result<()>
-        requires { length self.old.places + self.old.page_size < 2 ^ 64 }
-        ensures ok { OnOk result (self.new ≡ record self.old { places = self.old.places ++ page_places self.old.page_size page }) }
+        requires whole { self.old.is_truncated ≡ false }
+        requires room { length (places self.old.slices) + self.old.page_size < 2 ^ 64 }
+        ensures slices { OnOk result (self.new ≡ record self.old { slices = with_slice self.old.slices (page_slice self.old.page_size page) }) }
+        ensures places { OnOk result (places self.new.slices ≡ places self.old.slices ++ page_places self.old.page_size page) }
         ensures want { IfErr result (λ e. e ≡ Error.OutOfMemory) }
+        ensures begins { OnErr result (with_slice self.old.slices (page_slice self.old.page_size page) ≡ self.old.slices ++ page_slice self.old.page_size page ∷ []) }
         ensures err { OnErr result (self.new ≡ self.old) }
     {
-        self.slices.push(SourceSlice {
-            offset: page as u64 * self.page_size as u64,
-            size: self.page_size as usize,
-        })?;
-        self.len += self.page_size as usize;
+        let size = self.page_size as usize;
+        let offset = page as u64 * self.page_size as u64;
+        add_slice(&mut self.slices, SourceSlice { offset, size })?;
+        self.len += size;
         Ok(())
     }
 
-    /// Keeps the first `len` bytes, all where there are fewer.
+    /// Keeps the first `len` bytes, all where there are fewer. The list then counts as truncated,
+    /// whatever it had.
     pub fn truncate(&mut self, len: usize)
-        ensures { self.new ≡ record self.old { places = take len self.old.places } }
+        ensures slices { self.new ≡ record self.old { slices = first_of len self.old.slices; is_truncated = true } }
+        ensures places { places self.new.slices ≡ take len (places self.old.slices) }
     {
+        self.is_truncated = true;
         while self.len > len {
             let Some(last) = self.slices.pop() else {
                 return;
@@ -76,10 +91,49 @@ impl PageList {
         }
     }
 
-    /// The slices of a source that these places are.
+    /// How many bytes the list holds.
+    pub fn len(&self) -> usize
+        ensures { result ≡ length (places self.now.slices) }
+    {
+        self.len
+    }
+
+    /// Whether the list was truncated.
+    pub fn is_truncated(&self) -> bool
+        ensures { result ≡ self.now.is_truncated }
+    {
+        self.is_truncated
+    }
+
+    /// The slices of a source that the pages are joined into.
     pub fn source_slices(&self) -> &[SourceSlice]
-        ensures { places result.now ≡ self.now.places }
+        ensures { result.now ≡ self.now.slices }
     {
         self.slices.as_slice()
     }
+}
+
+/// Adds a slice behind others, joined to the last of them where it begins just where that ends.
+fn add_slice(slices: &mut Vec<SourceSlice>, next: SourceSlice) -> Result<()>
+    requires { length (places slices.old.items) + next.size < 2 ^ 64 }
+    ensures slices { OnOk result (slices.new.items ≡ with_slice slices.old.items next) }
+    ensures want { IfErr result (λ e. e ≡ Error.OutOfMemory) }
+    ensures begins { OnErr result (with_slice slices.old.items next ≡ slices.old.items ++ next ∷ []) }
+    ensures err { OnErr result (slices.new.items ≡ slices.old.items) }
+{
+    if let Some(last) = slices.last_mut() {
+        if ends_at(*last, next.offset) {
+            last.size += next.size;
+            return Ok(());
+        }
+    }
+    slices.push(next)?;
+    Ok(())
+}
+
+/// Whether a slice ends where another begins.
+fn ends_at(slice: SourceSlice, offset: u64) -> bool
+    ensures { result ≡ (slice.offset + slice.size == offset) }
+{
+    offset.checked_sub(slice.offset) == Some(slice.size as u64)
 }

@@ -1,0 +1,7 @@
+pub mod StringTableLemmas
+pub mod NameLemmas
+pub mod RangeLemmas
+pub mod RecordLemmas
+pub mod OrderLemmas
+pub mod HeaderLemmas
+pub mod SectionLemmas

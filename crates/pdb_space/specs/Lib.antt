@@ -1,6 +1,15 @@
 pub mod Sum
 pub mod SectionPlace
 pub mod SectionOrder
+pub mod Omap
+pub mod Ranges
+pub mod SectionHeader
+pub mod Steps
+pub mod Sections
+pub mod Conversions
 pub mod Laws
+pub mod StringTable
+pub mod StringTableLaws
 -- the words of the libraries below that the contracts of this one speak in
 pub use Rattle.pdb_base.specs.ErrorText
+pub use Rattle.pdb_base.specs.Endian

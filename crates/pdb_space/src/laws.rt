@@ -1,13 +1,27 @@
-//! What the sums, comparisons and conversions of addresses come to. The functions do nothing: each
-//! contract is a law.
+//! What the definitions of addresses, of the tables that move them and of the string table come to. The
+//! functions do nothing: each contract is a law.
 
-ghost use Rattle.std.specs.Prelude.{ℕ};
-ghost use Rattle.pdb_space.specs.Laws.{IsCutToFit, IsReached, TellsApart, OrdersByNumber, OrdersWithinSections, UndoEachOther};
+ghost use Rattle.std.specs.Prelude.{◌≡◌, ◌↔◌, ℕ, List, Some, length};
+ghost use Rattle.std.specs.declared.ops.Range.{Range};
+ghost use Rattle.pdb_space.specs.Omap.{Mapping, IsSortedBySource, shift};
+ghost use Rattle.pdb_space.specs.Ranges.{end_to_end, parts, pointwise};
+ghost use Rattle.pdb_space.specs.declared.section_header.ImageSectionHeader.{ImageSectionHeader};
+ghost use Rattle.pdb_space.specs.SectionPlace.{SectionPlace};
+ghost use Rattle.pdb_space.specs.Sections.{address_of, section_of};
+ghost use Rattle.pdb_space.specs.Sum.{Fits};
+ghost use Rattle.pdb_space.specs.Conversions.{Arrangement};
+ghost use Rattle.pdb_space.specs.Laws.{EndsForGood, IsCutToFit, IsFirstToReach, IsReached, KeepsNumbers, OrdersByNumber, OrdersBySource, OrdersWithinSections, TellsApart, UndoEachOther};
+ghost use Rattle.pdb_space.specs.StringTableLaws.{FindsName, FindsNames, RefusesByFirstFault};
 
 use crate::address::Rva;
+use crate::address_map::{PdbInternalRvaRangeIter, RvaRangeIter};
 use crate::internal_address::PdbInternalRva;
 use crate::internal_section_offset::PdbInternalSectionOffset;
+use crate::omap_record::OMAPRecord;
+use crate::omap_records::OMAPRecords;
+use crate::range_iter::RangeIter;
 use crate::section_offset::SectionOffset;
+use crate::string_ref::StringRef;
 
 /// Sums that fit 32 bits are what they are under every way to add, and distances lead back.
 pub fn sums()
@@ -40,4 +54,61 @@ pub fn conversions()
     ensures internal { UndoEachOther
         ⟦<PdbInternalRva as From<u32>>⟧.from_gives
         ⟦<u32 as From<PdbInternalRva>>⟧.from_gives }
+{}
+
+/// References to names are their numbers: they compare as these do, and turn into them and back.
+/// Equal ones hash alike, which the trait `Hash` demands of each type.
+pub fn string_refs()
+    ensures equal { TellsApart ⟦<StringRef as PartialEq>⟧.eq }
+    ensures order { OrdersByNumber ⟦<StringRef as Ord>⟧.cmp }
+    ensures conversions { UndoEachOther ⟦<StringRef as From<u32>>⟧.from_gives ⟦<u32 as From<StringRef>>⟧.from_gives }
+{}
+
+/// The names of a stream are those that stand behind a good header in it, as many bytes as that says.
+/// Any other stream is refused by the first of four faults.
+#[tactic(auto, using(crate::proofs::StringTableLemmas::finds_names, crate::proofs::StringTableLemmas::refuses_by_first_fault))]
+pub fn string_tables()
+    ensures found { (stream : List ℕ) → FindsNames stream }
+    ensures refused { (stream : List ℕ) → RefusesByFirstFault stream }
+{}
+
+/// A name is found just where a NUL stands in the names at the offset or after it, and it is the bytes
+/// before the first.
+#[tactic(auto, using(crate::proofs::NameLemmas::finds_name))]
+pub fn names()
+    ensures { (names : List ℕ) (offset : ℕ) → FindsName names offset }
+{}
+
+/// The parts into which a table moves a range are, laid end to end, what it makes of the range's
+/// addresses one by one.
+#[tactic(auto, using(crate::proofs::RangeLemmas::parts_are_pointwise))]
+pub fn parts()
+    ensures { (table : List Mapping) (asked : Range ℕ) → IsSortedBySource table → end_to_end (parts table asked) ≡ pointwise (shift table) asked }
+{}
+
+/// The place of an address is in the first section that reaches it, and leads back to it.
+#[tactic(auto, using(crate::proofs::SectionLemmas::section_back))]
+pub fn places()
+    ensures first { (sections : List ImageSectionHeader) (address : ℕ) (place : SectionPlace) → (section_of sections address ≡ Some place) ↔ IsFirstToReach sections address place }
+    ensures back { (sections : List ImageSectionHeader) (address : ℕ) (place : SectionPlace) → Fits address → section_of sections address ≡ Some place → address_of sections place ≡ Some address }
+{}
+
+/// Without a table that leads to the other image, an address keeps its number.
+#[tactic(auto, unfolding(crate::specs::Conversions::rva_to_internal_rva, crate::specs::Conversions::internal_rva_to_rva))]
+pub fn without_tables()
+    ensures { (map : Arrangement) (address : ℕ) → KeepsNumbers map address }
+{}
+
+/// Records of a table compare by their source, and those of one source by their target.
+pub fn records()
+    ensures equal { TellsApart ⟦<OMAPRecord as PartialEq>⟧.eq }
+    ensures order { OrdersBySource ⟦<OMAPRecord as Ord>⟧.cmp }
+{}
+
+/// Iterators over records and ranges end, and then answer None for good.
+pub fn iterators()
+    ensures records { EndsForGood ⟦<OMAPRecords<'static> as Iterator>⟧.next_gives length }
+    ensures ranges { EndsForGood ⟦<RangeIter<'static> as Iterator>⟧.next_gives length }
+    ensures loaded { EndsForGood ⟦<RvaRangeIter<'static> as Iterator>⟧.next_gives length }
+    ensures internal { EndsForGood ⟦<PdbInternalRvaRangeIter<'static> as Iterator>⟧.next_gives length }
 {}

@@ -1,19 +1,39 @@
-//! Addresses of a program image, and places in its sections.
+//! Addresses of a program image, places in its sections, the tables that lead from one to another, and
+//! the names of the string table.
 //!
-//! Each comes twice: of the image as it is loaded, and, under a name that begins with `PdbInternal`,
-//! of the image before a tool rearranged it, which is what the parts of a program database speak of.
+//! Addresses and places come twice: of the image as it is loaded, and, under a name that begins with
+//! `PdbInternal`, of the image before a tool rearranged it, which is what the parts of a program
+//! database speak of. An `AddressMap` leads from each to the others.
 #![tactic(auto)]
 
 mod address;
+mod address_map;
+mod conversions;
 mod internal_address;
 mod internal_section_offset;
 pub mod laws;
+mod omap_record;
+mod omap_records;
+mod omap_table;
 mod parse_address;
+mod range_iter;
+mod section_characteristics;
+mod section_header;
 mod section_offset;
+mod sections;
 mod string_ref;
+mod string_table;
 
 pub use address::Rva;
+pub use address_map::{AddressMap, PdbInternalRvaRangeIter, RvaRangeIter};
 pub use internal_address::PdbInternalRva;
 pub use internal_section_offset::PdbInternalSectionOffset;
+pub use omap_record::OMAPRecord;
+pub use omap_records::OMAPRecords;
+pub use omap_table::OMAPTable;
+pub use range_iter::RangeIter;
+pub use section_characteristics::SectionCharacteristics;
+pub use section_header::ImageSectionHeader;
 pub use section_offset::SectionOffset;
 pub use string_ref::StringRef;
+pub use string_table::StringTable;

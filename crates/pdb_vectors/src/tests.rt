@@ -1,8 +1,8 @@
 //! The worked rows. Errors are told by their texts.
 
-mod addresses;
 mod buffers;
 mod indexes;
+mod pages;
 mod values;
 
 use super::*;

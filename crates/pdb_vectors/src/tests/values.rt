@@ -1,8 +1,9 @@
 //! Values that are read by the rule that their type says.
 
 use pdb_container::{
-    Error, FileIndex, IdIndex, Le, Parse, ParseBuffer, PdbInternalRva, PdbInternalSectionOffset,
-    Register, Result, StreamIndex, StringRef, SymbolIndex, TypeIndex,
+    Error, FileIndex, IdIndex, Le, OMAPRecord, Parse, ParseBuffer, PdbInternalRva,
+    PdbInternalSectionOffset, Register, SectionCharacteristics, StreamIndex, StringRef,
+    SymbolIndex, TypeIndex, Variant,
 };
 use std::test::Fail;
 
@@ -15,39 +16,41 @@ fn ends<T: Parse<Le> + Drop>(bytes: &[u8]) -> bool {
     matches!(buffer.parse::<T>(), Err(Error::UnexpectedEof)) && buffer.pos() == 0
 }
 
-/// What stands at the front of the bytes, where one byte less is too little.
-fn first<T: Parse<Le> + Drop>(len: usize) -> Result<Option<T>> {
+/// What stands in the first so many bytes, where one byte less is too little.
+fn first<T: Parse<Le> + Drop>(len: usize) -> Option<T> {
     let bytes = &BYTES[..len.min(BYTES.len())];
     let mut buffer = ParseBuffer::from(bytes);
-    let value = buffer.parse_with(Le)?;
+    let Ok(value) = buffer.parse_with(Le) else {
+        return None;
+    };
     if buffer.is_empty() && ends::<T>(&bytes[1.min(bytes.len())..]) {
-        Ok(Some(value))
+        Some(value)
     } else {
-        Ok(None)
+        None
     }
 }
 
 #[test]
-fn values(rt: HostRuntime) -> std::result::Result<(), Fail> {
-    assert_eq!(rt; (first(1)?, first(1)?), (Some(0xfe_u8), Some(-2_i8)));
-    assert_eq!(rt; (first(2)?, first(2)?), (Some(0xfffe_u16), Some(-2_i16)));
+fn values(rt: HostRuntime) -> Result<(), Fail> {
+    assert_eq!(rt; (first(1), first(1)), (Some(0xfe_u8), Some(-2_i8)));
+    assert_eq!(rt; (first(2), first(2)), (Some(0xfffe_u16), Some(-2_i16)));
     assert_eq!(rt;
-        (first(4)?, first(4)?),
+        (first(4), first(4)),
         (Some(0x8001_fffe_u32), Some(-0x7ffe_0002_i32))
     );
     assert_eq!(rt;
-        (first(8)?, first(8)?),
+        (first(8), first(8)),
         (
             Some(0xf807_0005_8001_fffe_u64),
             Some(-0x07f8_fffa_7ffe_0002_i64)
         )
     );
     assert_eq!(rt;
-        (first(2)?, first(2)?),
+        (first(2), first(2)),
         (Some(StreamIndex(0xfffe)), Some(Register(0xfffe)))
     );
     assert_eq!(rt;
-        (first(4)?, first(4)?, first(4)?),
+        (first(4), first(4), first(4)),
         (
             Some(TypeIndex(0x8001_fffe)),
             Some(IdIndex(0x8001_fffe)),
@@ -55,18 +58,36 @@ fn values(rt: HostRuntime) -> std::result::Result<(), Fail> {
         )
     );
     assert_eq!(rt;
-        (first(4)?, first(4)?, first(6)?),
+        (first(4), first(4), first(6)),
         (
             Some(StringRef(0x8001_fffe)),
             Some(PdbInternalRva(0x8001_fffe)),
             Some(PdbInternalSectionOffset::new(5, 0x8001_fffe))
         )
     );
+    assert_eq!(rt;
+        (first(4), first(8)),
+        (
+            Some(SectionCharacteristics(0x8001_fffe)),
+            Some(OMAPRecord::new(0x8001_fffe, 0xf807_0005))
+        )
+    );
+    let mut buffer = ParseBuffer::from(
+        b"\x09\x80\xff\xff\xff\xff\xff\xff\xff\xff\x05\x80".as_slice(),
+    );
+    assert_eq!(rt; buffer.parse::<Variant>()?, Variant::I64(-1));
+    assert!(rt;
+        matches!(
+            buffer.parse::<Variant>(),
+            Err(Error::UnexpectedNumericPrefix(0x8005))
+        )
+    );
+    assert_eq!(rt; buffer.pos(), 10);
     Ok(())
 }
 
 #[test]
-fn symbol(rt: HostRuntime) -> std::result::Result<(), Fail> {
+fn symbol(rt: HostRuntime) -> Result<(), Fail> {
     let mut buffer = ParseBuffer::from(b"\x42\x00\x00\x00".as_slice());
     let symbol = buffer.parse::<SymbolIndex>()?;
     assert_eq!(rt; (symbol, buffer.is_empty()), (SymbolIndex(0x42), true));

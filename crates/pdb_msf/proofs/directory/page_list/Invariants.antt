@@ -1,6 +1,11 @@
-use Rattle.std.proofs.Common.{◌≡◌, take}
+use Rattle.std.proofs.Common.{◌≡◌, false, take}
+use Rattle.pdb_msf.specs.Source.{places}
 use Rattle.pdb_msf.proofs.PageLemmas.{all_places}
 use Rattle.pdb_msf.proofs.directory.page_list.Given as goal
 
 abbrev pub invariant-loop-number : goal.invariant-loop-number
-invariant-loop-number l = l.list ≡ record { page_size = l.page_size; places = all_places l.page_size (take l.number-index l.numbers) }
+invariant-loop-number l = record {
+  page_size : l.list.page_size ≡ l.page_size;
+  places : places l.list.slices ≡ all_places l.page_size (take l.number-index l.numbers);
+  whole : l.list.is_truncated ≡ false;
+}

@@ -1,7 +1,9 @@
-use Rattle.std.proofs.Common.{◌≡◌, ℕ, ◌+◌, ◌-◌, [], ◌∷◌, ◌++◌, length, take, arith, ap, sym, ◌∙◌}
+use Rattle.std.proofs.Common.{◌≡◌, ℕ, ◌+◌, ◌-◌, [], ◌∷◌, ◌++◌, length, arith, ap, sym, ◌∙◌, List}
+use Rattle.pdb_msf.specs.declared.source.SourceSlice.{SourceSlice}
 use Rattle.pdb_msf.specs.Source.{places}
-use Rattle.pdb_msf.proofs.PlacesLemmas.{length-places_push, take-places_pop, take-places_cut}
-use Rattle.std.proofs.lemmas.List.{take_all, length-take}
+use Rattle.pdb_msf.specs.PageList.{first_of}
+use Rattle.pdb_msf.proofs.PlacesLemmas.{length-places_push}
+use Rattle.pdb_msf.proofs.SliceLemmas.{first_of_all, first_of_fewer, first_of_cut, places_first_of}
 use Rattle.pdb_msf.proofs.page_list.PageList.truncate.Goals as goal
 
 pub overflow_sub-self : goal.overflow_sub-self
@@ -15,30 +17,45 @@ loop-self-preserved-then-self-len c =
     let shorter = c.pop.new.self.items in
     let last = c.in-Some.last in
     let long = c.loop-self.self-inside.len in
-    let len : long ≡ length (places shorter) + last.size =
-    c.loop-self.invariant.counted ∙ ap (λ s. length (places s)) c.in-Some.ensures.items ∙ length-places_push shorter last in
+    let popped = c.in-Some.ensures.items in
+    let len : long ≡ length (places shorter) + last.size = c.loop-self.invariant.counted ∙ ap (λ s. length (places s)) popped ∙ length-places_push shorter last in
     let kept : long - last.size ≡ length (places shorter) = omega arith in
-    let cut : places (shorter ++ record { offset = last.offset; size = n - length (places shorter) } ∷ []) ≡ take n (places c.loop-self.self-inside.slices.items) =
-    take-places_cut n _ shorter last c.in-Some.ensures.items (omega arith) (omega arith) in
-    let now : places c.push_reserved.new.self.items ≡ take n (places c.loop-self.self-inside.slices.items) =
-    ap places c.push_reserved.ensures.items ∙ ap (λ (k : ℕ). places (shorter ++ record { offset = last.offset; size = n - k } ∷ [])) kept ∙ cut in
-    let whole : length (places c.push_reserved.new.self.items) ≡ n =
-    ap length now ∙ length-take n (places c.loop-self.self-inside.slices.items) ∙ omega (arith, c.loop-self.invariant.counted) in
+    let cut : List SourceSlice = shorter ++ record { offset = last.offset; size = n - length (places shorter) } ∷ [] in
+    let now : c.push_reserved.new.self.items ≡ cut = c.push_reserved.ensures.items ∙ ap (λ (k : ℕ). shorter ++ record { offset = last.offset; size = n - k } ∷ []) kept in
+    let whole : length (places cut) ≡ n = length-places_push shorter (record { offset = last.offset; size = n - length (places shorter) }) ∙ omega arith in
     record {
-      counted = sym whole;
-      front = take_all n (places c.push_reserved.new.self.items) (omega arith) ∙ now ∙ c.loop-self.invariant.front;
+      counted = sym (ap (λ s. length (places s)) now ∙ whole);
+      front = ap (first_of n) now ∙ first_of_all n cut (omega arith) ∙ sym (first_of_cut n shorter last (omega arith) (omega arith)) ∙ sym (ap (first_of n) popped) ∙ c.loop-self.invariant.front;
       page_size = c.loop-self.invariant.page_size;
       page_size_fits = c.loop-self.invariant.page_size_fits;
+      marked = c.loop-self.invariant.marked;
     }
 
 pub loop-self-preserved : goal.loop-self-preserved
 loop-self-preserved c =
-    let popped = ap (λ s. length (places s)) c.in-Some.ensures.items in
-    let len : c.loop-self.self-inside.len ≡ length (places c.pop.new.self.items) + c.in-Some.last.size =
-    c.loop-self.invariant.counted ∙ popped ∙ length-places_push c.pop.new.self.items c.in-Some.last in
+    let n = c.args.len in
+    let shorter = c.pop.new.self.items in
+    let last = c.in-Some.last in
+    let popped = c.in-Some.ensures.items in
+    let len : c.loop-self.self-inside.len ≡ length (places shorter) + last.size = c.loop-self.invariant.counted ∙ ap (λ s. length (places s)) popped ∙ length-places_push shorter last in
     record {
       counted = omega arith;
-      front = take-places_pop c.args.len _ c.pop.new.self.items c.in-Some.last c.in-Some.ensures.items (omega arith) ∙ c.loop-self.invariant.front;
+      front = first_of_fewer n shorter last (omega arith) (omega arith) ∙ sym (ap (first_of n) popped) ∙ c.loop-self.invariant.front;
       page_size = c.loop-self.invariant.page_size;
       page_size_fits = c.loop-self.invariant.page_size_fits;
+      marked = c.loop-self.invariant.marked;
     }
+
+pub returns-clause-slices : goal.returns-clause-slices
+returns-clause-slices c =
+    let n = c.args.len in
+    let slices = c.loop-self.self-inside.slices.items in
+    let all : slices ≡ first_of n c.args.self.now.slices = sym (first_of_all n slices (omega (arith, c.loop-self.invariant.counted))) ∙ c.loop-self.invariant.front in
+    cc
+
+pub returns-clause-places : goal.returns-clause-places
+returns-clause-places c =
+    let n = c.args.len in
+    let slices = c.loop-self.self-inside.slices.items in
+    let all : slices ≡ first_of n c.args.self.now.slices = sym (first_of_all n slices (omega (arith, c.loop-self.invariant.counted))) ∙ c.loop-self.invariant.front in
+    ap places all ∙ places_first_of n c.args.self.now.slices

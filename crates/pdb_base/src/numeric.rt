@@ -1,0 +1,115 @@
+//! Numbers of variable width: the numeric leaves of Microsoft's cvinfo.h.
+
+ghost use Rattle.std.specs.Prelude.{◌≡◌, ◌≤◌, length, OnErr};
+ghost use Rattle.pdb_base.specs.Answer.{Gives};
+ghost use Rattle.pdb_base.specs.Place.{left, StaysWithin};
+ghost use Rattle.pdb_base.specs.Numeric.{unsigned_leaves, numeric_leaves, numeral_behind, as_num, num_at, as_variant, variant_at};
+
+use crate::buffer::ParseBuffer;
+use crate::error::{Error, Result};
+use crate::variant::Variant;
+
+/// The least number that does not stand for itself.
+const LF_NUMERIC: u16 = 0x8000;
+
+const LF_CHAR: u16 = 0x8000;
+
+const LF_SHORT: u16 = 0x8001;
+
+const LF_USHORT: u16 = 0x8002;
+
+const LF_LONG: u16 = 0x8003;
+
+const LF_ULONG: u16 = 0x8004;
+
+const LF_QUADWORD: u16 = 0x8009;
+
+const LF_UQUADWORD: u16 = 0x800a;
+
+impl<'b> ParseBuffer<'b> {
+    /// Reads a number without a sign that has as many bytes as it needs: two where it is below 0x8000,
+    /// and else a prefix of two bytes and what that announces: 0x8000 a `u8`, 0x8002 a `u16`, 0x8004 a
+    /// `u32`, 0x800a a `u64`, as `LF_CHAR`, `LF_USHORT`, `LF_ULONG` and `LF_UQUADWORD` in cvinfo.h.
+    ///
+    /// # Errors
+    /// `UnexpectedNumericPrefix` where any other prefix stands there, and `UnexpectedEof` where the
+    /// bytes end before the number does.
+    #[tactic(auto, unfolding(crate::specs::Numeric::num_at, crate::specs::Numeric::numeral_at), using(crate::proofs::NumericLemmas::stays))]
+    pub fn parse_num(&mut self) -> Result<u64>
+        ensures read { Gives (λ number. (number, left self.new)) result (num_at (left self.old)) }
+        ensures place { StaysWithin self.old self.new }
+        ensures err { OnErr result (self.new ≡ self.old) }
+    {
+        let start = self.pos();
+        let prefix = self.parse_u16()?;
+        let number = self.num_behind(prefix);
+        if number.is_err() {
+            self.seek(start);
+        }
+        number
+    }
+
+    /// Reads a number with or without a sign, in the width that its prefix announces: 0x8000 a `u8`,
+    /// 0x8001 an `i16`, 0x8002 a `u16`, 0x8003 an `i32`, 0x8004 a `u32`, 0x8009 an `i64`, 0x800a a
+    /// `u64`, as `LF_CHAR` to `LF_UQUADWORD` in cvinfo.h. A number below 0x8000 is a `U16` and has no
+    /// prefix.
+    ///
+    /// # Errors
+    /// `UnexpectedNumericPrefix` where any other prefix stands there, and `UnexpectedEof` where the
+    /// bytes end before the number does.
+    #[tactic(auto, unfolding(crate::specs::Numeric::variant_at, crate::specs::Numeric::numeral_at), using(crate::proofs::NumericLemmas::stays))]
+    pub fn parse_variant(&mut self) -> Result<Variant>
+        ensures read { Gives (λ value. (value, left self.new)) result (variant_at (left self.old)) }
+        ensures place { StaysWithin self.old self.new }
+        ensures err { OnErr result (self.new ≡ self.old) }
+    {
+        let start = self.pos();
+        let prefix = self.parse_u16()?;
+        let value = self.variant_behind(prefix);
+        if value.is_err() {
+            self.seek(start);
+        }
+        value
+    }
+
+    /// The number without a sign that a prefix announces, or the prefix itself.
+    #[tactic(auto, unfolding(crate::specs::Numeric::numeral_behind))]
+    fn num_behind(&mut self, prefix: u16) -> Result<u64>
+        requires { self.old.pos ≤ length self.old.slice }
+        ensures read { Gives (λ number. (number, left self.new)) result (as_num (numeral_behind unsigned_leaves prefix (left self.old))) }
+        ensures place { StaysWithin self.old self.new }
+    {
+        if prefix < LF_NUMERIC {
+            return Ok(prefix as u64);
+        }
+        match prefix {
+            LF_CHAR => Ok(self.parse_u8()? as u64),
+            LF_USHORT => Ok(self.parse_u16()? as u64),
+            LF_ULONG => Ok(self.parse_u32()? as u64),
+            LF_UQUADWORD => Ok(self.parse_u64()?),
+            _ => Err(Error::UnexpectedNumericPrefix(prefix)),
+        }
+    }
+
+    /// The number that a prefix announces, in its width, or the prefix itself.
+    #[tactic(auto, unfolding(crate::specs::Numeric::numeral_behind, crate::specs::Reading::signed_at))]
+    fn variant_behind(&mut self, prefix: u16) -> Result<Variant>
+        requires { self.old.pos ≤ length self.old.slice }
+        ensures read { Gives (λ value. (value, left self.new)) result (as_variant (numeral_behind numeric_leaves prefix (left self.old))) }
+        ensures place { StaysWithin self.old self.new }
+    {
+        if prefix < LF_NUMERIC {
+            return Ok(Variant::U16(prefix));
+        }
+        match prefix {
+            LF_CHAR => Ok(Variant::U8(self.parse_u8()?)),
+            LF_SHORT => Ok(Variant::I16(self.parse_i16()?)),
+            LF_USHORT => Ok(Variant::U16(self.parse_u16()?)),
+            LF_LONG => Ok(Variant::I32(self.parse_i32()?)),
+            LF_ULONG => Ok(Variant::U32(self.parse_u32()?)),
+            LF_QUADWORD => Ok(Variant::I64(self.parse_i64()?)),
+            LF_UQUADWORD => Ok(Variant::U64(self.parse_u64()?)),
+            _ => Err(Error::UnexpectedNumericPrefix(prefix)),
+        }
+    }
+}

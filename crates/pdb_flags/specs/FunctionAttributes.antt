@@ -1,0 +1,21 @@
+-- The word of 16 bits that says how a function is called: a byte with the calling convention, of the
+-- numbers of `CV_call_e` in Microsoft's cvinfo.h, and above it the bits of `CV_funcattr_t`.
+use Rattle.std.specs.Prelude.{ℕ, Bool}
+use Rattle.pdb_base.specs.Bits.{bits}
+use Rattle.pdb_base.specs.Parts.{is_set}
+
+-- the number of the calling convention, 8 bits
+abbrev pub calling_convention : ℕ → ℕ
+calling_convention word = bits word 0 8
+
+-- it answers a user-defined type as C++ does
+abbrev pub cxx_return_udt : ℕ → Bool
+cxx_return_udt word = is_set word 8
+
+-- it is a constructor
+abbrev pub is_constructor : ℕ → Bool
+is_constructor word = is_set word 9
+
+-- it is a constructor of a class with virtual bases
+abbrev pub is_constructor_with_virtual_bases : ℕ → Bool
+is_constructor_with_virtual_bases word = is_set word 10

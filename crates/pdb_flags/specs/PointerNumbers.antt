@@ -1,0 +1,30 @@
+-- The numbers of the kinds and modes of pointers.
+use Rattle.std.specs.Prelude.{ℕ}
+use Rattle.pdb_flags.specs.declared.pointer_kind.PointerKind.{PointerKind}
+use Rattle.pdb_flags.specs.declared.pointer_kind.PointerKind.TheVariants.{Near16, Far16, Huge16, BaseSeg, BaseVal, BaseSegVal, BaseAddr, BaseSegAddr, BaseType, BaseSelf, Near32, Far32, Ptr64}
+use Rattle.pdb_flags.specs.declared.pointer_mode.PointerMode.{PointerMode}
+use Rattle.pdb_flags.specs.declared.pointer_mode.PointerMode.TheVariants.{Pointer, LValueReference, Member, MemberFunction, RValueReference}
+
+-- how a pointer of this kind is marked: `CV_ptrtype_e` of Microsoft's cvinfo.h
+abbrev pub kind_number : PointerKind → ℕ
+kind_number Near16 = 0
+kind_number Far16 = 1
+kind_number Huge16 = 2
+kind_number BaseSeg = 3
+kind_number BaseVal = 4
+kind_number BaseSegVal = 5
+kind_number BaseAddr = 6
+kind_number BaseSegAddr = 7
+kind_number BaseType = 8
+kind_number BaseSelf = 9
+kind_number Near32 = 10
+kind_number Far32 = 11
+kind_number Ptr64 = 12
+
+-- how a pointer of this mode is marked: `CV_ptrmode_e` of Microsoft's cvinfo.h
+abbrev pub mode_number : PointerMode → ℕ
+mode_number Pointer = 0
+mode_number LValueReference = 1
+mode_number Member = 2
+mode_number MemberFunction = 3
+mode_number RValueReference = 4

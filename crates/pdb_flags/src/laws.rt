@@ -1,0 +1,11 @@
+//! What the definitions that contracts cite say in other words. The function does nothing: its
+//! contract is the law. That the parts of a word lie side by side is a law of `pdb_base::laws`.
+
+ghost use Rattle.pdb_flags.specs.Laws.{AreToldApart};
+ghost use Rattle.pdb_flags.specs.PointerNumbers.{kind_number, mode_number};
+
+/// Kinds and modes of pointers are told apart by their numbers.
+pub fn numbers()
+    ensures kinds { AreToldApart kind_number }
+    ensures modes { AreToldApart mode_number }
+{}

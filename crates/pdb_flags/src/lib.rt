@@ -1,0 +1,17 @@
+//! The words of records whose bits say something each.
+#![tactic(auto)]
+
+mod field_attributes;
+mod function_attributes;
+pub mod laws;
+mod pointer_attributes;
+mod pointer_kind;
+mod pointer_mode;
+mod type_properties;
+
+pub use field_attributes::FieldAttributes;
+pub use function_attributes::FunctionAttributes;
+pub use pointer_attributes::PointerAttributes;
+pub use pointer_kind::PointerKind;
+pub use pointer_mode::PointerMode;
+pub use type_properties::TypeProperties;

@@ -1,0 +1,150 @@
+//! Attributes of a pointer.
+
+ghost use Rattle.std.specs.Prelude.{◌≡◌, IsTrue};
+ghost use Rattle.pdb_flags.specs.PointerAttributes.{kind_of, mode_of, is_pointer_word, pointer_word, is_flat_32, is_volatile, is_const, is_unaligned, is_restrict, pointer_size, is_mocom, pointer_to_member, is_reference};
+ghost use Rattle.pdb_flags.specs.PointerNumbers.{kind_number, mode_number};
+
+use crate::pointer_kind::PointerKind;
+use crate::pointer_mode::PointerMode;
+use pdb_base::bits::{is_set, part};
+use std::marker::Model;
+
+/// Attributes of a pointer: the bits of `lfPointerAttr` in Microsoft's cvinfo.h. The kind and the mode are
+/// always ones that cvinfo.h has.
+#[derive(Clone, Copy, Debug, PartialEq, Eq)]
+pub struct PointerAttributes(u32);
+
+impl Model for PointerAttributes {
+    ghost use Rattle.std.specs.Prelude.{ℕ, IsTrue};
+
+    ghost Value = { ℕ };
+
+    ghost use Rattle.pdb_flags.specs.PointerAttributes.{is_pointer_word};
+
+    ghost view = { λ word. word.0 };
+
+    ghost invariant = { λ word. IsTrue (is_pointer_word word.0) };
+
+    ghost inverse = { λ n. record { 0 = n } };
+}
+
+impl PointerAttributes {
+    /// The attributes that a word says, or None where its kind is above 12 or its mode above 4, which
+    /// say nothing.
+    pub fn new(word: u32) -> Option<Self>
+        ensures { result ≡ pointer_word word }
+    {
+        let kind = PointerKind::from_number(part(word, 0, 5));
+        let mode = PointerMode::from_number(part(word, 5, 3));
+        if kind.is_some() && mode.is_some() {
+            Some(PointerAttributes(word))
+        } else {
+            None
+        }
+    }
+
+    /// The word, whose kind and mode are ones that cvinfo.h has.
+    pub const fn bits(self) -> u32
+        ensures word { result ≡ self }
+        ensures good { IsTrue (is_pointer_word self) }
+    {
+        self.0
+    }
+
+    /// The kind of the pointer. Bits 0 to 4.
+    pub fn pointer_kind(self) -> PointerKind
+        ensures { kind_number result ≡ kind_of self }
+    {
+        match PointerKind::from_number(part(self.0, 0, 5)) {
+            Some(kind) => kind,
+            None => unreachable!(),
+        }
+    }
+
+    /// The mode of the pointer. Bits 5 to 7.
+    pub fn pointer_mode(self) -> PointerMode
+        ensures { mode_number result ≡ mode_of self }
+    {
+        match PointerMode::from_number(part(self.0, 5, 3)) {
+            Some(mode) => mode,
+            None => unreachable!(),
+        }
+    }
+
+    /// Whether it is of the flat model of 32 bits. Bit 8.
+    pub fn is_flat_32(self) -> bool
+        ensures { result ≡ is_flat_32 self }
+    {
+        is_set(self.0, 8)
+    }
+
+    /// Whether what it points to may change by itself. Bit 9.
+    pub fn is_volatile(self) -> bool
+        ensures { result ≡ is_volatile self }
+    {
+        is_set(self.0, 9)
+    }
+
+    /// Whether it is const. Bit 10.
+    pub fn is_const(self) -> bool
+        ensures { result ≡ is_const self }
+    {
+        is_set(self.0, 10)
+    }
+
+    /// Whether it need not be aligned. Bit 11.
+    pub fn is_unaligned(self) -> bool
+        ensures { result ≡ is_unaligned self }
+    {
+        is_set(self.0, 11)
+    }
+
+    /// Whether it is the only way to what it points to. Bit 12.
+    pub fn is_restrict(self) -> bool
+        ensures { result ≡ is_restrict self }
+    {
+        is_set(self.0, 12)
+    }
+
+    /// The bytes that it takes. Bits 13 to 18; where they are 0, what its kind usually takes: 4 for
+    /// `Near32` and `Far32`, 8 for `Ptr64`, and 0 for others.
+    pub fn size(self) -> u8
+        ensures { result ≡ pointer_size self }
+    {
+        match part(self.0, 13, 6) {
+            0 => match self.pointer_kind() {
+                PointerKind::Near32 | PointerKind::Far32 => 4,
+                PointerKind::Ptr64 => 8,
+                _ => 0,
+            },
+            size => size as u8,
+        }
+    }
+
+    /// Whether it is one of the component model. Bit 19.
+    pub fn is_mocom(self) -> bool
+        ensures { result ≡ is_mocom self }
+    {
+        is_set(self.0, 19)
+    }
+
+    /// Whether it points to a data member or a method of a class.
+    pub fn pointer_to_member(self) -> bool
+        ensures { result ≡ pointer_to_member self }
+    {
+        matches!(
+            self.pointer_mode(),
+            PointerMode::Member | PointerMode::MemberFunction
+        )
+    }
+
+    /// Whether it is a reference, of either kind.
+    pub fn is_reference(self) -> bool
+        ensures { result ≡ is_reference self }
+    {
+        matches!(
+            self.pointer_mode(),
+            PointerMode::LValueReference | PointerMode::RValueReference
+        )
+    }
+}

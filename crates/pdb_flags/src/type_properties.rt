@@ -1,0 +1,135 @@
+//! Properties of a type.
+
+ghost use Rattle.std.specs.Prelude.{◌≡◌};
+ghost use Rattle.pdb_flags.specs.TypeProperties.{packed, constructors, overloaded_operators, is_nested_type, contains_nested_types, overloaded_assignment, overloaded_casting, forward_reference, scoped_definition, has_unique_name, sealed, hfa, intrinsic_type, mocom};
+
+use pdb_base::bits::{is_set, part};
+use std::marker::Model;
+
+/// Properties of a class, a union or an enumeration: the bits of `CV_prop_t` in Microsoft's cvinfo.h.
+#[derive(Clone, Copy, Debug, PartialEq, Eq)]
+pub struct TypeProperties(u16);
+
+impl Model for TypeProperties {
+    ghost use Rattle.std.specs.Prelude.{ℕ};
+
+    ghost Value = { ℕ };
+
+    ghost view = { λ word. word.0 };
+
+    ghost inverse = { λ n. record { 0 = n } };
+}
+
+impl TypeProperties {
+    /// The properties that a word says.
+    pub const fn new(word: u16) -> Self
+        ensures { result ≡ word }
+    {
+        TypeProperties(word)
+    }
+
+    /// The word.
+    pub const fn bits(self) -> u16
+        ensures { result ≡ self }
+    {
+        self.0
+    }
+
+    /// Whether its members are packed. Bit 0.
+    pub fn packed(self) -> bool
+        ensures { result ≡ packed self }
+    {
+        is_set(self.0 as u32, 0)
+    }
+
+    /// Whether it has constructors or destructors. Bit 1.
+    pub fn constructors(self) -> bool
+        ensures { result ≡ constructors self }
+    {
+        is_set(self.0 as u32, 1)
+    }
+
+    /// Whether it has overloaded operators. Bit 2.
+    pub fn overloaded_operators(self) -> bool
+        ensures { result ≡ overloaded_operators self }
+    {
+        is_set(self.0 as u32, 2)
+    }
+
+    /// Whether it is nested in another type. Bit 3.
+    pub fn is_nested_type(self) -> bool
+        ensures { result ≡ is_nested_type self }
+    {
+        is_set(self.0 as u32, 3)
+    }
+
+    /// Whether other types are nested in it. Bit 4.
+    pub fn contains_nested_types(self) -> bool
+        ensures { result ≡ contains_nested_types self }
+    {
+        is_set(self.0 as u32, 4)
+    }
+
+    /// Whether it overloads assignment. Bit 5.
+    pub fn overloaded_assignment(self) -> bool
+        ensures { result ≡ overloaded_assignment self }
+    {
+        is_set(self.0 as u32, 5)
+    }
+
+    /// Whether it has casting methods. Bit 6.
+    pub fn overloaded_casting(self) -> bool
+        ensures { result ≡ overloaded_casting self }
+    {
+        is_set(self.0 as u32, 6)
+    }
+
+    /// Whether it is declared alone, and another record defines it. Bit 7.
+    pub fn forward_reference(self) -> bool
+        ensures { result ≡ forward_reference self }
+    {
+        is_set(self.0 as u32, 7)
+    }
+
+    /// Whether it is defined in a scope of its own. Bit 8.
+    pub fn scoped_definition(self) -> bool
+        ensures { result ≡ scoped_definition self }
+    {
+        is_set(self.0 as u32, 8)
+    }
+
+    /// Whether a second name, which no other type has, stands behind its name. Bit 9.
+    pub fn has_unique_name(self) -> bool
+        ensures { result ≡ has_unique_name self }
+    {
+        is_set(self.0 as u32, 9)
+    }
+
+    /// Whether no class may derive from it. Bit 10.
+    pub fn sealed(self) -> bool
+        ensures { result ≡ sealed self }
+    {
+        is_set(self.0 as u32, 10)
+    }
+
+    /// The kind of homogeneous aggregate of floats that it is, 0 to 3. Bits 11 and 12.
+    pub fn hfa(self) -> u8
+        ensures { result ≡ hfa self }
+    {
+        part(self.0 as u32, 11, 2) as u8
+    }
+
+    /// Whether it is intrinsic. Bit 13.
+    pub fn intrinsic_type(self) -> bool
+        ensures { result ≡ intrinsic_type self }
+    {
+        is_set(self.0 as u32, 13)
+    }
+
+    /// The kind of type of the component model that it is, 0 to 3. Bits 14 and 15.
+    pub fn mocom(self) -> u8
+        ensures { result ≡ mocom self }
+    {
+        part(self.0 as u32, 14, 2) as u8
+    }
+}

@@ -1,0 +1,105 @@
+-- The laws of frames.
+use Rattle.std.proofs.Common.{◌≡◌, ℕ, ◌+◌, ◌-◌, ◌*◌, ◌/◌, ◌<◌, ◌≤◌, true, false, ◌&&◌, ltb, leb, eqb, cond, List, [], ◌∷◌, length, map, take, drop, Option, Some, None, Result, Ok, refl, sym, ◌∙◌, arith}
+use Rattle.std.proofs.lemmas.Bool.Decides.{nat_tests}
+use Rattle.pdb_base.specs.Reading.{front_at}
+use Rattle.pdb_frames.specs.Span.{Span}
+use Rattle.pdb_frames.specs.Stored.{spelled}
+use Rattle.pdb_frames.specs.Frames.{of_old, of_new}
+use Rattle.pdb_frames.specs.Merge.{with_old, by_heads}
+use Rattle.pdb_frames.specs.Table.{Frames, StartsIncrease, IsStep}
+use Rattle.pdb_frames.specs.Laws.{CoversToItsEnd, AreReadInTurn, IsMerged, IsWoven, end, takes_new, takes_old, drops_old, EndsForGood}
+use Rattle.std.proofs.lemmas.List.{length-drop, drop-drop}
+use Rattle.std.proofs.lemmas.List.FromFn.{length-map-range_with_len, get_or-map-range_with_len}
+use Rattle.std.proofs.lemmas.Option.{slice_get_within, slice_get-get_or}
+use Rattle.std.proofs.lemmas.Bool.{le-ltb}
+use Rattle.std.proofs.Math.Nat.{mul-le-mul_left, mul-div-le}
+use Rattle.pdb_frames.proofs.Rising.{rising, increasing}
+use Rattle.pdb_frames.proofs.MergeLemmas.{old_starts, new_starts, frame_starts, rising-by_heads}
+use Rattle.pdb_frames.proofs.TableLemmas.{all_merged}
+use Rattle.pdb_frames.specs.declared.frame_data.FrameData.{FrameData}
+use Rattle.pdb_frames.specs.declared.old_frame_data.OldFrameData.{OldFrameData}
+use Rattle.pdb_frames.specs.declared.new_frame_data.NewFrameData.{NewFrameData}
+
+covers_from : (start size address : ℕ) → (leb start address && ltb (address - start) size) ≡ true → (start ≤ address) × (address < start + size)
+covers_from start size address test = (grind (arith, nat_tests), grind (arith, nat_tests))
+
+covers_to : (start size address : ℕ) → start ≤ address → address < start + size → (leb start address && ltb (address - start) size) ≡ true
+covers_to start size address low high = grind (arith, nat_tests)
+
+pub covers_to_its_end : (span : Span) (address : ℕ) → CoversToItsEnd span address
+covers_to_its_end span address = (covers_from span.start span.size address, λ within. covers_to span.start span.size address within.0 within.1)
+
+-- ---- weaving
+
+all_new : (new : List NewFrameData) → IsWoven [] new (map of_new new)
+all_new [] = end
+all_new (frame ∷ new) = takes_new (all_new new)
+
+woven_old : (frame : OldFrameData) (old : List OldFrameData) → ((new : List NewFrameData) → IsWoven old new (by_heads old new)) → (new : List NewFrameData) → IsWoven (frame ∷ old) new (with_old frame (by_heads old) new)
+woven_old frame old others [] = takes_old (others [])
+woven_old frame old others (first ∷ new) =
+    elim (ltb first.code_start frame.code_start) as (λ b. IsWoven (frame ∷ old) (first ∷ new) (cond b (of_new first ∷ with_old frame (by_heads old) new) (cond (eqb first.code_start frame.code_start) (of_new first ∷ by_heads old new) (of_old frame ∷ by_heads old (first ∷ new))))) [
+      | true ↦ takes_new (woven_old frame old others new)
+      | false ↦ elim (eqb first.code_start frame.code_start) as (λ b. IsWoven (frame ∷ old) (first ∷ new) (cond b (of_new first ∷ by_heads old new) (of_old frame ∷ by_heads old (first ∷ new)))) [
+        | true ↦ drops_old (takes_new (others new))
+        | false ↦ takes_old (others (first ∷ new))
+      ]
+    ]
+
+pub is_woven : (old : List OldFrameData) (new : List NewFrameData) → IsWoven old new (by_heads old new)
+is_woven [] new = all_new new
+is_woven (frame ∷ old) new = woven_old frame old (is_woven old) new
+
+-- ---- steps
+
+abbrev ok_of : {A E : Type 0} → Option A → Result (Option A) E
+ok_of x = Ok x
+
+some_is_none : {A E : Type 0} {x : A} → ok_of {E = E} (Some x) ≡ Ok None → ⊥
+some_is_none e = cc
+
+none_is_some : {A E : Type 0} {x : A} → ok_of {E = E} None ≡ Ok (Some x) → ⊥
+none_is_some e = cc
+
+step_ends : {E : Type 0} (left others : List FrameData) (result : Result (Option FrameData) E) → IsStep left result others → result ≡ Ok None → (left ≡ []) × (others ≡ [])
+step_ends [] others result step none = (refl, step.others)
+step_ends (frame ∷ left) others result step none = absurd (some_is_none (sym step.first ∙ none))
+
+step_shorter : {E : Type 0} (left others : List FrameData) (result : Result (Option FrameData) E) → IsStep left result others → (frame : FrameData) → result ≡ Ok (Some frame) → length others < length left
+step_shorter [] others result step frame some = absurd (none_is_some (sym step.first ∙ some))
+step_shorter (first ∷ left) others result step frame some = rw step.others (omega arith)
+
+pub ends_for_good : {E : Type 0} (left others : List FrameData) (result : Result (Option FrameData) E) → IsStep left result others → EndsForGood left result others
+ends_for_good left others result step = record { ends = step_ends left others result step; shorter = step_shorter left others result step }
+
+-- ---- merging
+
+pub is_merged : (frames : Frames) → StartsIncrease frames → IsMerged frames
+is_merged frames up =
+    let same = all_merged frames up in
+    let old = rising (old_starts frames.old) up.old in
+    let new = rising (new_starts frames.new) up.new in
+    record { same = same; increases = rw (← same) (increasing (frame_starts (by_heads frames.old frames.new)) (rising-by_heads frames.old frames.new old new)) }
+
+-- ---- reading
+
+abbrev some_of : {A : Type 0} → A → Option A
+some_of x = Some x
+
+some_is : {A : Type 0} {x y : A} → some_of x ≡ Some y → x ≡ y
+some_is e = cc
+
+pub read_in_turn : {A : Type 0} (size : ℕ) (value : List ℕ → A) (bytes : List ℕ) → 0 < size → AreReadInTurn size value bytes
+unfolding spelled front_at
+read_in_turn size value bytes some = record {
+  count = length-map-range_with_len (λ k. value (take size (drop (size * k) bytes))) 0 (length bytes / size);
+  each = λ k x is.
+      let within : k < length bytes / size = rw length-map-range_with_len at (slice_get_within (spelled size value bytes) k x is) in
+      let long : size ≤ length (drop (size * k) bytes) = rw length-drop (omega (arith, mul-le-mul_left size within, mul-div-le (length bytes) size)) in
+      let test : ltb (length (drop (size * k) bytes)) size ≡ false = le-ltb (length (drop (size * k) bytes)) size long in
+      let here : x ≡ value (take size (drop (size * k) bytes)) =
+      some_is (sym is ∙ slice_get-get_or (spelled size value bytes) k x (slice_get_within (spelled size value bytes) k x is))
+      ∙ get_or-map-range_with_len (λ j. value (take size (drop (size * j) bytes))) 0 (length bytes / size) k k x within (omega arith) in
+      let place : size * (k + 1) ≡ size * k + size = omega arith in
+      rw (test, drop-drop size (size * k) bytes, place, here) refl;
+}

@@ -1,0 +1,26 @@
+-- The kinds of frames: their numbers and names.
+use Rattle.std.specs.Prelude.{ℕ, ◌==◌, if◌then◌else◌, List, codes}
+use Rattle.pdb_frames.specs.declared.frame_type.FrameType.{FrameType}
+use Rattle.pdb_frames.specs.declared.frame_type.FrameType.TheVariants.{FPO, Trap, TSS, Standard, FrameData, Unknown}
+
+-- the number of a kind
+abbrev pub kind_number : FrameType → ℕ
+kind_number FPO = 0
+kind_number Trap = 1
+kind_number TSS = 2
+kind_number Standard = 3
+kind_number FrameData = 4
+kind_number Unknown = 0xff
+
+-- the kind that two bits say
+abbrev pub kind_of : ℕ → FrameType
+kind_of number = if number == 0 then FPO else (if number == 1 then Trap else (if number == 2 then TSS else Standard))
+
+-- how a kind is printed
+abbrev pub kind_text : FrameType → List ℕ
+kind_text FPO = codes "fpo"
+kind_text Trap = codes "trap"
+kind_text TSS = codes "tss"
+kind_text Standard = codes "std"
+kind_text FrameData = codes "fdata"
+kind_text Unknown = codes "unknown"

@@ -1,0 +1,53 @@
+-- What the definitions say in other words.
+use Rattle.std.specs.Prelude.{◌≡◌, ◌↔◌, ℕ, ◌+◌, ◌*◌, ◌/◌, ◌<◌, ◌≤◌, Bool, IsTrue, List, [], ◌∷◌, length, map, drop, Option, Some, None, Result, Ok, slice_get, count_by}
+use Rattle.std.specs.declared.cmp.Ordering.{Ordering}
+use Rattle.std.specs.Ordering.{nat_cmp}
+use Rattle.std.specs.List.Sorted.{IsNonDecreasingBy, IsStrictlyIncreasing}
+use Rattle.pdb_base.specs.Reading.{front_at, read_as}
+use Rattle.pdb_frames.specs.Span.{Span, covers}
+use Rattle.pdb_frames.specs.FrameNumbers.{kind_number}
+use Rattle.pdb_frames.specs.Stored.{spelled}
+use Rattle.pdb_frames.specs.Frames.{of_old, of_new}
+use Rattle.pdb_frames.specs.Merge.{by_start, by_heads, merge}
+use Rattle.pdb_frames.specs.Table.{Frames}
+use Rattle.pdb_frames.specs.declared.frame_type.FrameType.{FrameType}
+use Rattle.pdb_frames.specs.declared.frame_data.FrameData.{FrameData}
+use Rattle.pdb_frames.specs.declared.old_frame_data.OldFrameData.{OldFrameData}
+use Rattle.pdb_frames.specs.declared.new_frame_data.NewFrameData.{NewFrameData}
+
+-- Code is at the addresses from its start to before its end, wherever the end lies.
+abbrev pub CoversToItsEnd : Span → ℕ → Type 0
+CoversToItsEnd span address = IsTrue (covers span address) ↔ ((span.start ≤ address) × (address < span.start + span.size))
+
+-- Values that bytes spell are as many as fit, and each is read where the one before it ends.
+pub record AreReadInTurn {A : Type 0} (size : ℕ) (value : List ℕ → A) (bytes : List ℕ) : Type 0 where
+  pub count : length (spelled size value bytes) ≡ length bytes / size
+  pub each : (k : ℕ) (x : A) → slice_get (spelled size value bytes) k ≡ Some x → read_as value (front_at size (drop (size * k) bytes)) ≡ Ok (x, drop (size * (k + 1)) bytes)
+
+-- Frames by their starts are the same frames, of which as many pass any test, and no start falls.
+pub record IsSortedByStart (frames : List FrameData) : Type 0 where
+  pub same : (test : FrameData → Bool) → count_by test (by_start frames) ≡ count_by test frames
+  pub rises : IsNonDecreasingBy (λ frame. frame.code_start) (by_start frames)
+
+-- Where the starts of both streams increase, frames merged by their heads are all new ones and those
+-- old ones whose start no new one has, by start, and their starts increase, too.
+pub record IsMerged (frames : Frames) : Type 0 where
+  pub same : by_heads frames.old frames.new ≡ merge frames.old frames.new
+  pub increases : IsStrictlyIncreasing (map (λ frame. frame.code_start) (merge frames.old frames.new))
+
+-- Frames are those of all new records, in the order of the records, and of some old ones, in theirs.
+pub data IsWoven : List OldFrameData → List NewFrameData → List FrameData → Type 0 where
+  end : IsWoven [] [] []
+  takes_new : {frame : NewFrameData} {old : List OldFrameData} {new : List NewFrameData} {frames : List FrameData} → IsWoven old new frames → IsWoven old (frame ∷ new) (of_new frame ∷ frames)
+  takes_old : {frame : OldFrameData} {old : List OldFrameData} {new : List NewFrameData} {frames : List FrameData} → IsWoven old new frames → IsWoven (frame ∷ old) new (of_old frame ∷ frames)
+  drops_old : {frame : OldFrameData} {old : List OldFrameData} {new : List NewFrameData} {frames : List FrameData} → IsWoven old new frames → IsWoven (frame ∷ old) new frames
+
+-- None comes only where nothing is left, and nothing comes behind it. Another step leaves fewer.
+pub record EndsForGood {E : Type 0} (left : List FrameData) (result : Result (Option FrameData) E) (others : List FrameData) : Type 0 where
+  pub ends : result ≡ Ok None → (left ≡ []) × (others ≡ [])
+  pub shorter : (frame : FrameData) → result ≡ Ok (Some frame) → length others < length left
+
+-- kinds compare as their numbers, and are equal just where they are one
+pub record ComparesByNumber (eq : FrameType → FrameType → Bool) (compared : FrameType → FrameType → Ordering) : Type 0 where
+  pub equal : (a b : FrameType) → IsTrue (eq a b) ↔ (a ≡ b)
+  pub order : (a b : FrameType) → compared a b ≡ nat_cmp (kind_number a) (kind_number b)

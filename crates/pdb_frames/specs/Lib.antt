@@ -1,0 +1,13 @@
+pub mod Span
+pub mod FrameNumbers
+pub mod Stored
+pub mod Frames
+pub mod Merge
+pub mod Table
+pub mod Laws
+-- the words of the libraries below that the contracts of this one speak in
+pub use Rattle.pdb_base.specs.Refusal
+pub use Rattle.pdb_base.specs.Answer
+pub use Rattle.pdb_base.specs.Reading
+pub use Rattle.pdb_base.specs.Bits
+pub use Rattle.pdb_base.specs.Parts

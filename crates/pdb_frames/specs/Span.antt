@@ -1,0 +1,45 @@
+-- The addresses that code takes, and where in a list of records one begins for an address.
+use Rattle.std.specs.Prelude.{◌≡◌, ℕ, drop, ◌-◌, Bool, ◌==◌, ◌&&◌, ◌||◌, nat_le, nat_lt, if◌then◌else◌, List, [], ◌∷◌, Option, Some, None, unwrap_or, option_and_then}
+use Rattle.std.specs.Option.{option_or}
+
+-- where code begins, and how many bytes it has
+pub record Span : Type 0 where
+  pub start : ℕ
+  pub size : ℕ
+
+-- whether code is at an address: one that is less than the size behind the start
+abbrev pub covers : Span → ℕ → Bool
+covers span address = nat_le span.start address && nat_lt (address - span.start) span.size
+
+-- whether the records from an address on begin at one that doesn't start above it, where every later one
+-- does: it starts at the address, or covers it
+abbrev pub begins : Span → ℕ → Bool
+begins span address = span.start == address || covers span address
+
+-- the end of a list from the first item that passes, if one does
+abbrev pub from_first : {A : Type 0} → (A → Bool) → List A → Option (List A)
+from_first test [] = None
+from_first test (x ∷ xs) = if test x then Some (x ∷ xs) else from_first test xs
+
+-- the end of a list from the last item that passes, if one does
+abbrev pub from_last : {A : Type 0} → (A → Bool) → List A → Option (List A)
+from_last test [] = None
+from_last test (x ∷ xs) = option_or (from_last test xs) (if test x then Some (x ∷ xs) else None)
+
+-- the list, if its first item passes
+abbrev pub if_first : {A : Type 0} → (A → Bool) → List A → Option (List A)
+if_first test [] = None
+if_first test (x ∷ xs) = if test x then Some (x ∷ xs) else None
+
+-- The end of a list of records from an address on: from the record that starts at the address; else
+-- from the last that starts below it, if that one covers it; else from the first that starts above it.
+unfoldable pub from_address : {A : Type 0} → (A → Span) → ℕ → List A → List A
+from_address {A} span address records =
+    let at = from_first (λ (x : A). (span x).start == address) records in
+    let below = option_and_then (if_first (λ (x : A). covers (span x) address)) (from_last (λ (x : A). nat_lt (span x).start address) records) in
+    let above = from_first (λ (x : A). nat_lt address (span x).start) records in
+    unwrap_or (option_or at (option_or below above)) []
+
+-- the end of a list from some item on, or from behind the last
+abbrev pub IsEnd : {A : Type 0} → List A → List A → Type 0
+IsEnd result whole = (passed : ℕ) × (result ≡ drop passed whole)

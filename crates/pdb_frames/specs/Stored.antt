@@ -1,0 +1,49 @@
+-- Records of frames as they stand in bytes. Of each number the lowest byte comes first.
+use Rattle.std.specs.Prelude.{ℕ, ◌*◌, ◌/◌, List, length, map, take, drop}
+use Rattle.std.specs.List.{range_with_len}
+use Rattle.pdb_base.specs.Endian.{little_number}
+use Rattle.pdb_frames.specs.Span.{Span}
+use Rattle.pdb_frames.specs.declared.old_frame_data.OldFrameData.{OldFrameData}
+use Rattle.pdb_frames.specs.declared.new_frame_data.NewFrameData.{NewFrameData}
+
+-- the old record that 16 bytes spell
+unfoldable pub old_frame : List ℕ → OldFrameData
+old_frame bytes = record {
+  code_start = little_number 4 bytes;
+  code_size = little_number 4 (drop 4 bytes);
+  locals_size = little_number 4 (drop 8 bytes);
+  params_size = little_number 2 (drop 12 bytes);
+  flags = little_number 2 (drop 14 bytes);
+}
+
+-- the new record that 32 bytes spell
+unfoldable pub new_frame : List ℕ → NewFrameData
+new_frame bytes = record {
+  code_start = little_number 4 bytes;
+  code_size = little_number 4 (drop 4 bytes);
+  locals_size = little_number 4 (drop 8 bytes);
+  params_size = little_number 4 (drop 12 bytes);
+  max_stack_size = little_number 4 (drop 16 bytes);
+  frame_func = little_number 4 (drop 20 bytes);
+  prolog_size = little_number 2 (drop 24 bytes);
+  saved_regs_size = little_number 2 (drop 26 bytes);
+  flags = little_number 4 (drop 28 bytes);
+}
+
+-- the addresses of a record's code
+abbrev pub old_span : OldFrameData → Span
+old_span frame = record { start = frame.code_start; size = frame.code_size }
+
+abbrev pub new_span : NewFrameData → Span
+new_span frame = record { start = frame.code_start; size = frame.code_size }
+
+-- what bytes spell, so many bytes for each value: value k stands behind k times so many
+unfoldable pub spelled : {A : Type 0} → ℕ → (List ℕ → A) → List ℕ → List A
+spelled size value bytes = map (λ k. value (take size (drop (size * k) bytes))) (range_with_len 0 (length bytes / size))
+
+-- the old records, 16 bytes each, and the new ones, 32 bytes each
+abbrev pub old_frames : List ℕ → List OldFrameData
+old_frames bytes = spelled 16 old_frame bytes
+
+abbrev pub new_frames : List ℕ → List NewFrameData
+new_frames bytes = spelled 32 new_frame bytes

@@ -1,0 +1,101 @@
+//! Frames, as records of both formats describe them.
+
+ghost use Rattle.std.specs.Prelude.{◌≡◌};
+ghost use Rattle.pdb_frames.specs.Frames.{of_old, of_new};
+
+use crate::frame_type::FrameType;
+use crate::new_frame_data::NewFrameData;
+use crate::old_frame_data::OldFrameData;
+use pdb_space::{PdbInternalRva, StringRef};
+
+/// What a stack walker needs to know of the frame that code has.
+#[derive(Clone, Copy, Debug, PartialEq, Eq)]
+pub struct FrameData {
+    /// What kind of frame it is.
+    pub ty: FrameType,
+
+    /// The address of the first byte of the code.
+    pub code_start: PdbInternalRva,
+
+    /// How many bytes of code there are.
+    pub code_size: u32,
+
+    /// The size of the local variables in bytes.
+    pub locals_size: u32,
+
+    /// The size of the parameters in bytes.
+    pub params_size: u32,
+
+    /// How many bytes of code the prolog has.
+    pub prolog_size: u16,
+
+    /// The size of the saved registers in bytes.
+    pub saved_regs_size: u16,
+
+    /// The most bytes that the code pushes on the stack, if the record says so.
+    pub max_stack_size: Option<u32>,
+
+    /// Whether the code handles structured exceptions.
+    pub has_structured_eh: bool,
+
+    /// Whether the code handles C++ exceptions.
+    pub has_cpp_eh: bool,
+
+    /// Whether a function starts with this code.
+    pub is_function_start: bool,
+
+    /// Whether the base pointer holds something other than the frame.
+    pub uses_base_pointer: bool,
+
+    /// The program that computes the registers of the caller, by its place in the string table.
+    pub program: Option<StringRef>,
+}
+
+/// What an old record says. It counts local variables, parameters and saved registers in units of 4
+/// bytes. The bytes of local variables are taken modulo 2^32.
+impl From<&OldFrameData> for FrameData {
+    ghost from_gives = { λ frame told. told ≡ of_old frame.now };
+
+    #[tactic(auto, unfolding(crate::specs::Frames::of_old))]
+    fn from(frame: &OldFrameData) -> FrameData {
+        FrameData {
+            ty: frame.frame_type(),
+            code_start: PdbInternalRva(frame.code_start),
+            code_size: frame.code_size,
+            locals_size: frame.locals_size.wrapping_mul(4),
+            params_size: frame.params_size as u32 * 4,
+            prolog_size: frame.prolog_size(),
+            saved_regs_size: frame.saved_regs_size() * 4,
+            max_stack_size: None,
+            has_structured_eh: frame.has_seh(),
+            has_cpp_eh: false,
+            is_function_start: false,
+            uses_base_pointer: frame.uses_base_pointer(),
+            program: None,
+        }
+    }
+}
+
+/// What a new record says.
+impl From<&NewFrameData> for FrameData {
+    ghost from_gives = { λ frame told. told ≡ of_new frame.now };
+
+    #[tactic(auto, unfolding(crate::specs::Frames::of_new))]
+    fn from(frame: &NewFrameData) -> FrameData {
+        FrameData {
+            ty: FrameType::FrameData,
+            code_start: PdbInternalRva(frame.code_start),
+            code_size: frame.code_size,
+            locals_size: frame.locals_size,
+            params_size: frame.params_size,
+            prolog_size: frame.prolog_size,
+            saved_regs_size: frame.saved_regs_size,
+            max_stack_size: Some(frame.max_stack_size),
+            has_structured_eh: frame.has_seh(),
+            has_cpp_eh: frame.has_eh(),
+            is_function_start: frame.is_function_start(),
+            uses_base_pointer: false,
+            program: Some(StringRef(frame.frame_func)),
+        }
+    }
+}

@@ -1,0 +1,40 @@
+//! Records that follow one another in a stream.
+
+ghost use Rattle.std.specs.Prelude.{◌≡◌, ◌≤◌, ◌<◌, ℕ, List, [], ◌∷◌, length, drop, IfSome, IfNone};
+ghost use Rattle.pdb_frames.specs.Stored.{spelled};
+
+use crate::addr_range::AddrRange;
+
+/// A record of a stream that holds records of one length.
+pub(crate) trait FrameRecord: AddrRange + Copy {
+    ghost SIZE: { ℕ };
+
+    /// How many bytes a record takes.
+    const SIZE: usize;
+
+    // A record takes some bytes.
+    ghost some: { 0 < SIZE };
+
+    // The record that so many bytes spell.
+    ghost value: { List ℕ → Self };
+
+    /// The record that these bytes spell.
+    fn read(bytes: &[u8]) -> Self
+        requires { length bytes.now ≡ SIZE }
+        ensures { result ≡ value bytes.now };
+}
+
+/// The first of the records that bytes spell, and the bytes behind it.
+#[tactic(auto, using(crate::proofs::StoredLemmas::spelled_none, crate::proofs::StoredLemmas::spelled_first))]
+pub(crate) fn first<R: FrameRecord>(bytes: &[u8]) -> Option<(R, &[u8])>
+    ensures none { IfNone result (spelled R.SIZE R.value bytes.now ≡ []) }
+    ensures some { IfSome result
+        (λ first. spelled R.SIZE R.value bytes.now ≡ first.0 ∷ spelled R.SIZE R.value first.1.now) }
+    ensures shorter { IfSome result (λ first. length first.1.now < length bytes.now) }
+{
+    if bytes.len() < R::SIZE {
+        return None;
+    }
+    let (front, behind) = bytes.split_at(R::SIZE);
+    Some((R::read(front), behind))
+}

@@ -1,0 +1,210 @@
+//! Tables of frames.
+
+ghost use Rattle.std.specs.Prelude.{◌≡◌, ◌↔◌, [], map, IsTrue, unwrap_or};
+ghost use Rattle.std.specs.List.Sorted.{IsStrictlyIncreasing};
+ghost use Rattle.pdb_base.specs.Answer.{Gives};
+ghost use Rattle.pdb_frames.specs.Stored.{spelled, old_frames, new_frames};
+ghost use Rattle.pdb_frames.specs.Span.{begins, from_address, IsEnd};
+ghost use Rattle.pdb_frames.specs.Merge.{by_heads, merge};
+ghost use Rattle.pdb_frames.specs.Table.{BeginsSomewhere, IsStep, StartsIncrease, merge_from, table_of};
+
+use crate::addr_range::AddrRange;
+use crate::frame_data::FrameData;
+use crate::frame_record::{FrameRecord, first};
+use crate::new_frame_data::NewFrameData;
+use crate::old_frame_data::OldFrameData;
+use pdb_base::{Error, FallibleIterator, Result};
+use pdb_msf::Stream;
+use pdb_space::PdbInternalRva;
+use std::marker::Model;
+
+/// The frames of a program, from two streams: one of records of the older format, one of the newer.
+/// A program can have both, one or none.
+///
+/// The streams are kept as they are, and records are read as they are asked for.
+#[derive(Debug, Drop)]
+pub struct FrameTable {
+    old: Option<Stream>,
+    new: Option<Stream>,
+}
+
+impl Model for FrameTable {
+    ghost use Rattle.std.specs.Prelude.{◌≡◌, ◌%◌, [], length, unwrap_or};
+    ghost use Rattle.pdb_frames.specs.Table.{Frames};
+    ghost use Rattle.pdb_frames.specs.Stored.{old_frames, new_frames};
+
+    ghost Value = { Frames };
+
+    ghost view = { λ t. record { old = old_frames (unwrap_or t.old []); new = new_frames (unwrap_or t.new []) } };
+
+    ghost invariant = { λ t. (length (unwrap_or t.old []) % 16 ≡ 0) × (length (unwrap_or t.new []) % 32 ≡ 0) };
+}
+
+/// The bytes of a stream that may be absent.
+fn bytes_of(stream: &Option<Stream>) -> &[u8]
+    ensures { result.now ≡ unwrap_or stream.now [] }
+{
+    match stream {
+        Some(stream) => stream.as_slice(),
+        None => &[],
+    }
+}
+
+impl FrameTable {
+    /// The table that two streams hold. A stream that is absent or empty holds no records.
+    ///
+    /// # Errors
+    /// `InvalidStreamLength("FPO")` where the length of the old stream is no multiple of 16 bytes, and
+    /// else `InvalidStreamLength("FrameData")` where that of the new one is no multiple of 32.
+    #[tactic(auto, unfolding(crate::specs::Table::table_of))]
+    pub fn parse(old: Option<Stream>, new: Option<Stream>) -> Result<FrameTable>
+        ensures { Gives (λ table. table) result (table_of old new) }
+    {
+        if !bytes_of(&old).len().is_multiple_of(OldFrameData::SIZE) {
+            return Err(Error::InvalidStreamLength("FPO"));
+        }
+        if !bytes_of(&new).len().is_multiple_of(NewFrameData::SIZE) {
+            return Err(Error::InvalidStreamLength("FrameData"));
+        }
+        Ok(FrameTable { old, new })
+    }
+
+    /// Whether there are no frames.
+    #[tactic(auto, using(crate::proofs::StoredLemmas::spelled_nothing, crate::proofs::StoredLemmas::none_spelled))]
+    pub fn is_empty(&self) -> bool
+        ensures { IsTrue result ↔ ((self.now.old ≡ []) × (self.now.new ≡ [])) }
+    {
+        bytes_of(&self.old).is_empty() && bytes_of(&self.new).is_empty()
+    }
+
+    /// All frames, by their starts. Of an old and a new record that start at one address the new one
+    /// is given.
+    ///
+    /// Where the starts of a stream don't increase from record to record, the heads of both streams are
+    /// compared all the same: the one that starts lower comes next.
+    #[tactic(auto, using(crate::proofs::TableLemmas::all_merged))]
+    pub fn iter(&self) -> FrameDataIter<'_>
+        ensures merged { StartsIncrease self.now → result ≡ merge self.now.old self.now.new }
+        ensures heads { result ≡ by_heads self.now.old self.now.new }
+    {
+        FrameDataIter {
+            old: bytes_of(&self.old),
+            new: bytes_of(&self.new),
+        }
+    }
+
+    /// The frames from an address on: in each stream from the record that starts at the address, else
+    /// from the last that starts below it, if that one's code reaches to the address, else from the
+    /// first that starts above it.
+    ///
+    /// Where the starts of a stream don't increase from record to record, it begins at some record of
+    /// each stream, or behind the last.
+    #[tactic(auto, using(crate::proofs::TableLemmas::end_merged, crate::proofs::TableLemmas::end_somewhere))]
+    pub fn iter_at_rva(&self, rva: PdbInternalRva) -> FrameDataIter<'_>
+        ensures merged { StartsIncrease self.now → result ≡ merge_from rva self.now }
+        ensures somewhere { BeginsSomewhere self.now result }
+    {
+        FrameDataIter {
+            old: starting_at::<OldFrameData>(bytes_of(&self.old), rva.0),
+            new: starting_at::<NewFrameData>(bytes_of(&self.new), rva.0),
+        }
+    }
+}
+
+/// Frames of a table, of which each step gives one. No step is refused.
+#[derive(Debug, Drop)]
+pub struct FrameDataIter<'t> {
+    old: &'t [u8],
+    new: &'t [u8],
+}
+
+impl<'t> Model for FrameDataIter<'t> {
+    ghost use Rattle.std.specs.Prelude.{List};
+    ghost use Rattle.pdb_frames.specs.declared.frame_data.FrameData.{FrameData};
+    ghost use Rattle.pdb_frames.specs.Stored.{old_frames, new_frames};
+    ghost use Rattle.pdb_frames.specs.Merge.{by_heads};
+
+    ghost Value = { List FrameData };
+
+    ghost view = { λ i. by_heads (old_frames i.old.now) (new_frames i.new.now) };
+}
+
+/// No frames.
+impl<'t> Default for FrameDataIter<'t> {
+    ghost is_default = { λ frames. frames ≡ [] };
+
+    #[tactic(auto, using(crate::proofs::StoredLemmas::spelled_nothing))]
+    fn default() -> Self {
+        FrameDataIter { old: &[], new: &[] }
+    }
+}
+
+impl<'t> FallibleIterator for FrameDataIter<'t> {
+    type Item = FrameData;
+
+    type Error = Error;
+
+    ghost next_gives = { IsStep };
+
+    fn next(&mut self) -> Result<Option<FrameData>> {
+        match (
+            first::<OldFrameData>(self.old),
+            first::<NewFrameData>(self.new),
+        ) {
+            (None, None) => Ok(None),
+            (Some((frame, others)), None) => {
+                self.old = others;
+                Ok(Some(FrameData::from(&frame)))
+            }
+            (None, Some((frame, others))) => {
+                self.new = others;
+                Ok(Some(FrameData::from(&frame)))
+            }
+            (Some((old, other_old)), Some((new, other_new))) => {
+                if old.code_start < new.code_start {
+                    self.old = other_old;
+                    return Ok(Some(FrameData::from(&old)));
+                }
+                if old.code_start == new.code_start {
+                    self.old = other_old;
+                }
+                self.new = other_new;
+                Ok(Some(FrameData::from(&new)))
+            }
+        }
+    }
+}
+
+/// Whether the records from an address on begin at this one, which doesn't start above it, where every
+/// later one does.
+fn begins_at<R: FrameRecord>(frame: R, address: u32) -> bool
+    ensures { result ≡ begins (R.span frame) address }
+{
+    frame.start() == address || frame.contains(address)
+}
+
+/// The bytes of the records from the one on that starts at an address, else from the last that starts
+/// below it, if that one's code reaches to the address, else from the first that starts above it.
+///
+/// It walks from the front, and stops at the first record that starts above the address.
+#[tactic(auto, using(crate::proofs::SearchLemmas::walk_begins, crate::proofs::SearchLemmas::walk_here, crate::proofs::SearchLemmas::walk_past, crate::proofs::SearchLemmas::walk_stops, crate::proofs::SearchLemmas::walk_ends, crate::proofs::SearchLemmas::walk_within))]
+fn starting_at<R: FrameRecord>(bytes: &[u8], address: u32) -> &[u8]
+    ensures exact { IsStrictlyIncreasing (map (λ frame. (R.span frame).start) (spelled R.SIZE R.value bytes.now))
+        → spelled R.SIZE R.value result.now ≡ from_address R.span address (spelled R.SIZE R.value bytes.now) }
+    ensures end { IsEnd (spelled R.SIZE R.value result.now) (spelled R.SIZE R.value bytes.now) }
+{
+    let mut from = bytes;
+    let mut rest = bytes;
+    while let Some((frame, others)) = first::<R>(rest) {
+        if address < frame.start() {
+            return from;
+        }
+        from = if begins_at(frame, address) {
+            rest
+        } else {
+            others
+        };
+        rest = others;
+    }
+    from
+}

@@ -1,0 +1,58 @@
+//! What the definitions that contracts cite say in other words. The functions do nothing: each
+//! contract is a law.
+
+ghost use Rattle.std.specs.Prelude.{ℕ, List, Option, Result};
+ghost use Rattle.pdb_base.specs.declared.error.Error.{Error};
+ghost use Rattle.pdb_frames.specs.declared.frame_data.FrameData.{FrameData};
+ghost use Rattle.pdb_frames.specs.declared.old_frame_data.OldFrameData.{OldFrameData};
+ghost use Rattle.pdb_frames.specs.declared.new_frame_data.NewFrameData.{NewFrameData};
+ghost use Rattle.pdb_frames.specs.Span.{Span};
+ghost use Rattle.pdb_frames.specs.Stored.{old_frame, new_frame};
+ghost use Rattle.pdb_frames.specs.Merge.{by_heads};
+ghost use Rattle.pdb_frames.specs.Table.{Frames, IsStep, StartsIncrease};
+ghost use Rattle.pdb_frames.specs.Laws.{CoversToItsEnd, AreReadInTurn, IsSortedByStart, IsMerged, IsWoven, EndsForGood, ComparesByNumber};
+
+use crate::frame_type::FrameType;
+
+/// Code covers the addresses from its start to before its end, also where the end lies past
+/// 0xffffffff.
+#[tactic(auto, using(crate::proofs::LawLemmas::covers_to_its_end))]
+pub fn ranges()
+    ensures { (span : Span) (address : ℕ) → CoversToItsEnd span address }
+{}
+
+/// The records of a stream are those that are read one behind the other.
+pub fn records()
+    ensures old { (bytes : List ℕ) → AreReadInTurn 16 old_frame bytes }
+    ensures new { (bytes : List ℕ) → AreReadInTurn 32 new_frame bytes }
+{}
+
+/// Frames by their starts are the same frames, in order.
+pub fn sorted()
+    ensures { (frames : List FrameData) → IsSortedByStart frames }
+{}
+
+/// Where starts increase, the comparison of heads merges as the definition says, and the starts of the
+/// answer increase.
+pub fn merged()
+    ensures { (frames : Frames) → StartsIncrease frames → IsMerged frames }
+{}
+
+/// Whatever the starts are, the comparison of heads gives every new record and no old one twice, each
+/// in the order of its stream.
+#[tactic(auto, using(crate::proofs::LawLemmas::is_woven))]
+pub fn woven()
+    ensures { (old : List OldFrameData) (new : List NewFrameData) → IsWoven old new (by_heads old new) }
+{}
+
+/// Each step that gives a frame leaves fewer, and None comes only at the end, and then for good.
+#[tactic(auto, using(crate::proofs::LawLemmas::ends_for_good))]
+pub fn steps()
+    ensures { (left others : List FrameData) (result : Result (Option FrameData) Error) → IsStep left result others → EndsForGood left result others }
+{}
+
+/// Kinds of frames compare as their numbers, and two are equal just where they are one. Equal ones hash
+/// alike, which the trait `Hash` demands of each type.
+pub fn kinds()
+    ensures { ComparesByNumber ⟦<FrameType as PartialEq>⟧.eq ⟦<FrameType as Ord>⟧.cmp }
+{}

@@ -1,0 +1,116 @@
+//! Records of the newer format.
+
+ghost use Rattle.std.specs.Prelude.{◌≡◌};
+ghost use Rattle.std.proofs.Common.{lit<};
+ghost use Rattle.pdb_base.specs.Parts.{is_set};
+ghost use Rattle.pdb_base.specs.Reading.{front_at, read_as};
+ghost use Rattle.pdb_frames.specs.Stored.{new_frame, new_span};
+
+use crate::addr_range::AddrRange;
+use crate::frame_record::FrameRecord;
+use byteorder::{ByteOrder, LittleEndian};
+use pdb_base::bits::is_set;
+use pdb_base::{Le, Parse, ParseBuffer, Result};
+
+/// A record of the newer format: 32 bytes, `FRAMEDATA` in Microsoft's cvinfo.h.
+#[derive(Clone, Copy, Debug, PartialEq, Eq)]
+pub struct NewFrameData {
+    /// The address of the first byte of the code.
+    pub code_start: u32,
+
+    /// How many bytes of code there are.
+    pub code_size: u32,
+
+    /// The size of the local variables in bytes.
+    pub locals_size: u32,
+
+    /// The size of the parameters in bytes.
+    pub params_size: u32,
+
+    /// The most bytes that the code pushes on the stack.
+    pub max_stack_size: u32,
+
+    /// Where in the string table the program stands that computes the registers of the caller.
+    pub frame_func: u32,
+
+    /// How many bytes of code the prolog has.
+    pub prolog_size: u16,
+
+    /// The size of the saved registers in bytes.
+    pub saved_regs_size: u16,
+
+    /// A word whose bits the calls below tell.
+    pub flags: u32,
+}
+
+impl NewFrameData {
+    /// Whether the code handles structured exceptions. Bit 0 of the flags.
+    pub fn has_seh(&self) -> bool
+        ensures { result ≡ is_set self.now.flags 0 }
+    {
+        is_set(self.flags, 0)
+    }
+
+    /// Whether the code handles C++ exceptions. Bit 1.
+    pub fn has_eh(&self) -> bool
+        ensures { result ≡ is_set self.now.flags 1 }
+    {
+        is_set(self.flags, 1)
+    }
+
+    /// Whether a function starts with this code. Bit 2.
+    pub fn is_function_start(&self) -> bool
+        ensures { result ≡ is_set self.now.flags 2 }
+    {
+        is_set(self.flags, 2)
+    }
+}
+
+impl AddrRange for NewFrameData {
+    ghost span = { new_span };
+
+    fn start(&self) -> u32 {
+        self.code_start
+    }
+
+    fn size(&self) -> u32 {
+        self.code_size
+    }
+}
+
+impl FrameRecord for NewFrameData {
+    ghost SIZE = { 32 };
+
+    const SIZE: usize = 32;
+
+    ghost some = { lit< tt };
+
+    ghost value = { new_frame };
+
+    #[tactic(auto, unfolding(crate::specs::Stored::new_frame))]
+    fn read(bytes: &[u8]) -> NewFrameData {
+        NewFrameData {
+            code_start: LittleEndian::read_u32(bytes),
+            code_size: LittleEndian::read_u32(&bytes[4..]),
+            locals_size: LittleEndian::read_u32(&bytes[8..]),
+            params_size: LittleEndian::read_u32(&bytes[12..]),
+            max_stack_size: LittleEndian::read_u32(&bytes[16..]),
+            frame_func: LittleEndian::read_u32(&bytes[20..]),
+            prolog_size: LittleEndian::read_u16(&bytes[24..]),
+            saved_regs_size: LittleEndian::read_u16(&bytes[26..]),
+            flags: LittleEndian::read_u32(&bytes[28..]),
+        }
+    }
+}
+
+/// The fields in their order, the lowest byte of each first.
+impl Parse<Le> for NewFrameData {
+    ghost reads = { λ _ bytes. read_as new_frame (front_at 32 bytes) };
+
+    #[tactic(auto, using(crate::proofs::StoredLemmas::front_len))]
+    fn parse_from(bytes: &[u8], _: Le) -> Result<(NewFrameData, usize)> {
+        let mut buffer = ParseBuffer::from(bytes);
+        let front = buffer.take(NewFrameData::SIZE)?;
+        Ok((NewFrameData::read(front), buffer.pos()))
+    }
+}

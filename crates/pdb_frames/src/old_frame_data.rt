@@ -1,0 +1,123 @@
+//! Records of the older format.
+
+ghost use Rattle.std.specs.Prelude.{◌≡◌, ◌≤◌};
+ghost use Rattle.std.proofs.Common.{lit<};
+ghost use Rattle.pdb_base.specs.Bits.{bits};
+ghost use Rattle.pdb_base.specs.Parts.{is_set};
+ghost use Rattle.pdb_base.specs.Reading.{front_at, read_as};
+ghost use Rattle.pdb_frames.specs.FrameNumbers.{kind_of};
+ghost use Rattle.pdb_frames.specs.Stored.{old_frame, old_span};
+
+use crate::addr_range::AddrRange;
+use crate::frame_record::FrameRecord;
+use crate::frame_type::FrameType;
+use byteorder::{ByteOrder, LittleEndian};
+use pdb_base::bits::{is_set, part};
+use pdb_base::{Le, Parse, ParseBuffer, Result};
+
+/// A record of the older format: 16 bytes, `FPO_DATA` in the PE specification.
+#[derive(Clone, Copy, Debug, PartialEq, Eq)]
+pub struct OldFrameData {
+    /// The address of the first byte of the code.
+    pub code_start: u32,
+
+    /// How many bytes of code there are.
+    pub code_size: u32,
+
+    /// The size of the local variables, in units of 4 bytes.
+    pub locals_size: u32,
+
+    /// The size of the parameters, in units of 4 bytes.
+    pub params_size: u16,
+
+    /// A word whose bits the calls below tell.
+    pub flags: u16,
+}
+
+impl OldFrameData {
+    /// How many bytes of code the prolog has. Bits 0 to 7 of the flags.
+    pub fn prolog_size(&self) -> u16
+        ensures { result ≡ bits self.now.flags 0 8 }
+    {
+        part(self.flags as u32, 0, 8) as u16
+    }
+
+    /// The size of the saved registers, in units of 4 bytes, at most 7. Bits 8 to 10.
+    pub fn saved_regs_size(&self) -> u16
+        ensures size { result ≡ bits self.now.flags 8 3 }
+        ensures few { result ≤ 7 }
+    {
+        part(self.flags as u32, 8, 3) as u16
+    }
+
+    /// Whether the code handles structured exceptions. Bit 11.
+    pub fn has_seh(&self) -> bool
+        ensures { result ≡ is_set self.now.flags 11 }
+    {
+        is_set(self.flags as u32, 11)
+    }
+
+    /// Whether the base pointer holds something other than the frame. Bit 12.
+    pub fn uses_base_pointer(&self) -> bool
+        ensures { result ≡ is_set self.now.flags 12 }
+    {
+        is_set(self.flags as u32, 12)
+    }
+
+    /// What kind of frame it is. Bits 14 and 15.
+    pub fn frame_type(&self) -> FrameType
+        ensures { result ≡ kind_of (bits self.now.flags 14 2) }
+    {
+        match part(self.flags as u32, 14, 2) {
+            0 => FrameType::FPO,
+            1 => FrameType::Trap,
+            2 => FrameType::TSS,
+            _ => FrameType::Standard,
+        }
+    }
+}
+
+impl AddrRange for OldFrameData {
+    ghost span = { old_span };
+
+    fn start(&self) -> u32 {
+        self.code_start
+    }
+
+    fn size(&self) -> u32 {
+        self.code_size
+    }
+}
+
+impl FrameRecord for OldFrameData {
+    ghost SIZE = { 16 };
+
+    const SIZE: usize = 16;
+
+    ghost some = { lit< tt };
+
+    ghost value = { old_frame };
+
+    #[tactic(auto, unfolding(crate::specs::Stored::old_frame))]
+    fn read(bytes: &[u8]) -> OldFrameData {
+        OldFrameData {
+            code_start: LittleEndian::read_u32(bytes),
+            code_size: LittleEndian::read_u32(&bytes[4..]),
+            locals_size: LittleEndian::read_u32(&bytes[8..]),
+            params_size: LittleEndian::read_u16(&bytes[12..]),
+            flags: LittleEndian::read_u16(&bytes[14..]),
+        }
+    }
+}
+
+/// The fields in their order, the lowest byte of each first.
+impl Parse<Le> for OldFrameData {
+    ghost reads = { λ _ bytes. read_as old_frame (front_at 16 bytes) };
+
+    #[tactic(auto, using(crate::proofs::StoredLemmas::front_len))]
+    fn parse_from(bytes: &[u8], _: Le) -> Result<(OldFrameData, usize)> {
+        let mut buffer = ParseBuffer::from(bytes);
+        let front = buffer.take(OldFrameData::SIZE)?;
+        Ok((OldFrameData::read(front), buffer.pos()))
+    }
+}

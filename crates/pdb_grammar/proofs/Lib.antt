@@ -1,0 +1,9 @@
+pub mod Agreeing
+pub mod ShapeLaws
+pub mod RowLaws
+pub mod ToEndLaws
+pub mod PaddingLaws
+pub mod DimensionLaws
+pub mod StepLemmas
+pub mod TakesLemmas
+pub mod DimensionSteps

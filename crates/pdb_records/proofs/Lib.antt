@@ -1,0 +1,4 @@
+pub mod ListLemmas
+pub mod GrammarLaws
+pub mod FieldLemmas
+pub mod WholeLemmas

@@ -1,0 +1,12 @@
+-- The dimensions so far, and those that are read behind them, are all.
+use Rattle.std.proofs.Common.{◌≡◌, length}
+use Rattle.pdb_base.specs.Place.{left}
+use Rattle.pdb_grammar.specs.Dimensions.{dimensions_at}
+use Rattle.pdb_grammar.proofs.StepLemmas.{behind}
+use Rattle.pdb_records.proofs.parse.array.parse_dimensions.Given as goal
+
+abbrev pub invariant-all : goal.invariant-all
+invariant-all l = dimensions_at (left l.fn.buffer) ≡ behind l.dimensions.items (dimensions_at (left l.buffer))
+
+abbrev pub decreases-all : goal.decreases-all
+decreases-all l = length (left l.buffer)

@@ -1,0 +1,69 @@
+-- Lists of fields, and whole records.
+use Rattle.std.specs.Prelude.{ℕ, Bool, true, false, ◌==◌, List, [], ◌∷◌, Option, Some, None, Ok}
+use Rattle.pdb_base.specs.declared.index.TypeIndex.{TypeIndex}
+use Rattle.pdb_base.specs.Answer.{Answer, ◌>>=◌}
+use Rattle.pdb_base.specs.Reading.{number_at}
+use Rattle.pdb_grammar.specs.Shape.{as_type, index_at}
+use Rattle.pdb_grammar.specs.ToEnd.{to_end}
+use Rattle.pdb_grammar.specs.Padding.{padding_at}
+use Rattle.pdb_values.specs.TypeValue.{TypeValue, Fields}
+use Rattle.pdb_values.specs.TypeValue as values
+use Rattle.pdb_records.specs.Records.{behind_leaf}
+
+-- LF_INDEX: behind it stands the list that goes on where this one ends
+abbrev pub continuation_leaf : ℕ
+continuation_leaf = 0x1404
+
+-- LF_FIELDLIST
+abbrev pub field_list_leaf : ℕ
+field_list_leaf = 0x1203
+
+-- an entry of a list of fields
+pub data Entry : Type 0 where
+  field : TypeValue → Entry
+  continues : TypeIndex → Entry
+
+-- the fields among entries
+abbrev pub fields_of : List Entry → Fields
+fields_of [] = values.no_field
+fields_of (field value ∷ entries) = values.first_field value (fields_of entries)
+fields_of (continues index ∷ entries) = fields_of entries
+
+-- the one, or else the other
+abbrev pub or_before : Option TypeIndex → Option TypeIndex → Option TypeIndex
+or_before (Some last) before = Some last
+or_before None before = before
+
+-- the last list that an entry says goes on
+abbrev pub continuation_of : List Entry → Option TypeIndex
+continuation_of [] = None
+continuation_of (field value ∷ entries) = continuation_of entries
+continuation_of (continues index ∷ entries) = or_before (continuation_of entries) (Some index)
+
+-- the list of fields that entries make
+abbrev pub field_list_of : List Entry → TypeValue
+field_list_of entries = values.field_list (fields_of entries) (continuation_of entries)
+
+-- what stands behind the leaf of an entry
+abbrev pub entry_of : Bool → ℕ → List ℕ → Answer (Entry × List ℕ)
+entry_of true number bytes = index_at as_type bytes >>= λ index. Ok (continues index.0, index.1)
+entry_of false number bytes = behind_leaf number bytes >>= λ value. Ok (field value.0, value.1)
+
+-- an entry, with padding behind it
+unfoldable pub field_at : List ℕ → Answer (Entry × List ℕ)
+field_at bytes = do
+  number ← number_at 2 bytes
+  entry ← entry_of (number.0 == continuation_leaf) number.0 number.1
+  nothing ← padding_at entry.1
+  Ok (entry.0, nothing.1)
+
+-- what stands behind the leaf of a record
+abbrev pub record_of : Bool → ℕ → List ℕ → Answer (TypeValue × List ℕ)
+record_of true number bytes = to_end field_at bytes >>= λ entries. Ok (field_list_of entries.0, entries.1)
+record_of false number bytes = behind_leaf number bytes
+
+-- a type record
+unfoldable pub record_at : List ℕ → Answer (TypeValue × List ℕ)
+record_at bytes = do
+  number ← number_at 2 bytes
+  record_of (number.0 == field_list_leaf) number.0 number.1

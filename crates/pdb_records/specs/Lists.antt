@@ -1,0 +1,34 @@
+-- The records that are lists, or hold one.
+use Rattle.std.specs.Prelude.{◌≡◌, ℕ, Bool, List, Option, Result, Err, IsOk}
+use Rattle.pdb_base.specs.declared.error.Error.{Error}
+use Rattle.pdb_base.specs.declared.error.Error.TheVariants.{OutOfMemory}
+use Rattle.pdb_base.specs.declared.index.TypeIndex.{TypeIndex}
+use Rattle.pdb_base.specs.Answer.{Answer}
+use Rattle.pdb_grammar.specs.Shape.{u32, type_index, when, times}
+use Rattle.pdb_grammar.specs.Row.{Row, gives}
+use Rattle.pdb_grammar.specs.InOrder.{◌>>=◌}
+
+-- lfArgList: a count, and so many indexes
+unfoldable pub arguments_row : Row (List TypeIndex)
+arguments_row = do
+  count ← u32
+  arguments ← times count type_index
+  gives arguments
+
+-- Memory is asked for only where a value is meant.
+abbrev pub LacksMeant : {X Y : Type 0} → Result X Error → Answer Y → Type 0
+LacksMeant result meant = result ≡ Err OutOfMemory → IsOk meant
+
+-- what an array says before its dimensions
+pub record ArrayHead : Type 0 where
+  pub element_type : TypeIndex
+  pub indexing_type : TypeIndex
+  pub stride : Option ℕ
+
+-- lfArray, and lfStridedArray, which has a stride: what stands before the dimensions
+unfoldable pub array_row : Bool → Row ArrayHead
+array_row strided = do
+  element_type ← type_index
+  indexing_type ← type_index
+  stride ← when strided u32
+  gives (record { element_type = element_type; indexing_type = indexing_type; stride = stride })

@@ -1,0 +1,15 @@
+//! What is read of the bytes of a record.
+
+pub(crate) mod array;
+pub(crate) mod class;
+pub(crate) mod derived;
+pub(crate) mod entry;
+pub(crate) mod enumeration;
+pub(crate) mod fields;
+pub(crate) mod function;
+pub(crate) mod list;
+pub(crate) mod member;
+pub(crate) mod plain;
+pub(crate) mod record;
+pub(crate) mod shape;
+pub(crate) mod type_data;

@@ -1,0 +1,91 @@
+//! Classes, structs, interfaces and unions.
+
+ghost use Rattle.pdb_base.specs.Answer.{Gives};
+ghost use Rattle.pdb_base.specs.Place.{left};
+ghost use Rattle.pdb_grammar.specs.Row.{row};
+ghost use Rattle.pdb_values.specs.TypeView.{type_value};
+ghost use Rattle.pdb_records.specs.Rows.{class_row, wide_class_row, union_row};
+
+use crate::parse::shape::{low_16_bits, parse_some_type, parse_text, parse_type_index};
+use pdb_base::{ParseBuffer, Result};
+use pdb_flags::TypeProperties;
+use pdb_values::{ClassKind, ClassType, TypeData, UnionType};
+
+/// A class, a struct or an interface.
+#[tactic(auto, unfolding(pdb_grammar::specs::Row::row, crate::specs::Rows::class_row))]
+pub(crate) fn parse_class<'t>(
+    buffer: &mut ParseBuffer<'t>,
+    leaf: u16,
+    kind: ClassKind,
+) -> Result<TypeData<'t>>
+    ensures { Gives (λ t. (type_value t, left buffer.new)) result (row (class_row leaf kind) (left buffer.old)) }
+{
+    let count = buffer.parse_u16()?;
+    let properties = TypeProperties::new(buffer.parse_u16()?);
+    Ok(TypeData::Class(ClassType {
+        kind,
+        count,
+        properties,
+        fields: parse_some_type(buffer)?,
+        derived_from: parse_some_type(buffer)?,
+        vtable_shape: parse_some_type(buffer)?,
+        size: buffer.parse_num()?,
+        name: parse_text(buffer, leaf)?,
+        unique_name: if properties.has_unique_name() {
+            Some(parse_text(buffer, leaf)?)
+        } else {
+            None
+        },
+    }))
+}
+
+/// The same with more room for properties.
+#[tactic(auto, unfolding(pdb_grammar::specs::Row::row, crate::specs::Rows::wide_class_row))]
+pub(crate) fn parse_wide_class<'t>(
+    buffer: &mut ParseBuffer<'t>,
+    leaf: u16,
+    kind: ClassKind,
+) -> Result<TypeData<'t>>
+    ensures { Gives (λ t. (type_value t, left buffer.new)) result (row (wide_class_row leaf kind) (left buffer.old)) }
+{
+    let properties = TypeProperties::new(low_16_bits(buffer.parse_u32()?));
+    let fields = parse_some_type(buffer)?;
+    let derived_from = parse_some_type(buffer)?;
+    let vtable_shape = parse_some_type(buffer)?;
+    Ok(TypeData::Class(ClassType {
+        kind,
+        count: buffer.parse_u16()?,
+        properties,
+        fields,
+        derived_from,
+        vtable_shape,
+        size: buffer.parse_num()?,
+        name: parse_text(buffer, leaf)?,
+        unique_name: if properties.has_unique_name() {
+            Some(parse_text(buffer, leaf)?)
+        } else {
+            None
+        },
+    }))
+}
+
+/// A union.
+#[tactic(auto, unfolding(pdb_grammar::specs::Row::row, crate::specs::Rows::union_row))]
+pub(crate) fn parse_union<'t>(buffer: &mut ParseBuffer<'t>, leaf: u16) -> Result<TypeData<'t>>
+    ensures { Gives (λ t. (type_value t, left buffer.new)) result (row (union_row leaf) (left buffer.old)) }
+{
+    let count = buffer.parse_u16()?;
+    let properties = TypeProperties::new(buffer.parse_u16()?);
+    Ok(TypeData::Union(UnionType {
+        count,
+        properties,
+        fields: parse_type_index(buffer)?,
+        size: buffer.parse_num()?,
+        name: parse_text(buffer, leaf)?,
+        unique_name: if properties.has_unique_name() {
+            Some(parse_text(buffer, leaf)?)
+        } else {
+            None
+        },
+    }))
+}

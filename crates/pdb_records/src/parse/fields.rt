@@ -1,0 +1,81 @@
+//! Lists of fields.
+
+ghost use Rattle.std.specs.Prelude.{◌≡◌, ◌==◌};
+ghost use Rattle.pdb_base.specs.Answer.{Answers};
+ghost use Rattle.pdb_base.specs.Place.{left};
+ghost use Rattle.pdb_values.specs.TypeView.{fields_value, type_value};
+ghost use Rattle.pdb_values.specs.TypeValue as values;
+ghost use Rattle.pdb_records.specs.Fields.{entry_of, field_at, continuation_leaf};
+ghost use Rattle.pdb_records.specs.Entries.{entry_value, gathered};
+
+use crate::parse::array::skip_padding;
+use crate::parse::entry::FieldEntry;
+use crate::parse::record::parse_behind_leaf;
+use crate::parse::shape::parse_type_index;
+use pdb_base::{ParseBuffer, Result, TypeIndex};
+use pdb_values::{FieldList, TypeData};
+use std::alloc::Global;
+
+/// The leaf behind which stands the list that goes on.
+const LF_INDEX: u16 = 0x1404;
+
+/// What stands behind the leaf of an entry.
+fn parse_behind_entry<'t>(
+    alloc: Global,
+    buffer: &mut ParseBuffer<'t>,
+    number: u16,
+) -> Result<FieldEntry<'t>>
+    ensures { Answers (λ e. (entry_value e, left buffer.new)) result (entry_of (number == continuation_leaf) number (left buffer.old)) }
+{
+    if number == LF_INDEX {
+        return Ok(FieldEntry::Continues(parse_type_index(buffer)?));
+    }
+    match parse_behind_leaf(alloc, buffer, number) {
+        Ok(data) => Ok(FieldEntry::Field(data)),
+        Err(error) => Err(error),
+    }
+}
+
+/// An entry, with padding behind it.
+#[tactic(auto, unfolding(crate::specs::Fields::field_at))]
+fn parse_field<'t>(alloc: Global, buffer: &mut ParseBuffer<'t>) -> Result<FieldEntry<'t>>
+    ensures { Answers (λ e. (entry_value e, left buffer.new)) result (field_at (left buffer.old)) }
+{
+    let number = buffer.parse_u16()?;
+    match parse_behind_entry(alloc, buffer, number) {
+        Ok(entry) => {
+            skip_padding(buffer)?;
+            Ok(entry)
+        }
+        Err(error) => Err(error),
+    }
+}
+
+/// A list of fields and of the list that goes on.
+fn field_list<'t>(fields: Vec<TypeData<'t>>, continuation: Option<TypeIndex>) -> TypeData<'t>
+    ensures { type_value result ≡ values.field_list (fields_value fields.entry.items) continuation }
+{
+    TypeData::FieldList(FieldList {
+        fields,
+        continuation,
+    })
+}
+
+/// Entries to the end of the bytes, as a list of fields.
+pub(crate) fn parse_field_list<'t>(
+    alloc: Global,
+    buffer: &mut ParseBuffer<'t>,
+) -> Result<TypeData<'t>>
+    ensures { Answers (λ t. (type_value t, left buffer.new)) result (gathered (left buffer.old)) }
+{
+    let mut fields = Vec::new(alloc);
+    let mut continuation = None;
+    'entries: while !buffer.is_empty() {
+        match parse_field(alloc, buffer) {
+            Ok(FieldEntry::Field(field)) => fields.push(field)?,
+            Ok(FieldEntry::Continues(index)) => continuation = Some(index),
+            Err(error) => return Err(error),
+        }
+    }
+    Ok(field_list(fields, continuation))
+}

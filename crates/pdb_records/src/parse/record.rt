@@ -1,0 +1,52 @@
+//! What stands behind a leaf.
+
+ghost use Rattle.pdb_base.specs.Answer.{Answers};
+ghost use Rattle.pdb_base.specs.Place.{left};
+ghost use Rattle.pdb_values.specs.TypeView.{type_value};
+ghost use Rattle.pdb_records.specs.Records.{behind_leaf, data_at};
+
+use crate::leaf::Leaf;
+use crate::parse::array::parse_array;
+use crate::parse::list::{parse_argument_list, parse_method_list};
+use crate::parse::plain::parse_plain;
+use pdb_base::{Error, ParseBuffer, Result};
+use pdb_values::TypeData;
+use std::alloc::Global;
+
+/// The record of a leaf, of this number.
+fn parse_leaf<'t>(
+    alloc: Global,
+    buffer: &mut ParseBuffer<'t>,
+    number: u16,
+    leaf: Leaf,
+) -> Result<TypeData<'t>>
+    ensures { Answers (λ t. (type_value t, left buffer.new)) result (data_at number leaf (left buffer.old)) }
+{
+    match leaf {
+        Leaf::Plain(leaf) => parse_plain(buffer, number, leaf),
+        Leaf::ArgumentList => Ok(TypeData::ArgumentList(parse_argument_list(alloc, buffer)?)),
+        Leaf::MethodList => match parse_method_list(alloc, buffer) {
+            Ok(list) => Ok(TypeData::MethodList(list)),
+            Err(error) => Err(error),
+        },
+        Leaf::Array(strided) => Ok(TypeData::Array(parse_array(alloc, buffer, strided)?)),
+    }
+}
+
+/// The record behind a leaf, but for a list of fields.
+///
+/// # Errors
+/// `UnimplementedTypeKind` for a leaf that has none.
+#[tactic(auto, unfolding(crate::specs::Records::behind_leaf))]
+pub(crate) fn parse_behind_leaf<'t>(
+    alloc: Global,
+    buffer: &mut ParseBuffer<'t>,
+    number: u16,
+) -> Result<TypeData<'t>>
+    ensures { Answers (λ t. (type_value t, left buffer.new)) result (behind_leaf number (left buffer.old)) }
+{
+    match Leaf::from_number(number) {
+        Some(leaf) => parse_leaf(alloc, buffer, number, leaf),
+        None => Err(Error::UnimplementedTypeKind(number)),
+    }
+}

@@ -1,0 +1,54 @@
+//! What stands in records.
+
+ghost use Rattle.std.specs.Prelude.{◌≡◌};
+ghost use Rattle.pdb_base.specs.Answer.{Gives};
+ghost use Rattle.pdb_base.specs.Place.{left};
+ghost use Rattle.pdb_grammar.specs.Shape.{read_shape, type_index, some_type, text};
+ghost use Rattle.pdb_records.specs.Rows.{low_16, low_32};
+
+use pdb_base::{ParseBuffer, RawString, Result, TypeIndex};
+
+/// The last leaf whose texts have their length before them.
+const LF_ST_MAX: u16 = 0x1500;
+
+/// The index of a type.
+pub(crate) fn parse_type_index(buffer: &mut ParseBuffer<'_>) -> Result<TypeIndex>
+    ensures { Gives (λ index. (index, left buffer.new)) result (read_shape type_index (left buffer.old)) }
+{
+    Ok(TypeIndex(buffer.parse_u32()?))
+}
+
+/// The index of a type, or none, for which 0 and 0xffff stand.
+pub(crate) fn parse_some_type(buffer: &mut ParseBuffer<'_>) -> Result<Option<TypeIndex>>
+    ensures { Gives (λ index. (index, left buffer.new)) result (read_shape some_type (left buffer.old)) }
+{
+    match buffer.parse_u32()? {
+        0 | 0xffff => Ok(None),
+        number => Ok(Some(TypeIndex(number))),
+    }
+}
+
+/// A text in a record of a leaf.
+pub(crate) fn parse_text<'t>(buffer: &mut ParseBuffer<'t>, leaf: u16) -> Result<RawString<'t>>
+    ensures { Gives (λ name. (name.0.now, left buffer.new)) result (read_shape (text leaf) (left buffer.old)) }
+{
+    if leaf > LF_ST_MAX {
+        buffer.parse_cstring()
+    } else {
+        buffer.parse_u8_pascal_string()
+    }
+}
+
+/// The low 16 bits of a number.
+pub(crate) fn low_16_bits(number: u32) -> u16
+    ensures { result ≡ low_16 number }
+{
+    (number % 0x1_0000) as u16
+}
+
+/// The low 32 bits of a number.
+pub(crate) fn low_32_bits(number: u64) -> u32
+    ensures { result ≡ low_32 number }
+{
+    (number % 0x1_0000_0000) as u32
+}

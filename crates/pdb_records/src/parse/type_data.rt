@@ -1,0 +1,55 @@
+//! Type records.
+
+ghost use Rattle.std.specs.Prelude.{ℕ, List};
+ghost use Rattle.pdb_base.specs.Refusal.{Refusal};
+ghost use Rattle.pdb_base.specs.Answer.{Answers};
+ghost use Rattle.pdb_base.specs.Place.{left};
+ghost use Rattle.pdb_values.specs.TypeValue.{TypeValue};
+ghost use Rattle.pdb_values.specs.TypeView.{type_value};
+ghost use Rattle.pdb_records.specs.Fields.{record_at};
+ghost use Rattle.pdb_records.specs.Grammar.{IsRecord, NoRecord};
+ghost use Rattle.pdb_records.specs.Whole.{SaysRecord, IsOrLacks, RefusedOrLacks};
+
+use crate::parse::fields::parse_field_list;
+use crate::parse::record::parse_behind_leaf;
+use pdb_base::{ParseBuffer, Result};
+use pdb_values::TypeData;
+use std::alloc::Global;
+
+/// The leaf of a list of fields.
+const LF_FIELDLIST: u16 = 0x1203;
+
+/// The record at the front of a buffer.
+#[tactic(auto, unfolding(crate::specs::Fields::record_at, crate::specs::Entries::gathered))]
+fn parse_record<'t>(alloc: Global, buffer: &mut ParseBuffer<'t>) -> Result<TypeData<'t>>
+    ensures { Answers (λ t. (type_value t, left buffer.new)) result (record_at (left buffer.old)) }
+{
+    let number = buffer.parse_u16()?;
+    if number == LF_FIELDLIST {
+        parse_field_list(alloc, buffer)
+    } else {
+        parse_behind_leaf(alloc, buffer, number)
+    }
+}
+
+/// Reads a type record: the bytes of an item of the table of types, from its leaf on. Names and
+/// records within it borrow from the bytes; memory is taken for lists alone.
+///
+/// The layouts are those of Microsoft's cvinfo.h, behind the leaves that it names `LF_CLASS` and so on.
+/// An inner record of a list of fields is read one level deep. Bytes behind the last field of a record
+/// are ignored, but for arrays, lists of methods and lists of fields, which reach to the end.
+///
+/// # Errors
+/// The first fault: `UnexpectedEof` where the bytes end before a field does, `UnexpectedNumericPrefix`
+/// where a number of variable width has an unknown prefix, `UnimplementedTypeKind` by its number for a
+/// leaf that has no record here, for a list of fields within one, and for a pointer whose kind or mode
+/// is unknown, `UnimplementedFeature` for an array's dimension above 0xffffffff; and `OutOfMemory`
+/// where memory for a list is refused.
+pub fn parse_type_data<'t>(alloc: Global, bytes: &'t [u8]) -> Result<TypeData<'t>>
+    ensures answers { SaysRecord bytes.now result }
+    ensures answered { (value : TypeValue) (rest : List ℕ) → IsRecord bytes.now value rest → IsOrLacks value result }
+    ensures refused { (refusal : Refusal) → NoRecord bytes.now refusal → RefusedOrLacks refusal result }
+{
+    let mut buffer = ParseBuffer::from(bytes);
+    parse_record(alloc, &mut buffer)
+}

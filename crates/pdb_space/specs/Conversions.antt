@@ -1,0 +1,101 @@
+-- Addresses and places of an image before and after a tool rearranged it, and how each is made of
+-- another. "Internal" are those of before, of which the parts of a program database speak.
+use Rattle.std.specs.Prelude.{ℕ, if◌then◌else◌, List, [], Option, Some, None, unwrap_or}
+use Rattle.std.specs.declared.ops.Range.{Range}
+use Rattle.std.specs.List.{cons_option}
+use Rattle.std.specs.Option.{is_none}
+use Rattle.pdb_space.specs.declared.section_header.ImageSectionHeader.{ImageSectionHeader}
+use Rattle.pdb_space.specs.SectionPlace.{SectionPlace}
+use Rattle.pdb_space.specs.Omap.{Mapping, shift}
+use Rattle.pdb_space.specs.Ranges.{parts, unless_empty}
+use Rattle.pdb_space.specs.Sections.{section_of, address_of}
+use Rattle.pdb_space.specs.Steps.{◌>>=◌}
+
+-- what is known of an image before and after: its sections, and the tables that lead across
+pub record Arrangement : Type 0 where
+  pub original_sections : List ImageSectionHeader
+  pub transformed_sections : Option (List ImageSectionHeader)
+  pub transformed_to_original : Option (List Mapping)
+  pub original_to_transformed : Option (List Mapping)
+
+-- where a table moves an address; without a table it stays
+abbrev pub translated : Option (List Mapping) → ℕ → Option ℕ
+translated None address = Some address
+translated (Some table) address = shift table address
+
+-- the parts of a range as a table moves them; without a table the range itself, if it isn't empty
+unfoldable pub translated_parts : Option (List Mapping) → Range ℕ → List (Range ℕ)
+translated_parts None range = cons_option (unless_empty range) []
+translated_parts (Some table) range = parts table range
+
+-- the sections of the image as it is loaded: the original ones, where no others are known
+abbrev pub loaded_sections : Arrangement → List ImageSectionHeader
+loaded_sections map = unwrap_or map.transformed_sections map.original_sections
+
+-- ---- what is made of an address in the image as it is loaded
+
+-- the internal address from which it was moved
+unfoldable pub rva_to_internal_rva : Arrangement → ℕ → Option ℕ
+rva_to_internal_rva map address = translated map.transformed_to_original address
+
+-- its place in a section of the image as it is loaded
+unfoldable pub rva_to_section_offset : Arrangement → ℕ → Option SectionPlace
+rva_to_section_offset map address = section_of (loaded_sections map) address
+
+-- the place of the internal address in a section of the original
+unfoldable pub rva_to_internal_offset : Arrangement → ℕ → Option SectionPlace
+rva_to_internal_offset map address = do
+  internal ← rva_to_internal_rva map address
+  section_of map.original_sections internal
+
+-- ---- what is made of an internal address
+
+-- the address to which it was moved
+unfoldable pub internal_rva_to_rva : Arrangement → ℕ → Option ℕ
+internal_rva_to_rva map internal = translated map.original_to_transformed internal
+
+-- the place of that address in a section of the image as it is loaded
+unfoldable pub internal_rva_to_section_offset : Arrangement → ℕ → Option SectionPlace
+internal_rva_to_section_offset map internal = do
+  address ← internal_rva_to_rva map internal
+  section_of (loaded_sections map) address
+
+-- its place in a section of the original
+unfoldable pub internal_rva_to_internal_offset : Arrangement → ℕ → Option SectionPlace
+internal_rva_to_internal_offset map internal = section_of map.original_sections internal
+
+-- ---- what is made of a place in the image as it is loaded
+
+-- its address
+unfoldable pub section_offset_to_rva : Arrangement → SectionPlace → Option ℕ
+section_offset_to_rva map place = address_of (loaded_sections map) place
+
+-- the internal address from which its address was moved
+unfoldable pub section_offset_to_internal_rva : Arrangement → SectionPlace → Option ℕ
+section_offset_to_internal_rva map place = do
+  address ← section_offset_to_rva map place
+  rva_to_internal_rva map address
+
+-- The internal place of that internal address. Without transformed sections it is the same place,
+-- whatever sections there are.
+unfoldable pub section_offset_to_internal_offset : Arrangement → SectionPlace → Option SectionPlace
+section_offset_to_internal_offset map place =
+    if is_none map.transformed_sections then Some place else section_offset_to_internal_rva map place >>= internal_rva_to_internal_offset map
+
+-- ---- what is made of an internal place
+
+-- its internal address
+unfoldable pub internal_offset_to_internal_rva : Arrangement → SectionPlace → Option ℕ
+internal_offset_to_internal_rva map place = address_of map.original_sections place
+
+-- the address to which its internal address was moved
+unfoldable pub internal_offset_to_rva : Arrangement → SectionPlace → Option ℕ
+internal_offset_to_rva map place = do
+  internal ← internal_offset_to_internal_rva map place
+  internal_rva_to_rva map internal
+
+-- The place of that address. Without transformed sections it is the same place, whatever sections there
+-- are.
+unfoldable pub internal_offset_to_section_offset : Arrangement → SectionPlace → Option SectionPlace
+internal_offset_to_section_offset map place =
+    if is_none map.transformed_sections then Some place else internal_offset_to_rva map place >>= rva_to_section_offset map

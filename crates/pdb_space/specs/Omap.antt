@@ -1,0 +1,58 @@
+-- OMAP tables: where addresses go when a tool rearranges an image. A record says where the addresses
+-- from its source on go, as far as the next record's source.
+use Rattle.std.specs.Prelude.{◌≡◌, ℕ, ◌+◌, ◌-◌, ◌*◌, ◌/◌, ◌%◌, ◌≤◌, ◌==◌, nat_le, if◌then◌else◌, List, length, map, filter, drop, codes, Contains, Option, Some, None, option_and_then, Ok}
+use Rattle.std.specs.List.{range_with_len, last_or}
+use Rattle.std.specs.List.Sorted.{IsNonDecreasingBy}
+use Rattle.pdb_base.specs.Endian.{little_number}
+use Rattle.pdb_base.specs.Refusal.{invalid_stream_length}
+use Rattle.pdb_base.specs.Answer.{Answer, ◌>>=◌, required}
+use Rattle.pdb_base.specs.Reading.{front_at}
+use Rattle.pdb_space.specs.Sum.{fitting}
+
+pub record Mapping : Type 0 where
+  pub source : ℕ
+  pub target : ℕ
+
+-- the record that stands at a place: u32 source, u32 target
+unfoldable pub mapping_at : List ℕ → ℕ → Mapping
+mapping_at bytes place = record { source = little_number 4 (drop place bytes); target = little_number 4 (drop (place + 4) bytes) }
+
+-- the record at the front of bytes, and what is behind its eight bytes
+unfoldable pub first_mapping : List ℕ → Answer (Mapping × List ℕ)
+first_mapping bytes = do
+  front ← front_at 8 bytes
+  Ok (mapping_at front.0 0, front.1)
+
+-- the records that bytes hold, eight bytes each
+unfoldable pub mappings_of : List ℕ → List Mapping
+mappings_of bytes = map (λ k. mapping_at bytes (8 * k)) (range_with_len 0 (length bytes / 8))
+
+-- the table that a stream holds, which is records and nothing else
+unfoldable pub table_of : List ℕ → Answer (List Mapping)
+table_of bytes = do
+  whole ← required (length bytes % 8 == 0) (invalid_stream_length (codes "OMAP"))
+  Ok (mappings_of bytes)
+
+-- sources never fall from record to record
+abbrev pub IsSortedBySource : List Mapping → Type 0
+IsSortedBySource table = IsNonDecreasingBy (λ mapping. mapping.source) table
+
+-- the last record whose source is at or below the address
+abbrev pub last_at_or_below : List Mapping → ℕ → Option Mapping
+last_at_or_below table address = last_or None (filter (λ mapping. nat_le mapping.source address) table)
+
+-- Where a record moves an address: as far behind its target as the address is behind its source. A
+-- target of 0 stands for nowhere, and past 32 bits there is no address.
+unfoldable pub moved : Mapping → ℕ → Option ℕ
+moved mapping address = if mapping.target == 0 then None else fitting (mapping.target + (address - mapping.source))
+
+-- where a table moves an address: where the last record at or below it does
+unfoldable pub shift : List Mapping → ℕ → Option ℕ
+shift table address = option_and_then (λ mapping. moved mapping address) (last_at_or_below table address)
+
+-- Some record of the table, at or below the address, moves it there.
+pub record MovesSomehow (table : List Mapping) (address result : ℕ) : Type 0 where
+  pub mapping : Mapping
+  pub contained : Contains table mapping
+  pub at_or_below : mapping.source ≤ address
+  pub moves : moved mapping address ≡ Some result

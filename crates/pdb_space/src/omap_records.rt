@@ -1,0 +1,86 @@
+//! The records of an OMAP table, one after another.
+
+ghost use Rattle.std.specs.Prelude.{◌≡◌, ◌%◌, [], ◌∷◌, length, MatchOption};
+ghost use Rattle.std.specs.Iterator.{YieldsFirst, item_count};
+ghost use Rattle.pdb_space.specs.Omap.{mappings_of};
+ghost use Rattle.pdb_space.specs.Ranges.{next_source};
+
+use crate::omap_record::OMAPRecord;
+use std::iter::FusedIterator;
+use std::marker::Model;
+
+/// How many bytes a record takes.
+const RECORD_SIZE: usize = 8;
+
+/// The records of an OMAP table, in order.
+#[derive(Debug, Drop)]
+pub struct OMAPRecords<'t> {
+    bytes: &'t [u8],
+}
+
+impl<'t> Model for OMAPRecords<'t> {
+    ghost use Rattle.std.specs.Prelude.{◌≡◌, ◌%◌, List, length};
+    ghost use Rattle.pdb_space.specs.Omap.{Mapping, mappings_of};
+
+    ghost Value = { List Mapping };
+
+    ghost view = { λ r. mappings_of r.bytes.now };
+
+    ghost invariant = { λ r. length r.bytes.now % 8 ≡ 0 };
+}
+
+impl<'t> OMAPRecords<'t> {
+    /// The records that these bytes hold, and that hold all of them.
+    pub(crate) fn new(bytes: &'t [u8]) -> Self
+        requires { length bytes.now % 8 ≡ 0 }
+        ensures { result ≡ mappings_of bytes.now }
+    {
+        OMAPRecords { bytes }
+    }
+
+    /// No record.
+    #[tactic(auto, using(crate::proofs::RecordLemmas::mappings_none))]
+    pub(crate) fn empty() -> Self
+        ensures { result ≡ [] }
+    {
+        OMAPRecords { bytes: &[] }
+    }
+
+    /// The first record and those behind it, or nothing where there is none.
+    #[tactic(auto, using(crate::proofs::RecordLemmas::mappings_none, crate::proofs::RecordLemmas::mappings_first))]
+    pub(crate) fn split_first(&self) -> Option<(OMAPRecord, OMAPRecords<'t>)>
+        ensures { MatchOption result (self.now ≡ []) (λ split. self.now ≡ split.0 ∷ split.1) }
+    {
+        if self.bytes.len() < RECORD_SIZE {
+            return None;
+        }
+        let rest = OMAPRecords::new(&self.bytes[RECORD_SIZE..]);
+        Some((OMAPRecord::read(self.bytes), rest))
+    }
+
+    /// The source of the first record, or `end` where there is none.
+    pub(crate) fn next_source(&self, end: u32) -> u32
+        ensures { result ≡ next_source self.now end }
+    {
+        match self.split_first() {
+            Some((record, _)) => record.source_address(),
+            None => end,
+        }
+    }
+}
+
+impl<'t> Iterator for OMAPRecords<'t> {
+    type Item = OMAPRecord;
+
+    ghost next_gives = { YieldsFirst (λ records. records) };
+
+    ghost remaining = { item_count (λ records. records) };
+
+    fn next(&mut self) -> Option<OMAPRecord> {
+        let (record, rest) = self.split_first()?;
+        *self = rest;
+        Some(record)
+    }
+}
+
+impl<'t> FusedIterator for OMAPRecords<'t> {}

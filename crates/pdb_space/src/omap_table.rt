@@ -1,0 +1,113 @@
+//! OMAP tables, by which addresses move where a tool has rearranged an image.
+
+ghost use Rattle.std.specs.Prelude.{◌≡◌, ◌↔◌, ◌≤◌, length, All, Contains, IfSome, IsTrue};
+ghost use Rattle.pdb_base.specs.Answer.{Gives};
+ghost use Rattle.pdb_space.specs.Omap.{IsSortedBySource, MovesSomehow, last_at_or_below, shift, table_of};
+ghost use Rattle.pdb_space.specs.Ranges.{IsNotEmpty, end_to_end, parts, pointwise};
+
+use crate::omap_record::OMAPRecord;
+use crate::omap_records::OMAPRecords;
+use crate::range_iter::RangeIter;
+use pdb_base::{Error, Result};
+use pdb_msf::Stream;
+use std::marker::Model;
+use std::ops::Range;
+
+/// A table of records that say where the addresses of an image are moved.
+///
+/// Tools write tables whose sources don't decrease. Over such a table an address moves as the last
+/// record at or below it says. Over another it may stay without an answer.
+#[derive(Debug, Drop)]
+pub struct OMAPTable {
+    stream: Stream,
+}
+
+impl Model for OMAPTable {
+    ghost use Rattle.std.specs.Prelude.{◌≡◌, ◌%◌, List, length};
+    ghost use Rattle.pdb_space.specs.Omap.{Mapping, mappings_of};
+
+    ghost Value = { List Mapping };
+
+    ghost view = { λ t. mappings_of t.stream };
+
+    ghost invariant = { λ t. length t.stream % 8 ≡ 0 };
+}
+
+impl OMAPTable {
+    /// The table that a stream holds: records of eight bytes, each a u32 source and a u32 target.
+    ///
+    /// # Errors
+    /// `InvalidStreamLength` where the stream's length is no multiple of eight.
+    #[tactic(auto, unfolding(crate::specs::Omap::table_of))]
+    pub fn parse(stream: Stream) -> Result<Self>
+        ensures { Gives (λ table. table) result (table_of stream) }
+    {
+        if stream.as_slice().len() % 8 != 0 {
+            return Err(Error::InvalidStreamLength("OMAP"));
+        }
+        Ok(OMAPTable { stream })
+    }
+
+    /// The records, in order.
+    pub fn records(&self) -> OMAPRecords<'_>
+        ensures { result ≡ self.now }
+    {
+        OMAPRecords::new(self.stream.as_slice())
+    }
+
+    /// Whether no record's source is below that of the one before.
+    pub fn is_sorted(&self) -> bool
+        ensures { IsTrue result ↔ IsSortedBySource self.now }
+    {
+        let mut highest = 0;
+        for record in self.records() {
+            if record.source_address() < highest {
+                return false;
+            }
+            highest = record.source_address();
+        }
+        true
+    }
+
+    /// Where an address is moved: as far behind the target of the last record at or below it as it is
+    /// behind that record's source. Nothing where there is no such record, where its target is 0, or
+    /// where this doesn't fit 32 bits. Over a table that isn't sorted, nothing or where some record at
+    /// or below the address moves it.
+    #[tactic(auto, unfolding(crate::specs::Omap::shift))]
+    pub fn lookup(&self, address: u32) -> Option<u32>
+        ensures exact { IsSortedBySource self.now → result ≡ shift self.now address }
+        ensures somehow { IfSome result (MovesSomehow self.now address) }
+    {
+        self.last_at_or_below(address)?.moved(address)
+    }
+
+    /// The last record at or below an address; over a table that isn't sorted, some such record.
+    fn last_at_or_below(&self, address: u32) -> Option<OMAPRecord>
+        ensures exact { IsSortedBySource self.now → result ≡ last_at_or_below self.now address }
+        ensures somehow { IfSome result (λ mapping. Contains self.now mapping × (mapping.source ≤ address)) }
+    {
+        let mut found = None;
+        for record in self.records() {
+            if address < record.source_address() {
+                return found;
+            }
+            found = Some(record);
+        }
+        found
+    }
+
+    /// Where the addresses of a range are moved: one range for each record that moves some of them, in
+    /// the order of the records, each cut to end at 0xffffffff.
+    ///
+    /// Laid end to end, the ranges are what `lookup` makes of the addresses one by one, but for those
+    /// that it moves to 0xffffffff. Over a table that isn't sorted they are at most one for each record.
+    #[tactic(auto, using(crate::proofs::RangeLemmas::parts_until_sorted, crate::proofs::RangeLemmas::parts_until_laid, crate::proofs::RangeLemmas::parts_until_few, crate::proofs::RangeLemmas::parts_until_not_empty))]
+    pub fn lookup_range(&self, range: Range<u32>) -> RangeIter<'_>
+        ensures parts { IsSortedBySource self.now → result ≡ parts self.now range }
+        ensures laid { IsSortedBySource self.now → end_to_end result ≡ pointwise (shift self.now) range }
+        ensures few { length result ≤ length self.now }
+        ensures not_empty { All IsNotEmpty result }
+    {
+        RangeIter::translated(self.records(), range)
+    }
+}

@@ -1,0 +1,106 @@
+//! Ranges of addresses where a table moves them.
+
+ghost use Rattle.std.specs.Prelude.{◌≡◌, [], None};
+ghost use Rattle.std.specs.Iterator.{YieldsFirst, item_count};
+ghost use Rattle.std.specs.List.{cons_option};
+ghost use Rattle.pdb_space.specs.Ranges.{parts_until, unless_empty};
+
+use crate::omap_records::OMAPRecords;
+use std::iter::FusedIterator;
+use std::marker::Model;
+use std::ops::Range;
+
+/// Ranges of addresses, one after another.
+#[derive(Debug, Drop)]
+pub struct RangeIter<'t> {
+    /// A range that comes as it is, before all others.
+    untouched: Option<Range<u32>>,
+    /// The records by which others are moved.
+    records: OMAPRecords<'t>,
+    /// What they move.
+    asked: Range<u32>,
+}
+
+impl<'t> Model for RangeIter<'t> {
+    ghost use Rattle.std.specs.Prelude.{ℕ, List};
+    ghost use Rattle.std.specs.declared.ops.Range.{Range};
+    ghost use Rattle.std.specs.List.{cons_option};
+    ghost use Rattle.pdb_space.specs.Ranges.{parts_until};
+
+    ghost Value = { List (Range ℕ) };
+
+    ghost view = { λ i. cons_option i.untouched (parts_until i.records i.asked) };
+}
+
+impl<'t> RangeIter<'t> {
+    /// No range at all.
+    pub fn empty() -> Self
+        ensures { result ≡ [] }
+    {
+        RangeIter {
+            untouched: None,
+            records: OMAPRecords::empty(),
+            asked: 0..0,
+        }
+    }
+
+    /// The range as it is, or nothing where it is empty.
+    #[tactic(auto, unfolding(crate::specs::Ranges::unless_empty))]
+    pub fn identity(range: Range<u32>) -> Self
+        ensures { result ≡ cons_option (unless_empty range) [] }
+    {
+        if range.is_empty() {
+            return RangeIter::empty();
+        }
+        RangeIter {
+            untouched: Some(range),
+            ..RangeIter::empty()
+        }
+    }
+
+    /// The parts of a range that records move, as far as the first record at or past its end.
+    pub(crate) fn translated(records: OMAPRecords<'t>, asked: Range<u32>) -> Self
+        ensures { result ≡ parts_until records.entry asked }
+    {
+        RangeIter {
+            untouched: None,
+            records,
+            asked,
+        }
+    }
+}
+
+impl<'t> Default for RangeIter<'t> {
+    ghost is_default = { λ ranges. ranges ≡ [] };
+
+    fn default() -> Self {
+        RangeIter::empty()
+    }
+}
+
+impl<'t> Iterator for RangeIter<'t> {
+    type Item = Range<u32>;
+
+    ghost next_gives = { YieldsFirst (λ ranges. ranges) };
+
+    ghost remaining = { item_count (λ ranges. ranges) };
+
+    fn next(&mut self) -> Option<Range<u32>> {
+        if let Some(range) = self.untouched.take() {
+            return Some(range);
+        }
+        while let Some((record, rest)) = self.records.split_first() {
+            if self.asked.end <= record.source_address() {
+                return None;
+            }
+            let next = rest.next_source(self.asked.end);
+            self.records = rest;
+            if let Some(part) = record.part(next, &self.asked) {
+                return Some(part);
+            }
+        }
+        None
+    }
+}
+
+impl<'t> FusedIterator for RangeIter<'t> {}

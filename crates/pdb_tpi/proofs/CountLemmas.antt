@@ -1,0 +1,70 @@
+-- How many lengths a walk reads.
+use Rattle.std.proofs.Common.{◌≡◌, ℕ, zero, suc, add-one, add-zero, ◌+◌, ◌-◌, ◌^◌, ◌≤◌, ◌<◌, ◌||◌, Bool, true, false, leb, ltb, cond, List, length, min, refl, sym, ap, ◌∙◌, arith, Ok, inl, inr}
+use Rattle.std.proofs.lemmas.Bool.{cases_lt, le-ltb, lt-ltb}
+use Rattle.std.proofs.lemmas.Option.{slice_get_within}
+use Rattle.pdb_base.specs.Count.{one_more}
+use Rattle.pdb_tpi.specs.Table.{Table}
+use Rattle.pdb_tpi.specs.Steps.{Stand, walk, walk_rest, nth_item, place_of, reads_one}
+use Rattle.pdb_tpi.specs.Finder.{after_calls, reads_between}
+use Rattle.pdb_tpi.proofs.StepLemmas.{nth_ok}
+
+-- one call after others
+pub one_call : (calls more : ℕ) → one_more (after_calls more calls) ≡ after_calls (more + 1) calls
+one_call calls more = ap (λ (n : ℕ). after_calls n calls) (sym (add-one more))
+
+-- an item that was read is in the walk
+pub nth_within : (table : Table) (n : ℕ) (item : List ℕ) → nth_item table n ≡ Ok item → n < length (walk table)
+nth_within table n item e = slice_get_within (walk table) n item (nth_ok table n item e)
+
+-- an item's length is read
+pub reads_item : (stand : Stand) (calls : ℕ) → place_of stand < length (walk stand.table) → reads_one stand calls ≡ one_more calls
+reads_item stand calls within = let here : ltb (place_of stand) (length (walk stand.table)) ≡ true = lt-ltb (place_of stand) (length (walk stand.table)) within in rw here refl
+
+-- the lengths up to an item of the walk
+pub reads_found : (table : Table) (from steps : ℕ) → from + steps < length (walk table) → reads_between table from (from + steps) ≡ steps + 1
+unfolding reads_between
+reads_found table from steps within =
+    let here : ltb (from + steps) (length (walk table)) ≡ true = lt-ltb (from + steps) (length (walk table)) within in
+    rw here (omega arith)
+
+-- and those up to where the walk stops
+pub reads_stopped : (table : Table) (from steps done : ℕ) → length (walk table) ≡ from + done → done ≤ steps → reads_between table from (from + steps) ≡ done + cond (leb 2 (length (walk_rest table))) 1 0
+unfolding reads_between
+reads_stopped table from steps done all le =
+    let here : ltb (from + steps) (length (walk table)) ≡ false = le-ltb (from + steps) (length (walk table)) (omega arith) in
+    rw here (let less : length (walk table) - from ≡ done = omega arith in ap (λ (n : ℕ). n + cond (leb 2 (length (walk_rest table))) 1 0) less)
+
+stops_by : (test : Bool) (calls done : ℕ) → cond test (one_more (after_calls done calls)) (after_calls done calls) ≡ after_calls (done + cond test 1 0) calls
+stops_by true calls done = one_call calls done
+stops_by false calls done = ap (λ (n : ℕ). after_calls n calls) (sym (add-zero done))
+
+-- a count grows by no more than the calls
+pub few_calls : (more calls : ℕ) → after_calls more calls ≤ calls + more
+few_calls zero calls = omega arith
+few_calls (suc more) calls = let ih = few_calls more calls in omega arith
+
+-- as many as the calls, up to the largest number of 64 bits
+pub calls_are : (more calls : ℕ) → calls < 2 ^ 64 → after_calls more calls ≡ min (calls + more) (2 ^ 64 - 1)
+calls_are zero calls fits = omega arith
+calls_are (suc more) calls fits = let ih = calls_are more calls fits in rw ih (omega arith)
+
+-- the count after the last read of several: that of the item, or of where the walk stops
+pub last_count : (start now : Stand) (steps done calls : ℕ) → now.table ≡ start.table → place_of now ≡ place_of start + done → place_of now ≤ length (walk now.table) → done ≤ steps
+    → (place_of now < length (walk now.table) → done ≡ steps)
+    → reads_one now (after_calls done calls) ≡ after_calls (reads_between start.table (place_of start) (place_of start + steps)) calls
+last_count start now steps done calls table place reached le last =
+    let same : length (walk now.table) ≡ length (walk start.table) = ap (λ (t : Table). length (walk t)) table in
+    elim (cases_lt (place_of now) (length (walk now.table))) [
+      | inl within ↦
+          let whole : done ≡ steps = last within in
+          reads_item now (after_calls done calls) within
+          ∙ one_call calls done
+          ∙ ap (λ (n : ℕ). after_calls n calls) (ap (λ (n : ℕ). n + 1) whole ∙ sym (reads_found start.table (place_of start) steps (omega (arith, same, whole, place, within))))
+      | inr stops ↦
+          let here : ltb (place_of now) (length (walk now.table)) ≡ false = le-ltb (place_of now) (length (walk now.table)) stops in
+          let rests : length (walk_rest now.table) ≡ length (walk_rest start.table) = ap (λ (t : Table). length (walk_rest t)) table in
+          ap (λ (b : Bool). cond (b || leb 2 (length (walk_rest now.table))) (one_more (after_calls done calls)) (after_calls done calls)) here
+          ∙ ap (λ (n : ℕ). cond (leb 2 n) (one_more (after_calls done calls)) (after_calls done calls)) rests
+          ∙ stops_by (leb 2 (length (walk_rest start.table))) calls done
+          ∙ ap (λ (n : ℕ). after_calls n calls) (sym (reads_stopped start.table (place_of start) steps done (omega (arith, same, place, stops, reached)) le))
+    ]

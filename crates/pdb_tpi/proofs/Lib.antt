@@ -1,0 +1,9 @@
+pub mod FrontLemmas
+pub mod WalkLemmas
+pub mod TableLemmas
+pub mod StepLemmas
+pub mod CountLemmas
+pub mod FinderLemmas
+pub mod HeaderLemmas
+pub mod LawLemmas
+pub mod KnownLemmas

@@ -1,0 +1,142 @@
+-- What a step gives.
+use Rattle.std.proofs.Common.{◌≡◌, ◌≢◌, inl, inr, ℕ, ◌+◌, ◌-◌, ◌^◌, ◌≤◌, ◌<◌, List, [], ◌∷◌, length, drop, refl, sym, ap, ◌∙◌, arith, Option, eqb, true, false, Ok, Err, Some, None}
+use Rattle.std.specs.List.{slice_get}
+use Rattle.std.proofs.lemmas.Bool.{cases_lt, false≢true}
+use Rattle.std.proofs.lemmas.Bool.Decides.{nat_tests}
+use Rattle.std.proofs.lemmas.Option.{slice_get_cases, slice_get_past}
+use Rattle.pdb_base.specs.declared.error.Error.{Error}
+use Rattle.pdb_base.specs.Refusal.{Refusal, refusal_of, unexpected_eof}
+use Rattle.pdb_base.specs.Answer.{Answer}
+use Rattle.pdb_base.proofs.Collected.{err, ok_is, err_is, ok_is_no_err}
+use Rattle.pdb_tpi.specs.Table.{Table}
+use Rattle.pdb_tpi.specs.Walk.{first_item, fault_of}
+use Rattle.pdb_tpi.specs.Steps.{Stand, walk, walk_rest, nth_item, place_of, stopped, step_of, IsStep}
+use Rattle.pdb_tpi.specs.Place.{IsPlace}
+use Rattle.pdb_tpi.proofs.FrontLemmas.{empty_front}
+use Rattle.pdb_tpi.proofs.WalkLemmas.{IsBehind, place_end, place_full, place_next, nth_some, nth_none}
+
+-- ---- where an item is, and where none is
+
+-- an item of the walk is at its place
+pub nth_ok : (table : Table) (n : ℕ) (item : List ℕ) → nth_item table n ≡ Ok item → slice_get (walk table) n ≡ Some item
+nth_ok table n item e = elim ((slice_get_cases (walk table) n).1) [
+  | inl here ↦
+      let same : here.0 ≡ item = ok_is here.0 item (sym (nth_some table n here.0 here.2) ∙ e) in
+      here.2 ∙ ap (λ (i : List ℕ). Some i) same
+  | inr past ↦ absurd (ok_is_no_err item (fault_of (walk_rest table)) (sym e ∙ nth_none table n past.1))
+]
+
+-- behind the walk is a fault
+pub nth_err : (table : Table) (n : ℕ) (fault : Refusal) → nth_item table n ≡ Err fault → (length (walk table) ≤ n) × (fault_of (walk_rest table) ≡ fault)
+nth_err table n fault e = elim ((slice_get_cases (walk table) n).1) [
+  | inl here ↦ absurd (ok_is_no_err here.0 fault (sym (nth_some table n here.0 here.2) ∙ e))
+  | inr past ↦ (past.0, err_is {A = List ℕ} (fault_of (walk_rest table)) fault (sym (nth_none table n past.1) ∙ e))
+]
+
+-- and the same one further on
+pub nth_further : (table : Table) (n m : ℕ) (fault : Refusal) → nth_item table n ≡ Err fault → n ≤ m → nth_item table m ≡ Err fault
+nth_further table n m fault e le =
+    let is = nth_err table n fault e in
+    let past : length (walk table) ≤ m = let h = is.0 in omega arith in
+    nth_none table m (slice_get_past (walk table) m past) ∙ ap (λ (f : Refusal). err f) is.1
+
+place_behind_by : (table : Table) (index position : ℕ) (answer : Answer (List ℕ)) → first_item (drop position table.bytes) ≡ answer → IsPlace table index position → length (walk table) ≤ index - table.header.minimum_index → index < 2 ^ 32 → IsBehind table index position
+place_behind_by table index position (Ok item) e place past last = let within = (place_next table index position item place e last).within in absurd (omega arith)
+place_behind_by table index position (Err fault) e place past last = place_end table index position fault place e
+
+-- an iterator behind the last item
+pub place_behind : (table : Table) (index position : ℕ) → IsPlace table index position → length (walk table) ≤ index - table.header.minimum_index → IsBehind table index position
+place_behind table index position place past = elim (cases_lt index (2 ^ 32)) [
+  | inl last ↦ place_behind_by table index position (first_item (drop position table.bytes)) refl place past last
+  | inr full ↦ place_full table index position place full
+]
+
+-- ---- steps
+
+step_stops : (stand : Stand) → slice_get (walk stand.table) (place_of stand) ≡ None → step_of stand ≡ stopped stand (walk_rest stand.table)
+unfolding step_of
+step_stops stand e = rw e refl
+
+stopped_fault : (stand : Stand) (rest : List ℕ) → rest ≢ [] → stopped stand rest ≡ Err (fault_of rest)
+stopped_fault stand [] some = absurd (some refl)
+stopped_fault stand (byte ∷ rest) some = refl
+
+pub step_ends : (table : Table) (index position : ℕ) → IsPlace table index position → drop position table.bytes ≡ [] → step_of (record { table = table; index = index }) ≡ Ok (None, record { table = table; index = index })
+step_ends table index position place none =
+    let stand : Stand = record { table = table; index = index } in
+    let end = place_end table index position unexpected_eof place (ap first_item none ∙ empty_front) in
+    step_stops stand end.none ∙ ap (stopped stand) (end.rest ∙ none)
+
+pub step_faults : (table : Table) (index position : ℕ) (fault : Refusal) → IsPlace table index position → drop position table.bytes ≢ []
+    → nth_item table (index - table.header.minimum_index) ≡ Err fault → step_of (record { table = table; index = index }) ≡ Err fault
+step_faults table index position fault place some e =
+    let stand : Stand = record { table = table; index = index } in
+    let is = nth_err table (index - table.header.minimum_index) fault e in
+    let end = place_behind table index position place is.0 in
+    step_stops stand end.none ∙ ap (stopped stand) end.rest ∙ stopped_fault stand (drop position table.bytes) some
+    ∙ ap (λ (f : Refusal). err f) (ap fault_of (sym end.rest) ∙ is.1)
+
+pub step_gives : (stand : Stand) (item : List ℕ) → nth_item stand.table (place_of stand) ≡ Ok item → step_of stand ≡ Ok (Some (stand.index, item), record stand { index = stand.index + 1 })
+unfolding step_of
+step_gives stand item e = let is = nth_ok stand.table (place_of stand) item e in rw is refl
+
+some_is_none : (x : ℕ × List ℕ) → Some x ≡ None → ⊥
+some_is_none x e = cc
+
+-- what a step behind the last item tells
+no_item : (stand : Stand) (rest : List ℕ) (item : ℕ × List ℕ) (new : Stand) → stopped stand rest ≡ Ok (Some item, new) → ⊥
+no_item stand [] item new e =
+    let ended : Option (ℕ × List ℕ) × Stand = (None, stand) in
+    let given : Option (ℕ × List ℕ) × Stand = (Some item, new) in
+    some_is_none item (sym (ap (λ (p : Option (ℕ × List ℕ) × Stand). p.0) (ok_is ended given e)))
+no_item stand (byte ∷ rest) item new e = ok_is_no_err (Some item, new) (fault_of (byte ∷ rest)) (sym e)
+
+at_end : (stand : Stand) (rest : List ℕ) (new : Stand) → stopped stand rest ≡ Ok (None, new) → rest ≡ []
+at_end stand [] new e = refl
+at_end stand (byte ∷ rest) new e = let none : Option (ℕ × List ℕ) = None in absurd (ok_is_no_err (none, new) (fault_of (byte ∷ rest)) (sym e))
+
+at_fault : (stand : Stand) (rest : List ℕ) (fault : Refusal) → stopped stand rest ≡ Err fault → fault_of rest ≡ fault
+at_fault stand [] fault e = let none : Option (ℕ × List ℕ) = None in absurd (ok_is_no_err (none, stand) fault e)
+at_fault stand (byte ∷ rest) fault e = err_is {A = Option (ℕ × List ℕ) × Stand} (fault_of (byte ∷ rest)) fault e
+
+-- no byte is left
+pub none_left : (bytes : List ℕ) → eqb (length bytes) 0 ≡ true → bytes ≡ []
+none_left [] e = refl
+none_left (byte ∷ bytes) e = let none : length (byte ∷ bytes) ≡ 0 = grind (arith, nat_tests) in absurd (omega (arith, none))
+
+pub some_left : (bytes : List ℕ) → eqb (length bytes) 0 ≡ false → bytes ≢ []
+some_left [] e none = absurd (false≢true (sym e))
+some_left (byte ∷ bytes) e none = cc
+
+-- ---- what callers learn of a step
+
+-- an item that was given is in the walk, and the iterator goes on behind it
+pub step_some : {X : Type 0} (seen : X → ℕ × List ℕ) (old : Stand) (x : X) (new : Stand) → IsStep seen old (Ok (Some x)) new → place_of old < length (walk old.table) × (new ≡ record old { index = old.index + 1 })
+step_some seen old x new step = elim ((slice_get_cases (walk old.table) (place_of old)).1) [
+  | inl here ↦
+      let moved : Stand = record old { index = old.index + 1 } in
+      let is : (Some (old.index, here.0), moved) ≡ (Some (seen x), new) = ok_is (Some (old.index, here.0), moved) (Some (seen x), new) (sym (step_gives old here.0 (nth_some old.table (place_of old) here.0 here.2)) ∙ step.gives) in
+      (here.1, sym (ap (λ (p : Option (ℕ × List ℕ) × Stand). p.1) is))
+  | inr past ↦ absurd (no_item old (walk_rest old.table) (seen x) new (sym (step_stops old past.1) ∙ step.gives))
+]
+
+-- at the end every item of the walk was given, and no byte is left
+pub step_none : {X : Type 0} (seen : X → ℕ × List ℕ) (old new : Stand) → IsStep seen old (Ok None) new → (length (walk old.table) ≤ place_of old) × (walk_rest old.table ≡ [])
+step_none seen old new step = elim ((slice_get_cases (walk old.table) (place_of old)).1) [
+  | inl here ↦
+      let moved : Stand = record old { index = old.index + 1 } in
+      let given : Option (ℕ × List ℕ) × Stand = (Some (old.index, here.0), moved) in
+      let ended : Option (ℕ × List ℕ) × Stand = (None, new) in
+      let is : given ≡ ended = ok_is given ended (sym (step_gives old here.0 (nth_some old.table (place_of old) here.0 here.2)) ∙ step.gives) in
+      absurd (some_is_none (old.index, here.0) (ap (λ (p : Option (ℕ × List ℕ) × Stand). p.0) is))
+  | inr past ↦ (past.0, at_end old (walk_rest old.table) new (sym (step_stops old past.1) ∙ step.gives))
+]
+
+-- a fault comes behind every item of the walk, and is that of its rest
+pub step_err : {X : Type 0} (seen : X → ℕ × List ℕ) (old new : Stand) (e : Error) → IsStep seen old (Err e) new → (length (walk old.table) ≤ place_of old) × (fault_of (walk_rest old.table) ≡ refusal_of e)
+step_err seen old new e step = elim ((slice_get_cases (walk old.table) (place_of old)).1) [
+  | inl here ↦
+      let moved : Stand = record old { index = old.index + 1 } in
+      absurd (ok_is_no_err (Some (old.index, here.0), moved) (refusal_of e) (sym (step_gives old here.0 (nth_some old.table (place_of old) here.0 here.2)) ∙ step.gives))
+  | inr past ↦ (past.0, at_fault old (walk_rest old.table) (refusal_of e) (sym (step_stops old past.1) ∙ step.gives))
+]

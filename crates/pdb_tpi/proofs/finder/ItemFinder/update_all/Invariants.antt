@@ -1,0 +1,8 @@
+use Rattle.std.proofs.Common.{◌≡◌, map, take}
+use Rattle.pdb_tpi.specs.Steps.{Stand}
+use Rattle.pdb_tpi.specs.Finder.{known_of}
+use Rattle.pdb_tpi.proofs.finder.ItemFinder.update_all.Given as goal
+
+abbrev pub invariant-loop-iterator : goal.invariant-loop-iterator
+invariant-loop-iterator g l =
+    l.self ≡ record l.fn.self { known = known_of l.fn.self.table l.fn.self.known (map (λ (s : Stand). s.index) (take l.iterator-index l.iterators)) }

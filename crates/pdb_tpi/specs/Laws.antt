@@ -1,0 +1,62 @@
+-- What the definitions of headers, of the walk and of finders say in other words.
+use Rattle.std.specs.Prelude.{◌≡◌, ℕ, ◌+◌, ◌-◌, ◌%◌, ◌<◌, ◌≤◌, List, ◌++◌, length, take, drop, IsTrue, Ok}
+use Rattle.std.specs.Int.{w32, cast_signed}
+use Rattle.std.specs.List.{AllByRecursion}
+use Rattle.pdb_base.specs.Endian.{little_number}
+use Rattle.pdb_base.specs.Refusal.{unexpected_eof, type_too_short, type_not_found}
+use Rattle.pdb_tpi.specs.Header.{fields_of}
+use Rattle.pdb_tpi.specs.Table.{Table}
+use Rattle.pdb_tpi.specs.Walk.{framed, IsItem, IsWalk, items, rest, fault_of}
+use Rattle.pdb_tpi.specs.Steps.{walk}
+use Rattle.pdb_tpi.specs.Finder.{is_counted, block_of, reads_of}
+
+-- bytes are numbers below 256
+abbrev pub AreBytes : List ℕ → Type 0
+AreBytes bytes = AllByRecursion (λ byte. byte < 256) bytes
+
+-- the number of so many bytes at an offset, the lowest first
+abbrev pub number_in : ℕ → ℕ → List ℕ → ℕ
+number_in width offset bytes = little_number width (take width (drop offset bytes))
+
+-- The fields of a header stand at fixed offsets, and 56 bytes hold them.
+abbrev pub StandAtOffsets : List ℕ → Type 0
+StandAtOffsets bytes =
+    56 ≤ length bytes
+    → fields_of bytes
+    ≡ Ok (
+      record {
+        version = number_in 4 0 bytes;
+        header_size = number_in 4 4 bytes;
+        minimum_index = number_in 4 8 bytes;
+        maximum_index = number_in 4 12 bytes;
+        gprec_size = number_in 4 16 bytes;
+        tpi_hash_stream = number_in 2 20 bytes;
+        tpi_hash_pad_stream = number_in 2 22 bytes;
+        hash_key_size = number_in 4 24 bytes;
+        hash_bucket_size = number_in 4 28 bytes;
+        hash_values = record { offset = cast_signed w32 (number_in 4 32 bytes); size = number_in 4 36 bytes };
+        ti_off = record { offset = cast_signed w32 (number_in 4 40 bytes); size = number_in 4 44 bytes };
+        hash_adj = record { offset = cast_signed w32 (number_in 4 48 bytes); size = number_in 4 52 bytes };
+      },
+      drop 56 bytes,
+    )
+
+-- Of any bytes there is exactly one walk.
+pub record WalksOnce (limit : ℕ) (bytes : List ℕ) : Type 0 where
+  pub is : IsWalk limit bytes (items limit bytes) (rest limit bytes)
+  pub only : (found : List (List ℕ)) (left : List ℕ) → IsWalk limit bytes found left → (found ≡ items limit bytes) × (left ≡ rest limit bytes)
+
+-- The fault of the bytes at which a walk stops: where they end within a length or within the item
+-- behind it, where the length leaves no room for a kind, and else, before a whole item, that its index
+-- would be too large.
+pub record HasFault (bytes : List ℕ) : Type 0 where
+  pub no_length : length bytes < 2 → fault_of bytes ≡ unexpected_eof
+  pub too_short : 2 ≤ length bytes → little_number 2 (take 2 bytes) < 2 → fault_of bytes ≡ type_too_short
+  pub cut : 2 ≤ little_number 2 (take 2 bytes) → length bytes < 2 + little_number 2 (take 2 bytes) → fault_of bytes ≡ unexpected_eof
+  pub whole : (item more : List ℕ) → IsItem item → bytes ≡ framed item ++ more → fault_of bytes ≡ type_not_found 0xffffffff
+
+-- A look-up reads at most eight lengths, and of an item that the walk has just those of the items
+-- before it in its block and its own.
+pub record ReadsFew (table : Table) (known i : ℕ) : Type 0 where
+  pub few : reads_of table known i ≤ 8
+  pub found : IsTrue (is_counted table i) → block_of table i < known → i - table.header.minimum_index < length (walk table) → reads_of table known i ≡ (i - table.header.minimum_index) % 8 + 1

@@ -1,0 +1,60 @@
+-- The walk over a table, and an iterator's steps along it.
+use Rattle.std.specs.Prelude.{◌≡◌, ℕ, ◌+◌, ◌-◌, ◌^◌, ◌||◌, nat_lt, nat_le, if◌then◌else◌, List, [], ◌∷◌, length, drop, slice_get, Option, Some, None, Result, Ok, Err, OnErr}
+use Rattle.std.specs.Option.{option_map, option_map_or}
+use Rattle.pdb_base.specs.declared.error.Error.{Error}
+use Rattle.pdb_base.specs.Answer.{Answer, Gives}
+use Rattle.pdb_base.specs.Count.{one_more}
+use Rattle.pdb_tpi.specs.Table.{Table}
+use Rattle.pdb_tpi.specs.Walk.{items, rest, fault_of}
+
+-- how many indexes there are from a table's minimum to the last, 0xffffffff
+abbrev pub room : Table → ℕ
+room table = 2 ^ 32 - table.header.minimum_index
+
+-- the bytes behind the header
+abbrev pub body : Table → List ℕ
+body table = drop table.header.header_size table.bytes
+
+-- the items of a table, whatever maximum its header says; the first has the minimum as its index
+unfoldable pub walk : Table → List (List ℕ)
+walk table = items (room table) (body table)
+
+-- what is left behind them
+unfoldable pub walk_rest : Table → List ℕ
+walk_rest table = rest (room table) (body table)
+
+-- an item of a table by its place in the walk, or the fault at which the walk stops before it; where
+-- the walk ends before it, that is `UnexpectedEof`
+unfoldable pub nth_item : Table → ℕ → Answer (List ℕ)
+nth_item table n = option_map_or (λ item. Ok item) (slice_get (walk table) n) (Err (fault_of (walk_rest table)))
+
+-- where an iterator stands: before the item of an index
+pub record Stand : Type 0 where
+  pub table : Table
+  pub index : ℕ
+
+-- the place in the walk of the item before which an iterator stands
+abbrev pub place_of : Stand → ℕ
+place_of stand = stand.index - stand.table.header.minimum_index
+
+-- what a step gives behind the last item: nothing where no byte is left, else the fault
+abbrev pub stopped : Stand → List ℕ → Answer (Option (ℕ × List ℕ) × Stand)
+stopped stand [] = Ok (None, stand)
+stopped stand (byte ∷ rest) = Err (fault_of (byte ∷ rest))
+
+-- what a step gives: the next item with its index, and where the iterator stands then
+unfoldable pub step_of : Stand → Answer (Option (ℕ × List ℕ) × Stand)
+step_of stand =
+    option_map_or (λ item. Ok (Some (stand.index, item), record stand { index = stand.index + 1 })) (slice_get (walk stand.table) (place_of stand)) (stopped stand (walk_rest stand.table))
+
+-- A step gives what it is to give, each item as `seen` shows its index and bytes, and stays in its
+-- table. A refused one moves nothing, so that the same refusal comes again.
+pub record IsStep {X : Type 0} (seen : X → ℕ × List ℕ) (old : Stand) (result : Result (Option X) Error) (new : Stand) : Type 0 where
+  pub gives : Gives (λ item. (option_map seen item, new)) result (step_of old)
+  pub kept : OnErr result (new ≡ old)
+  pub stays : new.table ≡ old.table
+
+-- a count after the next step has read its length: one more where two bytes are left for it
+abbrev pub reads_one : Stand → ℕ → ℕ
+reads_one stand calls =
+    if nat_lt (place_of stand) (length (walk stand.table)) || nat_le 2 (length (walk_rest stand.table)) then one_more calls else calls

@@ -1,0 +1,154 @@
+//! Finds items of a table by their indexes.
+
+ghost use Rattle.std.specs.Prelude.{◌≡◌, ◌+◌, ◌≤◌, All, map, IfOk, Ok};
+ghost use Rattle.pdb_base.specs.Answer.{Answers, Gives};
+ghost use Rattle.pdb_base.specs.Count.{calls_of};
+ghost use Rattle.pdb_tpi.specs.Steps.{Stand};
+ghost use Rattle.pdb_tpi.specs.Finder.{Indexed, known_first, known_after, known_of, max_index_of, most_blocks, find_of, reads_of, after_calls};
+
+use crate::item::Item;
+use crate::item_information::ItemInformation;
+use crate::item_iter::ItemIter;
+use pdb_base::{Count, Error, ItemIndex, Result};
+use std::alloc::Global;
+use std::marker::Model;
+
+/// How many items a block has.
+const BLOCK_LEN: u32 = 8;
+
+/// The bytes of a primitive type, which has no record.
+const PRIMITIVE: &[u8] = b"\xff\xff";
+
+/// Finds items of a table by their indexes, without a walk from the first one.
+///
+/// It knows where some blocks of eight items begin, from the front on, and learns more of them from
+/// iterators that it is shown.
+#[derive(Debug, Drop)]
+pub struct ItemFinder<'t, I> {
+    table: &'t ItemInformation<I>,
+    positions: Vec<u32>,
+}
+
+impl<'t, I> Model for ItemFinder<'t, I> {
+    ghost use Rattle.std.specs.Prelude.{length, vec_capacity};
+    ghost use Rattle.pdb_tpi.specs.Finder.{Indexed};
+    ghost use Rattle.pdb_tpi.specs.Place.{ArePlaces};
+
+    ghost Value = { Indexed };
+
+    ghost view = { λ f. record { table = f.table.now; known = length f.positions.items } };
+
+    ghost invariant = { λ f. ArePlaces f.table.now f.positions.items (vec_capacity f.positions) };
+}
+
+impl<I: ItemIndex> ItemInformation<I> {
+    /// A finder of this table. It knows the first block, if the header counts any index.
+    ///
+    /// It asks for memory once: a place for each block that the header counts, and no more than the
+    /// table's bytes can hold.
+    ///
+    /// # Errors
+    /// `OutOfMemory` where memory is refused.
+    pub fn finder(&self, alloc: Global) -> Result<ItemFinder<'_, I>>
+        ensures finder { Answers (λ finder. finder) result (Ok (record { table = self.now; known = known_first self.now })) }
+        ensures few { IfOk result (λ finder. finder.known ≤ most_blocks self.now) }
+    {
+        let header = self.header();
+        let mut positions = Vec::with_capacity(alloc, self.most_blocks())?;
+        if !self.is_empty() {
+            positions.push_reserved(header.header_size);
+        }
+        Ok(ItemFinder {
+            table: self,
+            positions,
+        })
+    }
+}
+
+impl<'t, I: ItemIndex> ItemFinder<'t, I> {
+    /// The last index of the blocks that are known, or 0 where none is.
+    pub fn max_index(&self) -> I
+        ensures index { I.number result ≡ max_index_of self.now.table self.now.known }
+        ensures few { self.now.known ≤ most_blocks self.now.table }
+    {
+        let known = self.positions.len() as u64;
+        if known == 0 {
+            return I::from(0);
+        }
+        let header = self.table.header();
+        let end = header.minimum_index as u64 + known * BLOCK_LEN as u64;
+        I::from((end.min(header.maximum_index as u64) - 1) as u32)
+    }
+
+    /// Learns where the next block begins, if the iterator stands before its first item and that is
+    /// below the maximum. The iterator is one over the finder's table, with equal bytes and header.
+    pub fn update(&mut self, iterator: &ItemIter<'_, I>)
+        requires { iterator.now.table ≡ self.old.table }
+        ensures { self.new ≡ record self.old { known = known_after self.old.table self.old.known iterator.now.index } }
+    {
+        let table = self.table;
+        let header = table.header();
+        let first = header.minimum_index as u64 + self.positions.len() as u64 * BLOCK_LEN as u64;
+        let (index, position) = iterator.place();
+        if index == first && index < header.maximum_index as u64 {
+            self.positions.push_reserved(position as u32);
+        }
+    }
+
+    /// Learns from each iterator in turn.
+    pub fn update_all(&mut self, iterators: &[ItemIter<'_, I>])
+        requires { All (λ iterator. iterator.table ≡ self.old.table) iterators.now }
+        ensures { self.new ≡ record self.old { known = known_of self.old.table self.old.known (map (λ iterator. iterator.index) iterators.now) } }
+    {
+        for iterator in iterators {
+            self.update(iterator);
+        }
+    }
+
+    /// The item of an index, and counts the lengths that are read, eight at most.
+    ///
+    /// An index below the table's minimum is that of a primitive type, and its item has the bytes ff
+    /// ff.
+    ///
+    /// # Errors
+    /// `TypeNotFound` from the maximum on; `TypeNotIndexed` where the index is in no block that is
+    /// known; where the walk stops before the item, the refusal at which it stops; `UnexpectedEof`
+    /// where it ends before the item.
+    pub fn find_counted(&self, index: I, count: &mut Count) -> Result<Item<'t, I>>
+        ensures item { Gives (λ item. item.bytes.now) result (find_of self.now.table self.now.known (I.number index)) }
+        ensures index { IfOk result (λ item. item.index ≡ index) }
+        ensures counted { calls_of count.new ≡ after_calls (reads_of self.now.table self.now.known (I.number index)) (calls_of count.old) }
+        ensures few { calls_of count.new ≤ calls_of count.old + 8 }
+    {
+        let table = self.table;
+        let header = table.header();
+        let number: u32 = index.into();
+        if number < header.minimum_index {
+            return Ok(Item {
+                index,
+                bytes: PRIMITIVE,
+            });
+        }
+        if number >= header.maximum_index {
+            return Err(Error::TypeNotFound(number));
+        }
+        let place = number - header.minimum_index;
+        let block = place / BLOCK_LEN;
+        let Some(position) = self.positions.get(block as usize) else {
+            return Err(Error::TypeNotIndexed(number, self.max_index().into()));
+        };
+        let first = header.minimum_index + block * BLOCK_LEN;
+        ItemIter::at(table, first as u64, *position as usize).nth(place % BLOCK_LEN, count)
+    }
+
+    /// The item of an index.
+    ///
+    /// # Errors
+    /// As `find_counted`.
+    pub fn find(&self, index: I) -> Result<Item<'t, I>>
+        ensures item { Gives (λ item. item.bytes.now) result (find_of self.now.table self.now.known (I.number index)) }
+        ensures index { IfOk result (λ item. item.index ≡ index) }
+    {
+        self.find_counted(index, &mut Count::new())
+    }
+}

@@ -1,0 +1,62 @@
+//! One item of a table.
+
+ghost use Rattle.std.specs.Prelude.{◌≡◌, ◌≤◌, ◌↔◌, [], length, IsTrue, ⊤};
+ghost use Rattle.pdb_base.specs.Endian.{little_number};
+
+use byteorder::{ByteOrder, LittleEndian};
+use std::alloc::AllocError;
+
+/// An item of a table: its index, and the bytes of its record, which borrow from the table. They are
+/// two at least.
+#[derive(Debug, PartialEq)]
+pub struct Item<'t, I> {
+    pub(crate) index: I,
+    pub(crate) bytes: &'t [u8],
+    ghost least: { 2 ≤ length bytes.now },
+}
+
+/// The same item. It takes no memory.
+impl<'t, I: Copy> Clone for Item<'t, I> {
+    ghost is_clone = { λ item other. other ≡ item };
+
+    ghost is_infallible = { λ _. ⊤ };
+
+    fn clone(&self) -> Result<Self, AllocError> {
+        Ok(Item {
+            index: self.index,
+            bytes: self.bytes,
+        })
+    }
+}
+
+impl<'t, I: Copy> Copy for Item<'t, I> {}
+
+impl<'t, I: Copy> Item<'t, I> {
+    /// The index.
+    pub fn index(&self) -> I
+        ensures { result ≡ self.now.index }
+    {
+        self.index
+    }
+
+    /// How many bytes the record has, without the length that stands before it.
+    pub fn len(&self) -> usize
+        ensures { result ≡ length self.now.bytes.now }
+    {
+        self.bytes.len()
+    }
+
+    /// Whether the record has no byte, which is so of none.
+    pub fn is_empty(&self) -> bool
+        ensures { IsTrue result ↔ (self.now.bytes.now ≡ []) }
+    {
+        self.bytes.is_empty()
+    }
+
+    /// The kind of the record: its first two bytes, the lowest first.
+    pub fn raw_kind(&self) -> u16
+        ensures { result ≡ little_number 2 self.now.bytes.now }
+    {
+        LittleEndian::read_u16(self.bytes)
+    }
+}

@@ -1,0 +1,107 @@
+//! A table of items.
+
+ghost use Rattle.std.specs.Prelude.{◌≡◌, ◌≤◌, ◌↔◌, length, drop, IsTrue};
+ghost use Rattle.pdb_base.specs.Answer.{Gives};
+ghost use Rattle.pdb_tpi.specs.Table.{table_of, count_of, IsTable};
+ghost use Rattle.pdb_tpi.specs.Finder.{most_blocks};
+
+use crate::header::{Header, read_header};
+use crate::item_iter::ItemIter;
+use pdb_base::{ItemIndex, Result};
+use pdb_msf::Stream;
+use std::marker::{Model, PhantomData};
+
+/// A table of items, as of types or of ids: a stream that begins with a header, and the items behind
+/// it.
+///
+/// It holds the stream's bytes as they are, and its items borrow from them.
+#[derive(Debug, Drop)]
+pub struct ItemInformation<I> {
+    stream: Stream,
+    header: Header,
+    indexes: PhantomData<I>,
+}
+
+impl<I> Model for ItemInformation<I> {
+    ghost use Rattle.pdb_tpi.specs.Table.{Table, IsTable};
+
+    ghost Value = { Table };
+
+    ghost view = { λ t. record { bytes = t.stream; header = t.header } };
+
+    ghost invariant = { λ t. IsTable (record { bytes = t.stream; header = t.header }) };
+}
+
+impl<I: ItemIndex> ItemInformation<I> {
+    /// The table that a stream is. A stream without bytes is a table without items, all fields of
+    /// whose header are 0.
+    ///
+    /// # Errors
+    /// `UnexpectedEof` where the stream ends within the header; `InvalidTypeInformationHeader` where
+    /// the header's size is not from 56 to 1024 bytes, where the least index is below 4096, or where
+    /// the maximum is below it.
+    #[tactic(auto, unfolding(crate::specs::Table::table_of))]
+    pub fn parse(stream: Stream) -> Result<Self>
+        ensures { Gives (λ table. table) result (table_of stream) }
+    {
+        let header = read_header(stream.as_slice())?;
+        Ok(ItemInformation {
+            stream,
+            header,
+            indexes: PhantomData,
+        })
+    }
+
+    /// The header, which lies within the table's bytes.
+    pub fn header(&self) -> Header
+        ensures header { result ≡ self.now.header }
+        ensures sound { IsTable self.now }
+    {
+        self.header
+    }
+
+    /// How many indexes the header counts, from its minimum to below its maximum. The walk may give
+    /// fewer items, or more.
+    pub fn len(&self) -> usize
+        ensures { result ≡ count_of self.now }
+    {
+        (self.header.maximum_index - self.header.minimum_index) as usize
+    }
+
+    /// Whether the header counts no index.
+    pub fn is_empty(&self) -> bool
+        ensures { IsTrue result ↔ (count_of self.now ≡ 0) }
+    {
+        self.len() == 0
+    }
+
+    /// An iterator before the first item.
+    pub fn iter(&self) -> ItemIter<'_, I>
+        ensures { result ≡ record { table = self.now; index = self.now.header.minimum_index } }
+    {
+        let header = self.header();
+        ItemIter::at(
+            self,
+            header.minimum_index as u64,
+            header.header_size as usize,
+        )
+    }
+
+    /// How many blocks of eight items a finder can know: as many as hold the counted indexes, and no
+    /// more than the bytes can.
+    #[tactic(auto, unfolding(crate::specs::Finder::most_blocks))]
+    pub(crate) fn most_blocks(&self) -> usize
+        ensures { result ≡ most_blocks self.now }
+    {
+        let bytes = self.stream.as_slice().len() - self.header.header_size as usize;
+        self.len().div_ceil(8).min(1 + bytes / 32)
+    }
+
+    /// The bytes from a position on.
+    pub(crate) fn bytes_from(&self, position: usize) -> &[u8]
+        requires { position ≤ length self.now.bytes }
+        ensures { result.now ≡ drop position self.now.bytes }
+    {
+        &self.stream.as_slice()[position..]
+    }
+}

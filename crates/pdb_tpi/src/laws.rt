@@ -1,0 +1,44 @@
+//! What the definitions that contracts cite say in other words. The functions do nothing: each
+//! contract is a law.
+
+ghost use Rattle.std.specs.Prelude.{◌≡◌, ℕ, ◌+◌, ◌-◌, ◌*◌, ◌^◌, ◌<◌, ◌≤◌, min, List, length};
+ghost use Rattle.pdb_tpi.specs.Table.{Table};
+ghost use Rattle.pdb_tpi.specs.Walk.{IsWalk, items, rest};
+ghost use Rattle.pdb_tpi.specs.Steps.{room, body, walk, walk_rest};
+ghost use Rattle.pdb_tpi.specs.Finder.{IsKnown, known_of, after_calls};
+ghost use Rattle.pdb_tpi.specs.Laws.{AreBytes, StandAtOffsets, WalksOnce, HasFault, ReadsFew};
+
+/// The fields of a header stand at fixed offsets.
+pub fn header()
+    ensures { (bytes : List ℕ) → StandAtOffsets bytes }
+{}
+
+/// A table's walk is one. Of any bytes there is exactly one, and it has at most one item per four
+/// bytes.
+#[tactic(auto, using(crate::proofs::LawLemmas::item_per_four_bytes))]
+pub fn walk()
+    ensures tables { (table : Table) → AreBytes table.bytes → IsWalk (room table) (body table) (walk table) (walk_rest table) }
+    ensures once { (limit : ℕ) (bytes : List ℕ) → AreBytes bytes → WalksOnce limit bytes }
+    ensures few { (limit : ℕ) (bytes : List ℕ) → 4 * length (items limit bytes) + length (rest limit bytes) ≤ length bytes }
+{}
+
+/// Where a walk stops before bytes that are left, their fault is the first that they have.
+#[tactic(auto, using(crate::proofs::LawLemmas::has_fault))]
+pub fn faults()
+    ensures { (bytes : List ℕ) → HasFault bytes }
+{}
+
+/// After iterators were shown, the most blocks are known that were shown in their order, and no other
+/// number is the most.
+pub fn known_blocks()
+    ensures is { (table : Table) (known : ℕ) (shown : List ℕ) → IsKnown table known shown (known_of table known shown) }
+    ensures only { (table : Table) (known : ℕ) (shown : List ℕ) (most : ℕ) → IsKnown table known shown most → most ≡ known_of table known shown }
+{}
+
+/// A look-up reads few lengths, and a count after so many calls more is their sum, up to the largest
+/// number of 64 bits.
+#[tactic(auto, using(crate::proofs::LawLemmas::reads_few, crate::proofs::CountLemmas::calls_are))]
+pub fn counts()
+    ensures reads { (table : Table) (known i : ℕ) → ReadsFew table known i }
+    ensures calls { (more calls : ℕ) → calls < 2 ^ 64 → after_calls more calls ≡ min (calls + more) (2 ^ 64 - 1) }
+{}

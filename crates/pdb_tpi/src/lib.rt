@@ -1,0 +1,43 @@
+//! The tables of types and of ids: their items one after another, and one item by its index.
+#![tactic(auto)]
+
+mod finder;
+mod header;
+mod item;
+mod item_information;
+mod item_iter;
+pub mod laws;
+mod length;
+mod type_record;
+
+pub use finder::ItemFinder;
+pub use header::{Header, Slice};
+pub use item::Item;
+pub use item_information::ItemInformation;
+pub use item_iter::ItemIter;
+use pdb_base::{IdIndex, TypeIndex};
+pub use pdb_records::constants;
+
+/// The table of types.
+pub type TypeInformation = ItemInformation<TypeIndex>;
+
+/// Finds types by their indexes.
+pub type TypeFinder<'t> = ItemFinder<'t, TypeIndex>;
+
+/// An iterator over the types of a table.
+pub type TypeIter<'t> = ItemIter<'t, TypeIndex>;
+
+/// A type as its table holds it: an index and the bytes of its record.
+pub type Type<'t> = Item<'t, TypeIndex>;
+
+/// The table of ids.
+pub type IdInformation = ItemInformation<IdIndex>;
+
+/// Finds ids by their indexes.
+pub type IdFinder<'t> = ItemFinder<'t, IdIndex>;
+
+/// An iterator over the ids of a table.
+pub type IdIter<'t> = ItemIter<'t, IdIndex>;
+
+/// An id as its table holds it: an index and the bytes of its record.
+pub type Id<'t> = Item<'t, IdIndex>;

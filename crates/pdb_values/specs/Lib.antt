@@ -1,0 +1,15 @@
+pub mod Text
+pub mod Class
+pub mod Member
+pub mod Method
+pub mod Function
+pub mod Enumeration
+pub mod Array
+pub mod Union
+pub mod TypeValue
+pub mod Primitive
+pub mod TypeView
+pub mod IdValue
+pub mod Laws
+-- the words of the libraries below that the contracts of this one speak in
+pub use Rattle.pdb_base.specs.Answer

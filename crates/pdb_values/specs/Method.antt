@@ -1,0 +1,38 @@
+-- Methods of a class, apart from where their names lie.
+use Rattle.std.specs.Prelude.{ℕ, List, Option}
+use Rattle.pdb_base.specs.declared.index.TypeIndex.{TypeIndex}
+use Rattle.pdb_values.specs.declared.method.OverloadedMethodType.{OverloadedMethodType}
+use Rattle.pdb_values.specs.declared.method.MethodType.{MethodType}
+use Rattle.pdb_values.specs.declared.method.MethodList.{MethodList}
+use Rattle.pdb_values.specs.declared.method.MethodListEntry.{MethodListEntry}
+use Rattle.pdb_values.specs.Text.{text_bytes}
+
+-- methods of one name
+pub record OverloadedMethodValue : Type 0 where
+  pub count : ℕ
+  pub method_list : TypeIndex
+  pub name : List ℕ
+
+-- a method that shares its name with no other
+pub record MethodValue : Type 0 where
+  pub attributes : ℕ
+  pub method_type : TypeIndex
+  pub vtable_offset : Option ℕ
+  pub name : List ℕ
+
+-- what methods of one name say
+abbrev pub overloaded_method_value : OverloadedMethodType → OverloadedMethodValue
+overloaded_method_value type = record { count = type.count; method_list = type.method_list; name = text_bytes type.name }
+
+-- what a method says
+abbrev pub method_value : MethodType → MethodValue
+method_value type = record {
+  attributes = type.attributes;
+  method_type = type.method_type;
+  vtable_offset = type.vtable_offset;
+  name = text_bytes type.name;
+}
+
+-- the methods of one name
+abbrev pub method_entries : MethodList → List MethodListEntry
+method_entries list = list.methods.items

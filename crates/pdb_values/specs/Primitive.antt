@@ -1,0 +1,101 @@
+-- The indexes below 0x1000, which stand for types without a record: the low byte says the type, and the
+-- four bits above it whether it is a pointer to that type, and which. The numbers are those of
+-- `TYPE_ENUM_e` and `CV_prmode_e` in Microsoft's cvinfo.h.
+use Rattle.std.specs.Prelude.{ℕ, ◌==◌, List, [], ◌∷◌, Option, Some, None, Ok, Err}
+use Rattle.std.specs.Map.{lookup}
+use Rattle.pdb_base.specs.Bits.{bits}
+use Rattle.pdb_base.specs.Refusal.{type_not_found}
+use Rattle.pdb_base.specs.Answer.{Answer, ◌>>=◌}
+use Rattle.pdb_values.specs.declared.primitive.Indirection.{Indirection}
+use Rattle.pdb_values.specs.declared.primitive.Indirection.TheVariants.{Near16, Far16, Huge16, Near32, Far32, Near64, Near128}
+use Rattle.pdb_values.specs.declared.primitive.PrimitiveKind.{PrimitiveKind}
+use Rattle.pdb_values.specs.declared.primitive.PrimitiveKind.TheVariants as kinds
+use Rattle.pdb_values.specs.declared.primitive.PrimitiveType.{PrimitiveType}
+
+-- the least index of a type that has a record
+abbrev pub first_record : ℕ
+first_record = 0x1000
+
+-- each number of a type and the type
+abbrev pub primitive_kinds : List (ℕ × PrimitiveKind)
+primitive_kinds =
+    (0x00, kinds.NoType)  -- T_NOTYPE
+    ∷ (0x03, kinds.Void)  -- T_VOID
+    ∷ (0x08, kinds.HRESULT)  -- T_HRESULT
+    ∷ (0x10, kinds.Char)  -- T_CHAR
+    ∷ (0x11, kinds.Short)  -- T_SHORT
+    ∷ (0x12, kinds.Long)  -- T_LONG
+    ∷ (0x13, kinds.Quad)  -- T_QUAD
+    ∷ (0x14, kinds.Octa)  -- T_OCT
+    ∷ (0x20, kinds.UChar)  -- T_UCHAR
+    ∷ (0x21, kinds.UShort)  -- T_USHORT
+    ∷ (0x22, kinds.ULong)  -- T_ULONG
+    ∷ (0x23, kinds.UQuad)  -- T_UQUAD
+    ∷ (0x24, kinds.UOcta)  -- T_UOCT
+    ∷ (0x30, kinds.Bool8)  -- T_BOOL08
+    ∷ (0x31, kinds.Bool16)  -- T_BOOL16
+    ∷ (0x32, kinds.Bool32)  -- T_BOOL32
+    ∷ (0x33, kinds.Bool64)  -- T_BOOL64
+    ∷ (0x40, kinds.F32)  -- T_REAL32
+    ∷ (0x41, kinds.F64)  -- T_REAL64
+    ∷ (0x42, kinds.F80)  -- T_REAL80
+    ∷ (0x43, kinds.F128)  -- T_REAL128
+    ∷ (0x44, kinds.F48)  -- T_REAL48
+    ∷ (0x45, kinds.F32PP)  -- T_REAL32PP
+    ∷ (0x46, kinds.F16)  -- T_REAL16
+    ∷ (0x50, kinds.Complex32)  -- T_CPLX32
+    ∷ (0x51, kinds.Complex64)  -- T_CPLX64
+    ∷ (0x52, kinds.Complex80)  -- T_CPLX80
+    ∷ (0x53, kinds.Complex128)  -- T_CPLX128
+    ∷ (0x68, kinds.I8)  -- T_INT1
+    ∷ (0x69, kinds.U8)  -- T_UINT1
+    ∷ (0x70, kinds.RChar)  -- T_RCHAR
+    ∷ (0x71, kinds.WChar)  -- T_WCHAR
+    ∷ (0x72, kinds.I16)  -- T_INT2
+    ∷ (0x73, kinds.U16)  -- T_UINT2
+    ∷ (0x74, kinds.I32)  -- T_INT4
+    ∷ (0x75, kinds.U32)  -- T_UINT4
+    ∷ (0x76, kinds.I64)  -- T_INT8
+    ∷ (0x77, kinds.U64)  -- T_UINT8
+    ∷ (0x78, kinds.I128)  -- T_INT16
+    ∷ (0x79, kinds.U128)  -- T_UINT16
+    ∷ (0x7a, kinds.RChar16)  -- T_CHAR16
+    ∷ (0x7b, kinds.RChar32)  -- T_CHAR32
+    ∷ []
+
+-- each number of a mode and the pointer that it says, if it says one
+abbrev pub indirections : List (ℕ × Option Indirection)
+indirections =
+    (0, None)  -- CV_TM_DIRECT
+    ∷ (1, Some Near16)  -- CV_TM_NPTR
+    ∷ (2, Some Far16)  -- CV_TM_FPTR
+    ∷ (3, Some Huge16)  -- CV_TM_HPTR
+    ∷ (4, Some Near32)  -- CV_TM_NPTR32
+    ∷ (5, Some Far32)  -- CV_TM_FPTR32
+    ∷ (6, Some Near64)  -- CV_TM_NPTR64
+    ∷ (7, Some Near128)  -- CV_TM_NPTR128
+    ∷ []
+
+-- what was found for an index, or that there is no such type
+abbrev pub found : {A : Type 0} → ℕ → Option A → Answer A
+found index (Some x) = Ok x
+found index None = Err (type_not_found index)
+
+-- the row of a table that has this number
+abbrev pub row_of : {A : Type 0} → List (ℕ × A) → ℕ → Option A
+row_of rows number = lookup (λ row. row == number) rows
+
+-- the type that an index says in its low byte
+unfoldable pub kind_of : ℕ → Answer PrimitiveKind
+kind_of index = found index (row_of primitive_kinds (bits index 0 8))
+
+-- the pointer, if any, that an index says in its bits 8 to 11
+unfoldable pub indirection_of : ℕ → Answer (Option Indirection)
+indirection_of index = found index (row_of indirections (bits index 8 4))
+
+-- the primitive type that an index stands for
+unfoldable pub primitive_type : ℕ → Answer PrimitiveType
+primitive_type index = do
+  kind ← kind_of index
+  indirection ← indirection_of index
+  Ok (record { kind = kind; indirection = indirection })

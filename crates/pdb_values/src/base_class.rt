@@ -1,0 +1,51 @@
+//! What a class has of the classes that it derives from.
+
+use crate::class::ClassKind;
+use pdb_base::TypeIndex;
+use pdb_flags::FieldAttributes;
+
+/// A base class: `lfBClass` of Microsoft's cvinfo.h.
+#[derive(Clone, Copy, Debug, PartialEq, Eq)]
+pub struct BaseClassType {
+    /// Whether it is a class or an interface.
+    pub kind: ClassKind,
+
+    /// Who may reach it.
+    pub attributes: FieldAttributes,
+
+    /// The base class.
+    pub base_class: TypeIndex,
+
+    /// Where its part begins, in bytes from the start of the object.
+    pub offset: u32,
+}
+
+/// A virtual base class, which an object has once however often it is named: `lfVBClass` of
+/// Microsoft's cvinfo.h.
+#[derive(Clone, Copy, Debug, PartialEq, Eq)]
+pub struct VirtualBaseClassType {
+    /// Whether the class itself names it, and not a base class.
+    pub direct: bool,
+
+    /// Who may reach it.
+    pub attributes: FieldAttributes,
+
+    /// The base class.
+    pub base_class: TypeIndex,
+
+    /// The type of the pointer to the table of virtual bases.
+    pub base_pointer: TypeIndex,
+
+    /// Where that pointer stands, in bytes from the address point.
+    pub base_pointer_offset: u32,
+
+    /// The place of the base class in that table.
+    pub virtual_base_offset: u32,
+}
+
+/// The pointer to a class's table of virtual functions: `lfVFuncTab` of Microsoft's cvinfo.h.
+#[derive(Clone, Copy, Debug, PartialEq, Eq)]
+pub struct VirtualFunctionTablePointerType {
+    /// The type of the pointer.
+    pub table: TypeIndex,
+}

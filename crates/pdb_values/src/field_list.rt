@@ -1,0 +1,34 @@
+//! Lists of what a type has inside.
+
+ghost use Rattle.std.specs.Prelude.{Ok};
+ghost use Rattle.pdb_base.specs.Answer.{Answers};
+ghost use Rattle.pdb_values.specs.TypeView.{field_list_value};
+
+use crate::copy::copy_list;
+use crate::type_data::TypeData;
+use pdb_base::{Result, TypeIndex};
+use std::alloc::Global;
+
+/// The members of a class or a union, or the values of an enumeration, in order: `lfFieldList` of
+/// Microsoft's cvinfo.h.
+#[cycle(data)]
+#[derive(Debug, PartialEq, Eq, Drop)]
+pub struct FieldList<'t> {
+    /// The members or values.
+    pub fields: Vec<TypeData<'t>>,
+
+    /// The list that goes on where this one ends, if one does.
+    pub continuation: Option<TypeIndex>,
+}
+
+impl<'t> FieldList<'t> {
+    /// An equal list, with memory of its own for its fields and for their lists.
+    ///
+    /// # Errors
+    /// `OutOfMemory` where memory is refused.
+    pub fn clone(&self, alloc: Global) -> Result<Self>
+        ensures { Answers field_list_value result (Ok (field_list_value self.now)) }
+    {
+        copy_list(alloc, self)
+    }
+}

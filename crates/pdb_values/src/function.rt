@@ -1,0 +1,70 @@
+//! Functions, and lists of the types of their arguments.
+
+ghost use Rattle.std.specs.Prelude.{Ok};
+ghost use Rattle.pdb_base.specs.Answer.{Answers};
+ghost use Rattle.pdb_values.specs.Function.{argument_types};
+
+use pdb_base::{Result, TypeIndex};
+use pdb_flags::FunctionAttributes;
+use std::alloc::Global;
+
+/// The type of a function: `lfProc` of Microsoft's cvinfo.h.
+#[derive(Clone, Copy, Debug, PartialEq, Eq)]
+pub struct ProcedureType {
+    /// The type that it returns.
+    pub return_type: Option<TypeIndex>,
+
+    /// How it is called.
+    pub attributes: FunctionAttributes,
+
+    /// How many parameters it has.
+    pub parameter_count: u16,
+
+    /// The list of their types.
+    pub argument_list: TypeIndex,
+}
+
+/// The type of a method: `lfMFunc` of Microsoft's cvinfo.h.
+#[derive(Clone, Copy, Debug, PartialEq, Eq)]
+pub struct MemberFunctionType {
+    /// The type that it returns.
+    pub return_type: TypeIndex,
+
+    /// The class that it is a method of.
+    pub class_type: TypeIndex,
+
+    /// The type of `this`, which a static method has not.
+    pub this_pointer_type: Option<TypeIndex>,
+
+    /// How it is called.
+    pub attributes: FunctionAttributes,
+
+    /// How many parameters it has, without `this`.
+    pub parameter_count: u16,
+
+    /// The list of their types.
+    pub argument_list: TypeIndex,
+
+    /// How many bytes `this` is moved by before it is used.
+    pub this_adjustment: u32,
+}
+
+/// The types of a function's arguments, in order: `lfArgList` of Microsoft's cvinfo.h.
+#[derive(Debug, PartialEq, Eq, Drop)]
+pub struct ArgumentList {
+    /// The types.
+    pub arguments: Vec<TypeIndex>,
+}
+
+impl ArgumentList {
+    /// An equal list, in memory of its own.
+    ///
+    /// # Errors
+    /// `OutOfMemory` where memory is refused.
+    pub fn clone(&self, alloc: Global) -> Result<Self>
+        ensures { Answers argument_types result (Ok (argument_types self.now)) }
+    {
+        let arguments = self.arguments.as_slice().to_vec(alloc)?;
+        Ok(ArgumentList { arguments })
+    }
+}

@@ -1,0 +1,52 @@
+//! Ids as their records say them.
+
+ghost use Rattle.std.specs.Prelude.{Ok};
+ghost use Rattle.pdb_base.specs.Answer.{Answers};
+ghost use Rattle.pdb_values.specs.IdValue.{id_value};
+
+use crate::function_id::{FunctionId, MemberFunctionId};
+use crate::list_id::{BuildInfoId, StringId, StringListId};
+use crate::source_id::UserDefinedTypeSourceId;
+use pdb_base::Result;
+use std::alloc::Global;
+
+/// What a record of an id says.
+#[derive(Debug, PartialEq, Eq, Drop)]
+pub enum IdData<'t> {
+    /// A function.
+    Function(FunctionId<'t>),
+
+    /// A method.
+    MemberFunction(MemberFunctionId<'t>),
+
+    /// What a module was built with.
+    BuildInfo(BuildInfoId),
+
+    /// The parts of a text.
+    StringList(StringListId),
+
+    /// A text.
+    String(StringId<'t>),
+
+    /// Where a type is declared.
+    UserDefinedTypeSource(UserDefinedTypeSourceId),
+}
+
+impl<'t> IdData<'t> {
+    /// An equal value, with memory of its own for a list.
+    ///
+    /// # Errors
+    /// `OutOfMemory` where memory is refused.
+    pub fn clone(&self, alloc: Global) -> Result<Self>
+        ensures { Answers id_value result (Ok (id_value self.now)) }
+    {
+        match self {
+            IdData::Function(id) => Ok(IdData::Function(FunctionId { ..*id })),
+            IdData::MemberFunction(id) => Ok(IdData::MemberFunction(MemberFunctionId { ..*id })),
+            IdData::BuildInfo(list) => Ok(IdData::BuildInfo(list.clone(alloc)?)),
+            IdData::StringList(list) => Ok(IdData::StringList(list.clone(alloc)?)),
+            IdData::String(id) => Ok(IdData::String(StringId { ..*id })),
+            IdData::UserDefinedTypeSource(id) => Ok(IdData::UserDefinedTypeSource(*id)),
+        }
+    }
+}

@@ -1,0 +1,43 @@
+//! The values that records of types and of ids say: structs and enums with the fields of the records,
+//! which borrow their names from the records' bytes. The records are those of Microsoft's cvinfo.h.
+#![tactic(auto)]
+
+mod array;
+mod base_class;
+mod bitfield;
+mod class;
+mod copy;
+mod enumeration;
+mod field_list;
+mod function;
+mod function_id;
+mod id_data;
+pub mod laws;
+mod list_id;
+mod member;
+mod method;
+mod modifier;
+mod pointer;
+mod primitive;
+mod source_id;
+mod type_data;
+mod union_type;
+
+pub use array::ArrayType;
+pub use base_class::{BaseClassType, VirtualBaseClassType, VirtualFunctionTablePointerType};
+pub use bitfield::BitfieldType;
+pub use class::{ClassKind, ClassType};
+pub use enumeration::{EnumerateType, EnumerationType};
+pub use field_list::FieldList;
+pub use function::{ArgumentList, MemberFunctionType, ProcedureType};
+pub use function_id::{FunctionId, MemberFunctionId};
+pub use id_data::IdData;
+pub use list_id::{BuildInfoId, StringId, StringListId};
+pub use member::{MemberType, NestedType, StaticMemberType};
+pub use method::{MethodList, MethodListEntry, MethodType, OverloadedMethodType};
+pub use modifier::ModifierType;
+pub use pointer::PointerType;
+pub use primitive::{Indirection, PrimitiveKind, PrimitiveType, type_data_for_primitive};
+pub use source_id::{UserDefinedTypeSourceFileRef, UserDefinedTypeSourceId};
+pub use type_data::TypeData;
+pub use union_type::UnionType;

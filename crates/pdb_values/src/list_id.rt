@@ -1,0 +1,59 @@
+//! Ids of texts and of lists.
+
+ghost use Rattle.std.specs.Prelude.{Ok};
+ghost use Rattle.pdb_base.specs.Answer.{Answers};
+ghost use Rattle.pdb_values.specs.IdValue.{build_arguments, text_parts};
+
+use pdb_base::{IdIndex, RawString, Result, TypeIndex};
+use std::alloc::Global;
+
+/// What a module was built with: the tool, its arguments and their like, each the id of a text:
+/// `lfBuildInfo` of Microsoft's cvinfo.h.
+#[derive(Debug, PartialEq, Eq, Drop)]
+pub struct BuildInfoId {
+    /// The ids, in order.
+    pub arguments: Vec<IdIndex>,
+}
+
+/// The parts of a text, in order: `LF_SUBSTR_LIST` of Microsoft's cvinfo.h.
+#[derive(Debug, PartialEq, Eq, Drop)]
+pub struct StringListId {
+    /// The parts.
+    pub substrings: Vec<TypeIndex>,
+}
+
+/// A text: `lfStringId` of Microsoft's cvinfo.h.
+#[derive(Clone, Debug, PartialEq, Eq, Drop)]
+pub struct StringId<'t> {
+    /// The list of its first parts, where it has others than its last.
+    pub substrings: Option<IdIndex>,
+
+    /// Its last part.
+    pub name: RawString<'t>,
+}
+
+impl BuildInfoId {
+    /// An equal list, in memory of its own.
+    ///
+    /// # Errors
+    /// `OutOfMemory` where memory is refused.
+    pub fn clone(&self, alloc: Global) -> Result<Self>
+        ensures { Answers build_arguments result (Ok (build_arguments self.now)) }
+    {
+        let arguments = self.arguments.as_slice().to_vec(alloc)?;
+        Ok(BuildInfoId { arguments })
+    }
+}
+
+impl StringListId {
+    /// An equal list, in memory of its own.
+    ///
+    /// # Errors
+    /// `OutOfMemory` where memory is refused.
+    pub fn clone(&self, alloc: Global) -> Result<Self>
+        ensures { Answers text_parts result (Ok (text_parts self.now)) }
+    {
+        let substrings = self.substrings.as_slice().to_vec(alloc)?;
+        Ok(StringListId { substrings })
+    }
+}

@@ -1,0 +1,71 @@
+//! Methods of a class.
+
+ghost use Rattle.std.specs.Prelude.{Ok};
+ghost use Rattle.pdb_base.specs.Answer.{Answers};
+ghost use Rattle.pdb_values.specs.Method.{method_entries};
+
+use pdb_base::{RawString, Result, TypeIndex};
+use pdb_flags::FieldAttributes;
+use std::alloc::Global;
+
+/// Methods of one name: `lfMethod` of Microsoft's cvinfo.h.
+#[derive(Clone, Debug, PartialEq, Eq, Drop)]
+pub struct OverloadedMethodType<'t> {
+    /// How many methods have the name.
+    pub count: u16,
+
+    /// The list of the methods.
+    pub method_list: TypeIndex,
+
+    /// The name.
+    pub name: RawString<'t>,
+}
+
+/// A method that shares its name with no other: `lfOneMethod` of Microsoft's cvinfo.h.
+#[derive(Clone, Debug, PartialEq, Eq, Drop)]
+pub struct MethodType<'t> {
+    /// Who may reach it, and how it is called.
+    pub attributes: FieldAttributes,
+
+    /// Its type.
+    pub method_type: TypeIndex,
+
+    /// Its place in the table of virtual functions, in bytes, where the method introduces one.
+    pub vtable_offset: Option<u32>,
+
+    /// Its name.
+    pub name: RawString<'t>,
+}
+
+/// The methods of one name, in order: the list of `mlMethod` behind `lfMethod` in Microsoft's cvinfo.h.
+#[derive(Debug, PartialEq, Eq, Drop)]
+pub struct MethodList {
+    /// The methods.
+    pub methods: Vec<MethodListEntry>,
+}
+
+/// One of the methods of a name: `mlMethod` of Microsoft's cvinfo.h.
+#[derive(Clone, Copy, Debug, PartialEq, Eq)]
+pub struct MethodListEntry {
+    /// Who may reach it, and how it is called.
+    pub attributes: FieldAttributes,
+
+    /// Its type.
+    pub method_type: TypeIndex,
+
+    /// Its place in the table of virtual functions, in bytes, where the method introduces one.
+    pub vtable_offset: Option<u32>,
+}
+
+impl MethodList {
+    /// An equal list, in memory of its own.
+    ///
+    /// # Errors
+    /// `OutOfMemory` where memory is refused.
+    pub fn clone(&self, alloc: Global) -> Result<Self>
+        ensures { Answers method_entries result (Ok (method_entries self.now)) }
+    {
+        let methods = self.methods.as_slice().to_vec(alloc)?;
+        Ok(MethodList { methods })
+    }
+}

@@ -1,0 +1,28 @@
+//! Where a type is declared.
+
+use pdb_base::{IdIndex, Local, TypeIndex};
+use pdb_space::StringRef;
+
+/// The file that a type is declared in.
+#[derive(Clone, Copy, Debug, PartialEq, Eq)]
+pub enum UserDefinedTypeSourceFileRef {
+    /// The id of the file's name.
+    Local(Local<IdIndex>),
+
+    /// The number of the module, and the place of the file's name in the string table.
+    Remote(u16, StringRef),
+}
+
+/// Where a type is declared: `lfUdtSrcLine` of Microsoft's cvinfo.h, or `lfUdtModSrcLine`, which says the
+/// module too.
+#[derive(Clone, Copy, Debug, PartialEq, Eq)]
+pub struct UserDefinedTypeSourceId {
+    /// The type.
+    pub udt: TypeIndex,
+
+    /// The file.
+    pub source_file: UserDefinedTypeSourceFileRef,
+
+    /// The line in the file, from 1 on.
+    pub line: u32,
+}

@@ -1,0 +1,125 @@
+//! Types as their records say them.
+
+ghost use Rattle.std.specs.Prelude.{◌≡◌, Ok};
+ghost use Rattle.std.specs.Option.{option_map};
+ghost use Rattle.pdb_base.specs.Answer.{Answers};
+ghost use Rattle.pdb_values.specs.Text.{text_bytes};
+ghost use Rattle.pdb_values.specs.TypeValue.{name_of};
+ghost use Rattle.pdb_values.specs.TypeView.{type_value};
+
+use crate::array::ArrayType;
+use crate::base_class::{BaseClassType, VirtualBaseClassType, VirtualFunctionTablePointerType};
+use crate::bitfield::BitfieldType;
+use crate::class::ClassType;
+use crate::copy::copy_type;
+use crate::enumeration::{EnumerateType, EnumerationType};
+use crate::field_list::FieldList;
+use crate::function::{ArgumentList, MemberFunctionType, ProcedureType};
+use crate::member::{MemberType, NestedType, StaticMemberType};
+use crate::method::{MethodList, MethodType, OverloadedMethodType};
+use crate::modifier::ModifierType;
+use crate::pointer::PointerType;
+use crate::primitive::PrimitiveType;
+use crate::union_type::UnionType;
+use pdb_base::{RawString, Result};
+use std::alloc::Global;
+
+/// What a record of a type says, or a primitive type, which has no record.
+#[cycle(data)]
+#[derive(Debug, PartialEq, Eq, Drop)]
+pub enum TypeData<'t> {
+    /// A type that has no record, as `int`.
+    Primitive(PrimitiveType),
+
+    /// A class, a structure or an interface.
+    Class(ClassType<'t>),
+
+    /// A data member that each object has.
+    Member(MemberType<'t>),
+
+    /// The type of a method.
+    MemberFunction(MemberFunctionType),
+
+    /// Methods of one name.
+    OverloadedMethod(OverloadedMethodType<'t>),
+
+    /// A method that shares its name with no other.
+    Method(MethodType<'t>),
+
+    /// A data member that the class has once.
+    StaticMember(StaticMemberType<'t>),
+
+    /// A type that is declared in a class.
+    Nested(NestedType<'t>),
+
+    /// A base class.
+    BaseClass(BaseClassType),
+
+    /// A virtual base class.
+    VirtualBaseClass(VirtualBaseClassType),
+
+    /// The pointer to a class's table of virtual functions.
+    VirtualFunctionTablePointer(VirtualFunctionTablePointerType),
+
+    /// The type of a function.
+    Procedure(ProcedureType),
+
+    /// A pointer, a reference or a pointer to a member.
+    Pointer(PointerType),
+
+    /// A type with modifiers.
+    Modifier(ModifierType),
+
+    /// An enumeration.
+    Enumeration(EnumerationType<'t>),
+
+    /// A value of an enumeration.
+    Enumerate(EnumerateType<'t>),
+
+    /// An array.
+    Array(ArrayType),
+
+    /// A union.
+    Union(UnionType<'t>),
+
+    /// A member that takes some bits of its type.
+    Bitfield(BitfieldType),
+
+    /// The members of a class or a union, or the values of an enumeration.
+    FieldList(FieldList<'t>),
+
+    /// The types of a function's arguments.
+    ArgumentList(ArgumentList),
+
+    /// The methods of one name.
+    MethodList(MethodList),
+}
+
+impl<'t> TypeData<'t> {
+    /// The name of a class, a union or an enumeration, of a data member, a nested type, the methods of one
+    /// name or the value of an enumeration. Nothing else has one here.
+    pub fn name(&self) -> Option<RawString<'t>>
+        ensures { option_map text_bytes result ≡ name_of (type_value self.now) }
+    {
+        match self {
+            TypeData::Class(class) => Some(class.name),
+            TypeData::Member(member) => Some(member.name),
+            TypeData::OverloadedMethod(methods) => Some(methods.name),
+            TypeData::StaticMember(member) => Some(member.name),
+            TypeData::Nested(nested) => Some(nested.name),
+            TypeData::Enumeration(enumeration) => Some(enumeration.name),
+            TypeData::Enumerate(value) => Some(value.name),
+            TypeData::Union(union_type) => Some(union_type.name),
+            _ => None,
+        }
+    }
+    /// An equal value, with memory of its own for each list.
+    ///
+    /// # Errors
+    /// `OutOfMemory` where memory is refused.
+    pub fn clone(&self, alloc: Global) -> Result<Self>
+        ensures { Answers type_value result (Ok (type_value self.now)) }
+    {
+        copy_type(alloc, self)
+    }
+}

@@ -1,0 +1,64 @@
+//! A source that fails once.
+
+ghost use Rattle.std.specs.Prelude.{◌≡◌, ◌==◌, MatchBool, IsErrAnd};
+ghost use Rattle.std.specs.IoError.{error_kind};
+ghost use Rattle.pdb_msf.specs.Source.{HasFailed, IsKept, Shows, bytes_at, places};
+ghost use Rattle.pdb_vectors.specs.Failing.{counted_down, state_of};
+
+use pdb_container::{ReadView, Source, SourceSlice};
+use std::alloc::Global;
+use std::io;
+use std::io::ErrorKind;
+use std::marker::Model;
+
+/// Bytes of which one view fails, whatever it asks for. Every other view is that of the bytes.
+#[derive(Debug, Drop)]
+pub struct Failing {
+    bytes: Vec<u8>,
+    until: u64,
+    faults: u64,
+}
+
+impl Model for Failing {
+    ghost use Rattle.std.specs.Prelude.{◌≡◌, ◌<◌};
+    ghost use Rattle.pdb_vectors.specs.Failing.{Countdown};
+
+    ghost Value = { Countdown };
+
+    ghost view = { λ f. record { bytes = f.bytes.items; until = f.until; faults = f.faults } };
+
+    ghost invariant = { λ f. 0 < f.until → f.faults ≡ 0 };
+}
+
+impl Failing {
+    /// A source of these bytes of which view number `n` fails, counted from 1. For 0 none does.
+    pub fn new(bytes: Vec<u8>, n: u64) -> Self
+        ensures { result ≡ record { bytes = bytes.items; until = n; faults = 0 } }
+    {
+        Failing {
+            bytes,
+            until: n,
+            faults: 0,
+        }
+    }
+}
+
+impl Source for Failing {
+    ghost state = { state_of };
+
+    /// The bytes that the slices name, or a fault of kind `Other` where this is the view that fails.
+    fn view(&mut self, alloc: Global, slices: &[SourceSlice]) -> Result<ReadView, io::Error>
+        ensures view { Shows (HasFailed (state_of self.old) (state_of self.new)) (λ v. v) result (bytes_at self.old.bytes (places slices.now)) }
+        ensures kept { IsKept (state_of self.old) (state_of self.new) }
+        ensures counts { self.new ≡ counted_down self.old }
+        ensures fails { MatchBool (self.old.until == 1) (IsErrAnd result (λ e. error_kind e ≡ ErrorKind.Other)) (Shows ⊥ (λ v. v) result (bytes_at self.old.bytes (places slices.now))) }
+    {
+        if self.until == 1 {
+            self.until = 0;
+            self.faults += 1;
+            return Err(io::Error::from(ErrorKind::Other));
+        }
+        self.until = self.until.saturating_sub(1);
+        self.bytes.view(alloc, slices)
+    }
+}
