@@ -15,6 +15,9 @@ use Rattle.pdb_container.specs.Reply.{Said, IsReply, AreReplies, reply_of}
 -- a reply of a source that fails less often is one of a source that fails more often
 pub IsReply-weaker : (failed unsound : Type 0) (reply : Reply) (meant : Answer Said) → (failed → unsound) → IsReply failed reply meant → IsReply unsound reply meant
 IsReply-weaker failed unsound (replies.Bytes stream) meant weaker is = is
+IsReply-weaker failed unsound (replies.Record index kind name) meant weaker is = is
+IsReply-weaker failed unsound (replies.Name name) meant weaker is = is
+IsReply-weaker failed unsound (replies.Ranges ranges) meant weaker is = is
 IsReply-weaker failed unsound (replies.Refused e) meant weaker (inl is) = inl is
 IsReply-weaker failed unsound (replies.Refused e) meant weaker (inr (inl want)) = inr (inl want)
 IsReply-weaker failed unsound (replies.Refused e) meant weaker (inr (inr fault)) = inr (inr (fault.0, weaker fault.1))

@@ -1,10 +1,24 @@
 -- What a file replies to a query, and what a run over many queries answers.
-use Rattle.std.specs.Prelude.{◌≡◌, List, [], ◌∷◌, ⊤, ℕ, Result, Ok, Err}
+use Rattle.std.specs.Prelude.{◌≡◌, ◌≤◌, ◌⊎◌, List, [], ◌∷◌, length, ⊤, ℕ, All, Option, None, Result, Ok, Err}
 use Rattle.std.specs.Global.{Vec}
+use Rattle.std.specs.Option.{option_map}
+use Rattle.std.specs.declared.ops.Range.{Range}
 use Rattle.pdb_base.specs.declared.error.Error.{Error}
+use Rattle.pdb_base.specs.declared.error.Error.TheVariants as errors
+use Rattle.pdb_base.specs.Refusal.{refusal_of}
+use Rattle.pdb_base.specs.Endian.{little_number}
 use Rattle.pdb_base.specs.Answer.{Answer, ◌>>=◌, RefusesUnless}
 use Rattle.pdb_msf.specs.Header.{Head, opened}
 use Rattle.pdb_msf.specs.File.{stream_of}
+use Rattle.pdb_space.specs.StringTable.{names_of, name_of}
+use Rattle.pdb_space.specs.Omap.{Mapping, IsSortedBySource, shift}
+use Rattle.pdb_space.specs.Omap as omap
+use Rattle.pdb_space.specs.Ranges.{IsNotEmpty, end_to_end, parts, pointwise}
+use Rattle.pdb_values.specs.TypeValue as types
+use Rattle.pdb_values.specs.IdValue.{id_name}
+use Rattle.pdb_tpi.specs.Table.{Table, table_of}
+use Rattle.pdb_tpi.specs.Finder.{item_of}
+use Rattle.pdb_tpi.specs.Record.{type_of, id_of}
 use Rattle.pdb_container.specs.declared.query.Query.{Query}
 use Rattle.pdb_container.specs.declared.query.Query.TheVariants as queries
 use Rattle.pdb_container.specs.declared.query.Reply.{Reply}
@@ -12,17 +26,92 @@ use Rattle.pdb_container.specs.declared.query.Reply.TheVariants as replies
 
 -- what a reply says
 pub data Said : Type 0 where
-  bytes : List ℕ → Said
+  bytes : List ℕ → Said  -- the bytes of a stream
+  entry : ℕ → ℕ → Option (List ℕ) → Said  -- a record: its index, its kind, and its name if it has one
+  name : List ℕ → Said  -- a name
+  moved : List Mapping → Range ℕ → Said  -- where a table moves the addresses of a range
 
--- the reply to a query of an open file
+-- ---- what is meant
+
+-- the kind of a record: its first two bytes, the lowest first
+abbrev pub kind_of : List ℕ → ℕ
+kind_of item = little_number 2 item
+
+-- a type of a table, by its index: the item of that index in the whole walk, and what it says
+unfoldable pub type_in : ℕ → Table → Answer Said
+type_in index table = do
+  item ← item_of table index
+  value ← type_of index item
+  Ok (entry index (kind_of item) (types.name_of value))
+
+-- an id of a table, by its index
+unfoldable pub id_in : ℕ → Table → Answer Said
+id_in index table = do
+  item ← item_of table index
+  value ← id_of item
+  Ok (entry index (kind_of item) (id_name value))
+
+-- a type of the table that a stream is
+unfoldable pub type_within : ℕ → List ℕ → Answer Said
+type_within index stream = table_of stream >>= type_in index
+
+-- an id of the table that a stream is
+unfoldable pub id_within : ℕ → List ℕ → Answer Said
+id_within index stream = table_of stream >>= id_in index
+
+-- the name at an offset of the string table that a stream is
+unfoldable pub name_within : ℕ → List ℕ → Answer Said
+name_within offset stream = do
+  names ← names_of stream
+  text ← name_of names offset
+  Ok (name text)
+
+-- where the OMAP table that a stream is moves the addresses of a range
+unfoldable pub moved_within : Range ℕ → List ℕ → Answer Said
+moved_within asked stream = do
+  table ← omap.table_of stream
+  Ok (moved table asked)
+
+-- The reply to a query of an open file: what the stream that is asked for says. The first fault is that
+-- of the stream, of the table in it, of the look-up, of the record that was looked up, in this order.
 abbrev pub reply_of : List ℕ → Head → Query → Answer Said
 reply_of file head (queries.Stream number limit) = stream_of file head number limit >>= λ stream. Ok (bytes stream)
+reply_of file head (queries.TypeRecord stream index) = stream_of file head stream None >>= type_within index
+reply_of file head (queries.IdRecord stream index) = stream_of file head stream None >>= id_within index
+reply_of file head (queries.Name stream offset) = stream_of file head stream None >>= name_within offset
+reply_of file head (queries.Ranges stream start end) = stream_of file head stream None >>= moved_within (record { start = start; end = end })
+
+-- ---- what is replied
+
+-- Ranges are where a table moves the addresses of a range. Over a table whose sources never fall they
+-- are its parts of the range, in order, and laid end to end they are where the addresses go one by one.
+-- Over another table they are at most one for each record. None is ever empty.
+pub record AreMoved (table : List Mapping) (asked : Range ℕ) (ranges : List (Range ℕ)) : Type 0 where
+  pub parts : IsSortedBySource table → ranges ≡ parts table asked
+  pub laid : IsSortedBySource table → end_to_end ranges ≡ pointwise (shift table) asked
+  pub few : length ranges ≤ length table
+  pub not_empty : All IsNotEmpty ranges
 
 -- A reply says what is meant. A refusal is the one that is meant, or want of memory, or another fault
 -- of the source, which is so only where `failed` holds.
 abbrev pub IsReply : Type 0 → Reply → Answer Said → Type 0
 IsReply failed (replies.Bytes stream) meant = meant ≡ Ok (bytes stream.items)
+IsReply failed (replies.Record index kind text) meant = meant ≡ Ok (entry index kind (option_map (λ copy. copy.items) text))
+IsReply failed (replies.Name text) meant = meant ≡ Ok (name text.items)
+IsReply failed (replies.Ranges ranges) meant = (table : List Mapping) × (asked : Range ℕ) × (meant ≡ Ok (moved table asked)) × AreMoved table asked ranges.items
 IsReply failed (replies.Refused e) meant = RefusesUnless failed e meant
+
+-- A call that takes memory and reads no source: it replies what is meant, or refuses as is meant, or
+-- memory was refused.
+abbrev pub Replies : Result Reply Error → Answer Said → Type 0
+Replies (Ok reply) meant = IsReply ⊥ reply meant
+Replies (Err e) meant = (meant ≡ Err (refusal_of e)) ⊎ (e ≡ errors.OutOfMemory)
+
+-- A call that reads a source: the same, or the source failed of itself, which is so only where `failed`
+-- holds.
+abbrev pub RepliesUnless : Type 0 → Result Reply Error → Answer Said → Type 0
+RepliesUnless failed (Ok reply) meant = IsReply failed reply meant
+RepliesUnless failed (Err e) meant = RefusesUnless failed e meant
 
 -- one reply to each query, in order
 abbrev pub AreReplies : Type 0 → List ℕ → Head → List Query → List Reply → Type 0

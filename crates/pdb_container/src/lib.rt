@@ -2,7 +2,11 @@
 //! records, names, addresses and how they are translated, and frames.
 #![tactic(auto)]
 
+mod lookup;
+mod name;
 mod query;
+mod ranges;
+mod record;
 mod whole;
 
 pub use pdb_base::Count;

@@ -1,6 +1,7 @@
 //! Questions to a file, and what it replies.
 
 use pdb_base::Error;
+use std::ops::Range;
 
 /// A question to a file.
 #[derive(Clone, Copy, Debug, PartialEq, Eq)]
@@ -12,6 +13,40 @@ pub enum Query {
         /// How many bytes to answer at most.
         limit: Option<usize>,
     },
+
+    /// A type: its kind, and its name if it has one.
+    TypeRecord {
+        /// The number of the stream that holds the table of types.
+        stream: u32,
+        /// The type's index.
+        index: u32,
+    },
+
+    /// An id: its kind, and its name if it has one.
+    IdRecord {
+        /// The number of the stream that holds the table of ids.
+        stream: u32,
+        /// The id's index.
+        index: u32,
+    },
+
+    /// A name in a string table.
+    Name {
+        /// The number of the stream that holds the string table.
+        stream: u32,
+        /// The name's place, in bytes from the start of the names.
+        offset: u32,
+    },
+
+    /// Where an OMAP table moves the addresses of a range.
+    Ranges {
+        /// The number of the stream that holds the OMAP table.
+        omap: u32,
+        /// The first address.
+        start: u32,
+        /// The address behind the last.
+        end: u32,
+    },
 }
 
 /// The reply to a query.
@@ -19,6 +54,24 @@ pub enum Query {
 pub enum Reply {
     /// The bytes of a stream.
     Bytes(Vec<u8>),
-    /// Why there is no answer.
+
+    /// A type or an id.
+    Record {
+        /// The index that was asked for.
+        index: u32,
+        /// The kind: the first two bytes of the record, the lowest first.
+        kind: u16,
+        /// The bytes of the name, if it has one.
+        name: Option<Vec<u8>>,
+    },
+
+    /// The bytes of a name.
+    Name(Vec<u8>),
+
+    /// Where the addresses are moved, one range for each record that moves some of them.
+    Ranges(Vec<Range<u32>>),
+
+    /// Why there is no answer: the first refusal of the stream, of the table in it, of the look-up and of
+    /// the record, in this order; or memory was refused on the way.
     Refused(Error),
 }

@@ -2,12 +2,47 @@
 
 ghost use Rattle.std.specs.Prelude.{◌≡◌, IsTrue};
 ghost use Rattle.pdb_msf.specs.Source.{HasFailed, IsKept};
-ghost use Rattle.pdb_container.specs.Reply.{IsReply, IsRun, reply_of};
+ghost use Rattle.pdb_container.specs.Reply.{IsReply, IsRun, RepliesUnless, reply_of};
 
+use crate::name::name;
 use crate::query::{Query, Reply};
-use pdb_base::Result;
+use crate::ranges::ranges;
+use crate::record::{id_record, type_record};
+use pdb_base::{IdIndex, Result, TypeIndex};
 use pdb_msf::{BigMSF, Msf, Source, open_msf};
+use pdb_space::StringRef;
 use std::alloc::Global;
+
+/// What a file answers to one question.
+fn answer<S: Source>(alloc: Global, file: &mut BigMSF<S>, query: Query) -> Result<Reply>
+    ensures answer { RepliesUnless (HasFailed (S.state file.old.source) (S.state file.new.source)) result
+        (reply_of (S.state file.old.source).bytes file.old.head query) }
+    ensures source { IsKept (S.state file.old.source) (S.state file.new.source) }
+    ensures head { file.new.head ≡ file.old.head }
+{
+    match query {
+        Query::Stream { number, limit } => {
+            let stream = file.get(alloc, number, limit)?;
+            Ok(Reply::Bytes(stream.into_bytes()))
+        }
+        Query::TypeRecord { stream, index } => {
+            let stream = file.get(alloc, stream, None)?;
+            type_record(alloc, stream, TypeIndex(index))
+        }
+        Query::IdRecord { stream, index } => {
+            let stream = file.get(alloc, stream, None)?;
+            id_record(alloc, stream, IdIndex(index))
+        }
+        Query::Name { stream, offset } => {
+            let stream = file.get(alloc, stream, None)?;
+            name(alloc, stream, StringRef(offset))
+        }
+        Query::Ranges { omap, start, end } => {
+            let stream = file.get(alloc, omap, None)?;
+            ranges(alloc, stream, start..end)
+        }
+    }
+}
 
 /// Asks a file one question.
 fn ask<S: Source>(alloc: Global, file: &mut BigMSF<S>, query: Query) -> Reply
@@ -16,11 +51,9 @@ fn ask<S: Source>(alloc: Global, file: &mut BigMSF<S>, query: Query) -> Reply
     ensures source { IsKept (S.state file.old.source) (S.state file.new.source) }
     ensures head { file.new.head ≡ file.old.head }
 {
-    match query {
-        Query::Stream { number, limit } => match file.get(alloc, number, limit) {
-            Ok(stream) => Reply::Bytes(stream.into_bytes()),
-            Err(error) => Reply::Refused(error),
-        },
+    match answer(alloc, file, query) {
+        Ok(reply) => reply,
+        Err(error) => Reply::Refused(error),
     }
 }
 

@@ -1,5 +1,5 @@
 -- Dimensions are read as they stand.
-use Rattle.std.proofs.Common.{◌≡◌, inl, inr, ℕ, zero, suc, ◌<◌, ◌≤◌, true, false, leb, List, [], ◌∷◌, length, refl, sym, ap, ◌∙◌, subst, arith, length-append, Ok, Err, if◌then◌else◌}
+use Rattle.std.proofs.Common.{◌≡◌, inl, inr, ℕ, zero, suc, ◌+◌, ◌<◌, ◌≤◌, true, false, leb, List, [], ◌∷◌, length, refl, sym, ap, ◌∙◌, subst, arith, length-append, Ok, Err, if◌then◌else◌}
 use Rattle.std.proofs.lemmas.Bool.{cases_lt, le-leb, lt-leb}
 use Rattle.pdb_base.specs.Refusal.{Refusal, unexpected_eof}
 use Rattle.pdb_base.specs.Answer.{Answer, ◌>>=◌}
@@ -20,10 +20,13 @@ numeral_long : (numeral : Numeral) (front : List ℕ) → SpellsNumeral unsigned
 numeral_long numeral front (inl itself) = omega (arith, itself.spelled.len)
 numeral_long numeral front (inr prefixed) = omega (arith, prefixed.head_spelled.len, length-append prefixed.head prefixed.tail, ap length prefixed.is)
 
-pub num_takes : (bytes : List ℕ) (n : ℕ) (rest : List ℕ) → Begins SpellsNum bytes n rest → length rest < length bytes
-num_takes bytes n rest begins =
+pub num_long : (bytes : List ℕ) (n : ℕ) (rest : List ℕ) → Begins SpellsNum bytes n rest → 2 + length rest ≤ length bytes
+num_long bytes n rest begins =
     let long : 2 ≤ length begins.front = numeral_long begins.spelled.numeral begins.front begins.spelled.spelled in
     omega (arith, long, length-append begins.front rest, ap length begins.is)
+
+pub num_takes : (bytes : List ℕ) (n : ℕ) (rest : List ℕ) → Begins SpellsNum bytes n rest → length rest < length bytes
+num_takes bytes n rest begins = omega (arith, num_long bytes n rest begins)
 
 judged : ℕ × List ℕ → Answer (ℕ × List ℕ)
 judged n = if leb n.0 largest_dimension then ok n else err too_large

@@ -7,3 +7,4 @@ pub mod DimensionLaws
 pub mod StepLemmas
 pub mod TakesLemmas
 pub mod DimensionSteps
+pub mod NoWant

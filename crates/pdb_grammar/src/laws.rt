@@ -1,7 +1,8 @@
 //! What the definitions that contracts cite say in other words. The functions do nothing: each
 //! contract is a law.
 
-ghost use Rattle.std.specs.Prelude.{ℕ};
+ghost use Rattle.std.specs.Prelude.{ℕ, List};
+ghost use Rattle.pdb_base.specs.Refusal.{out_of_memory};
 ghost use Rattle.pdb_base.specs.Spelling.{Begins};
 ghost use Rattle.pdb_grammar.specs.Agreement.{Agrees};
 ghost use Rattle.pdb_grammar.specs.Shape.{Shape, Spells, read_shape};
@@ -21,6 +22,11 @@ pub fn shapes()
 /// shape says that they don't begin with.
 pub fn rows<A>()
     ensures { (r : Row A) → Agrees (row r) (Assigns r) (Stops r) }
+{}
+
+/// No bytes are refused for want of memory.
+pub fn refusals<A>()
+    ensures { (r : Row A) (bytes : List ℕ) → ¬ Stops r bytes out_of_memory }
 {}
 
 /// What is passed by as padding is pads, one after another, up to the end or to a byte that is none;

@@ -18,7 +18,7 @@ use Rattle.pdb_grammar.proofs.RowLaws.{rows}
 use Rattle.pdb_grammar.proofs.ToEndLaws.{to_end_agrees}
 use Rattle.pdb_grammar.proofs.PaddingLaws.{padding_agrees}
 use Rattle.pdb_grammar.proofs.DimensionLaws.{dimensions_agree}
-use Rattle.pdb_grammar.proofs.TakesLemmas.{begins_length, row_leaves}
+use Rattle.pdb_grammar.proofs.TakesLemmas.{TakesTwo, begins_length, row_leaves, two_takes}
 use Rattle.pdb_records.specs.declared.leaf.Leaf.{Leaf}
 use Rattle.pdb_records.specs.declared.leaf.Leaf.TheVariants.{Plain, ArgumentList, MethodList, Array}
 use Rattle.pdb_values.specs.TypeValue.{TypeValue}
@@ -142,8 +142,8 @@ pads_leave : (pads : List (List ℕ)) (bytes rest : List ℕ) → Sequence Begin
 pads_leave [] bytes rest seq = omega (arith, ap length seq)
 pads_leave (pad ∷ pads) bytes rest seq = omega (arith, length-append pad seq.0, ap length seq.1.1, pads_leave pads seq.0 rest seq.2)
 
-pub field_takes : TakesBytes IsEntry
-field_takes bytes x rest is =
+pub field_long : TakesTwo IsEntry
+field_long bytes x rest is =
     let two : length is.2.front ≡ 2 = is.2.spelled.len in
     omega (
       arith,
@@ -152,6 +152,9 @@ field_takes bytes x rest is =
       entry_of_leaves (is.0 == continuation_leaf) is.0 is.1 is.3.0 is.3.1 is.3.2,
       pads_leave is.3.3.1.0 is.3.1 rest is.3.3.1.1,
     )
+
+pub field_takes : TakesBytes IsEntry
+field_takes = two_takes IsEntry field_long
 
 -- ---- whole records
 

@@ -2,3 +2,9 @@ pub mod ListLemmas
 pub mod GrammarLaws
 pub mod FieldLemmas
 pub mod WholeLemmas
+pub mod CountedLemmas
+pub mod IdLaws
+pub mod IdLemmas
+pub mod AssignedLemmas
+pub mod MemoryLemmas
+pub mod ShortLemmas

@@ -16,7 +16,7 @@ use Rattle.pdb_grammar.proofs.Agreeing.{bind_at, bind_no}
 use Rattle.pdb_grammar.proofs.ShapeLaws.{number_ends}
 use Rattle.pdb_grammar.proofs.RowLaws.{rows}
 use Rattle.pdb_grammar.proofs.StepLemmas.{behind, to_end_step, to_end_ends, indexes_short, indexes_whole}
-use Rattle.pdb_grammar.proofs.TakesLemmas.{word_row_takes}
+use Rattle.pdb_grammar.proofs.TakesLemmas.{TakesTwo, word_row_long, two_takes}
 use Rattle.pdb_values.specs.declared.method.MethodListEntry.{MethodListEntry}
 use Rattle.pdb_records.specs.Rows.{entry_row}
 use Rattle.pdb_records.specs.Lists.{arguments_row}
@@ -44,31 +44,17 @@ unfolding counted
 arguments_refused bytes n rest e is refused =
     arguments_are bytes ∙ bind_at (number_at 4 bytes) counted (n, rest) is ∙ bind_no (repeated (index_at as_type) n rest) (λ ys. ok (ys.0, ys.1)) e refused
 
-pub arguments_short : (bytes : List ℕ) (n : ℕ) (rest : List ℕ) → number_at 4 bytes ≡ Ok (n, rest) → length rest / 4 < n → row arguments_row bytes ≡ Err unexpected_eof
-arguments_short bytes n rest is short = arguments_refused bytes n rest unexpected_eof is (indexes_short as_type n rest (omega (arith, short)))
-
-pub arguments_held : (bytes : List ℕ) (n : ℕ) (rest : List ℕ) → number_at 4 bytes ≡ Ok (n, rest) → n ≤ length rest / 4 → IsOk (row arguments_row bytes)
-arguments_held bytes n rest is fits =
-    let whole = indexes_whole as_type n rest (omega (arith, fits)) in
-    rw (arguments_read bytes n rest whole.0 is whole.1) refl
-
--- bytes that end too soon are not want of memory
-pub end_is_no_want : (bytes : List ℕ) (cause : Error) → number_at 4 bytes ≡ Err (refusal_of cause) → cause ≢ OutOfMemory
-end_is_no_want bytes cause is want =
-    let ends : refusal_of cause ≡ unexpected_eof = number_ends 4 bytes (refusal_of cause) is in
-    let lacks : refusal_of cause ≡ out_of_memory = ap refusal_of want in
-    two_refusals (sym lacks ∙ ends) where
-      two_refusals : out_of_memory ≡ unexpected_eof → ⊥
-      two_refusals same = cc
-
 -- ---- entries of a method list
 
 pub entries_agree : Agrees (row entry_row) (Assigns entry_row) (Stops entry_row)
 entries_agree = rows entry_row
 
-pub entry_takes : TakesBytes (Assigns entry_row)
+pub entry_long : TakesTwo (Assigns entry_row)
 unfolding entry_row
-entry_takes = word_row_takes entry_row tt
+entry_long = word_row_long entry_row tt
+
+pub entry_takes : TakesBytes (Assigns entry_row)
+entry_takes = two_takes (Assigns entry_row) entry_long
 
 -- what a refused call answers is its cause
 abbrev pub refused : {X : Type 0} → Error → Result X Error

@@ -67,3 +67,7 @@ unfoldable pub record_at : List ℕ → Answer (TypeValue × List ℕ)
 record_at bytes = do
   number ← number_at 2 bytes
   record_of (number.0 == field_list_leaf) number.0 number.1
+
+-- what a type record says, whatever is left behind it
+unfoldable pub type_record : List ℕ → Answer TypeValue
+type_record bytes = record_at bytes >>= λ x. Ok x.0

@@ -6,7 +6,13 @@ pub mod Records
 pub mod Fields
 pub mod Entries
 pub mod Grammar
-pub mod Whole
+pub mod Memory
+pub mod Short
+pub mod IdRows
+pub mod Ids
+pub mod Claims
+pub mod IdLists
+pub mod Assigned
 -- the words of the libraries below that the contracts of this one speak in
 pub use Rattle.pdb_base.specs.Answer
 pub use Rattle.pdb_base.specs.Place

@@ -1,10 +1,12 @@
-//! The records of types: how what they say is read from their bytes. What a record can say stands in
-//! `pdb_values`.
+//! The records of types and of ids: how what they say is read from their bytes. What a record can say
+//! stands in `pdb_values`.
 #![tactic(auto)]
 
 pub mod constants;
+mod id_leaf;
 pub mod laws;
 mod leaf;
 mod parse;
 
+pub use parse::id_data::parse_id_data;
 pub use parse::type_data::parse_type_data;

@@ -2,11 +2,16 @@
 
 pub(crate) mod array;
 pub(crate) mod class;
+pub(crate) mod counted;
 pub(crate) mod derived;
 pub(crate) mod entry;
 pub(crate) mod enumeration;
 pub(crate) mod fields;
 pub(crate) mod function;
+pub(crate) mod id_data;
+pub(crate) mod id_list;
+pub(crate) mod id_plain;
+pub(crate) mod index;
 pub(crate) mod list;
 pub(crate) mod member;
 pub(crate) mod plain;

@@ -4,7 +4,8 @@ use Rattle.std.specs.List.{range_with_len}
 use Rattle.std.proofs.lemmas.List.{length-drop, drop-drop}
 use Rattle.pdb_space.specs.Omap.{Mapping, mapping_at, mappings_of}
 
-map-range_with_len_later : {X : Type 0} (f g : ℕ → X) (from count : ℕ) → ((k : ℕ) → f (k + 1) ≡ g k) → map f (range_with_len (from + 1) count) ≡ map g (range_with_len from count)
+-- what is made of the later numbers of a range, where each is made as its neighbour below by another
+pub map-range_with_len_later : {X : Type 0} (f g : ℕ → X) (from count : ℕ) → ((k : ℕ) → f (k + 1) ≡ g k) → map f (range_with_len (from + 1) count) ≡ map g (range_with_len from count)
 map-range_with_len_later f g from zero same = refl
 map-range_with_len_later f g from (suc count) same = rw (same from, map-range_with_len_later f g (from + 1) count same) refl
 

@@ -7,3 +7,4 @@ pub mod FinderLemmas
 pub mod HeaderLemmas
 pub mod LawLemmas
 pub mod KnownLemmas
+pub mod RecordLemmas

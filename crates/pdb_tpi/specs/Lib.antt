@@ -4,4 +4,5 @@ pub mod Walk
 pub mod Steps
 pub mod Place
 pub mod Finder
+pub mod Record
 pub mod Laws

@@ -3,6 +3,7 @@
 
 mod finder;
 mod header;
+mod id_record;
 mod item;
 mod item_information;
 mod item_iter;

@@ -1,13 +1,17 @@
 //! What the items of the table of types say.
 
-ghost use Rattle.std.specs.Prelude.{ℕ, ◌<◌, ◌≤◌, List};
+ghost use Rattle.std.specs.Prelude.{◌≡◌, ℕ, ◌<◌, ◌≤◌, List, length, Err, IfOk};
+ghost use Rattle.pdb_base.specs.declared.error.Error.TheVariants.{UnexpectedEof};
 ghost use Rattle.pdb_base.specs.Refusal.{Refusal};
-ghost use Rattle.pdb_base.specs.Answer.{Gives};
+ghost use Rattle.pdb_base.specs.Answer.{Answers, Gives};
 ghost use Rattle.pdb_values.specs.Primitive.{first_record};
 ghost use Rattle.pdb_values.specs.TypeValue.{TypeValue};
 ghost use Rattle.pdb_values.specs.TypeView.{primitive_of, type_value};
 ghost use Rattle.pdb_records.specs.Grammar.{IsRecord, NoRecord};
-ghost use Rattle.pdb_records.specs.Whole.{SaysRecord, IsOrLacks, RefusedOrLacks};
+ghost use Rattle.pdb_records.specs.Memory.{LacksOnlyIf, NeedsMemory, IsFalseCount};
+ghost use Rattle.pdb_records.specs.Short.{IsShort};
+ghost use Rattle.pdb_records.specs.Assigned.{SaysAssigned, ShowsOrLacks, RefusesOrLacks};
+ghost use Rattle.pdb_tpi.specs.Record.{type_of};
 
 use crate::item::Item;
 use pdb_base::{Result, TypeIndex};
@@ -29,12 +33,19 @@ impl<'t> Item<'t, TypeIndex> {
     /// where a number of variable width has an unknown prefix, `UnimplementedTypeKind` by its number
     /// for a leaf that has no record here, for a list of fields within one, and for a pointer whose
     /// kind or mode is unknown, `UnimplementedFeature` for an array's dimension above 0xffffffff; and
-    /// `OutOfMemory` where memory for a list is refused.
+    /// `OutOfMemory` where memory for a list is refused, which is asked for only once the list's first
+    /// item is there. So a count that the bytes don't hold is `UnexpectedEof`, also as the first entry
+    /// of a list of fields.
+    #[tactic(auto, unfolding(crate::specs::Record::type_of))]
     pub fn parse(&self, alloc: Global) -> Result<TypeData<'t>>
+        ensures read { Answers type_value result (type_of self.now.index.0 self.now.bytes.now) }
         ensures primitive { self.now.index.0 < first_record → Gives type_value result (primitive_of self.now.index.0) }
-        ensures answers { first_record ≤ self.now.index.0 → SaysRecord self.now.bytes.now result }
-        ensures answered { first_record ≤ self.now.index.0 → (value : TypeValue) (rest : List ℕ) → IsRecord self.now.bytes.now value rest → IsOrLacks value result }
-        ensures refused { first_record ≤ self.now.index.0 → (refusal : Refusal) → NoRecord self.now.bytes.now refusal → RefusedOrLacks refusal result }
+        ensures answers { first_record ≤ self.now.index.0 → SaysAssigned type_value (IsRecord self.now.bytes.now) (NoRecord self.now.bytes.now) result }
+        ensures answered { first_record ≤ self.now.index.0 → (value : TypeValue) (rest : List ℕ) → IsRecord self.now.bytes.now value rest → ShowsOrLacks type_value value result }
+        ensures refused { first_record ≤ self.now.index.0 → (refusal : Refusal) → NoRecord self.now.bytes.now refusal → RefusesOrLacks refusal result }
+        ensures want { LacksOnlyIf result ((first_record ≤ self.now.index.0) × NeedsMemory self.now.bytes.now) }
+        ensures cut { first_record ≤ self.now.index.0 → IsFalseCount self.now.bytes.now → result ≡ Err UnexpectedEof }
+        ensures short { IfOk result (λ value. IsShort (length self.now.bytes.now) (type_value value)) }
     {
         let index = self.index;
         if index.0 < FIRST_RECORD {

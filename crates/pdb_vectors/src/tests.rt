@@ -3,12 +3,12 @@
 mod buffers;
 mod indexes;
 mod pages;
+mod runs;
 mod values;
 
 use super::*;
 use pdb_container::{
-    Error, Msf, ParseBuffer, Query, ReadView, Reply, Source, SourceSlice, SourceView, Stream,
-    open_msf, run,
+    Error, Msf, ParseBuffer, ReadView, Source, SourceSlice, SourceView, Stream, open_msf,
 };
 use std::alloc::Global;
 use std::io;
@@ -141,30 +141,6 @@ fn openings(rt: HostRuntime) -> Result<(), Fail> {
     for (name, file, want) in rows {
         let answer = opened(alloc, file)?;
         assert_eq!(rt; answer.as_slice(), want, "{name}");
-    }
-    Ok(())
-}
-
-/// A reply as bytes: those of the stream, or the text of an error.
-fn replied(alloc: Global, reply: Reply) -> Result<Vec<u8>, Fail> {
-    match reply {
-        Reply::Bytes(bytes) => Ok(bytes),
-        Reply::Refused(error) => Ok(error.to_string(alloc)?.into_bytes()),
-    }
-}
-
-#[test]
-fn runs(rt: HostRuntime) -> Result<(), Fail> {
-    let alloc = rt.alloc();
-    let asked = [(2, None), (3, None), (2, None), (3, Some(2))];
-    let refused = b"The requested stream (2) is not stored in this file".as_slice();
-    let wanted = [refused, b"hello", refused, b"he"];
-    let queries = asked.map(|(number, limit)| Query::Stream { number, limit });
-    let replies = run(alloc, s1(alloc)?, &queries)?;
-    assert_eq!(rt; replies.len(), wanted.len());
-    for (reply, want) in replies.into_iter().zip(wanted) {
-        let bytes = replied(alloc, reply)?;
-        assert_eq!(rt; bytes.as_slice(), want);
     }
     Ok(())
 }

@@ -1,10 +1,12 @@
 -- Lines of hexadecimal digits, one after another.
-use Rattle.std.proofs.Common.{◌≡◌, ℕ, ◌+◌, ◌-◌, ◌*◌, List, [], ◌∷◌, ◌++◌, length, take, drop, sym, ap, ◌∙◌, arith, min}
+use Rattle.std.proofs.Common.{◌≡◌, ℕ, ◌+◌, ◌-◌, ◌*◌, ◌^◌, List, [], ◌∷◌, ◌++◌, length, replicate, take, drop, false, sym, ap, ◌∙◌, arith, min}
+use Rattle.std.specs.Fmt.{padded_integral, format_spec}
 use Rattle.std.specs.List.{flat_map, range_with_len}
 use Rattle.std.proofs.lemmas.Grind.{flat_map-append}
 use Rattle.std.proofs.lemmas.List.{append-nil, map-id, take_min, length-drop}
 use Rattle.std.proofs.lemmas.List.FromFn.{map-range_with_len_more}
-use Rattle.pdbq.specs.Printed.{hex_line, line_of}
+use Rattle.pdb_base.proofs.Padding.{padded_with_zeros}
+use Rattle.pdbq.specs.Lines.{hex_line, line_of}
 
 range_more : (n : ℕ) → range_with_len 0 (n + 1) ≡ range_with_len 0 n ++ n ∷ []
 range_more n =
@@ -26,3 +28,7 @@ pub line_cut : (all : List ℕ) (n : ℕ) → take (min (length all) (32 * n + 3
 line_cut all n =
     let cut : min (length all) (32 * n + 32) - 32 * n ≡ min 32 (length (drop (32 * n) all)) = omega (arith, length-drop (32 * n) all) in
     ap (λ (k : ℕ). take k (drop (32 * n) all)) cut ∙ take_min 32 (drop (32 * n) all)
+
+-- what `{:04x}` writes
+pub four_digits : (digits : List ℕ) → padded_integral (format_spec 32 0 4 4 (2 ^ 64 - 1)) false [] digits ≡ replicate (4 - length digits) 48 ++ digits
+four_digits digits = padded_with_zeros digits

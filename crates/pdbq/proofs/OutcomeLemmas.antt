@@ -1,5 +1,6 @@
 -- One query to a vector of bytes, which is a sound source.
-use Rattle.std.proofs.Common.{◌≡◌, List, [], ◌∷◌, ◌++◌, ℕ, Ok, refl, subst, inl, inr}
+use Rattle.std.proofs.Common.{◌≡◌, List, [], ◌∷◌, ◌++◌, ℕ, Ok, Option, Bor, refl, ap, ◌∙◌, subst, inl, inr}
+use Rattle.std.specs.Option.{option_map}
 use Rattle.std.specs.Prelude.{◌⊎◌, IsTrue, true}
 use Rattle.std.specs.Global.{Vec}
 use Rattle.pdb_container.specs.declared.Error.{Error}
@@ -8,9 +9,11 @@ use Rattle.pdb_container.specs.declared.query.Reply.{Reply}
 use Rattle.pdb_container.specs.Refusal.{refusal_of, out_of_memory}
 use Rattle.pdb_container.specs.Answer.{Answer, RefusesUnless}
 use Rattle.pdb_container.specs.Header.{Head, opened}
-use Rattle.pdb_container.specs.Reply.{Said, IsReply, AreReplies, IsRun, reply_of}
+use Rattle.pdb_container.specs.Reply.{Said, entry, IsReply, AreReplies, IsRun, reply_of}
 use Rattle.pdbq.specs.declared.outcome.Outcome.{Outcome}
-use Rattle.pdbq.specs.Printed.{IsAnswered, IsRefused, IsOutcomeOf, answer_of}
+use Rattle.pdbq.specs.Lines.{record_line}
+use Rattle.pdbq.specs.Printed.{IsPrinted, IsAnswered, IsRefused, IsUsage, IsOutcomeOf, IsOutcome, Shows, asked, answer_of}
+use Rattle.pdbq.specs.Words.{query_of}
 
 -- never: a vector of bytes is sound
 abbrev pub Never : Type 0
@@ -46,3 +49,17 @@ refused_run e file query outcome (inr (inr fault)) refused = absurd (fault.1 ref
 
 pub answered_outcome : (said : Said) (meant : Answer Said) (outcome : Outcome) → meant ≡ Ok said → IsAnswered said outcome → IsOutcomeOf meant outcome
 answered_outcome said meant outcome is answered = rw is answered
+
+-- the name that a reply holds is the one that a record's line is made of
+pub same_name : (index kind : ℕ) (held : Option (Vec ℕ)) (shown : Option (Bor (List ℕ))) (out : List ℕ) → option_map (λ text. text.now) shown ≡ option_map (λ copy. copy.items) held
+    → out ≡ record_line index kind (option_map (λ text. text.now) shown) → IsPrinted (entry index kind (option_map (λ copy. copy.items) held)) out
+same_name index kind held shown out same printed = printed ∙ ap (record_line index kind) same
+
+-- what is shown of words and a file is an outcome
+pub shown_outcome : (words : List (List ℕ)) (file : List ℕ) (outcome : Outcome) → Shows (asked words file) outcome → IsOutcome outcome
+shown_outcome words file outcome shown = record { words = words; file = file; shows = shown }
+
+-- how to ask is what is shown of a word that is no command
+pub usage_outcome : (outcome : Outcome) → IsUsage outcome → IsOutcome outcome
+unfolding query_of
+usage_outcome outcome usage = record { words = [] ∷ []; file = []; shows = usage }

@@ -22,15 +22,32 @@ spelled base most digits =
 unfoldable pub number_of : List ℕ → Option ℕ
 number_of word = if starts_with nat_eq word (codes "0x") then spelled 16 8 (drop 2 word) else spelled 10 10 word
 
+-- two words are two numbers
+unfoldable pub two_numbers : List (List ℕ) → Option (ℕ × ℕ)
+two_numbers (first ∷ second ∷ []) = option_and_then (λ a. option_map (λ b. (a, b)) (number_of second)) (number_of first)
+two_numbers _ = None
+
+-- `N` and `N LIMIT`: a stream's number, and how many of its bytes at most
+unfoldable pub stream_asked : List (List ℕ) → Option Query
+stream_asked (number ∷ []) = option_map (λ n. queries.Stream n None) (number_of number)
+stream_asked words = option_map (λ two. queries.Stream two.0 (Some two.1)) (two_numbers words)
+
+-- `S A B`: the number of a table's stream, and the ends of a range
+unfoldable pub ranges_asked : List (List ℕ) → Option Query
+ranges_asked (stream ∷ ends) = option_and_then (λ s. option_map (λ two. queries.Ranges s two.0 two.1) (two_numbers ends)) (number_of stream)
+ranges_asked [] = None
+
 -- two words are the same
 abbrev pub same : List ℕ → List ℕ → Bool
 same word other = pointwise nat_eq word other
 
--- `stream N` and `stream N LIMIT`
+-- what each command asks with the words behind it
 unfoldable pub query_of : List (List ℕ) → Option Query
-query_of (command ∷ number ∷ []) =
-    if same command (codes "stream") then option_map (λ n. queries.Stream n None) (number_of number) else None
-query_of (command ∷ number ∷ limit ∷ []) =
-    if same command (codes "stream")
-    then option_and_then (λ n. option_map (λ most. queries.Stream n (Some most)) (number_of limit)) (number_of number) else None
-query_of _ = None
+query_of [] = None
+query_of (command ∷ words) =
+    if same command (codes "stream") then stream_asked words
+    else if same command (codes "type") then option_map (λ two. queries.TypeRecord two.0 two.1) (two_numbers words)
+    else if same command (codes "id") then option_map (λ two. queries.IdRecord two.0 two.1) (two_numbers words)
+    else if same command (codes "name") then option_map (λ two. queries.Name two.0 two.1) (two_numbers words)
+    else if same command (codes "ranges") then ranges_asked words
+    else None

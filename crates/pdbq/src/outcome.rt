@@ -1,16 +1,15 @@
 //! What the program does with its words and a file, but for input and output.
 
-ghost use Rattle.std.specs.Prelude.{◌≡◌, ◌⊎◌, ◌≤◌, ◌++◌, [], length, map, IfOk, IfErr, OnOk};
+ghost use Rattle.std.specs.Prelude.{◌≡◌, ◌⊎◌, map, IfOk, IfErr};
 ghost use Rattle.pdb_container.specs.Refusal.{refusal_of, out_of_memory};
-ghost use Rattle.pdbq.specs.Printed.{hex_line, hex_lines, IsRefused, IsUsage, IsOutcomeOf, answer_of, asked, Shows};
+ghost use Rattle.pdb_container.specs.Reply.{Said};
+ghost use Rattle.pdbq.specs.Printed.{IsPrinted, IsAnswered, IsRefused, IsUsage, IsOutcomeOf, answer_of, asked, Shows};
 
+use crate::lines::{hex_lines, name_line, range_lines, record_line};
 use crate::words;
 use pdb_container::{Error, Query, Reply, Result, run};
 use pdb_vectors::s1;
 use std::alloc::Global;
-
-/// Bytes on a line of hexadecimal digits.
-const LINE_SIZE: usize = 32;
 
 /// What the program writes, and the status that it ends with.
 #[derive(Debug, Drop)]
@@ -23,33 +22,15 @@ pub struct Outcome {
     pub err: Vec<u8>,
 }
 
-/// Adds a line of hexadecimal digits.
-fn push_line(out: &mut Vec<u8>, line: &[u8]) -> Result<()>
-    requires { length line.now ≤ 32 }
-    ensures ok { OnOk result (out.new.items ≡ out.old.items ++ hex_line line.now) }
-    ensures want { IfErr result (λ e. e ≡ Error.OutOfMemory) }
+/// Status 0: lines on standard output.
+fn answered(alloc: Global, out: Vec<u8>) -> Outcome
+    ensures { (said : Said) → IsPrinted said out.items → IsAnswered said result }
 {
-    let mut buffer = [0u8; 64];
-    let digits = &mut buffer[..2 * line.len()];
-    hex::encode_to_slice(line, digits).unwrap();
-    out.extend_from_slice(digits)?;
-    out.push(b'\n')?;
-    Ok(())
-}
-
-/// Bytes as lines of hexadecimal digits.
-#[tactic(auto, unfolding(crate::specs::Printed::hex_lines))]
-fn hex_lines(alloc: Global, all: &[u8]) -> Result<Vec<u8>>
-    ensures ok { IfOk result (λ out. out.items ≡ hex_lines all.now) }
-    ensures want { IfErr result (λ e. e ≡ Error.OutOfMemory) }
-{
-    let mut out = Vec::new(alloc);
-    for k in 0..all.len().div_ceil(LINE_SIZE) {
-        let start = LINE_SIZE * k;
-        let end = all.len().min(start + LINE_SIZE);
-        push_line(&mut out, &all[start..end])?;
+    Outcome {
+        status: 0,
+        out,
+        err: Vec::new(alloc),
     }
-    Ok(out)
 }
 
 /// Status 1: a refusal's text on a line of standard error.
@@ -71,10 +52,12 @@ pub fn usage(alloc: Global) -> Result<Outcome>
     ensures ok { IfOk result IsUsage }
     ensures want { IfErr result (λ e. e ≡ Error.OutOfMemory) }
 {
+    let usage =
+        b"usage: pdbq stream N [LIMIT] | type S I | id S I | name S O | ranges S A B\n".as_slice();
     Ok(Outcome {
         status: 2,
         out: Vec::new(alloc),
-        err: Vec::from_slice(alloc, b"usage: pdbq stream N [LIMIT]\n")?,
+        err: Vec::from_slice(alloc, usage)?,
     })
 }
 
@@ -85,11 +68,13 @@ fn answer(alloc: Global, file: Vec<u8>, query: Query) -> Result<Outcome>
 {
     match run(alloc, file, &[query]) {
         Ok(mut replies) => match replies.pop() {
-            Some(Reply::Bytes(stream)) => Ok(Outcome {
-                status: 0,
-                out: hex_lines(alloc, &stream)?,
-                err: Vec::new(alloc),
-            }),
+            Some(Reply::Bytes(stream)) => Ok(answered(alloc, hex_lines(alloc, &stream)?)),
+            Some(Reply::Record { index, kind, name }) => {
+                let line = record_line(alloc, index, kind, name.as_deref())?;
+                Ok(answered(alloc, line))
+            }
+            Some(Reply::Name(name)) => Ok(answered(alloc, name_line(alloc, &name)?)),
+            Some(Reply::Ranges(ranges)) => Ok(answered(alloc, range_lines(alloc, &ranges)?)),
             Some(Reply::Refused(error)) => refused(alloc, &error),
             None => unreachable!(),
         },

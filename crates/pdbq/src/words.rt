@@ -1,7 +1,7 @@
 //! The words that the program takes.
 
 ghost use Rattle.std.specs.Prelude.{◌≡◌, ◌≤◌, map};
-ghost use Rattle.pdbq.specs.Words.{spelled, number_of, query_of};
+ghost use Rattle.pdbq.specs.Words.{spelled, number_of, two_numbers, stream_asked, ranges_asked, query_of};
 
 use pdb_container::Query;
 
@@ -37,27 +37,72 @@ fn number(word: &str) -> Option<u32>
     }
 }
 
+/// The numbers that two words spell.
+#[tactic(auto, unfolding(crate::specs::Words::two_numbers))]
+fn two_numbers(words: &[&str]) -> Option<(u32, u32)>
+    ensures { result ≡ two_numbers (map (λ word. word.now) words.now) }
+{
+    match words {
+        [first, second] => {
+            let first = number(first)?;
+            let second = number(second)?;
+            Some((first, second))
+        }
+        _ => None,
+    }
+}
+
+/// What `stream` asks: `N` or `N LIMIT`.
+#[tactic(auto, unfolding(crate::specs::Words::stream_asked))]
+fn stream(words: &[&str]) -> Option<Query>
+    ensures { result ≡ stream_asked (map (λ word. word.now) words.now) }
+{
+    if let [number_word] = words {
+        let number = number(number_word)?;
+        return Some(Query::Stream {
+            number,
+            limit: None,
+        });
+    }
+    let (number, limit) = two_numbers(words)?;
+    Some(Query::Stream {
+        number,
+        limit: Some(limit as usize),
+    })
+}
+
+/// What `ranges` asks: `S A B`.
+#[tactic(auto, unfolding(crate::specs::Words::ranges_asked))]
+fn ranges(words: &[&str]) -> Option<Query>
+    ensures { result ≡ ranges_asked (map (λ word. word.now) words.now) }
+{
+    let (stream, ends) = words.split_first()?;
+    let omap = number(stream)?;
+    let (start, end) = two_numbers(ends)?;
+    Some(Query::Ranges { omap, start, end })
+}
+
 /// The query that the words spell.
 #[tactic(auto, unfolding(crate::specs::Words::query_of))]
 pub fn query(words: &[&str]) -> Option<Query>
     ensures { result ≡ query_of (map (λ word. word.now) words.now) }
 {
-    match words {
-        [command, first] if command.as_bytes() == b"stream".as_slice() => {
-            let stream = number(first)?;
-            Some(Query::Stream {
-                number: stream,
-                limit: None,
-            })
+    let (command, words) = words.split_first()?;
+    match *command {
+        "stream" => stream(words),
+        "type" => {
+            let (stream, index) = two_numbers(words)?;
+            Some(Query::TypeRecord { stream, index })
         }
-        [command, first, second] if command.as_bytes() == b"stream".as_slice() => {
-            let stream = number(first)?;
-            let limit = number(second)?;
-            Some(Query::Stream {
-                number: stream,
-                limit: Some(limit as usize),
-            })
+        "id" => {
+            let (stream, index) = two_numbers(words)?;
+            Some(Query::IdRecord { stream, index })
         }
+        "name" => {
+            let (stream, offset) = two_numbers(words)?;
+            Some(Query::Name { stream, offset })
+        }
+        "ranges" => ranges(words),
         _ => None,
     }
 }

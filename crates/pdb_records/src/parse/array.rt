@@ -7,6 +7,7 @@ ghost use Rattle.pdb_grammar.specs.Dimensions.{dimension_at, dimensions_at, end_
 ghost use Rattle.pdb_grammar.specs.Padding.{behind_pad, padding_at};
 ghost use Rattle.pdb_values.specs.Array.{array_value};
 ghost use Rattle.pdb_records.specs.Arrays.{array_at, dimensions_to_end};
+ghost use Rattle.pdb_records.specs.Memory.{LacksOnlyIf, HoldsDimension, HoldsArray};
 
 use crate::parse::shape::parse_type_index;
 use pdb_base::{Error, ParseBuffer, Result};
@@ -68,7 +69,8 @@ fn ends_dimensions(buffer: &mut ParseBuffer<'_>) -> Result<bool>
 
 /// The dimensions of an array.
 fn parse_dimensions(alloc: Global, buffer: &mut ParseBuffer<'_>) -> Result<Vec<u32>>
-    ensures { Answers (λ list. (list.items, left buffer.new)) result (dimensions_at (left buffer.old)) }
+    ensures read { Answers (λ list. (list.items, left buffer.new)) result (dimensions_at (left buffer.old)) }
+    ensures held { LacksOnlyIf result (HoldsDimension (left buffer.old)) }
 {
     let mut dimensions = Vec::new(alloc);
     'all: loop {
@@ -82,7 +84,8 @@ fn parse_dimensions(alloc: Global, buffer: &mut ParseBuffer<'_>) -> Result<Vec<u
 /// The dimensions of an array and padding, behind which nothing is left.
 #[tactic(auto, unfolding(crate::specs::Arrays::dimensions_to_end))]
 fn parse_last_dimensions(alloc: Global, buffer: &mut ParseBuffer<'_>) -> Result<Vec<u32>>
-    ensures { Answers (λ list. (list.items, left buffer.new)) result (dimensions_to_end (left buffer.old)) }
+    ensures read { Answers (λ list. (list.items, left buffer.new)) result (dimensions_to_end (left buffer.old)) }
+    ensures held { LacksOnlyIf result (HoldsDimension (left buffer.old)) }
 {
     let dimensions = parse_dimensions(alloc, buffer)?;
     skip_padding(buffer)?;
@@ -100,7 +103,8 @@ pub(crate) fn parse_array(
     buffer: &mut ParseBuffer<'_>,
     strided: bool,
 ) -> Result<ArrayType>
-    ensures { Answers (λ t. (array_value t, left buffer.new)) result (array_at strided (left buffer.old)) }
+    ensures read { Answers (λ t. (array_value t, left buffer.new)) result (array_at strided (left buffer.old)) }
+    ensures held { LacksOnlyIf result (HoldsArray strided (left buffer.old)) }
 {
     Ok(ArrayType {
         element_type: parse_type_index(buffer)?,

@@ -7,6 +7,7 @@ ghost use Rattle.pdb_values.specs.TypeView.{fields_value, type_value};
 ghost use Rattle.pdb_values.specs.TypeValue as values;
 ghost use Rattle.pdb_records.specs.Fields.{entry_of, field_at, continuation_leaf};
 ghost use Rattle.pdb_records.specs.Entries.{entry_value, gathered};
+ghost use Rattle.pdb_records.specs.Memory.{LacksOnlyIf, HoldsItemBehind, RecordHoldsItem, HoldsField};
 
 use crate::parse::array::skip_padding;
 use crate::parse::entry::FieldEntry;
@@ -25,7 +26,8 @@ fn parse_behind_entry<'t>(
     buffer: &mut ParseBuffer<'t>,
     number: u16,
 ) -> Result<FieldEntry<'t>>
-    ensures { Answers (λ e. (entry_value e, left buffer.new)) result (entry_of (number == continuation_leaf) number (left buffer.old)) }
+    ensures read { Answers (λ e. (entry_value e, left buffer.new)) result (entry_of (number == continuation_leaf) number (left buffer.old)) }
+    ensures held { LacksOnlyIf result (HoldsItemBehind number (left buffer.old)) }
 {
     if number == LF_INDEX {
         return Ok(FieldEntry::Continues(parse_type_index(buffer)?));
@@ -39,7 +41,8 @@ fn parse_behind_entry<'t>(
 /// An entry, with padding behind it.
 #[tactic(auto, unfolding(crate::specs::Fields::field_at))]
 fn parse_field<'t>(alloc: Global, buffer: &mut ParseBuffer<'t>) -> Result<FieldEntry<'t>>
-    ensures { Answers (λ e. (entry_value e, left buffer.new)) result (field_at (left buffer.old)) }
+    ensures read { Answers (λ e. (entry_value e, left buffer.new)) result (field_at (left buffer.old)) }
+    ensures held { LacksOnlyIf result (RecordHoldsItem (left buffer.old)) }
 {
     let number = buffer.parse_u16()?;
     match parse_behind_entry(alloc, buffer, number) {
@@ -66,7 +69,8 @@ pub(crate) fn parse_field_list<'t>(
     alloc: Global,
     buffer: &mut ParseBuffer<'t>,
 ) -> Result<TypeData<'t>>
-    ensures { Answers (λ t. (type_value t, left buffer.new)) result (gathered (left buffer.old)) }
+    ensures read { Answers (λ t. (type_value t, left buffer.new)) result (gathered (left buffer.old)) }
+    ensures held { LacksOnlyIf result (HoldsField (left buffer.old)) }
 {
     let mut fields = Vec::new(alloc);
     let mut continuation = None;

@@ -4,6 +4,7 @@ ghost use Rattle.pdb_base.specs.Answer.{Answers};
 ghost use Rattle.pdb_base.specs.Place.{left};
 ghost use Rattle.pdb_values.specs.TypeView.{type_value};
 ghost use Rattle.pdb_records.specs.Records.{behind_leaf, data_at};
+ghost use Rattle.pdb_records.specs.Memory.{LacksOnlyIf, HoldsItem, HoldsItemBehind};
 
 use crate::leaf::Leaf;
 use crate::parse::array::parse_array;
@@ -20,7 +21,8 @@ fn parse_leaf<'t>(
     number: u16,
     leaf: Leaf,
 ) -> Result<TypeData<'t>>
-    ensures { Answers (λ t. (type_value t, left buffer.new)) result (data_at number leaf (left buffer.old)) }
+    ensures read { Answers (λ t. (type_value t, left buffer.new)) result (data_at number leaf (left buffer.old)) }
+    ensures held { LacksOnlyIf result (HoldsItem leaf (left buffer.old)) }
 {
     match leaf {
         Leaf::Plain(leaf) => parse_plain(buffer, number, leaf),
@@ -43,7 +45,8 @@ pub(crate) fn parse_behind_leaf<'t>(
     buffer: &mut ParseBuffer<'t>,
     number: u16,
 ) -> Result<TypeData<'t>>
-    ensures { Answers (λ t. (type_value t, left buffer.new)) result (behind_leaf number (left buffer.old)) }
+    ensures read { Answers (λ t. (type_value t, left buffer.new)) result (behind_leaf number (left buffer.old)) }
+    ensures held { LacksOnlyIf result (HoldsItemBehind number (left buffer.old)) }
 {
     match Leaf::from_number(number) {
         Some(leaf) => parse_leaf(alloc, buffer, number, leaf),

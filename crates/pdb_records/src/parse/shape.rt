@@ -3,10 +3,10 @@
 ghost use Rattle.std.specs.Prelude.{◌≡◌};
 ghost use Rattle.pdb_base.specs.Answer.{Gives};
 ghost use Rattle.pdb_base.specs.Place.{left};
-ghost use Rattle.pdb_grammar.specs.Shape.{read_shape, type_index, some_type, text};
+ghost use Rattle.pdb_grammar.specs.Shape.{read_shape, type_index, id_index, some_type, some_id, text};
 ghost use Rattle.pdb_records.specs.Rows.{low_16, low_32};
 
-use pdb_base::{ParseBuffer, RawString, Result, TypeIndex};
+use pdb_base::{IdIndex, ParseBuffer, RawString, Result, TypeIndex};
 
 /// The last leaf whose texts have their length before them.
 const LF_ST_MAX: u16 = 0x1500;
@@ -25,6 +25,23 @@ pub(crate) fn parse_some_type(buffer: &mut ParseBuffer<'_>) -> Result<Option<Typ
     match buffer.parse_u32()? {
         0 | 0xffff => Ok(None),
         number => Ok(Some(TypeIndex(number))),
+    }
+}
+
+/// The index of an id.
+pub(crate) fn parse_id_index(buffer: &mut ParseBuffer<'_>) -> Result<IdIndex>
+    ensures { Gives (λ index. (index, left buffer.new)) result (read_shape id_index (left buffer.old)) }
+{
+    Ok(IdIndex(buffer.parse_u32()?))
+}
+
+/// The index of an id, or none, for which 0 stands.
+pub(crate) fn parse_some_id(buffer: &mut ParseBuffer<'_>) -> Result<Option<IdIndex>>
+    ensures { Gives (λ index. (index, left buffer.new)) result (read_shape some_id (left buffer.old)) }
+{
+    match buffer.parse_u32()? {
+        0 => Ok(None),
+        number => Ok(Some(IdIndex(number))),
     }
 }
 

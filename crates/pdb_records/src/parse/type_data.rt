@@ -1,14 +1,17 @@
 //! Type records.
 
-ghost use Rattle.std.specs.Prelude.{ℕ, List};
+ghost use Rattle.std.specs.Prelude.{◌≡◌, ℕ, List, length, Err, IfOk};
+ghost use Rattle.pdb_base.specs.declared.error.Error.TheVariants.{UnexpectedEof};
 ghost use Rattle.pdb_base.specs.Refusal.{Refusal};
 ghost use Rattle.pdb_base.specs.Answer.{Answers};
 ghost use Rattle.pdb_base.specs.Place.{left};
 ghost use Rattle.pdb_values.specs.TypeValue.{TypeValue};
 ghost use Rattle.pdb_values.specs.TypeView.{type_value};
-ghost use Rattle.pdb_records.specs.Fields.{record_at};
+ghost use Rattle.pdb_records.specs.Fields.{record_at, type_record};
 ghost use Rattle.pdb_records.specs.Grammar.{IsRecord, NoRecord};
-ghost use Rattle.pdb_records.specs.Whole.{SaysRecord, IsOrLacks, RefusedOrLacks};
+ghost use Rattle.pdb_records.specs.Memory.{LacksOnlyIf, NeedsMemory, IsFalseCount};
+ghost use Rattle.pdb_records.specs.Short.{IsShort};
+ghost use Rattle.pdb_records.specs.Assigned.{SaysAssigned, ShowsOrLacks, RefusesOrLacks};
 
 use crate::parse::fields::parse_field_list;
 use crate::parse::record::parse_behind_leaf;
@@ -22,7 +25,8 @@ const LF_FIELDLIST: u16 = 0x1203;
 /// The record at the front of a buffer.
 #[tactic(auto, unfolding(crate::specs::Fields::record_at, crate::specs::Entries::gathered))]
 fn parse_record<'t>(alloc: Global, buffer: &mut ParseBuffer<'t>) -> Result<TypeData<'t>>
-    ensures { Answers (λ t. (type_value t, left buffer.new)) result (record_at (left buffer.old)) }
+    ensures read { Answers (λ t. (type_value t, left buffer.new)) result (record_at (left buffer.old)) }
+    ensures held { LacksOnlyIf result (NeedsMemory (left buffer.old)) }
 {
     let number = buffer.parse_u16()?;
     if number == LF_FIELDLIST {
@@ -44,11 +48,16 @@ fn parse_record<'t>(alloc: Global, buffer: &mut ParseBuffer<'t>) -> Result<TypeD
 /// where a number of variable width has an unknown prefix, `UnimplementedTypeKind` by its number for a
 /// leaf that has no record here, for a list of fields within one, and for a pointer whose kind or mode
 /// is unknown, `UnimplementedFeature` for an array's dimension above 0xffffffff; and `OutOfMemory`
-/// where memory for a list is refused.
+/// where memory for a list is refused, which is asked for only once the list's first item is there.
+/// So a count that the bytes don't hold is `UnexpectedEof`, also as the first entry of a list of fields.
 pub fn parse_type_data<'t>(alloc: Global, bytes: &'t [u8]) -> Result<TypeData<'t>>
-    ensures answers { SaysRecord bytes.now result }
-    ensures answered { (value : TypeValue) (rest : List ℕ) → IsRecord bytes.now value rest → IsOrLacks value result }
-    ensures refused { (refusal : Refusal) → NoRecord bytes.now refusal → RefusedOrLacks refusal result }
+    ensures read { Answers type_value result (type_record bytes.now) }
+    ensures answers { SaysAssigned type_value (IsRecord bytes.now) (NoRecord bytes.now) result }
+    ensures answered { (value : TypeValue) (rest : List ℕ) → IsRecord bytes.now value rest → ShowsOrLacks type_value value result }
+    ensures refused { (refusal : Refusal) → NoRecord bytes.now refusal → RefusesOrLacks refusal result }
+    ensures want { LacksOnlyIf result (NeedsMemory bytes.now) }
+    ensures cut { IsFalseCount bytes.now → result ≡ Err UnexpectedEof }
+    ensures short { IfOk result (λ value. IsShort (length bytes.now) (type_value value)) }
 {
     let mut buffer = ParseBuffer::from(bytes);
     parse_record(alloc, &mut buffer)

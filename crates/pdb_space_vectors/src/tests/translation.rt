@@ -165,6 +165,8 @@ fn places(rt: HostRuntime) -> Result<(), Fail> {
     let mut ranges = map.rva_ranges(PdbInternalRva(0)..PdbInternalRva(0x10));
     assert_eq!(rt; ranges.next(), Some(Rva(0)..Rva(0x10)));
     assert_eq!(rt; ranges.next(), None);
+    let mut ranges = map.rva_ranges(PdbInternalRva(5)..PdbInternalRva(5));
+    assert_eq!(rt; ranges.next(), None);
     assert_eq!(rt; map.internal_rva_ranges(Rva(5)..Rva(5)).next(), None);
     Ok(())
 }

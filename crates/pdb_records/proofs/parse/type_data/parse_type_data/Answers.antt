@@ -1,12 +1,37 @@
 use Rattle.pdb_base.specs.Place.{left}
-use Rattle.pdb_records.proofs.WholeLemmas.{says_record, says_value, says_refusal}
+use Rattle.pdb_records.specs.Memory.{LacksOnlyIf, NeedsMemory}
+use Rattle.pdb_values.specs.TypeView.{type_value}
+use Rattle.pdb_records.specs.Fields.{record_at}
+use Rattle.pdb_records.specs.Grammar.{IsRecord, NoRecord}
+use Rattle.pdb_records.proofs.GrammarLaws.{record_agrees}
+use Rattle.pdb_records.proofs.AssignedLemmas.{says_assigned, shows_assigned, refuses_assigned}
+use Rattle.pdb_records.proofs.WholeLemmas.{says_type, says_cut, says_short}
 use Rattle.pdb_records.proofs.parse.type_data.parse_type_data.Goals as goal
 
+pub returns-clause-read : goal.returns-clause-read
+returns-clause-read c = says_type c.args.bytes.now (left c.parse_record.new.buffer) c.parse_record.result (rw c.from-buffer.ensures at c.parse_record.ensures.read)
+
 pub returns-clause-answers : goal.returns-clause-answers
-returns-clause-answers c = says_record c.args.bytes.now (left c.parse_record.new.buffer) c.parse_record.result (rw c.from-buffer.ensures at c.parse_record.ensures)
+returns-clause-answers c =
+    says_assigned type_value record_at IsRecord NoRecord record_agrees c.args.bytes.now (left c.parse_record.new.buffer) c.parse_record.result (rw c.from-buffer.ensures at c.parse_record.ensures.read)
 
 pub returns-clause-answered : goal.returns-clause-answered
-returns-clause-answered c = says_value c.args.bytes.now (left c.parse_record.new.buffer) c.parse_record.result (rw c.from-buffer.ensures at c.parse_record.ensures)
+returns-clause-answered c =
+    shows_assigned type_value record_at IsRecord NoRecord record_agrees c.args.bytes.now (left c.parse_record.new.buffer) c.parse_record.result (rw c.from-buffer.ensures at c.parse_record.ensures.read)
 
 pub returns-clause-refused : goal.returns-clause-refused
-returns-clause-refused c = says_refusal c.args.bytes.now (left c.parse_record.new.buffer) c.parse_record.result (rw c.from-buffer.ensures at c.parse_record.ensures)
+returns-clause-refused c =
+    refuses_assigned type_value record_at IsRecord NoRecord record_agrees c.args.bytes.now (left c.parse_record.new.buffer) c.parse_record.result (rw c.from-buffer.ensures at c.parse_record.ensures.read)
+
+pub returns-clause-want : goal.returns-clause-want
+returns-clause-want c =
+    let held : LacksOnlyIf c.parse_record.result (NeedsMemory c.args.bytes.now) = rw c.from-buffer.ensures at c.parse_record.ensures.held in
+    held
+
+pub returns-clause-cut : goal.returns-clause-cut
+returns-clause-cut c =
+    says_cut c.args.bytes.now (left c.parse_record.new.buffer) c.parse_record.result (rw c.from-buffer.ensures at c.parse_record.ensures.read)
+    (rw c.from-buffer.ensures at c.parse_record.ensures.held)
+
+pub returns-clause-short : goal.returns-clause-short
+returns-clause-short c = says_short c.args.bytes.now (left c.parse_record.new.buffer) c.parse_record.result (rw c.from-buffer.ensures at c.parse_record.ensures.read)

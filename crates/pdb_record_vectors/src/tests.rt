@@ -1,0 +1,9 @@
+//! The worked rows, a file a topic.
+
+mod ids;
+mod indexes;
+mod leaves;
+mod lists;
+mod plain;
+mod read;
+mod refused;

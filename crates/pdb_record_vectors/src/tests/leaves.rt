@@ -1,0 +1,34 @@
+//! Which numbers are leaves.
+
+use pdb_container::Error;
+use pdb_records::{parse_id_data, parse_type_data};
+
+/// The leaves of types that have a record.
+const TYPE_LEAVES: [u16; 40] = [
+    0x0403, 0x1001, 0x1002, 0x1003, 0x1004, 0x1005, 0x1006, 0x1007, 0x1008, 0x1009, 0x1201, 0x1203,
+    0x1205, 0x1206, 0x1400, 0x1401, 0x1402, 0x1405, 0x1406, 0x1407, 0x1408, 0x1409, 0x140b, 0x140d,
+    0x1502, 0x1503, 0x1504, 0x1505, 0x1506, 0x1507, 0x150d, 0x150e, 0x150f, 0x1510, 0x1511, 0x1512,
+    0x1516, 0x1519, 0x151a, 0x1609,
+];
+
+/// The leaves of ids that have a record.
+const ID_LEAVES: [u16; 7] = [0x1601, 0x1602, 0x1603, 0x1604, 0x1605, 0x1606, 0x1607];
+
+/// Any other number is refused by itself.
+#[test]
+fn leaves(rt: HostRuntime) {
+    let alloc = rt.alloc();
+    for number in 0..=0xffffu16 {
+        let bytes = number.to_le_bytes();
+        let read = parse_type_data(alloc, &bytes);
+        let is_unknown = matches!(read, Err(Error::UnimplementedTypeKind(kind)) if kind == number);
+        assert_eq!(rt; is_unknown, !TYPE_LEAVES.contains(&number), "{number:x}");
+        let read = parse_id_data(alloc, &bytes);
+        let is_unknown = matches!(read, Err(Error::UnimplementedTypeKind(kind)) if kind == number);
+        assert_eq!(rt;
+            is_unknown,
+            !ID_LEAVES.contains(&number),
+            "{number:x}, as an id"
+        );
+    }
+}

@@ -1,0 +1,57 @@
+//! Records, as the one item of a table.
+
+use pdb_container::{Error, Stream, TypeIndex, TypeInformation};
+use pdb_records::parse_type_data;
+use std::alloc::Global;
+use std::test::Fail;
+
+/// A table whose header has 56 bytes, and whose one item, of index 0x1000, is this record.
+pub(crate) fn table_of(alloc: Global, record: &[u8]) -> Result<Stream, Fail> {
+    let mut bytes = vec![in alloc; 0u8; 4]?;
+    for field in [56u32, 0x1000, 0x1001] {
+        bytes.extend_from_slice(&field.to_le_bytes())?;
+    }
+    bytes.resize(56, 0)?;
+    let length = u16::try_from(record.len()).map_err(|_| "a long record")?;
+    bytes.extend_from_slice(&length.to_le_bytes())?;
+    bytes.extend_from_slice(record)?;
+    if bytes.len() >= 0xffff_ffff {
+        return Err("a long table".into());
+    }
+    Ok(Stream::new(bytes))
+}
+
+/// The bytes of a record: the number of its leaf, and what stands behind it.
+pub(crate) fn record_of(alloc: Global, leaf: u16, fields: &[u8]) -> Result<Vec<u8>, Fail> {
+    let mut record = Vec::new(alloc);
+    record.extend_from_slice(&leaf.to_le_bytes())?;
+    record.extend_from_slice(fields)?;
+    Ok(record)
+}
+
+/// What the type of an index is, as `Debug` writes it, or the text of its refusal, in a table whose
+/// one item is this record.
+pub(crate) fn said_at(alloc: Global, record: &[u8], index: u32) -> Result<String, Fail> {
+    let table = TypeInformation::parse(table_of(alloc, record)?)?;
+    let finder = table.finder(alloc)?;
+    match finder.find(TypeIndex(index))?.parse(alloc) {
+        Ok(data) => Ok(format!(in alloc; "{data:?}")?),
+        Err(error) => Ok(error.to_string(alloc)?),
+    }
+}
+
+/// The same of the record itself.
+pub(crate) fn said(alloc: Global, record: &[u8]) -> Result<String, Fail> {
+    said_at(alloc, record, 0x1000)
+}
+
+/// Whether each front of a record, the whole not among them, ends too soon.
+pub(crate) fn ends_soon(alloc: Global, record: &[u8]) -> bool {
+    for length in 0..record.len() {
+        let read = parse_type_data(alloc, &record[..length]);
+        if !matches!(read, Err(Error::UnexpectedEof)) {
+            return false;
+        }
+    }
+    true
+}

@@ -1,0 +1,14 @@
+use Rattle.std.proofs.Common.{inl, arith}
+use Rattle.pdb_base.specs.Place.{left}
+use Rattle.pdb_grammar.proofs.StepLemmas.{indexes_short, indexes_whole}
+use Rattle.pdb_records.proofs.CountedLemmas.{is_meant}
+use Rattle.pdb_records.proofs.parse.counted.parse_indexes.Goals as goal
+
+pub returns-then-len-count-clause-read : goal.returns-then-len-count-clause-read
+returns-then-len-count-clause-read g c =
+    inl (indexes_short g.I.Index.said c.args.count (left c.args.buffer.now) (omega (arith, c.len.ensures, c.if-len-count.true)))
+
+pub returns-clause-held : goal.returns-clause-held
+returns-clause-held g c = λ want.
+    let whole = indexes_whole g.I.Index.said c.args.count (left c.args.buffer.now) (omega (arith, c.len.ensures, c.if-len-count.false)) in
+    is_meant _ whole.0 whole.1

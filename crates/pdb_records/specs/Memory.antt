@@ -1,0 +1,88 @@
+-- Where memory is asked for: a list takes it for its items, and only once an item is there. A count that
+-- its record doesn't hold takes none.
+use Rattle.std.specs.Prelude.{◌≡◌, ◌⊎◌, ℕ, Bool, true, false, ◌==◌, List, Option, Some, None, Result, Err}
+use Rattle.pdb_base.specs.declared.error.Error.{Error}
+use Rattle.pdb_base.specs.declared.error.Error.TheVariants.{OutOfMemory}
+use Rattle.pdb_base.specs.declared.index.TypeIndex.{TypeIndex}
+use Rattle.pdb_base.specs.Spelling.{Begins}
+use Rattle.pdb_grammar.specs.Shape.{u16, Spells}
+use Rattle.pdb_grammar.specs.Row.{Assigns}
+use Rattle.pdb_grammar.specs.Dimensions.{IsDimension}
+use Rattle.pdb_values.specs.declared.method.MethodListEntry.{MethodListEntry}
+use Rattle.pdb_records.specs.declared.leaf.Leaf.{Leaf}
+use Rattle.pdb_records.specs.declared.leaf.Leaf.TheVariants.{Plain, ArgumentList, MethodList, Array}
+use Rattle.pdb_records.specs.Rows.{entry_row}
+use Rattle.pdb_records.specs.Lists.{ArrayHead, arguments_row, array_row}
+use Rattle.pdb_records.specs.Leaves.{leaf_of}
+use Rattle.pdb_records.specs.Fields.{Entry, field_list_leaf}
+use Rattle.pdb_records.specs.Grammar.{IsEntry}
+use Rattle.pdb_records.specs.Claims.{ClaimsMore}
+
+-- a call lacks memory only where memory is needed
+abbrev pub LacksOnlyIf : {X : Type 0} → Result X Error → Type 0 → Type 0
+LacksOnlyIf result needed = result ≡ Err OutOfMemory → needed
+
+-- ---- lists with an item
+
+-- a list of arguments, whole: its record holds as many as the count says
+abbrev pub HoldsArguments : List ℕ → Type 0
+HoldsArguments bytes = (list : List TypeIndex) × (rest : List ℕ) × Assigns arguments_row bytes list rest
+
+-- the first method of a list
+abbrev pub HoldsMethod : List ℕ → Type 0
+HoldsMethod bytes = (method : MethodListEntry) × (rest : List ℕ) × Assigns entry_row bytes method rest
+
+-- the first of dimensions
+abbrev pub HoldsDimension : List ℕ → Type 0
+HoldsDimension bytes = (n : ℕ) × (rest : List ℕ) × IsDimension bytes n rest
+
+-- an array's row, and the first of its dimensions
+abbrev pub HoldsArray : Bool → List ℕ → Type 0
+HoldsArray strided bytes = (head : ArrayHead) × (mid : List ℕ) × Assigns (array_row strided) bytes head mid × HoldsDimension mid
+
+-- an item of the list that stands behind a leaf; most leaves have none
+abbrev pub HoldsItem : Leaf → List ℕ → Type 0
+HoldsItem (Plain leaf) bytes = ⊥
+HoldsItem ArgumentList bytes = HoldsArguments bytes
+HoldsItem MethodList bytes = HoldsMethod bytes
+HoldsItem (Array strided) bytes = HoldsArray strided bytes
+
+abbrev pub HoldsItemOf : Option Leaf → List ℕ → Type 0
+HoldsItemOf None bytes = ⊥
+HoldsItemOf (Some leaf) bytes = HoldsItem leaf bytes
+
+-- the same behind the leaf of this number, but for a list of fields
+abbrev pub HoldsItemBehind : ℕ → List ℕ → Type 0
+HoldsItemBehind number = HoldsItemOf (leaf_of number)
+
+-- a leaf, and behind it an item of a list
+abbrev pub RecordHoldsItem : List ℕ → Type 0
+RecordHoldsItem bytes = (number : ℕ) × (mid : List ℕ) × Begins (Spells u16) bytes number mid × HoldsItemBehind number mid
+
+-- the first entry of a list of fields
+abbrev pub HoldsEntry : List ℕ → Type 0
+HoldsEntry bytes = (entry : Entry) × (rest : List ℕ) × IsEntry bytes entry rest
+
+-- a list of fields: its first entry, or an item of the list that this entry's record is
+abbrev pub HoldsField : List ℕ → Type 0
+HoldsField bytes = HoldsEntry bytes ⊎ RecordHoldsItem bytes
+
+-- what stands behind a leaf: entries, or another record
+abbrev pub NeedsMemoryOf : Bool → ℕ → List ℕ → Type 0
+NeedsMemoryOf true number bytes = HoldsField bytes
+NeedsMemoryOf false number bytes = HoldsItemBehind number bytes
+
+-- A type record that holds an item of a list. Any other is read without memory, or refused without.
+abbrev pub NeedsMemory : List ℕ → Type 0
+NeedsMemory bytes = (number : ℕ) × (mid : List ℕ) × Begins (Spells u16) bytes number mid × NeedsMemoryOf (number == field_list_leaf) number mid
+
+-- ---- counts that say too much
+
+-- LF_ARGLIST
+abbrev pub argument_list_leaf : ℕ
+argument_list_leaf = 0x1201
+
+-- a list of arguments whose count says more than the bytes behind it hold, by itself or as the first entry
+-- of a list of fields
+abbrev pub IsFalseCount : List ℕ → Type 0
+IsFalseCount bytes = ClaimsMore argument_list_leaf 4 bytes ⊎ ((mid : List ℕ) × Begins (Spells u16) bytes field_list_leaf mid × ClaimsMore argument_list_leaf 4 mid)

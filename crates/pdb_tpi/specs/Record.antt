@@ -1,0 +1,18 @@
+-- What the items of a table say.
+use Rattle.std.specs.Prelude.{ℕ, nat_lt, if◌then◌else◌, List}
+use Rattle.pdb_base.specs.Answer.{Answer}
+use Rattle.pdb_values.specs.Primitive.{first_record}
+use Rattle.pdb_values.specs.TypeValue.{TypeValue}
+use Rattle.pdb_values.specs.TypeView.{primitive_of}
+use Rattle.pdb_values.specs.IdValue.{IdValue}
+use Rattle.pdb_records.specs.Fields.{type_record}
+use Rattle.pdb_records.specs.Ids.{id_record}
+
+-- the type that an item is: an index below 0x1000 names a primitive type, and any other item is a type
+-- record
+unfoldable pub type_of : ℕ → List ℕ → Answer TypeValue
+type_of index item = if nat_lt index first_record then primitive_of index else type_record item
+
+-- the id that an item is: an id record, whatever its index
+unfoldable pub id_of : List ℕ → Answer IdValue
+id_of item = id_record item

@@ -1,0 +1,39 @@
+//! What the items of the table of ids say.
+
+ghost use Rattle.std.specs.Prelude.{◌≡◌, ◌*◌, ◌≤◌, ℕ, List, length, Err, IfOk};
+ghost use Rattle.pdb_base.specs.declared.error.Error.TheVariants.{OutOfMemory, UnexpectedEof};
+ghost use Rattle.pdb_base.specs.Refusal.{Refusal};
+ghost use Rattle.pdb_base.specs.Answer.{Answers};
+ghost use Rattle.pdb_values.specs.IdValue.{IdValue, id_value};
+ghost use Rattle.pdb_records.specs.Ids.{IsId, NoId};
+ghost use Rattle.pdb_records.specs.IdLists.{entry_count, HasIdList, IsCutIdList};
+ghost use Rattle.pdb_records.specs.Assigned.{SaysAssigned, ShowsOrLacks, RefusesOrLacks};
+ghost use Rattle.pdb_tpi.specs.Record.{id_of};
+
+use crate::item::Item;
+use pdb_base::{IdIndex, Result};
+use pdb_records::parse_id_data;
+use pdb_values::IdData;
+use std::alloc::Global;
+
+impl<'t> Item<'t, IdIndex> {
+    /// What the record of the id says, whatever its index. Names borrow from the table; memory is taken
+    /// for lists alone.
+    ///
+    /// # Errors
+    /// The first fault of the record: `UnexpectedEof` where its bytes end before a field does, or hold
+    /// fewer entries than a list's count says; `UnimplementedTypeKind` by its number for a leaf that has
+    /// no record here; and `OutOfMemory` where memory for a list that the bytes hold is refused.
+    #[tactic(auto, unfolding(crate::specs::Record::id_of))]
+    pub fn parse(&self, alloc: Global) -> Result<IdData<'t>>
+        ensures read { Answers id_value result (id_of self.now.bytes.now) }
+        ensures answers { SaysAssigned id_value (IsId self.now.bytes.now) (NoId self.now.bytes.now) result }
+        ensures answered { (value : IdValue) (rest : List ℕ) → IsId self.now.bytes.now value rest → ShowsOrLacks id_value value result }
+        ensures refused { (refusal : Refusal) → NoId self.now.bytes.now refusal → RefusesOrLacks refusal result }
+        ensures want { result ≡ Err OutOfMemory → HasIdList self.now.bytes.now }
+        ensures cut { IsCutIdList self.now.bytes.now → result ≡ Err UnexpectedEof }
+        ensures short { IfOk result (λ id. 2 * entry_count (id_value id) ≤ length self.now.bytes.now) }
+    {
+        parse_id_data(alloc, self.bytes)
+    }
+}

@@ -1,0 +1,44 @@
+-- The lines that a reply is printed as.
+use Rattle.std.specs.Prelude.{ℕ, ◌*◌, List, [], ◌∷◌, ◌++◌, length, take, drop, codes, Option, Some, None}
+use Rattle.std.specs.Int.{div_ceil}
+use Rattle.std.specs.List.{flat_map, range_with_len}
+use Rattle.std.specs.declared.ops.Range.{Range}
+use Rattle.hex.specs.Hex.{encode_lower}
+use Rattle.pdb_container.specs.ErrorText.{hexadecimal, hexadecimal_of_four}
+use Rattle.pdb_base.specs.Text.{lossy}
+
+abbrev pub line_feed : ℕ
+line_feed = 10
+
+-- a text and a line feed
+abbrev pub line : List ℕ → List ℕ
+line text = text ++ line_feed ∷ []
+
+-- bytes as lower-case hexadecimal digits
+abbrev pub hex_line : List ℕ → List ℕ
+hex_line bytes = line (encode_lower bytes)
+
+-- line k of bytes, 32 a line
+abbrev pub line_of : List ℕ → ℕ → List ℕ
+line_of all k = take 32 (drop (32 * k) all)
+
+-- all lines of bytes
+unfoldable pub hex_lines : List ℕ → List ℕ
+hex_lines all = flat_map (λ k. hex_line (line_of all k)) (range_with_len 0 (div_ceil (length all) 32))
+
+-- the text of a name, or `-` where there is none
+abbrev pub name_text : Option (List ℕ) → List ℕ
+name_text (Some name) = lossy name
+name_text None = codes "-"
+
+-- a record: its index, its kind in four digits at least, and its name, with blanks between them
+unfoldable pub record_line : ℕ → ℕ → Option (List ℕ) → List ℕ
+record_line index kind name = line (hexadecimal index ++ codes " " ++ hexadecimal_of_four kind ++ codes " " ++ name_text name)
+
+-- a range: where it starts, two dots, and where it ends
+abbrev pub range_line : Range ℕ → List ℕ
+range_line range = line (hexadecimal range.start ++ codes ".." ++ hexadecimal range.end)
+
+-- a line for each range
+unfoldable pub range_lines : List (Range ℕ) → List ℕ
+range_lines ranges = flat_map range_line ranges
