@@ -91,21 +91,9 @@ const BUILD_INFO: &[u8] = b"\x0c\x00\x03\x16\x02\x00\x01\x10\x00\x00\x02\x10\x00
 /// Two items, and one whose length leaves no room for a kind.
 const TOO_SHORT: &[u8] = b"\x02\x00\x00\x10\x02\x00\x01\x10\x01\x00\x02\x10";
 
-/// Two items.
-const TWO: &[u8] = b"\x02\x00\x00\x10\x02\x00\x01\x10";
-
-/// An item that its table does not hold whole.
-const CUT: &[u8] = b"\x2a\x00\x09\x16";
-
 const NAMES: &[u8] = b"\xfe\xef\xfe\xef\x01\x00\x00\x00\x07\x00\x00\x00\x00foo\x00ba\x00";
 
 const OMAP: &[u8] = b"\x00\x10\x00\x00\x00\x00\x00\x00\x08\x10\x00\x00\x44\x5d\x01\x00";
-
-const CUT_OMAP: &[u8] = b"\x00\x10\x00\x00\x00\x00\x00\x00\x08\x10\x00\x00";
-
-const NO_ID: &str = "Support for types of kind 0x1001 is not implemented";
-
-const NO_OMAP: &str = "OMAP stream has an invalid length or alignment for its records";
 
 fn type_of(index: u32) -> Query {
     Query::TypeRecord { stream: 3, index }
@@ -144,40 +132,45 @@ fn runs(rt: HostRuntime) -> Result<(), Fail> {
     Ok(())
 }
 
-/// Stream 3 of a row: a table of items up to a maximum, or the bytes as they are.
-fn stream_of(alloc: Global, maximum: Option<u16>, bytes: &[u8]) -> Result<Vec<u8>, Fail> {
-    match maximum {
-        Some(maximum) => table(alloc, maximum, bytes),
-        None => Ok(Vec::from_slice(alloc, bytes)?),
-    }
-}
-
 #[test]
 fn queries(rt: HostRuntime) -> Result<(), Fail> {
     let alloc = rt.alloc();
-    let one = Some(0x1001);
-    let rows: [(Option<u16>, &[u8], Query, &str); 17] = [
-        (one, MODIFIER, type_of(0x1000), "1000 1001 -"),
-        (one, MODIFIER, type_of(0x74), "74 ffff -"),
-        (one, MODIFIER, type_of(0x1001), "Type 4097 not found"),
-        (one, CLASS, type_of(0x1000), "1000 1609 H_size"),
-        (Some(0x2000), TWO, type_of(0x1500), "UnexpectedEof"),
-        (Some(0x1009), TOO_SHORT, type_of(0x1005), "TypeTooShort"),
-        (one, CUT, type_of(0x1000), "UnexpectedEof"),
-        (one, TEXT, id_of(0x1000), "1000 1605 a"),
-        (one, BUILD_INFO, id_of(0x1000), "1000 1603 -"),
-        (one, MODIFIER, id_of(0x1000), NO_ID),
-        (None, NAMES, name_at(1), "foo"),
-        (None, NAMES, name_at(0), ""),
-        (None, NAMES, name_at(5), "UnexpectedEof"),
-        (None, OMAP, moved(0, 0x1010), "15d44..15d4c "),
-        (None, OMAP, moved(0, 0x1008), ""),
-        (None, CUT_OMAP, moved(0, 1), NO_OMAP),
-        (None, b"hello", name_at(0), "UnexpectedEof"),
+    let modifier = table(alloc, 0x1001, MODIFIER)?;
+    let class = table(alloc, 0x1001, CLASS)?;
+    let cut = table(alloc, 0x1001, &CLASS[..4])?;
+    let text = table(alloc, 0x1001, TEXT)?;
+    let build_info = table(alloc, 0x1001, BUILD_INFO)?;
+    let too_short = table(alloc, 0x1009, TOO_SHORT)?;
+    let two = table(alloc, 0x2000, &TOO_SHORT[..8])?;
+    let rows: [(&[u8], Query, &str); 17] = [
+        (&modifier, type_of(0x1000), "1000 1001 -"),
+        (&modifier, type_of(0x74), "74 ffff -"),
+        (&modifier, type_of(0x1001), "Type 4097 not found"),
+        (&class, type_of(0x1000), "1000 1609 H_size"),
+        (&two, type_of(0x1500), "UnexpectedEof"),
+        (&too_short, type_of(0x1005), "TypeTooShort"),
+        (&cut, type_of(0x1000), "UnexpectedEof"),
+        (&text, id_of(0x1000), "1000 1605 a"),
+        (&build_info, id_of(0x1000), "1000 1603 -"),
+        (
+            &modifier,
+            id_of(0x1000),
+            "Support for types of kind 0x1001 is not implemented",
+        ),
+        (NAMES, name_at(1), "foo"),
+        (NAMES, name_at(0), ""),
+        (NAMES, name_at(5), "UnexpectedEof"),
+        (OMAP, moved(0, 0x1010), "15d44..15d4c "),
+        (OMAP, moved(0, 0x1008), ""),
+        (
+            &OMAP[..12],
+            moved(0, 1),
+            "OMAP stream has an invalid length or alignment for its records",
+        ),
+        (b"hello", name_at(0), "UnexpectedEof"),
     ];
-    for (maximum, bytes, query, want) in rows {
-        let stream = stream_of(alloc, maximum, bytes)?;
-        let texts = said_of(alloc, with_stream_3(alloc, &stream)?, &[query])?;
+    for (stream, query, want) in rows {
+        let texts = said_of(alloc, with_stream_3(alloc, stream)?, &[query])?;
         assert_eq!(rt; texts.len(), 1);
         for text in texts {
             assert_eq!(rt; text.as_str(), want, "{query:?}");
