@@ -2,27 +2,35 @@
 
 ghost use Rattle.std.specs.Prelude.{◌≡◌, Ok};
 ghost use Rattle.std.specs.Option.{option_map};
-ghost use Rattle.pdb_base.specs.Answer.{Answers};
 ghost use Rattle.pdb_values.specs.Text.{text_bytes};
 ghost use Rattle.pdb_values.specs.IdValue.{id_name, id_value};
-ghost use Rattle.pdb_container.specs.Reply.{Replies, id_within, type_within};
+ghost use Rattle.pdb_container.specs.Reply.{Replies, entry, id_within, kind_of, type_within};
 
 use crate::lookup::look_up;
 use crate::query::Reply;
-use pdb_base::{IdIndex, RawString, Result, TypeIndex};
+use pdb_base::{IdIndex, ItemIndex, RawString, Result, TypeIndex};
 use pdb_msf::Stream;
-use pdb_tpi::{IdInformation, TypeInformation};
+use pdb_tpi::{IdInformation, Item, TypeInformation};
 use pdb_values::IdData;
 use std::alloc::Global;
 
-/// The bytes of a name in memory of their own, if there is a name.
-fn copied(alloc: Global, name: Option<RawString<'_>>) -> Result<Option<Vec<u8>>>
-    ensures { Answers (option_map (λ text. text.items)) result (Ok (option_map text_bytes name.entry)) }
+/// What is replied of an item, whose record has this name or none.
+fn reply<I: ItemIndex>(
+    alloc: Global,
+    item: &Item<'_, I>,
+    name: Option<RawString<'_>>,
+) -> Result<Reply>
+    ensures { Replies result (Ok (entry (I.number item.now.index) (kind_of item.now.bytes.now) (option_map text_bytes name.entry))) }
 {
-    match name {
-        Some(name) => Ok(Some(Vec::from_slice(alloc, name.as_bytes())?)),
-        None => Ok(None),
-    }
+    let name = match name {
+        Some(name) => Some(Vec::from_slice(alloc, name.as_bytes())?),
+        None => None,
+    };
+    Ok(Reply::Record {
+        index: item.index().into(),
+        kind: item.raw_kind(),
+        name,
+    })
 }
 
 /// The name of a function, a method or a text. No other id has one.
@@ -49,12 +57,7 @@ pub fn type_record(alloc: Global, stream: Stream, index: TypeIndex) -> Result<Re
     let table = TypeInformation::parse(stream)?;
     let item = look_up(alloc, &table, index)?;
     let value = item.parse(alloc)?;
-    let name = copied(alloc, value.name())?;
-    Ok(Reply::Record {
-        index: index.0,
-        kind: item.raw_kind(),
-        name,
-    })
+    reply(alloc, &item, value.name())
 }
 
 /// An id of the table that a stream is, by its index.
@@ -69,10 +72,5 @@ pub fn id_record(alloc: Global, stream: Stream, index: IdIndex) -> Result<Reply>
     let table = IdInformation::parse(stream)?;
     let item = look_up(alloc, &table, index)?;
     let value = item.parse(alloc)?;
-    let name = copied(alloc, name_of_id(&value))?;
-    Ok(Reply::Record {
-        index: index.0,
-        kind: item.raw_kind(),
-        name,
-    })
+    reply(alloc, &item, name_of_id(&value))
 }

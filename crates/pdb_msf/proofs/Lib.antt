@@ -6,3 +6,4 @@ pub mod PageLemmas
 pub mod EntryLemmas
 pub mod LawLemmas
 pub mod Kept
+pub mod MagicLemmas

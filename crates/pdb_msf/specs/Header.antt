@@ -1,14 +1,12 @@
 -- The header of a file in the MSF 7.00 format (the layout of `BIGMSF_HDR` in Microsoft's msf.cpp):
 -- 32 bytes of magic, then u32 page size, free page map, pages used, directory size and a reserved
 -- one, and from byte 52 on the list of the pages that hold the directory's page numbers.
-use Rattle.std.specs.Prelude.{◌≡◌, ℕ, ◌*◌, Bool, IsTrue, ◌&&◌, not, nat_eq, nat_lt, nat_le, if◌then◌else◌, List, length, take, Ok, Err, codes}
+use Rattle.std.specs.Prelude.{◌≡◌, ℕ, ◌*◌, Bool, IsTrue, ◌&&◌, not, nat_eq, nat_lt, nat_le, if◌then◌else◌, List, [], ◌∷◌, ◌++◌, length, take, Ok, Err, codes}
 use Rattle.std.specs.List.{starts_with}
 use Rattle.std.specs.Int.{is_power_of_two}
 use Rattle.pdb_base.specs.Refusal.{unexpected_eof, unimplemented_feature, unrecognized_file_format, invalid_page_size}
 use Rattle.pdb_base.specs.Answer.{Answer, ◌>>=◌, required}
 use Rattle.pdb_base.specs.Reading.{front_at, number_at}
-use Rattle.pdb_msf.specs.declared.magic.small.TheConstants as small
-use Rattle.pdb_msf.specs.declared.magic.big.TheConstants as big
 use Rattle.pdb_msf.specs.declared.header.Geometry.{Geometry}
 use Rattle.pdb_msf.specs.declared.header.Header.{Header}
 use Rattle.pdb_msf.specs.Pages.{pages, words, page_numbers}
@@ -26,12 +24,19 @@ pub record Head : Type 0 where
 abbrev pub header_view : Header → Head
 header_view header = record { geometry = header.geometry; location = header.location.items }
 
+-- the 32 bytes at the front of a file of this format, and the 42 of the format before it, 2.00
+unfoldable pub big_magic : List ℕ
+big_magic = codes "Microsoft C/C++ MSF 7.00\r\n" ++ 0x1a ∷ 0x44 ∷ 0x53 ∷ 0 ∷ 0 ∷ 0 ∷ []
+
+unfoldable pub small_magic : List ℕ
+small_magic = codes "Microsoft C/C++ program database 2.00\r\n" ++ 0x1a ∷ 0x4a ∷ 0x47 ∷ []
+
 -- the magic of the format that is read; that of the one before it is refused by name
 unfoldable pub magic_of : List ℕ → Answer (Unit {0})
 magic_of view = do
   whole ← required (nat_le 52 (length view)) unexpected_eof
-  newer ← required (not (starts_with nat_eq view small.MAGIC.now)) (unimplemented_feature (codes "small MSF file format"))
-  required (starts_with nat_eq view big.MAGIC.now) unrecognized_file_format
+  newer ← required (not (starts_with nat_eq view small_magic)) (unimplemented_feature (codes "small MSF file format"))
+  required (starts_with nat_eq view big_magic) unrecognized_file_format
 
 -- the fields of a header in their order, and the bytes behind them
 unfoldable pub fields_of : List ℕ → Answer (Geometry × List ℕ)

@@ -44,6 +44,6 @@ pub record FirstFault (pages_used count : ℕ) (words : List ℕ) (fault : Refus
   pub before : page_numbers pages_used place words ≡ Ok good
   pub here : page_number pages_used words place ≡ Err fault
 
--- A limit cuts a stream, and else changes nothing.
+-- Of a stream that is answered whole, a limit takes the front.
 abbrev pub CutsOnly : List ℕ → Head → ℕ → ℕ → Type 0
 CutsOnly file head n limit = (bytes : List ℕ) → stream_of file head n None ≡ Ok bytes → stream_of file head n (Some limit) ≡ Ok (take limit bytes)

@@ -99,7 +99,7 @@ fn is_page_size(size: u32) -> bool
 }
 
 /// Refuses a file of another format by its first bytes.
-#[tactic(auto, unfolding(crate::specs::Header::magic_of))]
+#[tactic(auto, using(crate::proofs::MagicLemmas::is_big, crate::proofs::MagicLemmas::is_small), unfolding(crate::specs::Header::magic_of))]
 fn check_magic(view: &[u8]) -> Result<()>
     ensures { Gives (λ x. x) result (magic_of view.now) }
 {

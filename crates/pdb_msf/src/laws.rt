@@ -40,7 +40,7 @@ pub fn page_numbers()
     ensures fault { (pages_used count : ℕ) (words : List ℕ) (fault : Refusal) → page_numbers pages_used count words ≡ Err fault → FirstFault pages_used count words fault }
 {}
 
-/// A limit cuts what a stream answers to its first bytes, and else changes nothing.
+/// Of a stream that is answered whole, a limit takes the front.
 #[tactic(auto, using(crate::proofs::LawLemmas::cuts_only))]
 pub fn limits()
     ensures { (file : List ℕ) (head : Head) (n limit : ℕ) → CutsOnly file head n limit }

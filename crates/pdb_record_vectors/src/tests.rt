@@ -4,6 +4,7 @@ mod ids;
 mod indexes;
 mod leaves;
 mod lists;
+mod names;
 mod plain;
 mod read;
 mod refused;

@@ -1,5 +1,5 @@
 -- Id records that are lists.
-use Rattle.std.proofs.Common.{◌≡◌, inl, inr, ℕ, ◌*◌, ◌≤◌, List, [], ◌∷◌, length, refl, sym, ap, ◌∙◌, arith, length-append, Option, Some, None, Result, Ok, Err, IfOk, IsOkAnd}
+use Rattle.std.proofs.Common.{◌≡◌, inl, inr, ℕ, ◌*◌, ◌≤◌, List, [], ◌∷◌, length, refl, sym, ap, ◌∙◌, arith, length-append, Option, Some, None, Result, Ok, Err, IfOk}
 use Rattle.pdb_base.specs.declared.error.Error.{Error}
 use Rattle.pdb_base.specs.declared.error.Error.TheVariants as errors
 use Rattle.pdb_base.specs.Refusal.{refusal_of, unexpected_eof}
@@ -20,7 +20,8 @@ use Rattle.pdb_records.specs.declared.id_leaf.IdLeaf.{IdLeaf}
 use Rattle.pdb_records.specs.declared.id_leaf.IdLeaf.TheVariants.{Function, MemberFunction, BuildInfo, StringList, String, Source, RemoteSource}
 use Rattle.pdb_records.specs.IdRows.{function_row, member_function_row, build_info_row, string_list_row, string_row, source_row, remote_source_row}
 use Rattle.pdb_records.specs.Ids.{id_leaf_of, id_behind, id_at, id_record, IsBehindId, IsId}
-use Rattle.pdb_records.specs.IdLists.{IsIdList, entry_count, HasIdList, IsCutIdList, LacksIdList}
+use Rattle.pdb_records.specs.IdLists.{SaysIdList, entry_count, HasIdList, IsCutIdList}
+use Rattle.pdb_records.specs.Memory.{LacksOnlyIf}
 use Rattle.pdb_records.specs.Claims.{ClaimsMore}
 use Rattle.pdb_records.proofs.CountedLemmas.{counted, counted_refused}
 use Rattle.pdb_records.proofs.IdLaws.{ids_agree}
@@ -62,18 +63,18 @@ cut_at : (bytes : List ℕ) → IsCutIdList bytes → id_at bytes ≡ Err unexpe
 cut_at bytes (inl claims) = build_info_cut bytes claims
 cut_at bytes (inr claims) = string_list_cut bytes claims
 
-pub refuses_cut : (bytes rest : List ℕ) (result : Result IdData Error) → Answers (λ id. (id_value id, rest)) result (id_at bytes) → LacksIdList result (id_at bytes) → IsCutIdList bytes → result ≡ Err errors.UnexpectedEof
+pub refuses_cut : (bytes rest : List ℕ) (result : Result IdData Error) → Answers (λ id. (id_value id, rest)) result (id_at bytes) → LacksOnlyIf result (SaysIdList (id_at bytes)) → IsCutIdList bytes → result ≡ Err errors.UnexpectedEof
 refuses_cut bytes rest (Ok id) is want cut = absurd (ok_is_no_err (id_value id, rest) unexpected_eof (sym is ∙ cut_at bytes cut))
 refuses_cut bytes rest (Err e) (inl is) want cut = ap (λ (d : Error). Err d) (end_is e (err_is {A = IdValue × List ℕ} (refusal_of e) unexpected_eof (sym is ∙ cut_at bytes cut)))
 refuses_cut bytes rest (Err e) (inr lacks) want cut = absurd (rw (cut_at bytes cut) at want (ap (λ (d : Error). Err d) lacks))
 
 -- ---- memory is asked for only where a list is assigned
 
-list_meant : (bytes : List ℕ) (answer : Answer (IdValue × List ℕ)) → id_at bytes ≡ answer → IsOkAnd answer (λ read. IsIdList read.0) → HasIdList bytes
+list_meant : (bytes : List ℕ) (answer : Answer (IdValue × List ℕ)) → id_at bytes ≡ answer → SaysIdList answer → HasIdList bytes
 list_meant bytes (Ok read) is list = (read.0, read.1, ids_agree.found bytes read.0 read.1 is, list)
 list_meant bytes (Err e) is list = absurd list
 
-pub lacks_for_list : (bytes : List ℕ) (result : Result IdData Error) → LacksIdList result (id_at bytes) → result ≡ Err errors.OutOfMemory → HasIdList bytes
+pub lacks_for_list : (bytes : List ℕ) (result : Result IdData Error) → LacksOnlyIf result (SaysIdList (id_at bytes)) → LacksOnlyIf result (HasIdList bytes)
 lacks_for_list bytes result want lacks = list_meant bytes (id_at bytes) refl (want lacks)
 
 -- ---- how long lists can be

@@ -1,9 +1,8 @@
 -- Lists in records, step by step.
-use Rattle.std.proofs.Common.{◌≡◌, ◌≢◌, ℕ, ◌/◌, ◌<◌, ◌≤◌, List, [], ◌∷◌, ◌++◌, length, refl, sym, ap, ◌∙◌, arith, Result, Ok, Err, IsOk}
+use Rattle.std.proofs.Common.{◌≡◌, ℕ, ◌<◌, List, [], ◌∷◌, ◌++◌, length, refl, sym, ap, ◌∙◌, Result, Ok, Err}
 use Rattle.pdb_base.specs.declared.error.Error.{Error}
-use Rattle.pdb_base.specs.declared.error.Error.TheVariants.{OutOfMemory}
 use Rattle.pdb_base.specs.declared.index.TypeIndex.{TypeIndex}
-use Rattle.pdb_base.specs.Refusal.{Refusal, refusal_of, unexpected_eof, out_of_memory}
+use Rattle.pdb_base.specs.Refusal.{Refusal}
 use Rattle.pdb_base.specs.Answer.{Answer, ◌>>=◌}
 use Rattle.pdb_base.specs.Reading.{number_at}
 use Rattle.pdb_base.proofs.Collected.{ok}
@@ -13,9 +12,8 @@ use Rattle.pdb_grammar.specs.Row.{Assigns, Stops, row}
 use Rattle.pdb_grammar.specs.Agreement.{Agrees}
 use Rattle.pdb_grammar.specs.ToEnd.{TakesBytes, to_end}
 use Rattle.pdb_grammar.proofs.Agreeing.{bind_at, bind_no}
-use Rattle.pdb_grammar.proofs.ShapeLaws.{number_ends}
 use Rattle.pdb_grammar.proofs.RowLaws.{rows}
-use Rattle.pdb_grammar.proofs.StepLemmas.{behind, to_end_step, to_end_ends, indexes_short, indexes_whole}
+use Rattle.pdb_grammar.proofs.StepLemmas.{behind, to_end_step, to_end_ends}
 use Rattle.pdb_grammar.proofs.TakesLemmas.{TakesTwo, word_row_long, two_takes}
 use Rattle.pdb_values.specs.declared.method.MethodListEntry.{MethodListEntry}
 use Rattle.pdb_records.specs.Rows.{entry_row}

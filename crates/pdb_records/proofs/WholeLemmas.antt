@@ -1,15 +1,14 @@
 -- What a call that answers as a type record is read says beside the grammar.
-use Rattle.std.proofs.Common.{◌≡◌, inl, inr, ℕ, List, length, refl, sym, ap, ◌∙◌, Result, Ok, Err, IfOk}
+use Rattle.std.proofs.Common.{◌≡◌, inl, inr, ℕ, List, length, sym, ap, ◌∙◌, Result, Ok, Err, IfOk}
 use Rattle.pdb_base.specs.declared.error.Error.{Error}
 use Rattle.pdb_base.specs.declared.error.Error.TheVariants.{UnexpectedEof}
-use Rattle.pdb_base.specs.Refusal.{Refusal, refusal_of, unexpected_eof}
-use Rattle.pdb_base.specs.Answer.{Answer, Answers, ◌>>=◌}
-use Rattle.pdb_base.proofs.Collected.{ok_is, err_is, ok_is_no_err}
+use Rattle.pdb_base.specs.Refusal.{refusal_of, unexpected_eof}
+use Rattle.pdb_base.specs.Answer.{Answers}
+use Rattle.pdb_base.proofs.Collected.{err_is, ok_is_no_err}
 use Rattle.pdb_values.specs.declared.type_data.TypeData.{TypeData}
 use Rattle.pdb_values.specs.TypeValue.{TypeValue}
 use Rattle.pdb_values.specs.TypeView.{type_value}
 use Rattle.pdb_records.specs.Fields.{record_at, type_record}
-use Rattle.pdb_records.specs.Grammar.{IsRecord, NoRecord}
 use Rattle.pdb_records.specs.Memory.{LacksOnlyIf, NeedsMemory, IsFalseCount}
 use Rattle.pdb_records.specs.Short.{IsShort}
 use Rattle.pdb_records.proofs.ListLemmas.{refused}

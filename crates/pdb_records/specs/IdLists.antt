@@ -1,8 +1,6 @@
 -- Id records that are lists: what is asked for memory, what is refused before it is, and how long they
 -- can be.
-use Rattle.std.specs.Prelude.{◌≡◌, ◌⊎◌, ℕ, List, length, Result, Err, IsOkAnd, ⊤}
-use Rattle.pdb_base.specs.declared.error.Error.{Error}
-use Rattle.pdb_base.specs.declared.error.Error.TheVariants.{OutOfMemory}
+use Rattle.std.specs.Prelude.{◌⊎◌, ℕ, List, length, IsOkAnd, ⊤}
 use Rattle.pdb_base.specs.Answer.{Answer}
 use Rattle.pdb_values.specs.IdValue.{IdValue, build_info, string_list}
 use Rattle.pdb_records.specs.Ids.{IsId}
@@ -28,6 +26,6 @@ HasIdList bytes = (value : IdValue) × (rest : List ℕ) × IsId bytes value res
 abbrev pub IsCutIdList : List ℕ → Type 0
 IsCutIdList bytes = ClaimsMore 0x1603 2 bytes ⊎ ClaimsMore 0x1604 4 bytes
 
--- Memory is asked for only where a list is meant.
-abbrev pub LacksIdList : {X : Type 0} → Result X Error → Answer (IdValue × List ℕ) → Type 0
-LacksIdList result meant = result ≡ Err OutOfMemory → IsOkAnd meant (λ read. IsIdList read.0)
+-- a list is read
+abbrev pub SaysIdList : Answer (IdValue × List ℕ) → Type 0
+SaysIdList answer = IsOkAnd answer (λ read. IsIdList read.0)

@@ -1,9 +1,6 @@
 -- The records that are lists, or hold one.
-use Rattle.std.specs.Prelude.{◌≡◌, ℕ, Bool, List, Option, Result, Err, IsOk}
-use Rattle.pdb_base.specs.declared.error.Error.{Error}
-use Rattle.pdb_base.specs.declared.error.Error.TheVariants.{OutOfMemory}
+use Rattle.std.specs.Prelude.{ℕ, Bool, List, Option}
 use Rattle.pdb_base.specs.declared.index.TypeIndex.{TypeIndex}
-use Rattle.pdb_base.specs.Answer.{Answer}
 use Rattle.pdb_grammar.specs.Shape.{u32, type_index, when, times}
 use Rattle.pdb_grammar.specs.Row.{Row, gives}
 use Rattle.pdb_grammar.specs.InOrder.{◌>>=◌}
@@ -14,10 +11,6 @@ arguments_row = do
   count ← u32
   arguments ← times count type_index
   gives arguments
-
--- Memory is asked for only where a value is meant.
-abbrev pub LacksMeant : {X Y : Type 0} → Result X Error → Answer Y → Type 0
-LacksMeant result meant = result ≡ Err OutOfMemory → IsOk meant
 
 -- what an array says before its dimensions
 pub record ArrayHead : Type 0 where

@@ -1,4 +1,4 @@
-//! The worked rows of flag words, tables of items, records and their values, as tests.
+//! The worked rows of flag words, tables of items and primitive types, as tests.
 #![tactic(auto)]
 
 #[cfg(test)]

@@ -1,5 +1,5 @@
 //! The worked rows, a file a topic.
 
 mod flags;
+mod primitives;
 mod tables;
-mod values;

@@ -1,15 +1,16 @@
 -- The source's constants are the bytes of the format.
-use Rattle.std.proofs.Common.{◌≡◌, refl}
+use Rattle.std.proofs.Common.{◌≡◌, refl, ℕ, ◌++◌}
+use Rattle.pdb_container.specs.Endian.{little_bytes}
 use Rattle.pdb_vectors.specs.Example.{header, directory, location, hello}
-use Rattle.pdb_vectors.specs.declared.example.TheConstants.{HEADER, DIRECTORY, LOCATION, HELLO}
+use Rattle.pdb_vectors.specs.declared.example.TheConstants.{HEADER, SIZES, PAGES, LOCATION, HELLO}
 
 pub is_header : HEADER.now ≡ header
 unfolding header
 is_header = refl
 
-pub is_directory : DIRECTORY.now ≡ directory
+pub is_directory : (size : ℕ) → SIZES.now ++ little_bytes 4 size ++ PAGES.now ≡ directory size
 unfolding directory
-is_directory = refl
+is_directory size = refl
 
 pub is_location : LOCATION.now ≡ location
 unfolding location

@@ -16,10 +16,10 @@ u32s numbers = flat_map (little_bytes 4) numbers
 unfoldable pub header : List ℕ
 header = codes "Microsoft C/C++ MSF 7.00\r\n" ++ 26 ∷ 68 ∷ 83 ∷ 0 ∷ 0 ∷ 0 ∷ [] ++ u32s (512 ∷ 1 ∷ 8 ∷ 32 ∷ 0 ∷ 3 ∷ [])
 
--- four streams, of 0 and 600 bytes, absent, and of 5 bytes; pages 6 and 5 of stream 1, and page 7 of
--- stream 3
-unfoldable pub directory : List ℕ
-directory = u32s (4 ∷ 0 ∷ 600 ∷ 0xffffffff ∷ 5 ∷ 6 ∷ 5 ∷ 7 ∷ [])
+-- four streams, of 0 and 600 bytes, absent, and of so many bytes; pages 6 and 5 of stream 1, and page 7
+-- of stream 3
+unfoldable pub directory : ℕ → List ℕ
+directory size = u32s (4 ∷ 0 ∷ 600 ∷ 0xffffffff ∷ size ∷ 6 ∷ 5 ∷ 7 ∷ [])
 
 -- the number of the directory's page
 unfoldable pub location : List ℕ
@@ -29,9 +29,12 @@ location = u32s (2 ∷ [])
 unfoldable pub hello : List ℕ
 hello = codes "hello"
 
--- the header; the free page map; the directory; the number of its page; nothing; stream 1, its
--- second page first, and stream 3
-unfoldable pub s1_bytes : List ℕ
-s1_bytes =
-    page header 0 ++ page [] 0 ++ page directory 0 ++ page location 0
-    ++ page [] 0 ++ page [] 98 ++ page [] 97 ++ page hello 0
+-- The file with these bytes as stream 3: the header; the free page map; the directory; the number of its
+-- page; nothing; stream 1, its second page first; and stream 3.
+unfoldable pub s1_of : List ℕ → List ℕ
+s1_of stream =
+    page header 0 ++ page [] 0 ++ page (directory (length stream)) 0 ++ page location 0
+    ++ page [] 0 ++ page [] 98 ++ page [] 97 ++ page stream 0
+
+abbrev pub s1_bytes : List ℕ
+s1_bytes = s1_of hello

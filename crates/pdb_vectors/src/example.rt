@@ -1,7 +1,7 @@
 //! The example file S1, small enough to be written out by hand.
 
-ghost use Rattle.std.specs.Prelude.{◌≡◌, ◌+◌, ◌≤◌, ◌++◌, length, vec_len, IfOk, IfErr, OnOk};
-ghost use Rattle.pdb_vectors.specs.Example.{page, s1_bytes};
+ghost use Rattle.std.specs.Prelude.{◌≡◌, ◌+◌, ◌≤◌, ◌++◌, length, take, vec_len, IfOk, IfErr, OnOk};
+ghost use Rattle.pdb_vectors.specs.Example.{directory, page, s1_bytes, s1_of};
 
 use pdb_container::{Error, Result};
 use std::alloc::Global;
@@ -14,14 +14,16 @@ const PAGE_SIZE: usize = 512;
 pub const HEADER: &[u8] =
     b"Microsoft C/C++ MSF 7.00\r\n\x1a\x44\x53\x00\x00\x00\x00\x02\x00\x00\x01\x00\x00\x00\x08\x00\x00\x00\x20\x00\x00\x00\x00\x00\x00\x00\x03\x00\x00\x00";
 
-/// The directory: four streams, of 0 and 600 bytes, absent, and of 5 bytes; pages 6 and 5, and page 7.
-pub const DIRECTORY: &[u8] =
-    b"\x04\x00\x00\x00\x00\x00\x00\x00\x58\x02\x00\x00\xff\xff\xff\xff\x05\x00\x00\x00\x06\x00\x00\x00\x05\x00\x00\x00\x07\x00\x00\x00";
+/// The directory as far as the size of stream 3: four streams, of 0 and 600 bytes, and absent.
+pub const SIZES: &[u8] = b"\x04\x00\x00\x00\x00\x00\x00\x00\x58\x02\x00\x00\xff\xff\xff\xff";
+
+/// The directory behind it: pages 6 and 5 of stream 1, and page 7 of stream 3.
+pub const PAGES: &[u8] = b"\x06\x00\x00\x00\x05\x00\x00\x00\x07\x00\x00\x00";
 
 /// The number of the directory's page.
 pub const LOCATION: &[u8] = b"\x02\x00\x00\x00";
 
-/// The bytes of stream 3.
+/// The bytes of stream 3 of S1.
 pub const HELLO: &[u8] = b"hello";
 
 /// Adds a page that begins with these bytes and is filled up with one byte.
@@ -38,25 +40,62 @@ fn push_page(file: &mut Vec<u8>, front: &[u8], fill: u8) -> Result<()>
     Ok(())
 }
 
+/// The first 512 of these bytes.
+#[tactic(auto, using(crate::proofs::Pages::front))]
+fn page_of(bytes: &[u8]) -> &[u8]
+    ensures front { result.now ≡ take 512 bytes.now }
+    ensures len { length result.now ≤ 512 }
+{
+    &bytes[..PAGE_SIZE.min(bytes.len())]
+}
+
+/// The directory, of 32 bytes, with this size of stream 3.
+#[tactic(auto, using(crate::proofs::Constants::is_directory))]
+fn directory(alloc: Global, size: u32) -> Result<Vec<u8>>
+    ensures bytes { IfOk result (λ bytes. bytes.items ≡ directory size) }
+    ensures len { IfOk result (λ bytes. vec_len bytes ≡ 32) }
+    ensures want { IfErr result (λ e. e ≡ Error.OutOfMemory) }
+{
+    let mut bytes = Vec::from_slice(alloc, SIZES)?;
+    bytes.extend_from_slice(&size.to_le_bytes())?;
+    bytes.extend_from_slice(PAGES)?;
+    Ok(bytes)
+}
+
+/// The file S1 with other bytes as stream 3: the first 512 of these, which is what its page holds.
+///
+/// # Errors
+/// `OutOfMemory` where memory is refused.
+#[tactic(auto, using(crate::proofs::Constants::is_header, crate::proofs::Constants::is_location), unfolding(crate::specs::Example::s1_of))]
+pub fn s1_with(alloc: Global, stream: &[u8]) -> Result<Vec<u8>>
+    ensures bytes { IfOk result (λ file. file.items ≡ s1_of (take 512 stream.now)) }
+    ensures len { IfOk result (λ file. vec_len file ≡ 4096) }
+    ensures want { IfErr result (λ e. e ≡ Error.OutOfMemory) }
+{
+    let stream = page_of(stream);
+    let directory = directory(alloc, stream.len() as u32)?;
+    let mut file = Vec::with_capacity(alloc, 8 * PAGE_SIZE)?;
+    push_page(&mut file, HEADER, 0)?;
+    push_page(&mut file, b"", 0)?;
+    push_page(&mut file, &directory, 0)?;
+    push_page(&mut file, LOCATION, 0)?;
+    push_page(&mut file, b"", 0)?;
+    push_page(&mut file, b"", b'b')?;
+    push_page(&mut file, b"", b'a')?;
+    push_page(&mut file, stream, 0)?;
+    Ok(file)
+}
+
 /// The file S1: 4096 bytes with four streams. Stream 0 is empty, stream 1 is 512 times `a` and 88
 /// times `b`, stream 2 is absent, and stream 3 is `hello`.
 ///
 /// # Errors
 /// `OutOfMemory` where memory is refused.
-#[tactic(auto, using(crate::proofs::Constants::is_header, crate::proofs::Constants::is_directory, crate::proofs::Constants::is_location, crate::proofs::Constants::is_hello), unfolding(crate::specs::Example::s1_bytes))]
+#[tactic(auto, using(crate::proofs::Constants::is_hello))]
 pub fn s1(alloc: Global) -> Result<Vec<u8>>
     ensures bytes { IfOk result (λ file. file.items ≡ s1_bytes) }
     ensures len { IfOk result (λ file. vec_len file ≡ 4096) }
     ensures want { IfErr result (λ e. e ≡ Error.OutOfMemory) }
 {
-    let mut file = Vec::with_capacity(alloc, 8 * PAGE_SIZE)?;
-    push_page(&mut file, HEADER, 0)?;
-    push_page(&mut file, b"", 0)?;
-    push_page(&mut file, DIRECTORY, 0)?;
-    push_page(&mut file, LOCATION, 0)?;
-    push_page(&mut file, b"", 0)?;
-    push_page(&mut file, b"", b'b')?;
-    push_page(&mut file, b"", b'a')?;
-    push_page(&mut file, HELLO, 0)?;
-    Ok(file)
+    s1_with(alloc, HELLO)
 }

@@ -1,8 +1,7 @@
 //! What the program prints of S1, row by row.
 
 use crate::outcome::act;
-use pdb_vectors::s1;
-use std::alloc::Global;
+use pdb_vectors::{item_table, s1, s1_with};
 use std::test::Fail;
 
 const USAGE: &str = "usage: pdbq stream N [LIMIT] | type S I | id S I | name S O | ranges S A B\n";
@@ -15,42 +14,6 @@ const NO_OMAP: &str = "OMAP stream has an invalid length or alignment for its re
 
 /// The lines that are printed without words, as the runs of equal digits on each.
 const EXAMPLE: [(&str, usize, usize); 3] = [("61", 32, 16), ("62", 32, 2), ("62", 24, 1)];
-
-/// Where the size of stream 3 stands in S1, and where its page begins.
-const SIZE_OF_3: usize = 1040;
-
-const PAGE_OF_3: usize = 3584;
-
-/// Puts bytes at a place of a file, as far as it goes.
-fn put(file: &mut [u8], place: usize, bytes: &[u8]) {
-    let mut place = place;
-    for byte in bytes {
-        if place < file.len() {
-            file[place] = *byte;
-            place += 1;
-        }
-    }
-}
-
-/// S1 with other bytes as stream 3.
-fn with_stream_3(alloc: Global, stream: &[u8]) -> Result<Vec<u8>, Fail> {
-    let mut file = s1(alloc)?;
-    let size = stream.len().to_le_bytes();
-    put(&mut file, SIZE_OF_3, &size[..4]);
-    put(&mut file, PAGE_OF_3, stream);
-    Ok(file)
-}
-
-/// A table of these items whose header counts the indexes from 0x1000 to below the maximum.
-fn table(alloc: Global, maximum: u32, items: &[u8]) -> Result<Vec<u8>, Fail> {
-    let mut stream = Vec::new(alloc);
-    for field in [0, 56, 0x1000, maximum] {
-        stream.extend_from_slice(&u32::to_le_bytes(field))?;
-    }
-    stream.resize(56, 0)?;
-    stream.extend_from_slice(items)?;
-    Ok(stream)
-}
 
 #[test]
 fn streams(rt: HostRuntime) -> Result<(), Fail> {
@@ -104,17 +67,26 @@ fn streams(rt: HostRuntime) -> Result<(), Fail> {
 fn tables(rt: HostRuntime) -> Result<(), Fail> {
     let alloc = rt.alloc();
     let modifier = b"\x0a\x00\x01\x10\x74\x00\x00\x00\x01\x00\xf2\xf1";
-    let types = table(alloc, 0x1001, modifier)?;
+    let types = item_table(alloc, 56, 0x1000, 0x1001, modifier)?;
     let class =
         b"\x2a\x00\x09\x16\x00\x02\x00\x00\x16\x10\x00\x00\x00\x00\x00\x00\x00\x00\x00\x00\x02\x00\x06\x00H_size\x00.?AUH_size@@\x00";
-    let classes = table(alloc, 0x1001, class)?;
-    let ids = table(alloc, 0x1001, b"\x08\x00\x05\x16\x00\x00\x00\x00a\x00")?;
+    let classes = item_table(alloc, 56, 0x1000, 0x1001, class)?;
+    let ids = item_table(
+        alloc,
+        56,
+        0x1000,
+        0x1001,
+        b"\x08\x00\x05\x16\x00\x00\x00\x00a\x00",
+    )?;
+    let cut = item_table(alloc, 56, 0x1000, 0x1001, &class[..4])?;
+    let build_info = b"\x0c\x00\x03\x16\x02\x00\x01\x10\x00\x00\x02\x10\x00\x00";
+    let builds = item_table(alloc, 56, 0x1000, 0x1001, build_info)?;
     let short = [[2, 0, 1, 16]; 9];
-    let short = table(alloc, 0x2000, short.as_flattened())?;
+    let short = item_table(alloc, 56, 0x1000, 0x2000, short.as_flattened())?;
     let names = b"\xfe\xef\xfe\xef\x01\x00\x00\x00\x07\x00\x00\x00\x00foo\x00ba\x00".as_slice();
     let broken = b"\xfe\xef\xfe\xef\x01\x00\x00\x00\x04\x00\x00\x00f\xffo\x00".as_slice();
     let omap = b"\x00\x10\x00\x00\x00\x00\x00\x00\x08\x10\x00\x00\x44\x5d\x01\x00".as_slice();
-    let rows: [(&[u8], &[&str], u8, &str, &str); 16] = [
+    let rows: [(&[u8], &[&str], u8, &str, &str); 18] = [
         (&types, &["type", "3", "0x1000"], 0, "0x1000 0x1001 -\n", ""),
         (&types, &["type", "3", "0x74"], 0, "0x74 0xffff -\n", ""),
         (
@@ -132,7 +104,9 @@ fn tables(rt: HostRuntime) -> Result<(), Fail> {
             "0x1000 0x1609 H_size\n",
             "",
         ),
+        (&cut, &["type", "3", "0x1000"], 1, "", "UnexpectedEof\n"),
         (&short, &["type", "3", "0x1500"], 1, "", "UnexpectedEof\n"),
+        (&builds, &["id", "3", "0x1000"], 0, "0x1000 0x1603 -\n", ""),
         (&ids, &["id", "3", "0x1000"], 0, "0x1000 0x1605 a\n", ""),
         (
             &ids,
@@ -157,7 +131,7 @@ fn tables(rt: HostRuntime) -> Result<(), Fail> {
         (b"hello", &["ranges", "3", "0", "0x1010"], 1, "", NO_OMAP),
     ];
     for (stream, words, status, out, err) in rows {
-        let outcome = act(alloc, words, with_stream_3(alloc, stream)?)?;
+        let outcome = act(alloc, words, s1_with(alloc, stream)?)?;
         assert_eq!(rt; outcome.status, status, "{words:?}");
         assert_eq!(rt; outcome.out.as_slice(), out.as_bytes(), "{words:?}");
         assert_eq!(rt; outcome.err.as_slice(), err.as_bytes(), "{words:?}");

@@ -2,19 +2,16 @@
 
 use pdb_container::{Error, Stream, TypeIndex, TypeInformation};
 use pdb_records::parse_type_data;
+use pdb_vectors::item_table;
 use std::alloc::Global;
 use std::test::Fail;
 
 /// A table whose header has 56 bytes, and whose one item, of index 0x1000, is this record.
 pub(crate) fn table_of(alloc: Global, record: &[u8]) -> Result<Stream, Fail> {
-    let mut bytes = vec![in alloc; 0u8; 4]?;
-    for field in [56u32, 0x1000, 0x1001] {
-        bytes.extend_from_slice(&field.to_le_bytes())?;
-    }
-    bytes.resize(56, 0)?;
     let length = u16::try_from(record.len()).map_err(|_| "a long record")?;
-    bytes.extend_from_slice(&length.to_le_bytes())?;
-    bytes.extend_from_slice(record)?;
+    let mut items = Vec::from_slice(alloc, &length.to_le_bytes())?;
+    items.extend_from_slice(record)?;
+    let bytes = item_table(alloc, 56, 0x1000, 0x1001, &items)?;
     if bytes.len() >= 0xffff_ffff {
         return Err("a long table".into());
     }

@@ -1,22 +1,15 @@
 //! Lists of indexes that stand behind their count.
 
-ghost use Rattle.std.specs.Prelude.{◌≡◌, ◌*◌, ◌≤◌, length};
-ghost use Rattle.pdb_base.specs.Answer.{Answers, Gives};
+ghost use Rattle.std.specs.Prelude.{◌*◌, ◌≤◌, length, IsOk};
+ghost use Rattle.pdb_base.specs.Answer.{Answers};
 ghost use Rattle.pdb_base.specs.Place.{left};
 ghost use Rattle.pdb_grammar.specs.Repeated.{repeated};
 ghost use Rattle.pdb_grammar.specs.Shape.{index_at};
-ghost use Rattle.pdb_records.specs.Lists.{LacksMeant};
+ghost use Rattle.pdb_records.specs.Memory.{LacksOnlyIf};
 
-use crate::parse::index::Index;
+use crate::parse::index::{Index, parse_index};
 use pdb_base::{Error, ParseBuffer, Result};
 use std::alloc::Global;
-
-/// An index.
-fn parse_index<I: Index>(buffer: &mut ParseBuffer<'_>) -> Result<I>
-    ensures { Gives (λ index. (index, left buffer.new)) result (index_at I.said (left buffer.old)) }
-{
-    Ok(I::from_number(buffer.parse_u32()?))
-}
 
 /// So many indexes, which are known to be there.
 fn parse_held_indexes<I: Index>(
@@ -44,7 +37,7 @@ pub(crate) fn parse_indexes<I: Index>(
     count: usize,
 ) -> Result<Vec<I>>
     ensures read { Answers (λ list. (list.items, left buffer.new)) result (repeated (index_at I.said) count (left buffer.old)) }
-    ensures held { LacksMeant result (repeated (index_at I.said) count (left buffer.old)) }
+    ensures held { LacksOnlyIf result (IsOk (repeated (index_at I.said) count (left buffer.old))) }
 {
     if buffer.len() / 4 < count {
         return Err(Error::UnexpectedEof);

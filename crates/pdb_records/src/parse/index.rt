@@ -1,9 +1,11 @@
 //! Indexes that stand in records.
 
 ghost use Rattle.std.specs.Prelude.{◌≡◌, ℕ};
-ghost use Rattle.pdb_grammar.specs.Shape.{as_id, as_type};
+ghost use Rattle.pdb_base.specs.Answer.{Gives};
+ghost use Rattle.pdb_base.specs.Place.{left};
+ghost use Rattle.pdb_grammar.specs.Shape.{as_id, as_type, index_at};
 
-use pdb_base::{IdIndex, TypeIndex};
+use pdb_base::{IdIndex, ParseBuffer, Result, TypeIndex};
 
 /// An index that stands in records as a number of four bytes.
 pub(crate) trait Index: Copy {
@@ -29,4 +31,11 @@ impl Index for IdIndex {
     fn from_number(number: u32) -> Self {
         IdIndex(number)
     }
+}
+
+/// An index.
+pub(crate) fn parse_index<I: Index>(buffer: &mut ParseBuffer<'_>) -> Result<I>
+    ensures { Gives (λ index. (index, left buffer.new)) result (index_at I.said (left buffer.old)) }
+{
+    Ok(I::from_number(buffer.parse_u32()?))
 }

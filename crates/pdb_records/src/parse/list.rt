@@ -1,11 +1,12 @@
 //! Lists of arguments and of methods.
 
+ghost use Rattle.std.specs.Prelude.{IsOk};
 ghost use Rattle.pdb_base.specs.Answer.{Answers};
 ghost use Rattle.pdb_base.specs.Place.{left};
 ghost use Rattle.pdb_grammar.specs.Row.{row};
 ghost use Rattle.pdb_grammar.specs.ToEnd.{to_end};
 ghost use Rattle.pdb_records.specs.Rows.{entry_row};
-ghost use Rattle.pdb_records.specs.Lists.{arguments_row, LacksMeant};
+ghost use Rattle.pdb_records.specs.Lists.{arguments_row};
 ghost use Rattle.pdb_records.specs.Memory.{LacksOnlyIf, HoldsMethod};
 
 use crate::parse::counted::parse_indexes;
@@ -23,7 +24,7 @@ pub(crate) fn parse_argument_list(
     buffer: &mut ParseBuffer<'_>,
 ) -> Result<ArgumentList>
     ensures read { Answers (λ list. (list.arguments.items, left buffer.new)) result (row arguments_row (left buffer.old)) }
-    ensures held { LacksMeant result (row arguments_row (left buffer.old)) }
+    ensures held { LacksOnlyIf result (IsOk (row arguments_row (left buffer.old))) }
 {
     let count = buffer.parse_u32()? as usize;
     Ok(ArgumentList {

@@ -6,6 +6,7 @@ ghost use Rattle.pdb_base.specs.Place.{left};
 ghost use Rattle.pdb_grammar.specs.Shape.{read_shape, type_index, id_index, some_type, some_id, text};
 ghost use Rattle.pdb_records.specs.Rows.{low_16, low_32};
 
+use crate::parse::index::parse_index;
 use pdb_base::{IdIndex, ParseBuffer, RawString, Result, TypeIndex};
 
 /// The last leaf whose texts have their length before them.
@@ -15,7 +16,7 @@ const LF_ST_MAX: u16 = 0x1500;
 pub(crate) fn parse_type_index(buffer: &mut ParseBuffer<'_>) -> Result<TypeIndex>
     ensures { Gives (λ index. (index, left buffer.new)) result (read_shape type_index (left buffer.old)) }
 {
-    Ok(TypeIndex(buffer.parse_u32()?))
+    parse_index(buffer)
 }
 
 /// The index of a type, or none, for which 0 and 0xffff stand.
@@ -32,7 +33,7 @@ pub(crate) fn parse_some_type(buffer: &mut ParseBuffer<'_>) -> Result<Option<Typ
 pub(crate) fn parse_id_index(buffer: &mut ParseBuffer<'_>) -> Result<IdIndex>
     ensures { Gives (λ index. (index, left buffer.new)) result (read_shape id_index (left buffer.old)) }
 {
-    Ok(IdIndex(buffer.parse_u32()?))
+    parse_index(buffer)
 }
 
 /// The index of an id, or none, for which 0 stands.

@@ -6,11 +6,11 @@ use pdb_container::{
     Count, Error, FallibleIterator, Header, IdIndex, IdInformation, Slice, Stream, Type,
     TypeFinder, TypeIndex, TypeInformation, TypeIter, constants,
 };
+use pdb_vectors::item_table;
 use std::alloc::Global;
 use std::test::Fail;
 
-/// A stream that begins with 56 bytes of header, of which these three fields are not 0, and goes on
-/// with these bytes.
+/// The stream of a table with these fields of its header, and these items.
 fn stream_of(
     alloc: Global,
     header_size: u32,
@@ -18,12 +18,7 @@ fn stream_of(
     maximum: u32,
     items: &[u8],
 ) -> Result<Stream, Fail> {
-    let mut bytes = vec![in alloc; 0u8; 4]?;
-    for field in [header_size, minimum, maximum] {
-        bytes.extend_from_slice(&field.to_le_bytes())?;
-    }
-    bytes.resize(56, 0)?;
-    bytes.extend_from_slice(items)?;
+    let bytes = item_table(alloc, header_size, minimum, maximum, items)?;
     if bytes.len() >= 0xffff_ffff {
         return Err("too long".into());
     }
@@ -501,40 +496,4 @@ fn leaves(rt: HostRuntime) {
     for (leaf, want) in rows {
         assert_eq!(rt; leaf, want);
     }
-}
-
-/// What the type of an index is, as `Debug` writes it, or the text of an error.
-fn parsed(alloc: Global, finder: &TypeFinder<'_>, index: u32) -> Result<String, Fail> {
-    let item = finder.find(TypeIndex(index))?;
-    match item.parse(alloc) {
-        Ok(data) => Ok(format!(in alloc; "{data:?}")?),
-        Err(error) => Ok(error.to_string(alloc)?),
-    }
-}
-
-#[test]
-fn types(rt: HostRuntime) -> Result<(), Fail> {
-    let alloc = rt.alloc();
-    let modifier = b"\x0a\x00\x01\x10\x74\x00\x00\x00\x01\x00\xf2\xf1";
-    let table = table_of(alloc, 0x1000, 0x1001, modifier)?;
-    let finder = table.finder(alloc)?;
-    let rows = [
-        (
-            0x1000,
-            "Modifier(ModifierType { underlying_type: TypeIndex(0x74), constant: true, volatile: false, unaligned: false })",
-        ),
-        (
-            0x74,
-            "Primitive(PrimitiveType { kind: I32, indirection: None })",
-        ),
-        (
-            0x674,
-            "Primitive(PrimitiveType { kind: I32, indirection: Some(Near64) })",
-        ),
-        (0x874, "Type 2164 not found"),
-    ];
-    for (index, want) in rows {
-        assert_eq!(rt; parsed(alloc, &finder, index)?.as_str(), want);
-    }
-    Ok(())
 }

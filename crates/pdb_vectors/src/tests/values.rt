@@ -73,8 +73,9 @@ fn values(rt: HostRuntime) -> Result<(), Fail> {
         )
     );
     let mut buffer = ParseBuffer::from(
-        b"\x09\x80\xff\xff\xff\xff\xff\xff\xff\xff\x05\x80".as_slice(),
+        b"\x00\x80\xff\x09\x80\xff\xff\xff\xff\xff\xff\xff\xff\x05\x80".as_slice(),
     );
+    assert_eq!(rt; buffer.parse::<Variant>()?, Variant::U8(255));
     assert_eq!(rt; buffer.parse::<Variant>()?, Variant::I64(-1));
     assert!(rt;
         matches!(
@@ -82,7 +83,7 @@ fn values(rt: HostRuntime) -> Result<(), Fail> {
             Err(Error::UnexpectedNumericPrefix(0x8005))
         )
     );
-    assert_eq!(rt; buffer.pos(), 10);
+    assert_eq!(rt; buffer.pos(), 13);
     Ok(())
 }
 

@@ -1,0 +1,34 @@
+//! Tables of types or ids, for rows that ask of their items.
+
+ghost use Rattle.std.specs.Prelude.{◌≡◌, IfOk, IfErr};
+ghost use Rattle.pdb_vectors.specs.Tables.{table_bytes};
+
+use pdb_container::{Error, Result};
+use std::alloc::Global;
+
+/// Bytes in the header of a table.
+const HEADER_SIZE: usize = 56;
+
+/// The bytes of a table: 56 of a header, of which these three fields are not 0, and then the items.
+///
+/// # Errors
+/// `OutOfMemory` where memory is refused.
+#[tactic(auto, unfolding(crate::specs::Tables::table_bytes))]
+pub fn item_table(
+    alloc: Global,
+    header_size: u32,
+    minimum: u32,
+    maximum: u32,
+    items: &[u8],
+) -> Result<Vec<u8>>
+    ensures bytes { IfOk result (λ table. table.items ≡ table_bytes header_size minimum maximum items.now) }
+    ensures want { IfErr result (λ e. e ≡ Error.OutOfMemory) }
+{
+    let mut bytes = Vec::from_slice(alloc, &[0; 4])?;
+    bytes.extend_from_slice(&header_size.to_le_bytes())?;
+    bytes.extend_from_slice(&minimum.to_le_bytes())?;
+    bytes.extend_from_slice(&maximum.to_le_bytes())?;
+    bytes.resize(HEADER_SIZE, 0)?;
+    bytes.extend_from_slice(items)?;
+    Ok(bytes)
+}
