@@ -1,9 +1,10 @@
 -- One query to a vector of bytes, which is a sound source.
-use Rattle.std.proofs.Common.{◌≡◌, List, [], ◌∷◌, ◌++◌, ℕ, Ok, Option, Bor, refl, ap, ◌∙◌, subst, inl, inr}
+use Rattle.std.proofs.Common.{◌≡◌, List, [], ◌∷◌, ◌++◌, ℕ, Ok, Option, Bor, refl, sym, ap, ◌∙◌, subst, inl, inr}
 use Rattle.std.specs.Option.{option_map}
 use Rattle.std.specs.Prelude.{◌⊎◌, IsTrue, true}
 use Rattle.std.specs.Global.{Vec}
 use Rattle.pdb_container.specs.declared.Error.{Error}
+use Rattle.pdb_base.specs.declared.error.Error.TheVariants as errors
 use Rattle.pdb_container.specs.declared.query.Query.{Query}
 use Rattle.pdb_container.specs.declared.query.Reply.{Reply}
 use Rattle.pdb_container.specs.Refusal.{refusal_of, out_of_memory}
@@ -12,7 +13,7 @@ use Rattle.pdb_container.specs.Header.{Head, opened}
 use Rattle.pdb_container.specs.Reply.{Said, entry, IsReply, AreReplies, IsRun, reply_of}
 use Rattle.pdbq.specs.declared.outcome.Outcome.{Outcome}
 use Rattle.pdbq.specs.Lines.{record_line}
-use Rattle.pdbq.specs.Printed.{IsPrinted, IsAnswered, IsRefused, IsUsage, IsOutcomeOf, IsOutcome, Shows, asked, answer_of}
+use Rattle.pdbq.specs.Printed.{IsPrinted, IsAnswered, IsRefused, IsUsage, IsOutcomeOf, IsOutcome, IsOfChannels, Shows, asked, answer_of}
 use Rattle.pdbq.specs.Words.{query_of}
 
 -- never: a vector of bytes is sound
@@ -63,3 +64,7 @@ shown_outcome words file outcome shown = record { words = words; file = file; sh
 pub usage_outcome : (outcome : Outcome) → IsUsage outcome → IsOutcome outcome
 unfolding query_of
 usage_outcome outcome usage = record { words = [] ∷ []; file = []; shows = usage }
+
+-- want of memory is a reason to show nothing
+pub want_of_channels : (e : Error) → e ≡ errors.OutOfMemory → IsOfChannels e
+want_of_channels e is = subst IsOfChannels (sym is) tt

@@ -1,9 +1,11 @@
 -- What the program prints, on which channel, and with which status.
-use Rattle.std.specs.Prelude.{◌≡◌, ◌⊎◌, ℕ, List, [], codes, Option, Some, None, IfSome, Ok, Err}
+use Rattle.std.specs.Prelude.{◌≡◌, ◌⊎◌, ℕ, List, [], codes, Option, Some, None, IfSome, Ok, Err, ⊤}
 use Rattle.std.specs.Option.{option_map}
 use Rattle.std.specs.declared.ops.Range.{Range}
 use Rattle.pdb_container.specs.declared.query.Query.{Query}
 use Rattle.pdb_container.specs.declared.query.Query.TheVariants as queries
+use Rattle.pdb_base.specs.declared.error.Error.{Error}
+use Rattle.pdb_base.specs.declared.error.Error.TheVariants.{IoError, OutOfMemory}
 use Rattle.pdb_container.specs.Refusal.{Refusal, out_of_memory}
 use Rattle.pdb_container.specs.ErrorText.{text_of}
 use Rattle.pdb_base.specs.Text.{lossy}
@@ -61,6 +63,12 @@ asked words file = option_map (λ query. (query, file)) (query_of words)
 abbrev pub Shows : Option (Query × List ℕ) → Outcome → Type 0
 Shows (Some question) outcome = IsOutcomeOf (answer_of question.1 question.0) outcome ⊎ IsRefused out_of_memory outcome
 Shows None outcome = IsUsage outcome
+
+-- why the program has nothing to show: a channel failed, or memory was refused
+abbrev pub IsOfChannels : Error → Type 0
+IsOfChannels (IoError fault) = ⊤
+IsOfChannels OutOfMemory = ⊤
+IsOfChannels other = ⊥
 
 -- an outcome of the program: what it shows of some words and some file
 pub record IsOutcome (outcome : Outcome) : Type 0 where

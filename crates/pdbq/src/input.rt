@@ -1,6 +1,7 @@
 //! Reads standard input whole.
 
-ghost use Rattle.std.specs.Prelude.{◌≡◌, IfOk, IfSome};
+ghost use Rattle.std.specs.Prelude.{◌≡◌, IfOk, IfErr, IfSome};
+ghost use Rattle.pdbq.specs.Printed.{IsOfChannels};
 
 use pdb_container::Result;
 use std::alloc::Global;
@@ -20,6 +21,7 @@ const MOST_READS: u32 = u32::MAX;
 /// reads; `OutOfMemory` where memory is refused. A read that was interrupted is asked again.
 pub fn read_all<R: Read>(alloc: Global, input: &mut R) -> Result<Vec<u8>>
     ensures bytes { IfOk result (λ file. IfSome (R.remaining input.old) (λ xs. file.items ≡ xs)) }
+    ensures refused { IfErr result IsOfChannels }
 {
     let mut block = vec![in alloc; 0; BLOCK_SIZE]?;
     let mut bytes = Vec::new(alloc);

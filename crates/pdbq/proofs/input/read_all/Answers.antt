@@ -13,15 +13,15 @@ loop-init g c = record {
   read = subst (Consumes _ _) (sym c.new-bytes.ensures.items) (Consumes-nil _);
 }
 
-pub returns-in-Ok-eq0 : goal.returns-in-Ok-eq0
-returns-in-Ok-eq0 g c =
+pub returns-in-Ok-eq0-clause-bytes : goal.returns-in-Ok-eq0-clause-bytes
+returns-in-Ok-eq0-clause-bytes g c =
     let long : length c.read.new.buf ≡ 65_536 = search rules in
     let some : 0 < length c.read.new.buf = omega (arith, long) in
     let none : c.read.result ≡ Ok 0 = c.in-Ok-eq0.is ∙ ap Ok c.in-Ok-eq0.field-0-test in
     let old = g.R.Read.remaining c.loop.input in
     let new = g.R.Read.remaining c.read.new.self in
     let read = subst (λ (r : Result ℕ Error). ReadConsumes old new r c.read.new.buf) none c.read.ensures.bytes in
-    record { bytes = read_whole Error _ old new _ _ some c.loop.invariant.read read }
+    read_whole Error _ old new _ _ some c.loop.invariant.read read
 
 pub loop-preserved : goal.loop-preserved
 loop-preserved g c =
