@@ -9,5 +9,3 @@ pub mod SpellingLaws
 pub mod NumericLemmas
 pub mod NumericLaws
 pub mod AlignmentLaws
-pub mod BitLaws
-pub mod BitLemmas

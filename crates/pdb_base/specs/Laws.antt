@@ -1,9 +1,8 @@
 -- What the definitions of `Answer` and `Reading` say in other words.
-use Rattle.std.specs.Prelude.{◌≡◌, ◌↔◌, ℕ, ◌+◌, ◌*◌, ◌%◌, ◌<◌, ◌≤◌, ◌^◌, List, ◌∷◌, ◌++◌, length, map, None, Ok, Err, IsBitSet}
+use Rattle.std.specs.Prelude.{◌≡◌, ℕ, ◌%◌, ◌<◌, ◌≤◌, ◌^◌, List, ◌∷◌, ◌++◌, length, map, None, Ok, Err}
 use Rattle.byteorder.specs.Endian.{little_bytes}
 use Rattle.pdb_base.specs.Refusal.{Refusal, unexpected_eof, unexpected_numeric_prefix}
 use Rattle.pdb_base.specs.Answer.{Answer, collected}
-use Rattle.pdb_base.specs.Bits.{bits}
 use Rattle.pdb_base.specs.Place.{Place, aligned}
 use Rattle.pdb_base.specs.Reading.{number_at}
 use Rattle.pdb_base.specs.Numeric.{NumberKind, least_leaf, kind_behind}
@@ -53,15 +52,3 @@ pub record AlignsToNext (alignment : ℕ) (place : Place) : Type 0 where
   pub is_next : IsNextMultiple alignment place.pos next
   pub within : next ≤ length place.slice → aligned alignment place ≡ Ok (record place { pos = next })
   pub past : length place.slice < next → aligned alignment place ≡ Err unexpected_eof
-
--- bits are put together of the lowest among them and of those above
-abbrev pub ArePutTogether : ℕ → ℕ → ℕ → ℕ → Type 0
-ArePutTogether word place low high = bits word place (low + high) ≡ bits word (place + low) high * 2 ^ low + bits word place low
-
--- a number that so many bits hold is what they say
-abbrev pub IsAllItsBits : ℕ → ℕ → Type 0
-IsAllItsBits word count = word < 2 ^ count → bits word 0 count ≡ word
-
--- one bit is 1 just where it is set
-abbrev pub TellsOneBit : ℕ → ℕ → Type 0
-TellsOneBit word place = (bits word place 1 ≡ 1) ↔ IsBitSet word place

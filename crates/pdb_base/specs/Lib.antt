@@ -9,8 +9,6 @@ pub mod Reading
 pub mod Text
 pub mod Numeric
 pub mod Spelling
-pub mod Bits
-pub mod Parts
 pub mod Laws
 -- the words of the libraries below that the contracts of this one speak in
 pub use Rattle.byteorder.specs.Endian

@@ -4,7 +4,7 @@
 ghost use Rattle.std.specs.Prelude.{◌≡◌, ◌≢◌, ℕ, List};
 ghost use Rattle.pdb_base.specs.Answer.{Answer};
 ghost use Rattle.std.specs.Int.{Width};
-ghost use Rattle.pdb_base.specs.Laws.{CollectsAll, RefusesAsFirst, ReadsSpelling, RefusesPrefixFirst, AlignsToNext, ArePutTogether, IsAllItsBits, TellsOneBit};
+ghost use Rattle.pdb_base.specs.Laws.{CollectsAll, RefusesAsFirst, ReadsSpelling, RefusesPrefixFirst, AlignsToNext};
 ghost use Rattle.pdb_base.specs.Place.{Place};
 ghost use Rattle.pdb_base.specs.Reading.{number_at, signed_at, text_at, counted_at};
 ghost use Rattle.pdb_base.specs.Numeric.{unsigned_leaves, numeric_leaves, num_at, variant_at};
@@ -50,15 +50,6 @@ pub fn refused_prefixes()
 #[tactic(auto, using(crate::proofs::AlignmentLaws::aligns_to_next))]
 pub fn alignment()
     ensures { (alignment : ℕ) (place : Place) → alignment ≢ 0 → AlignsToNext alignment place }
-{}
-
-/// Bits are put together of the lower and the higher ones, all bits of a number are the number, and one
-/// bit tells whether it is set.
-#[tactic(auto, using(crate::proofs::BitLaws::put_together, crate::proofs::BitLaws::all_bits, crate::proofs::BitLaws::one_bit))]
-pub fn bit_fields()
-    ensures together { (word place low high : ℕ) → ArePutTogether word place low high }
-    ensures all { (word count : ℕ) → IsAllItsBits word count }
-    ensures one { (word place : ℕ) → TellsOneBit word place }
 {}
 
 /// The conversions of an index to a number and of a number to an index undo each other.

@@ -2,7 +2,6 @@
 //! text and indexes.
 #![tactic(auto)]
 
-pub mod bits;
 mod buffer;
 mod buffer_text;
 mod count;

@@ -1,8 +1,8 @@
 -- The word of 16 bits that says how a function is called: a byte with the calling convention, of the
 -- numbers of `CV_call_e` in Microsoft's cvinfo.h, and above it the bits of `CV_funcattr_t`.
 use Rattle.std.specs.Prelude.{ℕ, Bool}
-use Rattle.pdb_base.specs.Bits.{bits}
-use Rattle.pdb_base.specs.Parts.{is_set}
+use Rattle.pdb_bits.specs.Bits.{bits}
+use Rattle.pdb_bits.specs.Parts.{is_set}
 
 -- the number of the calling convention, 8 bits
 abbrev pub calling_convention : ℕ → ℕ

@@ -5,5 +5,5 @@ pub mod FunctionAttributes
 pub mod PointerAttributes
 pub mod Laws
 -- the words of the libraries below that the contracts of this one speak in
-pub use Rattle.pdb_base.specs.Bits
-pub use Rattle.pdb_base.specs.Parts
+pub use Rattle.pdb_bits.specs.Bits
+pub use Rattle.pdb_bits.specs.Parts

@@ -1,8 +1,8 @@
 -- The word of 32 bits that says what a pointer is. Its parts lie in this order from the lowest bit on,
 -- as `lfPointerAttr` of Microsoft's cvinfo.h has them.
 use Rattle.std.specs.Prelude.{ℕ, Bool, ◌==◌, ◌||◌, ◌&&◌, nat_le, if◌then◌else◌, Option, Some, None}
-use Rattle.pdb_base.specs.Bits.{bits}
-use Rattle.pdb_base.specs.Parts.{is_set}
+use Rattle.pdb_bits.specs.Bits.{bits}
+use Rattle.pdb_bits.specs.Parts.{is_set}
 use Rattle.pdb_flags.specs.declared.pointer_kind.PointerKind.TheVariants.{Near32, Far32, Ptr64}
 use Rattle.pdb_flags.specs.declared.pointer_mode.PointerMode.TheVariants.{LValueReference, Member, MemberFunction, RValueReference}
 use Rattle.pdb_flags.specs.PointerNumbers.{kind_number, mode_number}

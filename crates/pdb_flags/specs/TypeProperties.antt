@@ -1,8 +1,8 @@
 -- The word of 16 bits that says properties of a class, a union or an enumeration. Its parts lie in
 -- this order from the lowest bit on, as `CV_prop_t` of Microsoft's cvinfo.h has them.
 use Rattle.std.specs.Prelude.{ℕ, Bool}
-use Rattle.pdb_base.specs.Bits.{bits}
-use Rattle.pdb_base.specs.Parts.{is_set}
+use Rattle.pdb_bits.specs.Bits.{bits}
+use Rattle.pdb_bits.specs.Parts.{is_set}
 
 -- the members are packed
 abbrev pub packed : ℕ → Bool

@@ -3,7 +3,7 @@
 ghost use Rattle.std.specs.Prelude.{◌≡◌};
 ghost use Rattle.pdb_flags.specs.FieldAttributes.{access, method_property, is_virtual, is_static, is_pure_virtual, is_intro_virtual};
 
-use pdb_base::bits::part;
+use pdb_bits::part;
 use std::marker::Model;
 
 // The numbers of `CV_methodprop_e`.

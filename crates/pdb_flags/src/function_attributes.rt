@@ -3,7 +3,7 @@
 ghost use Rattle.std.specs.Prelude.{◌≡◌};
 ghost use Rattle.pdb_flags.specs.FunctionAttributes.{calling_convention, cxx_return_udt, is_constructor, is_constructor_with_virtual_bases};
 
-use pdb_base::bits::{is_set, part};
+use pdb_bits::{is_set, part};
 use std::marker::Model;
 
 /// Attributes of a function or a method: the calling convention of `CV_call_e` in the low byte, and the

@@ -6,7 +6,7 @@ ghost use Rattle.pdb_flags.specs.PointerNumbers.{kind_number, mode_number};
 
 use crate::pointer_kind::PointerKind;
 use crate::pointer_mode::PointerMode;
-use pdb_base::bits::{is_set, part};
+use pdb_bits::{is_set, part};
 use std::marker::Model;
 
 /// Attributes of a pointer: the bits of `lfPointerAttr` in Microsoft's cvinfo.h. The kind and the mode are

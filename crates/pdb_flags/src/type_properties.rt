@@ -3,7 +3,7 @@
 ghost use Rattle.std.specs.Prelude.{◌≡◌};
 ghost use Rattle.pdb_flags.specs.TypeProperties.{packed, constructors, overloaded_operators, is_nested_type, contains_nested_types, overloaded_assignment, overloaded_casting, forward_reference, scoped_definition, has_unique_name, sealed, hfa, intrinsic_type, mocom};
 
-use pdb_base::bits::{is_set, part};
+use pdb_bits::{is_set, part};
 use std::marker::Model;
 
 /// Properties of a class, a union or an enumeration: the bits of `CV_prop_t` in Microsoft's cvinfo.h.

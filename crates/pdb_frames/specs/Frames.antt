@@ -1,7 +1,7 @@
 -- What records of both formats say of a frame.
 use Rattle.std.specs.Prelude.{◌*◌, ◌%◌, ◌^◌, false, Some, None}
-use Rattle.pdb_base.specs.Bits.{bits}
-use Rattle.pdb_base.specs.Parts.{is_set}
+use Rattle.pdb_bits.specs.Bits.{bits}
+use Rattle.pdb_bits.specs.Parts.{is_set}
 use Rattle.pdb_frames.specs.FrameNumbers.{kind_of}
 use Rattle.pdb_frames.specs.declared.frame_type.FrameType.TheVariants as kinds
 use Rattle.pdb_frames.specs.declared.frame_data.FrameData.{FrameData}

@@ -2,15 +2,15 @@
 
 ghost use Rattle.std.specs.Prelude.{◌≡◌};
 ghost use Rattle.std.proofs.Common.{lit<};
-ghost use Rattle.pdb_base.specs.Parts.{is_set};
+ghost use Rattle.pdb_bits.specs.Parts.{is_set};
 ghost use Rattle.pdb_base.specs.Reading.{front_at, read_as};
 ghost use Rattle.pdb_frames.specs.Stored.{new_frame, new_span};
 
 use crate::addr_range::AddrRange;
 use crate::frame_record::FrameRecord;
 use byteorder::{ByteOrder, LittleEndian};
-use pdb_base::bits::is_set;
 use pdb_base::{Le, Parse, ParseBuffer, Result};
+use pdb_bits::is_set;
 
 /// A record of the newer format: 32 bytes, `FRAMEDATA` in Microsoft's cvinfo.h.
 #[derive(Clone, Copy, Debug, PartialEq, Eq)]

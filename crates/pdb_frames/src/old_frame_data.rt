@@ -2,8 +2,8 @@
 
 ghost use Rattle.std.specs.Prelude.{◌≡◌, ◌≤◌};
 ghost use Rattle.std.proofs.Common.{lit<};
-ghost use Rattle.pdb_base.specs.Bits.{bits};
-ghost use Rattle.pdb_base.specs.Parts.{is_set};
+ghost use Rattle.pdb_bits.specs.Bits.{bits};
+ghost use Rattle.pdb_bits.specs.Parts.{is_set};
 ghost use Rattle.pdb_base.specs.Reading.{front_at, read_as};
 ghost use Rattle.pdb_frames.specs.FrameNumbers.{kind_of};
 ghost use Rattle.pdb_frames.specs.Stored.{old_frame, old_span};
@@ -12,8 +12,8 @@ use crate::addr_range::AddrRange;
 use crate::frame_record::FrameRecord;
 use crate::frame_type::FrameType;
 use byteorder::{ByteOrder, LittleEndian};
-use pdb_base::bits::{is_set, part};
 use pdb_base::{Le, Parse, ParseBuffer, Result};
+use pdb_bits::{is_set, part};
 
 /// A record of the older format: 16 bytes, `FPO_DATA` in the PE specification.
 #[derive(Clone, Copy, Debug, PartialEq, Eq)]

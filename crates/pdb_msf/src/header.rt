@@ -149,31 +149,3 @@ pub fn read_header(alloc: Global, view: &[u8]) -> Result<Header>
     let location = geometry.page_numbers(alloc, &mut buffer, count)?;
     Ok(Header { geometry, location })
 }
-
-#[cfg(test)]
-mod tests {
-    use super::*;
-
-    #[test]
-    fn pages_and_good_numbers(rt: HostRuntime) {
-        let geometry = Geometry {
-            page_size: 4096,
-            pages_used: 15,
-            directory_size: 0,
-        };
-        for (bytes, pages) in [(0, 0), (1, 1), (4095, 1), (4096, 1), (4097, 2)] {
-            assert_eq!(rt; geometry.pages(bytes), pages, "at {bytes} bytes");
-        }
-        for number in [1, 14, 15] {
-            assert!(rt; matches!(geometry.judge(number), Ok(good) if good == number));
-        }
-        for number in [0, 16, 17] {
-            assert!(rt;
-                matches!(
-                geometry.judge(number),
-                Err(Error::PageReferenceOutOfRange(bad)) if bad == number
-            )
-            );
-        }
-    }
-}

@@ -1,9 +1,9 @@
 //! What the definitions that contracts cite say in other words. The functions do nothing: each
 //! contract is a law.
 
-ghost use Rattle.std.specs.Prelude.{◌≡◌, ℕ, ◌<◌, List, Ok, Err};
-ghost use Rattle.pdb_base.specs.Refusal.{Refusal};
-ghost use Rattle.pdb_msf.specs.Pages.{pages, page_numbers};
+ghost use Rattle.std.specs.Prelude.{◌≡◌, ℕ, ◌<◌, List, [], ◌∷◌, map, Ok, Err};
+ghost use Rattle.pdb_base.specs.Refusal.{Refusal, page_reference_out_of_range};
+ghost use Rattle.pdb_msf.specs.Pages.{pages, judged, page_numbers};
 ghost use Rattle.pdb_msf.specs.Runs.{AreJoined};
 ghost use Rattle.pdb_msf.specs.Header.{Head};
 ghost use Rattle.pdb_msf.specs.Laws.{IsLeast, Scatters, StandAtOffsets, AreGood, FirstFault, CutsOnly};
@@ -11,6 +11,15 @@ ghost use Rattle.pdb_msf.specs.Laws.{IsLeast, Scatters, StandAtOffsets, AreGood,
 /// So many bytes take the least number of pages that holds them.
 pub fn pages()
     ensures { (page_size bytes : ℕ) → 0 < page_size → IsLeast page_size bytes (pages page_size bytes) }
+{}
+
+/// The worked rows: how many pages of 4096 bytes hold 0, 1, 4095, 4096 and 4097 bytes, and which page
+/// numbers are good where 15 pages are used.
+#[tactic(auto, unfolding(crate::specs::Pages::pages))]
+pub fn worked_rows()
+    ensures counts { map (pages 4096) (0 ∷ 1 ∷ 4095 ∷ 4096 ∷ 4097 ∷ []) ≡ 0 ∷ 1 ∷ 1 ∷ 1 ∷ 2 ∷ [] }
+    ensures good { map (judged 15) (1 ∷ 14 ∷ 15 ∷ []) ≡ Ok 1 ∷ Ok 14 ∷ Ok 15 ∷ [] }
+    ensures bad { map (judged 15) (0 ∷ 16 ∷ 17 ∷ []) ≡ Err (page_reference_out_of_range 0) ∷ Err (page_reference_out_of_range 16) ∷ Err (page_reference_out_of_range 17) ∷ [] }
 {}
 
 /// What is scattered over pages is found byte by byte: byte i in page i / page size of the list, at

@@ -2,7 +2,7 @@
 -- Microsoft's cvinfo.h have it. A text in a record hangs on the leaf, by which it ends with a NUL or has
 -- its length before it.
 use Rattle.std.specs.Prelude.{ℕ, ◌%◌, ◌^◌, Bool, if◌then◌else◌}
-use Rattle.pdb_base.specs.Parts.{is_set}
+use Rattle.pdb_bits.specs.Parts.{is_set}
 use Rattle.pdb_flags.specs.TypeProperties.{has_unique_name}
 use Rattle.pdb_flags.specs.FieldAttributes.{is_intro_virtual}
 use Rattle.pdb_flags.specs.PointerAttributes.{pointer_to_member}

@@ -1,12 +1,12 @@
 //! The flags of a section (`Characteristics` of a section header in the PE format).
 
 ghost use Rattle.std.specs.Prelude.{◌≡◌};
-ghost use Rattle.pdb_base.specs.Parts.{is_set};
+ghost use Rattle.pdb_bits.specs.Parts.{is_set};
 ghost use Rattle.pdb_base.specs.Reading.{number_at, read_as};
 ghost use Rattle.pdb_space.specs.SectionHeader.{alignment_of};
 
-use pdb_base::bits::is_set;
 use pdb_base::{Le, Parse, Result};
+use pdb_bits::is_set;
 
 /// The flags of a section, as the PE format numbers their bits.
 #[derive(Debug, Default, PartialEq, Eq, Clone, Copy)]
@@ -171,7 +171,7 @@ impl SectionCharacteristics {
     /// where the flags name none. Bits 20 to 23 hold its exponent plus one (`IMAGE_SCN_ALIGN_1BYTES`
     /// to `IMAGE_SCN_ALIGN_8192BYTES`). Bit 3 (`IMAGE_SCN_TYPE_NO_PAD`) without these is the older
     /// form of 1.
-    #[tactic(auto, unfolding(pdb_base::specs::Bits::bits, crate::specs::SectionHeader::alignment_of))]
+    #[tactic(auto, unfolding(pdb_bits::specs::Bits::bits, crate::specs::SectionHeader::alignment_of))]
     pub fn alignment(self) -> Option<u16>
         ensures { result ≡ alignment_of self.0 }
     {

@@ -1,6 +1,6 @@
 -- The source's constants are the bytes of the format.
 use Rattle.std.proofs.Common.{◌≡◌, refl, ℕ, ◌++◌}
-use Rattle.pdb_container.specs.Endian.{little_bytes}
+use Rattle.pdb_base.specs.Endian.{little_bytes}
 use Rattle.pdb_vectors.specs.Example.{header, directory, location, hello}
 use Rattle.pdb_vectors.specs.declared.example.TheConstants.{HEADER, SIZES, PAGES, LOCATION, HELLO}
 

@@ -1,7 +1,7 @@
 -- The example file S1: eight pages of 512 bytes, the last of them page 7.
 use Rattle.std.specs.Prelude.{ℕ, ◌-◌, List, [], ◌∷◌, ◌++◌, length, replicate, codes}
 use Rattle.std.specs.List.{flat_map}
-use Rattle.pdb_container.specs.Endian.{little_bytes}
+use Rattle.pdb_base.specs.Endian.{little_bytes}
 
 -- a page that begins with these bytes and is filled up with one byte
 unfoldable pub page : List ℕ → ℕ → List ℕ

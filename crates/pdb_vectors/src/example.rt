@@ -3,7 +3,7 @@
 ghost use Rattle.std.specs.Prelude.{◌≡◌, ◌+◌, ◌≤◌, ◌++◌, length, take, vec_len, IfOk, IfErr, OnOk};
 ghost use Rattle.pdb_vectors.specs.Example.{directory, page, s1_bytes, s1_of};
 
-use pdb_container::{Error, Result};
+use pdb_base::{Error, Result};
 use std::alloc::Global;
 
 /// Bytes in a page of S1.

@@ -5,7 +5,7 @@ ghost use Rattle.std.specs.IoError.{error_kind};
 ghost use Rattle.pdb_msf.specs.Source.{HasFailed, IsKept, Shows, bytes_at, places};
 ghost use Rattle.pdb_vectors.specs.Failing.{counted_down, state_of};
 
-use pdb_container::{ReadView, Source, SourceSlice};
+use pdb_msf::{ReadView, Source, SourceSlice};
 use std::alloc::Global;
 use std::io;
 use std::io::ErrorKind;

@@ -6,7 +6,7 @@ ghost use Rattle.std.specs.declared.io.ErrorKind.TheVariants.{OutOfMemory};
 ghost use Rattle.pdb_msf.specs.Source.{HasFailed, IsKept, Shows, bytes_at, places};
 ghost use Rattle.pdb_vectors.specs.Noting.{state_of};
 
-use pdb_container::{ReadView, Source, SourceSlice};
+use pdb_msf::{ReadView, Source, SourceSlice};
 use std::alloc::{AllocError, Global};
 use std::io;
 use std::marker::Model;

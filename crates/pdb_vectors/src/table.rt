@@ -3,7 +3,7 @@
 ghost use Rattle.std.specs.Prelude.{◌≡◌, IfOk, IfErr};
 ghost use Rattle.pdb_vectors.specs.Tables.{table_bytes};
 
-use pdb_container::{Error, Result};
+use pdb_base::{Error, Result};
 use std::alloc::Global;
 
 /// Bytes in the header of a table.

@@ -1,4 +1,1 @@
-pub mod WordLemmas
-pub mod LineLemmas
-pub mod OutcomeLemmas
-pub mod InputLemmas
+pub mod ShownLemmas

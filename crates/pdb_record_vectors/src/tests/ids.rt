@@ -1,12 +1,14 @@
 //! Records of ids. Each field has a value of its own, so that one read in the place of another shows.
 
-use super::read::table_of;
-use pdb_container::{
-    BuildInfoId, Error, FunctionId, IdData, IdIndex, IdInformation, Local, MemberFunctionId,
-    RawString, Result, StringId, StringListId, StringRef, TypeIndex, UserDefinedTypeSourceFileRef,
-    UserDefinedTypeSourceId,
-};
+use super::read::{said_of, table_of, text_of};
+use pdb_base::{Error, IdIndex, Local, RawString, Result, TypeIndex};
 use pdb_records::parse_id_data;
+use pdb_space::StringRef;
+use pdb_tpi::{Id, IdInformation};
+use pdb_values::{
+    BuildInfoId, FunctionId, IdData, MemberFunctionId, StringId, StringListId,
+    UserDefinedTypeSourceFileRef, UserDefinedTypeSourceId,
+};
 use std::alloc::Global;
 use std::test::Fail;
 
@@ -101,14 +103,28 @@ fn parts(alloc: Global, types: &[TypeIndex]) -> Result<IdData<'static>> {
     Ok(IdData::StringList(StringListId { substrings }))
 }
 
+/// What an id is, or the text of its refusal.
+fn item_said(alloc: Global, item: Id<'_>) -> Result<String> {
+    said_of(alloc, &item.parse(alloc))
+}
+
+/// What the first id of a table is, or the text of its refusal.
+fn first_said(alloc: Global, table: &IdInformation) -> Result<String> {
+    let finder = table.finder(alloc)?;
+    item_said(alloc, finder.find(IdIndex(0x1000))?)
+}
+
 /// What an id is, as `Debug` writes it, or the text of its refusal.
 fn id_said(alloc: Global, record: &[u8]) -> std::result::Result<String, Fail> {
     let table = IdInformation::parse(table_of(alloc, record)?)?;
-    let finder = table.finder(alloc)?;
-    match finder.find(IdIndex(0x1000))?.parse(alloc) {
-        Ok(data) => Ok(format!(in alloc; "{data:?}")?),
-        Err(error) => Ok(error.to_string(alloc)?),
-    }
+    Ok(first_said(alloc, &table)?)
+}
+
+/// The same of a record with padding and another byte behind it.
+fn longer_said(alloc: Global, record: &[u8]) -> std::result::Result<String, Fail> {
+    let mut longer = Vec::from_slice(alloc, record)?;
+    longer.extend_from_slice(b"\xf2\xf1\x41")?;
+    id_said(alloc, &longer)
 }
 
 /// Whether each front of a record, the whole not among them, ends too soon.
@@ -122,117 +138,154 @@ fn ends_soon(alloc: Global, record: &[u8]) -> bool {
     true
 }
 
-/// Whether a record says this, and a copy of what it says is equal, and a copy of its list.
-fn is_copied(alloc: Global, record: &'static [u8], want: &IdData<'static>) -> Result<bool> {
-    let data = parse_id_data(alloc, record)?;
-    let is_list_copied = match &data {
-        IdData::BuildInfo(list) => list.clone(alloc)? == *list,
-        IdData::StringList(list) => list.clone(alloc)? == *list,
-        _ => true,
-    };
-    Ok(data == *want && is_list_copied && data.clone(alloc)? == data)
+/// Whether a copy of an id's list is equal, where it has one.
+fn is_list_copied(alloc: Global, data: &IdData<'_>) -> Result<bool> {
+    match data {
+        IdData::BuildInfo(list) => Ok(list.clone(alloc)? == *list),
+        IdData::StringList(list) => Ok(list.clone(alloc)? == *list),
+        _ => Ok(true),
+    }
 }
 
-/// Each record says what it says with bytes behind it too, and no front of it says anything.
-fn judge(alloc: Global, rows: &[Row]) -> std::result::Result<(), Fail> {
-    for (bytes, want) in rows {
-        let is_copied = is_copied(alloc, bytes, want)? && ends_soon(alloc, bytes);
-        let mut record = Vec::from_slice(alloc, bytes)?;
-        let want = format!(in alloc; "{want:?}")?;
-        let whole = id_said(alloc, &record)?;
-        record.extend_from_slice(b"\xf2\xf1\x41")?;
-        let longer = id_said(alloc, &record)?;
-        if !is_copied || whole.as_str() != want.as_str() || longer.as_str() != want.as_str() {
-            return Err(format!(in alloc; "{want}, {whole}, {longer}, {is_copied}")?.into());
-        }
+/// Whether an id is this one, and a copy of it is equal, and a copy of its list.
+fn is_copied(alloc: Global, data: &IdData<'_>, want: &IdData<'_>) -> Result<bool> {
+    let is_whole_copied = data.clone(alloc)? == *data;
+    Ok(*data == *want && is_list_copied(alloc, data)? && is_whole_copied)
+}
+
+/// Whether a record says this, and what it says is copied.
+fn is_read(alloc: Global, record: &[u8], want: &IdData<'_>) -> Result<bool> {
+    is_copied(alloc, &parse_id_data(alloc, record)?, want)
+}
+
+/// A record says this text with bytes behind it too, and no front of it says anything.
+fn judge_text(alloc: Global, record: &[u8], want: &str) -> std::result::Result<(), Fail> {
+    let whole = id_said(alloc, record)?;
+    let longer = longer_said(alloc, record)?;
+    let is_cut = ends_soon(alloc, record);
+    if is_cut && whole.as_str() == want && longer.as_str() == want {
+        Ok(())
+    } else {
+        Err(format!(in alloc; "{want}, {whole}, {longer}, {is_cut}")?.into())
     }
-    Ok(())
+}
+
+/// A record says this, and what it says is copied.
+fn judge(alloc: Global, record: &[u8], want: &IdData<'_>) -> std::result::Result<(), Fail> {
+    let is_read = is_read(alloc, record, want)?;
+    let want = text_of(alloc, want)?;
+    judge_text(alloc, record, want.as_str())?;
+    if is_read {
+        Ok(())
+    } else {
+        Err(format!(in alloc; "{want}, of another value")?.into())
+    }
 }
 
 #[test]
-fn id_records(rt: HostRuntime) -> std::result::Result<(), Fail> {
+fn plain_id_records(rt: HostRuntime) -> std::result::Result<(), Fail> {
     let alloc = rt.alloc();
-    judge(alloc, &plain_ids())?;
-    let builds: [(&'static [u8], &[IdIndex]); 2] = [
-        (b"\x03\x16\x00\x00", &[]),
-        (
-            b"\x03\x16\x02\x00\x01\x10\x00\x00\x02\x10\x00\x00",
-            &[IdIndex(0x1001), IdIndex(0x1002)],
-        ),
-    ];
-    for (record, ids) in builds {
-        judge(alloc, &[(record, build(alloc, ids)?)])?;
-    }
-    let texts: [(&'static [u8], &[TypeIndex]); 3] = [
-        (b"\x04\x16\x00\x00\x00\x00", &[]),
-        (
-            b"\x04\x16\x01\x00\x00\x00\x02\x10\x00\x00",
-            &[TypeIndex(0x1002)],
-        ),
-        (
-            b"\x04\x16\x02\x00\x00\x00\x09\x10\x00\x00\x0a\x10\x00\x00",
-            &[TypeIndex(0x1009), TypeIndex(0x100a)],
-        ),
-    ];
-    for (record, types) in texts {
-        judge(alloc, &[(record, parts(alloc, types)?)])?;
+    for (record, want) in &plain_ids() {
+        judge(alloc, record, want)?;
     }
     Ok(())
 }
+
+/// The bytes of what a module was built with, and the ids that say it.
+const BUILDS: &[(&[u8], &[IdIndex])] = &[
+    (b"\x03\x16\x00\x00", &[]),
+    (
+        b"\x03\x16\x02\x00\x01\x10\x00\x00\x02\x10\x00\x00",
+        &[IdIndex(0x1001), IdIndex(0x1002)],
+    ),
+];
+
+#[test]
+fn build_records(rt: HostRuntime) -> std::result::Result<(), Fail> {
+    let alloc = rt.alloc();
+    for (record, ids) in BUILDS {
+        judge(alloc, record, &build(alloc, ids)?)?;
+    }
+    Ok(())
+}
+
+/// The bytes of a text's parts, and the parts.
+const PARTS: &[(&[u8], &[TypeIndex])] = &[
+    (b"\x04\x16\x00\x00\x00\x00", &[]),
+    (
+        b"\x04\x16\x01\x00\x00\x00\x02\x10\x00\x00",
+        &[TypeIndex(0x1002)],
+    ),
+    (
+        b"\x04\x16\x02\x00\x00\x00\x09\x10\x00\x00\x0a\x10\x00\x00",
+        &[TypeIndex(0x1009), TypeIndex(0x100a)],
+    ),
+];
+
+#[test]
+fn part_records(rt: HostRuntime) -> std::result::Result<(), Fail> {
+    let alloc = rt.alloc();
+    for (record, types) in PARTS {
+        judge(alloc, record, &parts(alloc, types)?)?;
+    }
+    Ok(())
+}
+
+/// What is wrong with a record, its bytes, and the text of its refusal.
+const REFUSED: &[(&str, &[u8], &str)] = &[
+    (
+        "a count of three before two",
+        b"\x03\x16\x03\x00\x01\x10\x00\x00\x02\x10\x00\x00",
+        "UnexpectedEof",
+    ),
+    (
+        "a false count of ids",
+        b"\x03\x16\xff\xff\x01\x10\x00\x00",
+        "UnexpectedEof",
+    ),
+    (
+        "a false count of parts",
+        b"\x04\x16\xff\xff\xff\xff",
+        "UnexpectedEof",
+    ),
+    (
+        "a count of parts whose bytes are 2^32",
+        b"\x04\x16\x00\x00\x00\x40\x02\x10\x00\x00",
+        "UnexpectedEof",
+    ),
+    (
+        "a module without its high byte",
+        b"\x07\x16\x00\x10\x00\x00\x05\x10\x00\x00\x2a\x00\x00\x00\x03",
+        "UnexpectedEof",
+    ),
+    (
+        "a leaf above",
+        b"\x08\x16",
+        "Support for types of kind 0x1608 is not implemented",
+    ),
+    (
+        "a leaf below",
+        b"\x00\x16",
+        "Support for types of kind 0x1600 is not implemented",
+    ),
+    (
+        "a type in the table of ids",
+        b"\x01\x10\x74\x00\x00\x00\x05\x00",
+        "Support for types of kind 0x1001 is not implemented",
+    ),
+    (
+        "a struct in the table of ids",
+        b"\x09\x16\x00\x02\x00\x00",
+        "Support for types of kind 0x1609 is not implemented",
+    ),
+];
 
 #[test]
 fn refused_ids(rt: HostRuntime) -> std::result::Result<(), Fail> {
     let alloc = rt.alloc();
-    let refused: [(&str, &[u8], &str); 9] = [
-        (
-            "a count of three before two",
-            b"\x03\x16\x03\x00\x01\x10\x00\x00\x02\x10\x00\x00",
-            "UnexpectedEof",
-        ),
-        (
-            "a false count of ids",
-            b"\x03\x16\xff\xff\x01\x10\x00\x00",
-            "UnexpectedEof",
-        ),
-        (
-            "a false count of parts",
-            b"\x04\x16\xff\xff\xff\xff",
-            "UnexpectedEof",
-        ),
-        (
-            "a count of parts whose bytes are 2^32",
-            b"\x04\x16\x00\x00\x00\x40\x02\x10\x00\x00",
-            "UnexpectedEof",
-        ),
-        (
-            "a module without its high byte",
-            b"\x07\x16\x00\x10\x00\x00\x05\x10\x00\x00\x2a\x00\x00\x00\x03",
-            "UnexpectedEof",
-        ),
-        (
-            "a leaf above",
-            b"\x08\x16",
-            "Support for types of kind 0x1608 is not implemented",
-        ),
-        (
-            "a leaf below",
-            b"\x00\x16",
-            "Support for types of kind 0x1600 is not implemented",
-        ),
-        (
-            "a type in the table of ids",
-            b"\x01\x10\x74\x00\x00\x00\x05\x00",
-            "Support for types of kind 0x1001 is not implemented",
-        ),
-        (
-            "a struct in the table of ids",
-            b"\x09\x16\x00\x02\x00\x00",
-            "Support for types of kind 0x1609 is not implemented",
-        ),
-    ];
-    for (name, record, want) in refused {
+    for (name, record, want) in REFUSED {
         let said = id_said(alloc, record)?;
-        assert_eq!(rt; said.as_str(), want, "{name}");
+        assert_eq!(rt; said.as_str(), *want, "{name}");
     }
     Ok(())
 }

@@ -1,7 +1,8 @@
 //! Which numbers are leaves.
 
-use pdb_container::Error;
+use pdb_base::Error;
 use pdb_records::{parse_id_data, parse_type_data};
+use std::alloc::Global;
 
 /// The leaves of types that have a record.
 const TYPE_LEAVES: [u16; 40] = [
@@ -14,20 +15,31 @@ const TYPE_LEAVES: [u16; 40] = [
 /// The leaves of ids that have a record.
 const ID_LEAVES: [u16; 7] = [0x1601, 0x1602, 0x1603, 0x1604, 0x1605, 0x1606, 0x1607];
 
+/// Whether a number is refused by itself as the leaf of a type.
+fn is_refused_type(alloc: Global, number: u16) -> bool {
+    let bytes = number.to_le_bytes();
+    let read = parse_type_data(alloc, &bytes);
+    matches!(read, Err(Error::UnimplementedTypeKind(kind)) if kind == number)
+}
+
+/// Whether a number is refused by itself as the leaf of an id.
+fn is_refused_id(alloc: Global, number: u16) -> bool {
+    let bytes = number.to_le_bytes();
+    let read = parse_id_data(alloc, &bytes);
+    matches!(read, Err(Error::UnimplementedTypeKind(kind)) if kind == number)
+}
+
 /// Any other number is refused by itself.
 #[test]
 fn leaves(rt: HostRuntime) {
     let alloc = rt.alloc();
     for number in 0..=0xffffu16 {
-        let bytes = number.to_le_bytes();
-        let read = parse_type_data(alloc, &bytes);
-        let is_unknown = matches!(read, Err(Error::UnimplementedTypeKind(kind)) if kind == number);
-        assert_eq!(rt; is_unknown, !TYPE_LEAVES.contains(&number), "{number:x}");
-        let read = parse_id_data(alloc, &bytes);
-        let is_unknown = matches!(read, Err(Error::UnimplementedTypeKind(kind)) if kind == number);
+        let is_leaf = TYPE_LEAVES.contains(&number);
+        assert_eq!(rt; is_refused_type(alloc, number), !is_leaf, "{number:x}");
+        let is_leaf = ID_LEAVES.contains(&number);
         assert_eq!(rt;
-            is_unknown,
-            !ID_LEAVES.contains(&number),
+            is_refused_id(alloc, number),
+            !is_leaf,
             "{number:x}, as an id"
         );
     }

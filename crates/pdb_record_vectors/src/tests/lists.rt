@@ -1,12 +1,10 @@
 //! Records with a list: arrays, arguments, methods and fields.
 
-use super::read::{ends_soon, said};
-use pdb_container::{
-    ArgumentList, ArrayType, BaseClassType, ClassKind, EnumerateType, FieldAttributes, MemberType,
-    MethodList, MethodListEntry, NestedType, RawString, Result, TypeData, TypeIndex, Variant,
-    VirtualFunctionTablePointerType,
-};
+use super::read::{ends_soon, said, said_with, text_of};
+use pdb_base::{Result, TypeIndex};
+use pdb_flags::FieldAttributes;
 use pdb_records::parse_type_data;
+use pdb_values::{ArgumentList, ArrayType, MethodList, MethodListEntry, TypeData};
 use std::alloc::Global;
 use std::test::Fail;
 
@@ -38,15 +36,41 @@ fn methods(alloc: Global, entries: &[MethodListEntry]) -> Result<TypeData<'stati
 }
 
 /// Whether a copy of a list is equal.
-fn is_copied(alloc: Global, data: &TypeData<'static>) -> Result<bool> {
-    let is_list_copied = match data {
-        TypeData::Array(array) => array.clone(alloc)? == *array,
-        TypeData::ArgumentList(list) => list.clone(alloc)? == *list,
-        TypeData::MethodList(list) => list.clone(alloc)? == *list,
-        TypeData::FieldList(list) => list.clone(alloc)? == *list,
-        _ => false,
-    };
-    Ok(is_list_copied && data.clone(alloc)? == *data)
+fn is_list_copied(alloc: Global, data: &TypeData<'_>) -> Result<bool> {
+    match data {
+        TypeData::Array(array) => Ok(array.clone(alloc)? == *array),
+        TypeData::ArgumentList(list) => Ok(list.clone(alloc)? == *list),
+        TypeData::MethodList(list) => Ok(list.clone(alloc)? == *list),
+        TypeData::FieldList(list) => Ok(list.clone(alloc)? == *list),
+        _ => Ok(false),
+    }
+}
+
+/// Whether a copy is equal, of the whole and of its list.
+fn is_copied(alloc: Global, data: &TypeData<'_>) -> Result<bool> {
+    let is_whole_copied = data.clone(alloc)? == *data;
+    Ok(is_list_copied(alloc, data)? && is_whole_copied)
+}
+
+/// Whether what a record says is copied.
+fn is_record_copied(alloc: Global, record: &[u8]) -> Result<bool> {
+    is_copied(alloc, &parse_type_data(alloc, record)?)
+}
+
+/// Whether a record says this.
+fn is_read(alloc: Global, record: &'static [u8], want: &TypeData<'static>) -> Result<bool> {
+    Ok(parse_type_data(alloc, record)? == *want)
+}
+
+/// A record says this text, and what it says is copied.
+fn judge_text(alloc: Global, record: &[u8], want: &str) -> std::result::Result<(), Fail> {
+    let is_copied = is_record_copied(alloc, record)?;
+    let whole = said(alloc, record)?;
+    if is_copied && whole.as_str() == want {
+        Ok(())
+    } else {
+        Err(format!(in alloc; "{want}, {whole}, {is_copied}")?.into())
+    }
 }
 
 /// A record says this, and what it says is copied.
@@ -55,14 +79,13 @@ fn judge(
     record: &'static [u8],
     want: &TypeData<'static>,
 ) -> std::result::Result<(), Fail> {
-    let data = parse_type_data(alloc, record)?;
-    let is_copied = data == *want && is_copied(alloc, &data)?;
-    let want = format!(in alloc; "{want:?}")?;
-    let whole = said(alloc, record)?;
-    if is_copied && whole.as_str() == want.as_str() {
+    let is_read = is_read(alloc, record, want)?;
+    let want = text_of(alloc, want)?;
+    judge_text(alloc, record, want.as_str())?;
+    if is_read {
         Ok(())
     } else {
-        Err(format!(in alloc; "{want}, {whole}, {is_copied}")?.into())
+        Err(format!(in alloc; "{want}, of another value")?.into())
     }
 }
 
@@ -70,82 +93,87 @@ fn judge(
 type ArrayRow = (&'static [u8], u32, Option<u32>, &'static [u32]);
 
 /// Arrays with padding.
-fn padded_arrays() -> [ArrayRow; 3] {
-    [
-        (
-            b"\x03\x15\xa0\xdc\x0b\x00\x23\x00\x00\x00\x40\x00\x00\xf1",
-            0xb_dca0,
-            None,
-            &[0x40],
-        ),
-        (
-            b"\x03\x15\xa9\x12\x00\x00\x23\x00\x00\x00\x50\x02\x00\xf1",
-            0x12a9,
-            None,
-            &[0x250],
-        ),
-        (
-            b"\x03\x15\x77\x13\x00\x00\x23\x00\x00\x00\x02\x80\xbd\xda\x00\xf3\xf2\xf1",
-            0x1377,
-            None,
-            &[0xdabd],
-        ),
-    ]
-}
+const PADDED_ARRAYS: &[ArrayRow] = &[
+    (
+        b"\x03\x15\xa0\xdc\x0b\x00\x23\x00\x00\x00\x40\x00\x00\xf1",
+        0xb_dca0,
+        None,
+        &[0x40],
+    ),
+    (
+        b"\x03\x15\xa9\x12\x00\x00\x23\x00\x00\x00\x50\x02\x00\xf1",
+        0x12a9,
+        None,
+        &[0x250],
+    ),
+    (
+        b"\x03\x15\x77\x13\x00\x00\x23\x00\x00\x00\x02\x80\xbd\xda\x00\xf3\xf2\xf1",
+        0x1377,
+        None,
+        &[0xdabd],
+    ),
+];
 
 /// Arrays without padding.
-fn arrays() -> [ArrayRow; 5] {
-    [
-        (
-            b"\x03\x15\x77\x13\x00\x00\x23\x00\x00\x00\x02\x80\xbd\xda\x00",
-            0x1377,
-            None,
-            &[0xdabd],
-        ),
-        (
-            b"\x03\x10\x77\x13\x00\x00\x23\x00\x00\x00\x40\x00\x00",
-            0x1377,
-            None,
-            &[0x40],
-        ),
-        (
-            b"\x16\x15\x77\x13\x00\x00\x23\x00\x00\x00\x18\x01\x00\x00\x40\x00\x00",
-            0x1377,
-            Some(0x118),
-            &[0x40],
-        ),
-        (
-            b"\x03\x15\x77\x13\x00\x00\x23\x00\x00\x00\x04\x80\xff\xff\xff\xff\x00",
-            0x1377,
-            None,
-            &[0xffff_ffff],
-        ),
-        (
-            b"\x03\x15\x77\x13\x00\x00\x23\x00\x00\x00\x00\x01\x0a\x80\x03\x00\x00\x00\x00\x00\x00\x00\x02\x00\x00",
-            0x1377,
-            None,
-            &[0x100, 3, 2],
-        ),
-    ]
+const ARRAYS: &[ArrayRow] = &[
+    (
+        b"\x03\x15\x77\x13\x00\x00\x23\x00\x00\x00\x02\x80\xbd\xda\x00",
+        0x1377,
+        None,
+        &[0xdabd],
+    ),
+    (
+        b"\x03\x10\x77\x13\x00\x00\x23\x00\x00\x00\x40\x00\x00",
+        0x1377,
+        None,
+        &[0x40],
+    ),
+    (
+        b"\x16\x15\x77\x13\x00\x00\x23\x00\x00\x00\x18\x01\x00\x00\x40\x00\x00",
+        0x1377,
+        Some(0x118),
+        &[0x40],
+    ),
+    (
+        b"\x03\x15\x77\x13\x00\x00\x23\x00\x00\x00\x04\x80\xff\xff\xff\xff\x00",
+        0x1377,
+        None,
+        &[0xffff_ffff],
+    ),
+    (
+        b"\x03\x15\x77\x13\x00\x00\x23\x00\x00\x00\x00\x01\x0a\x80\x03\x00\x00\x00\x00\x00\x00\x00\x02\x00\x00",
+        0x1377,
+        None,
+        &[0x100, 3, 2],
+    ),
+];
+
+/// An array's record says its row.
+fn judge_array(alloc: Global, row: &ArrayRow) -> std::result::Result<(), Fail> {
+    let (record, element, stride, dimensions) = row;
+    judge(alloc, record, &array(alloc, *element, *stride, dimensions)?)
+}
+
+/// Whether a record says the same with padding behind it, and is refused with another byte behind
+/// that, or where it is cut.
+fn is_padded(alloc: Global, record: &[u8]) -> std::result::Result<bool, Fail> {
+    let whole = said(alloc, record)?;
+    let padded = said_with(alloc, record, b"\xf3\xf2\xf1\xf0")?;
+    let longer = said_with(alloc, record, b"\xf3\xf2\xf1\xf0\x41")?;
+    let is_cut = ends_soon(alloc, record);
+    Ok(is_cut && padded.as_str() == whole.as_str() && longer.as_str() == "UnexpectedEof")
 }
 
 #[test]
 fn array_records(rt: HostRuntime) -> std::result::Result<(), Fail> {
     let alloc = rt.alloc();
-    for (record, element, stride, dimensions) in padded_arrays() {
-        judge(alloc, record, &array(alloc, element, stride, dimensions)?)?;
+    for row in PADDED_ARRAYS {
+        judge_array(alloc, row)?;
     }
-    for (bytes, element, stride, dimensions) in arrays() {
-        judge(alloc, bytes, &array(alloc, element, stride, dimensions)?)?;
-        assert!(rt; ends_soon(alloc, bytes), "{bytes:?}, cut");
-        let mut record = Vec::from_slice(alloc, bytes)?;
-        let whole = said(alloc, &record)?;
-        record.extend_from_slice(b"\xf3\xf2\xf1\xf0")?;
-        let padded = said(alloc, &record)?;
-        assert_eq!(rt; padded.as_str(), whole.as_str());
-        record.push(0x41)?;
-        let longer = said(alloc, &record)?;
-        assert_eq!(rt; longer.as_str(), "UnexpectedEof", "{whole}, a byte more");
+    for row in ARRAYS {
+        judge_array(alloc, row)?;
+        let (record, ..) = row;
+        assert!(rt; is_padded(alloc, record)?, "{record:?}");
     }
     Ok(())
 }
@@ -168,144 +196,126 @@ fn not_virtual() -> MethodListEntry {
     }
 }
 
+/// The bytes of a list of arguments, and their types.
+type ArgumentsRow = (&'static [u8], &'static [TypeIndex]);
+
+/// Lists of arguments.
+const ARGUMENTS: &[ArgumentsRow] = &[
+    (b"\x01\x12\x00\x00\x00\x00", &[]),
+    (
+        b"\x01\x12\x01\x00\x00\x00\x74\x00\x00\x00",
+        &[TypeIndex(0x74)],
+    ),
+    (
+        b"\x01\x12\x02\x00\x00\x00\x2e\x10\x00\x00\x2f\x10\x00\x00\x41",
+        &[TypeIndex(0x102e), TypeIndex(0x102f)],
+    ),
+];
+
 #[test]
-fn argument_and_method_records(rt: HostRuntime) -> std::result::Result<(), Fail> {
+fn argument_records(rt: HostRuntime) -> std::result::Result<(), Fail> {
     let alloc = rt.alloc();
-    let rows: [(&'static [u8], &[TypeIndex]); 3] = [
-        (b"\x01\x12\x00\x00\x00\x00", &[]),
-        (
-            b"\x01\x12\x01\x00\x00\x00\x74\x00\x00\x00",
-            &[TypeIndex(0x74)],
-        ),
-        (
-            b"\x01\x12\x02\x00\x00\x00\x2e\x10\x00\x00\x2f\x10\x00\x00\x41",
-            &[TypeIndex(0x102e), TypeIndex(0x102f)],
-        ),
-    ];
-    for (record, types) in rows {
+    for (record, types) in ARGUMENTS {
         judge(alloc, record, &arguments(alloc, types)?)?;
-    }
-    let rows: [(&'static [u8], &[MethodListEntry]); 3] = [
-        (b"\x06\x12", &[]),
-        (
-            b"\x06\x12\x13\x00\xcd\xab\x30\x10\x00\x00\x18\x01\x00\x00",
-            &[introducing()],
-        ),
-        (
-            b"\x06\x12\x13\x00\xcd\xab\x30\x10\x00\x00\x18\x01\x00\x00\x03\x00\xff\xff\x31\x10\x00\x00",
-            &[introducing(), not_virtual()],
-        ),
-    ];
-    for (record, entries) in rows {
-        judge(alloc, record, &methods(alloc, entries)?)?;
     }
     Ok(())
 }
 
-/// The value of an enumeration.
-fn enumerate(value: Variant, name: &'static str) -> TypeData<'static> {
-    TypeData::Enumerate(EnumerateType {
-        attributes: FieldAttributes::new(3),
-        value,
-        name: RawString::from(name),
-    })
+/// A list of methods says these.
+fn judge_methods(
+    alloc: Global,
+    record: &'static [u8],
+    entries: &[MethodListEntry],
+) -> std::result::Result<(), Fail> {
+    judge(alloc, record, &methods(alloc, entries)?)
 }
 
-/// Members of a class, each of another kind: a base class, a table pointer, a data member, a nested
-/// type and the value of an enumeration.
-fn members() -> [TypeData<'static>; 5] {
-    let attributes = FieldAttributes::new(0x0102);
-    [
-        TypeData::BaseClass(BaseClassType {
-            kind: ClassKind::Class,
-            attributes,
-            base_class: TypeIndex(0x1027),
-            offset: 4,
-        }),
-        TypeData::VirtualFunctionTablePointer(VirtualFunctionTablePointerType {
-            table: TypeIndex(0x102a),
-        }),
-        TypeData::Member(MemberType {
-            attributes,
-            field_type: TypeIndex(0x74),
-            offset: 8,
-            name: RawString::from("m"),
-        }),
-        TypeData::Nested(NestedType {
-            attributes: FieldAttributes::new(0),
-            nested_type: TypeIndex(0x102b),
-            name: RawString::from("N"),
-        }),
-        enumerate(Variant::U8(5), "A"),
-    ]
+#[test]
+fn method_records(rt: HostRuntime) -> std::result::Result<(), Fail> {
+    let alloc = rt.alloc();
+    judge_methods(alloc, b"\x06\x12", &[])?;
+    judge_methods(
+        alloc,
+        b"\x06\x12\x13\x00\xcd\xab\x30\x10\x00\x00\x18\x01\x00\x00",
+        &[introducing()],
+    )?;
+    judge_methods(
+        alloc,
+        b"\x06\x12\x13\x00\xcd\xab\x30\x10\x00\x00\x18\x01\x00\x00\x03\x00\xff\xff\x31\x10\x00\x00",
+        &[introducing(), not_virtual()],
+    )
 }
 
-/// The bytes of a list of those members, padded or not.
+/// The bytes of a list of a class's members, each of another kind and padded or not: a base class, a
+/// table pointer, a data member, a nested type and the value of an enumeration.
 const MEMBERS: &[u8] =
     b"\x03\x12\x00\x14\x02\x01\x27\x10\x00\x00\x04\x00\x09\x14\xcd\xab\x2a\x10\x00\x00\x0d\x15\x02\x01\x74\x00\x00\x00\x08\x00m\x00\xf2\xf1\x10\x15\xcd\xab\x2b\x10\x00\x00N\x00\xf0\x02\x15\x03\x00\x00\x80\x05A\x00\xf3\xf2\xf1\xf4\xff\xff\xff";
 
-/// A record is the list of these fields, which goes on in this list, and it is copied.
-fn judge_fields(
-    alloc: Global,
-    record: &'static [u8],
-    fields: &[TypeData<'static>],
-    continuation: Option<TypeIndex>,
-) -> std::result::Result<(), Fail> {
-    let data = parse_type_data(alloc, record)?;
-    let is_copied = is_copied(alloc, &data)?;
-    let want = format!(in alloc;
-        "FieldList(FieldList {{ fields: {fields:?}, continuation: {continuation:?} }})"
-    )?;
-    let whole = said(alloc, record)?;
-    if is_copied && whole.as_str() == want.as_str() {
-        Ok(())
-    } else {
-        Err(format!(in alloc; "{want}, {whole}, {is_copied}")?.into())
-    }
+/// Those members.
+const MEMBER_TEXTS: &str =
+    "BaseClass(BaseClassType { kind: Class, attributes: FieldAttributes(258), base_class: TypeIndex(0x1027), offset: 4 }), \
+     VirtualFunctionTablePointer(VirtualFunctionTablePointerType { table: TypeIndex(0x102a) }), \
+     Member(MemberType { attributes: FieldAttributes(258), field_type: TypeIndex(0x74), offset: 8, name: RawString([109]) }), \
+     Nested(NestedType { attributes: FieldAttributes(0), nested_type: TypeIndex(0x102b), name: RawString([78]) }), \
+     Enumerate(EnumerateType { attributes: FieldAttributes(3), value: U8(5), name: RawString([65]) })";
+
+/// The bytes of a list of fields, the fields, and the list that it goes on in.
+const FIELD_LISTS: &[(&[u8], &str, Option<TypeIndex>)] = &[
+    (b"\x03\x12", "", None),
+    (
+        b"\x03\x12\x04\x14\x34\x12\x00\x00",
+        "",
+        Some(TypeIndex(0x1234)),
+    ),
+    (MEMBERS, MEMBER_TEXTS, None),
+    (
+        b"\x03\x12\x02\x15\x03\x00\x00\x00A\x00\x02\x15\x03\x00\x01\x80\xff\xffB\x00\xf2\xf1",
+        "Enumerate(EnumerateType { attributes: FieldAttributes(3), value: U16(0), name: RawString([65]) }), \
+         Enumerate(EnumerateType { attributes: FieldAttributes(3), value: I16(-1), name: RawString([66]) })",
+        None,
+    ),
+    (
+        b"\x03\x12\x04\x14\x35\x12\x00\x00\xf1\x02\x15\x03\x00\x05\x00A\x00\x04\x14\x34\x12\x00\x00\xf2\xf1",
+        "Enumerate(EnumerateType { attributes: FieldAttributes(3), value: U16(5), name: RawString([65]) })",
+        Some(TypeIndex(0x1234)),
+    ),
+    (
+        b"\x03\x12\x06\x12",
+        "MethodList(MethodList { methods: [] })",
+        None,
+    ),
+    (
+        b"\x03\x12\x06\x12\x13\x00\xcd\xab\x30\x10\x00\x00\x18\x01\x00\x00\x03\x00\xff\xff\x31\x10\x00\x00",
+        "MethodList(MethodList { methods: [MethodListEntry { attributes: FieldAttributes(19), method_type: TypeIndex(0x1030), vtable_offset: Some(280) }, \
+         MethodListEntry { attributes: FieldAttributes(3), method_type: TypeIndex(0x1031), vtable_offset: None }] })",
+        None,
+    ),
+    (
+        b"\x03\x12\x03\x15\x77\x13\x00\x00\x23\x00\x00\x00\x40\x00\x00\xf1",
+        "Array(ArrayType { element_type: TypeIndex(0x1377), indexing_type: TypeIndex(0x23), stride: None, dimensions: [64] })",
+        None,
+    ),
+    (
+        b"\x03\x12\x01\x12\x02\x00\x00\x00\x74\x00\x00\x00\x75\x00\x00\x00\x02\x15\x03\x00\x05\x00A\x00",
+        "ArgumentList(ArgumentList { arguments: [TypeIndex(0x74), TypeIndex(0x75)] }), \
+         Enumerate(EnumerateType { attributes: FieldAttributes(3), value: U16(5), name: RawString([65]) })",
+        None,
+    ),
+];
+
+/// A list of fields, as `Debug` writes it.
+fn field_list_text(alloc: Global, fields: &str, continuation: Option<TypeIndex>) -> Result<String> {
+    Ok(format!(in alloc;
+        "FieldList(FieldList {{ fields: [{fields}], continuation: {continuation:?} }})"
+    )?)
 }
 
 #[test]
 fn field_records(rt: HostRuntime) -> std::result::Result<(), Fail> {
     let alloc = rt.alloc();
-    let continuation = Some(TypeIndex(0x1234));
-    judge_fields(alloc, b"\x03\x12", &[], None)?;
-    judge_fields(
-        alloc,
-        b"\x03\x12\x04\x14\x34\x12\x00\x00",
-        &[],
-        continuation,
-    )?;
-    judge_fields(alloc, MEMBERS, &members(), None)?;
-    let fields = [
-        enumerate(Variant::U16(0), "A"),
-        enumerate(Variant::I16(-1), "B"),
-    ];
-    let record =
-        b"\x03\x12\x02\x15\x03\x00\x00\x00A\x00\x02\x15\x03\x00\x01\x80\xff\xffB\x00\xf2\xf1";
-    judge_fields(alloc, record, &fields, None)?;
-    let fields = [enumerate(Variant::U16(5), "A")];
-    let record =
-        b"\x03\x12\x04\x14\x35\x12\x00\x00\xf1\x02\x15\x03\x00\x05\x00A\x00\x04\x14\x34\x12\x00\x00\xf2\xf1";
-    judge_fields(alloc, record, &fields, continuation)
-}
-
-#[test]
-fn lists_of_lists(rt: HostRuntime) -> std::result::Result<(), Fail> {
-    let alloc = rt.alloc();
-    let fields = [methods(alloc, &[])?];
-    judge_fields(alloc, b"\x03\x12\x06\x12", &fields, None)?;
-    let fields = [methods(alloc, &[introducing(), not_virtual()])?];
-    let record =
-        b"\x03\x12\x06\x12\x13\x00\xcd\xab\x30\x10\x00\x00\x18\x01\x00\x00\x03\x00\xff\xff\x31\x10\x00\x00";
-    judge_fields(alloc, record, &fields, None)?;
-    let fields = [array(alloc, 0x1377, None, &[0x40])?];
-    let record = b"\x03\x12\x03\x15\x77\x13\x00\x00\x23\x00\x00\x00\x40\x00\x00\xf1";
-    judge_fields(alloc, record, &fields, None)?;
-    let fields = [
-        arguments(alloc, &[TypeIndex(0x74), TypeIndex(0x75)])?,
-        enumerate(Variant::U16(5), "A"),
-    ];
-    let record =
-        b"\x03\x12\x01\x12\x02\x00\x00\x00\x74\x00\x00\x00\x75\x00\x00\x00\x02\x15\x03\x00\x05\x00A\x00";
-    judge_fields(alloc, record, &fields, None)
+    for (record, fields, continuation) in FIELD_LISTS {
+        let want = field_list_text(alloc, fields, *continuation)?;
+        judge_text(alloc, record, want.as_str())?;
+    }
+    Ok(())
 }

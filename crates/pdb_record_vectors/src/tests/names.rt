@@ -1,51 +1,58 @@
 //! The names of types.
 
-use pdb_container::RawString;
+use pdb_base::{RawString, Result};
 use pdb_records::parse_type_data;
+use std::alloc::Global;
 use std::test::Fail;
 
+/// The bytes of a type, and its name.
+const NAMES: &[(&[u8], Option<&str>)] = &[
+    (
+        b"\x09\x16\x00\x02\x00\x00\x16\x10\x00\x00\x00\x00\x00\x00\x00\x00\x00\x00\x02\x00\x06\x00H_size\x00.?AUH_size@@\x00",
+        Some("H_size"),
+    ),
+    (
+        b"\x0d\x15\x02\x01\x1d\x10\x00\x00\x08\x00member\x00",
+        Some("member"),
+    ),
+    (
+        b"\x0f\x15\x03\x02\x1f\x10\x00\x00methods\x00",
+        Some("methods"),
+    ),
+    (
+        b"\x0e\x15\x02\x01\x1e\x10\x00\x00static\x00",
+        Some("static"),
+    ),
+    (
+        b"\x10\x15\x00\x00\x1c\x10\x00\x00nested\x00",
+        Some("nested"),
+    ),
+    (
+        b"\x07\x15\x01\x02\x11\x01\x19\x10\x00\x00\x1a\x10\x00\x00enumeration\x00",
+        Some("enumeration"),
+    ),
+    (b"\x02\x15\x02\x01\xff\x7fA\x00", Some("A")),
+    (
+        b"\x06\x15\x01\x02\x11\x05\x1b\x10\x00\x00\x00\x80\xffunion\x00",
+        Some("union"),
+    ),
+    (b"\x11\x15\x03\x00\x20\x10\x00\x00method\x00", None),
+    (b"\x01\x10\x74\x00\x00\x00\x05\x00", None),
+    (b"\x01\x12\x00\x00\x00\x00", None),
+    (b"\x03\x12", None),
+];
+
+/// Whether the type that a record says has this name.
+fn is_named(alloc: Global, record: &[u8], want: Option<RawString<'_>>) -> Result<bool> {
+    Ok(parse_type_data(alloc, record)?.name() == want)
+}
+
 #[test]
-fn names(rt: HostRuntime) -> Result<(), Fail> {
+fn names(rt: HostRuntime) -> std::result::Result<(), Fail> {
     let alloc = rt.alloc();
-    let rows: [(&[u8], Option<&str>); 12] = [
-        (
-            b"\x09\x16\x00\x02\x00\x00\x16\x10\x00\x00\x00\x00\x00\x00\x00\x00\x00\x00\x02\x00\x06\x00H_size\x00.?AUH_size@@\x00",
-            Some("H_size"),
-        ),
-        (
-            b"\x0d\x15\x02\x01\x1d\x10\x00\x00\x08\x00member\x00",
-            Some("member"),
-        ),
-        (
-            b"\x0f\x15\x03\x02\x1f\x10\x00\x00methods\x00",
-            Some("methods"),
-        ),
-        (
-            b"\x0e\x15\x02\x01\x1e\x10\x00\x00static\x00",
-            Some("static"),
-        ),
-        (
-            b"\x10\x15\x00\x00\x1c\x10\x00\x00nested\x00",
-            Some("nested"),
-        ),
-        (
-            b"\x07\x15\x01\x02\x11\x01\x19\x10\x00\x00\x1a\x10\x00\x00enumeration\x00",
-            Some("enumeration"),
-        ),
-        (b"\x02\x15\x02\x01\xff\x7fA\x00", Some("A")),
-        (
-            b"\x06\x15\x01\x02\x11\x05\x1b\x10\x00\x00\x00\x80\xffunion\x00",
-            Some("union"),
-        ),
-        (b"\x11\x15\x03\x00\x20\x10\x00\x00method\x00", None),
-        (b"\x01\x10\x74\x00\x00\x00\x05\x00", None),
-        (b"\x01\x12\x00\x00\x00\x00", None),
-        (b"\x03\x12", None),
-    ];
-    for (record, want) in rows {
-        let data = parse_type_data(alloc, record)?;
-        let want = want.map(|name| RawString::from(name));
-        assert_eq!(rt; data.name(), want, "{record:?}");
+    for (record, name) in NAMES {
+        let want = name.map(|name| RawString::from(name));
+        assert!(rt; is_named(alloc, record, want)?, "{record:?}");
     }
     Ok(())
 }

@@ -1,13 +1,14 @@
 //! Records without a list: the fields of each leaf. Each field has a value of its own, so that one
 //! read in the place of another shows.
 
-use super::read::{ends_soon, record_of, said};
-use pdb_container::{
+use super::read::{ends_soon, record_of, said, said_with, text_of};
+use pdb_base::{RawString, TypeIndex, Variant};
+use pdb_flags::{FieldAttributes, FunctionAttributes, PointerAttributes, TypeProperties};
+use pdb_values::{
     BaseClassType, BitfieldType, ClassKind, ClassType, EnumerateType, EnumerationType,
-    FieldAttributes, FunctionAttributes, MemberFunctionType, MemberType, MethodType, ModifierType,
-    NestedType, OverloadedMethodType, PointerAttributes, PointerType, ProcedureType, RawString,
-    StaticMemberType, TypeData, TypeIndex, TypeProperties, UnionType, Variant,
-    VirtualBaseClassType, VirtualFunctionTablePointerType,
+    MemberFunctionType, MemberType, MethodType, ModifierType, NestedType, OverloadedMethodType,
+    PointerType, ProcedureType, StaticMemberType, TypeData, UnionType, VirtualBaseClassType,
+    VirtualFunctionTablePointerType,
 };
 use std::alloc::Global;
 use std::test::Fail;
@@ -514,39 +515,84 @@ fn modifiers_and_bitfields() -> [Row; 7] {
     ]
 }
 
-/// Each record says what it says with a byte behind it too, and no front of it says anything.
+/// A record says this with a byte behind it too, and no front of it says anything.
+fn judge_text(alloc: Global, leaf: u16, fields: &[u8], want: &str) -> Result<(), Fail> {
+    let record = record_of(alloc, leaf, fields)?;
+    let whole = said(alloc, &record)?;
+    let longer = said_with(alloc, &record, b"\x41")?;
+    let is_cut = ends_soon(alloc, &record);
+    if is_cut && whole.as_str() == want && longer.as_str() == want {
+        Ok(())
+    } else {
+        Err(format!(in alloc; "{leaf:x}: {want}, {whole}, {longer}, {is_cut}")?.into())
+    }
+}
+
+/// Each record says what it says.
 fn judge(alloc: Global, rows: &[Row]) -> Result<(), Fail> {
     for (leaf, fields, want) in rows {
-        let mut record = record_of(alloc, *leaf, fields)?;
-        let want = format!(in alloc; "{want:?}")?;
-        let whole = said(alloc, &record)?;
-        let is_cut = ends_soon(alloc, &record);
-        record.push(0x41)?;
-        let longer = said(alloc, &record)?;
-        if !is_cut || whole.as_str() != want.as_str() || longer.as_str() != want.as_str() {
-            return Err(format!(in alloc; "{leaf:x}: {want}, {whole}, {longer}, {is_cut}")?.into());
-        }
+        let want = text_of(alloc, want)?;
+        judge_text(alloc, *leaf, fields, want.as_str())?;
     }
     Ok(())
 }
 
 #[test]
-fn plain_records(rt: HostRuntime) -> Result<(), Fail> {
+fn class_records(rt: HostRuntime) -> Result<(), Fail> {
+    judge(rt.alloc(), &classes())
+}
+
+#[test]
+fn enumeration_and_union_records(rt: HostRuntime) -> Result<(), Fail> {
+    judge(rt.alloc(), &enumerations_and_unions())
+}
+
+#[test]
+fn enumerate_records(rt: HostRuntime) -> Result<(), Fail> {
+    judge(rt.alloc(), &enumerates())
+}
+
+#[test]
+fn member_records(rt: HostRuntime) -> Result<(), Fail> {
+    judge(rt.alloc(), &members())
+}
+
+#[test]
+fn function_records(rt: HostRuntime) -> Result<(), Fail> {
+    judge(rt.alloc(), &functions())
+}
+
+#[test]
+fn base_records(rt: HostRuntime) -> Result<(), Fail> {
+    judge(rt.alloc(), &bases())
+}
+
+#[test]
+fn modifier_and_bitfield_records(rt: HostRuntime) -> Result<(), Fail> {
+    judge(rt.alloc(), &modifiers_and_bitfields())
+}
+
+/// The text of a pointer.
+fn pointer_text(
+    alloc: Global,
+    underlying: u32,
+    word: u32,
+    containing_class: Option<TypeIndex>,
+) -> Result<String, Fail> {
+    let pointer = TypeData::Pointer(PointerType {
+        underlying_type: TypeIndex(underlying),
+        attributes: PointerAttributes::new(word).ok_or("a pointer")?,
+        containing_class,
+    });
+    Ok(text_of(alloc, &pointer)?)
+}
+
+#[test]
+fn pointer_records(rt: HostRuntime) -> Result<(), Fail> {
     let alloc = rt.alloc();
-    judge(alloc, &classes())?;
-    judge(alloc, &enumerations_and_unions())?;
-    judge(alloc, &enumerates())?;
-    judge(alloc, &members())?;
-    judge(alloc, &functions())?;
-    judge(alloc, &bases())?;
-    judge(alloc, &modifiers_and_bitfields())?;
     for (fields, underlying, word, containing_class) in pointers() {
-        let pointer = PointerType {
-            underlying_type: TypeIndex(underlying),
-            attributes: PointerAttributes::new(word).ok_or("a pointer")?,
-            containing_class,
-        };
-        judge(alloc, &[(0x1002, fields, TypeData::Pointer(pointer))])?;
+        let want = pointer_text(alloc, underlying, word, containing_class)?;
+        judge_text(alloc, 0x1002, fields, want.as_str())?;
     }
     Ok(())
 }

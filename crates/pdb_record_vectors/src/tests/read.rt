@@ -1,9 +1,12 @@
 //! Records, as the one item of a table.
 
-use pdb_container::{Error, Stream, TypeIndex, TypeInformation};
+use pdb_base::{Error, TypeIndex};
+use pdb_msf::Stream;
 use pdb_records::parse_type_data;
+use pdb_tpi::{Type, TypeInformation};
 use pdb_vectors::item_table;
 use std::alloc::Global;
+use std::fmt::Debug;
 use std::test::Fail;
 
 /// A table whose header has 56 bytes, and whose one item, of index 0x1000, is this record.
@@ -26,20 +29,50 @@ pub(crate) fn record_of(alloc: Global, leaf: u16, fields: &[u8]) -> Result<Vec<u
     Ok(record)
 }
 
+/// A value, as `Debug` writes it.
+pub(crate) fn text_of<T: Debug>(alloc: Global, value: &T) -> pdb_base::Result<String> {
+    Ok(format!(in alloc; "{value:?}")?)
+}
+
+/// What was read, as `Debug` writes it, or the text of its refusal.
+pub(crate) fn said_of<T: Debug>(
+    alloc: Global,
+    read: &pdb_base::Result<T>,
+) -> pdb_base::Result<String> {
+    match read {
+        Ok(data) => text_of(alloc, data),
+        Err(error) => Ok(error.to_string(alloc)?),
+    }
+}
+
+/// What a type is, or the text of its refusal.
+fn item_said(alloc: Global, item: Type<'_>) -> pdb_base::Result<String> {
+    said_of(alloc, &item.parse(alloc))
+}
+
+/// What the type of an index is in a table, or the text of its refusal.
+fn found(alloc: Global, table: &TypeInformation, index: u32) -> pdb_base::Result<String> {
+    let finder = table.finder(alloc)?;
+    item_said(alloc, finder.find(TypeIndex(index))?)
+}
+
 /// What the type of an index is, as `Debug` writes it, or the text of its refusal, in a table whose
 /// one item is this record.
 pub(crate) fn said_at(alloc: Global, record: &[u8], index: u32) -> Result<String, Fail> {
     let table = TypeInformation::parse(table_of(alloc, record)?)?;
-    let finder = table.finder(alloc)?;
-    match finder.find(TypeIndex(index))?.parse(alloc) {
-        Ok(data) => Ok(format!(in alloc; "{data:?}")?),
-        Err(error) => Ok(error.to_string(alloc)?),
-    }
+    Ok(found(alloc, &table, index)?)
 }
 
 /// The same of the record itself.
 pub(crate) fn said(alloc: Global, record: &[u8]) -> Result<String, Fail> {
     said_at(alloc, record, 0x1000)
+}
+
+/// The same of the record with more bytes behind it.
+pub(crate) fn said_with(alloc: Global, record: &[u8], more: &[u8]) -> Result<String, Fail> {
+    let mut longer = Vec::from_slice(alloc, record)?;
+    longer.extend_from_slice(more)?;
+    said(alloc, &longer)
 }
 
 /// Whether each front of a record, the whole not among them, ends too soon.

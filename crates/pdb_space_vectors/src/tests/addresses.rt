@@ -1,82 +1,113 @@
 //! Addresses, and places in sections.
 
-use pdb_container::{PdbInternalRva, PdbInternalSectionOffset, Rva, SectionOffset, StringRef};
+use pdb_space::{PdbInternalRva, PdbInternalSectionOffset, Rva, SectionOffset, StringRef};
+use std::alloc::Global;
 use std::cmp::Ordering;
 use std::test::Fail;
 
 /// The largest number of 32 bits.
 const LAST: u32 = 0xffff_ffff;
 
-#[test]
-fn sums(rt: HostRuntime) -> Result<(), Fail> {
-    let rows = [
-        (0x1000, 0x42, Some(0x1042), 0x1042, 0x1042),
-        (LAST - 1, 1, Some(LAST), LAST, LAST),
-        (LAST, 1, None, LAST, 0),
-        (LAST - 0xf, 0x20, None, LAST, 0x10),
-    ];
-    for (number, offset, checked, saturating, wrapping) in rows {
-        let from = Rva(number);
-        let sums = (
-            from.checked_add(offset),
-            from.saturating_add(offset),
-            from.wrapping_add(offset),
-        );
-        assert_eq!(rt;
-            sums,
-            (checked.map(|sum| Rva(sum)), Rva(saturating), Rva(wrapping))
-        );
+/// A number, what is added, and the three sums: checked, saturating and wrapping.
+const SUMS: &[(u32, u32, Option<u32>, u32, u32)] = &[
+    (0x1000, 0x42, Some(0x1042), 0x1042, 0x1042),
+    (LAST - 1, 1, Some(LAST), LAST, LAST),
+    (LAST, 1, None, LAST, 0),
+    (LAST - 0xf, 0x20, None, LAST, 0x10),
+];
 
-        let from = PdbInternalRva(number);
-        let sum = from.checked_add(offset);
-        let others = (from.saturating_add(offset), from.wrapping_add(offset));
-        assert_eq!(rt; sum, checked.map(|sum| PdbInternalRva(sum)));
-        assert_eq!(rt;
-            others,
-            (PdbInternalRva(saturating), PdbInternalRva(wrapping))
-        );
-    }
-    Ok(())
+/// The three sums of an address.
+fn sums_of(from: Rva, offset: u32) -> (Option<Rva>, Rva, Rva) {
+    (
+        from.checked_add(offset),
+        from.saturating_add(offset),
+        from.wrapping_add(offset),
+    )
 }
 
 #[test]
-fn distances(rt: HostRuntime) -> Result<(), Fail> {
-    let rows = [
-        (0x1042, 0x1000, (Some(0x42), 0x42, 0x42)),
-        (7, 7, (Some(0), 0, 0)),
-        (0, 1, (None, 0, LAST)),
-        (0x10, LAST - 0xf, (None, 0, 0x20)),
-    ];
-    for (number, start, want) in rows {
-        let (to, from) = (Rva(number), Rva(start));
-        let far = (
-            to.checked_sub(from),
-            to.saturating_sub(from),
-            to.wrapping_sub(from),
+fn sums(rt: HostRuntime) {
+    for (number, offset, checked, saturating, wrapping) in SUMS {
+        let want = (
+            checked.map(|sum| Rva(sum)),
+            Rva(*saturating),
+            Rva(*wrapping),
         );
-        assert_eq!(rt; far, want);
-
-        let (to, from) = (PdbInternalRva(number), PdbInternalRva(start));
-        let far = (
-            to.checked_sub(from),
-            to.saturating_sub(from),
-            to.wrapping_sub(from),
+        assert!(rt;
+            sums_of(Rva(*number), *offset) == want,
+            "{number} and {offset}"
         );
-        assert_eq!(rt; far, want);
     }
-    Ok(())
+}
+
+/// The three sums of an internal address.
+fn internal_sums_of(
+    from: PdbInternalRva,
+    offset: u32,
+) -> (Option<PdbInternalRva>, PdbInternalRva, PdbInternalRva) {
+    (
+        from.checked_add(offset),
+        from.saturating_add(offset),
+        from.wrapping_add(offset),
+    )
 }
 
 #[test]
-fn operators(rt: HostRuntime) -> Result<(), Fail> {
-    let alloc = rt.alloc();
+fn internal_sums(rt: HostRuntime) {
+    for (number, offset, checked, saturating, wrapping) in SUMS {
+        let want = (
+            checked.map(|sum| PdbInternalRva(sum)),
+            PdbInternalRva(*saturating),
+            PdbInternalRva(*wrapping),
+        );
+        let sums = internal_sums_of(PdbInternalRva(*number), *offset);
+        assert!(rt; sums == want, "{number} and {offset}");
+    }
+}
+
+/// Three differences: checked, saturating and wrapping.
+type Differences = (Option<u32>, u32, u32);
+
+/// The three differences of two addresses.
+fn differences(to: Rva, from: Rva) -> Differences {
+    (
+        to.checked_sub(from),
+        to.saturating_sub(from),
+        to.wrapping_sub(from),
+    )
+}
+
+/// The three differences of two internal addresses.
+fn internal_differences(to: PdbInternalRva, from: PdbInternalRva) -> Differences {
+    (
+        to.checked_sub(from),
+        to.saturating_sub(from),
+        to.wrapping_sub(from),
+    )
+}
+
+/// Two numbers, and how far the first is from the second.
+const DISTANCES: &[(u32, u32, Differences)] = &[
+    (0x1042, 0x1000, (Some(0x42), 0x42, 0x42)),
+    (7, 7, (Some(0), 0, 0)),
+    (0, 1, (None, 0, LAST)),
+    (0x10, LAST - 0xf, (None, 0, 0x20)),
+];
+
+#[test]
+fn distances(rt: HostRuntime) {
+    for (number, start, want) in DISTANCES {
+        let far = differences(Rva(*number), Rva(*start));
+        let other = internal_differences(PdbInternalRva(*number), PdbInternalRva(*start));
+        assert!(rt; far == *want && other == *want, "from {start} to {number}");
+    }
+}
+
+#[test]
+fn operators(rt: HostRuntime) {
     let mut address = Rva::from(0x40) + 1;
     address += 1;
     assert_eq!(rt; (u32::from(address), address - Rva(0x30)), (0x42, 0x12));
-    let text = address.to_string(alloc)?;
-    assert_eq!(rt; text.as_str(), "0x42");
-    let text = format!(in alloc; "{address:?}")?;
-    assert_eq!(rt; text.as_str(), "Rva(0x42)");
     assert!(rt; Rva(1) < Rva(2) && Rva::default() == Rva(0));
 
     let mut address = PdbInternalRva::from(LAST - 2) + 1;
@@ -85,52 +116,72 @@ fn operators(rt: HostRuntime) -> Result<(), Fail> {
         (u32::from(address), address - PdbInternalRva(1)),
         (LAST, LAST - 1)
     );
-    let text = address.to_string(alloc)?;
-    assert_eq!(rt; text.as_str(), "0xffffffff");
     assert!(rt; PdbInternalRva(2) > PdbInternalRva::default());
-    Ok(())
 }
 
 #[test]
-fn string_refs(rt: HostRuntime) -> Result<(), Fail> {
-    let alloc = rt.alloc();
+fn string_refs(rt: HostRuntime) {
     let place = StringRef::from(0x42);
     assert_eq!(rt; (u32::from(place), place), (0x42, StringRef(0x42)));
     assert!(rt; StringRef(0x41) < place && StringRef(0x1000) > place);
-    let text = place.to_string(alloc)?;
-    assert_eq!(rt; text.as_str(), "0x42");
-    let text = format!(in alloc; "{place:?}")?;
-    assert_eq!(rt; text.as_str(), "StringRef(0x42)");
+}
+
+/// The texts of an address: as it is shown, and for finding faults.
+fn address_texts(alloc: Global, address: Rva) -> Result<(String, String), Fail> {
+    let shown = address.to_string(alloc)?;
+    Ok((shown, format!(in alloc; "{address:?}")?))
+}
+
+/// The texts of the place of a name.
+fn place_texts(alloc: Global, place: StringRef) -> Result<(String, String), Fail> {
+    let shown = place.to_string(alloc)?;
+    Ok((shown, format!(in alloc; "{place:?}")?))
+}
+
+#[test]
+fn texts(rt: HostRuntime) -> Result<(), Fail> {
+    let (shown, written) = address_texts(rt.alloc(), Rva(0x42))?;
+    assert!(rt; shown.as_str() == "0x42" && written.as_str() == "Rva(0x42)");
+    let shown = PdbInternalRva(LAST).to_string(rt.alloc())?;
+    assert_eq!(rt; shown.as_str(), "0xffffffff");
     Ok(())
 }
 
 #[test]
-fn place_sums(rt: HostRuntime) -> Result<(), Fail> {
-    let rows = [(5, 2, Some(7), 7, 7), (LAST, 1, None, LAST, 0)];
-    for (number, offset, checked, saturating, wrapping) in rows {
-        let from = SectionOffset::new(3, number);
-        let sum = from.checked_add(offset);
-        let others = (from.saturating_add(offset), from.wrapping_add(offset));
-        assert_eq!(rt; sum, checked.map(|sum| SectionOffset::new(3, sum)));
-        assert_eq!(rt;
-            others,
-            (
-                SectionOffset::new(3, saturating),
-                SectionOffset::new(3, wrapping)
-            )
-        );
+fn texts_of_string_refs(rt: HostRuntime) -> Result<(), Fail> {
+    let (shown, written) = place_texts(rt.alloc(), StringRef(0x42))?;
+    assert!(rt; shown.as_str() == "0x42" && written.as_str() == "StringRef(0x42)");
+    Ok(())
+}
 
-        let from = PdbInternalSectionOffset::new(3, number);
-        let sum = from.checked_add(offset);
-        let others = (
-            from.saturating_add(offset).offset,
-            from.wrapping_add(offset).offset,
+/// An offset in section 3, what is added, and the three sums.
+const PLACE_SUMS: &[(u32, u32, Option<u32>, u32, u32)] = &[
+    (5, 2, Some(7), 7, 7),
+    (LAST, 1, None, LAST, 0),
+];
+
+/// The three sums of a place.
+fn place_sums_of(
+    from: SectionOffset,
+    offset: u32,
+) -> (Option<SectionOffset>, SectionOffset, SectionOffset) {
+    (
+        from.checked_add(offset),
+        from.saturating_add(offset),
+        from.wrapping_add(offset),
+    )
+}
+
+#[test]
+fn place_sums(rt: HostRuntime) {
+    for (number, offset, checked, saturating, wrapping) in PLACE_SUMS {
+        let want = (
+            checked.map(|sum| SectionOffset::new(3, sum)),
+            SectionOffset::new(3, *saturating),
+            SectionOffset::new(3, *wrapping),
         );
-        assert_eq!(rt;
-            sum,
-            checked.map(|sum| PdbInternalSectionOffset::new(3, sum))
-        );
-        assert_eq!(rt; others, (saturating, wrapping));
+        let sums = place_sums_of(SectionOffset::new(3, *number), *offset);
+        assert!(rt; sums == want, "{number} and {offset}");
     }
     let mut place = SectionOffset::new(2, 5) + 1;
     place += 1;
@@ -141,6 +192,31 @@ fn place_sums(rt: HostRuntime) -> Result<(), Fail> {
             section: 2
         }
     );
+}
+
+/// The three sums of an internal place, of which two are told by their offsets.
+fn internal_place_sums_of(
+    from: PdbInternalSectionOffset,
+    offset: u32,
+) -> (Option<PdbInternalSectionOffset>, u32, u32) {
+    (
+        from.checked_add(offset),
+        from.saturating_add(offset).offset,
+        from.wrapping_add(offset).offset,
+    )
+}
+
+#[test]
+fn internal_place_sums(rt: HostRuntime) {
+    for (number, offset, checked, saturating, wrapping) in PLACE_SUMS {
+        let want = (
+            checked.map(|sum| PdbInternalSectionOffset::new(3, sum)),
+            *saturating,
+            *wrapping,
+        );
+        let sums = internal_place_sums_of(PdbInternalSectionOffset::new(3, *number), *offset);
+        assert!(rt; sums == want, "{number} and {offset}");
+    }
     let mut place = PdbInternalSectionOffset::new(2, 5) + 1;
     place += 1;
     assert_eq!(rt;
@@ -150,34 +226,52 @@ fn place_sums(rt: HostRuntime) -> Result<(), Fail> {
             section: 2
         }
     );
-    Ok(())
+}
+
+/// How two places lie, and whether they are equal.
+fn compared(place: SectionOffset, other: SectionOffset) -> (Option<Ordering>, bool) {
+    (place.partial_cmp(&other), place == other)
+}
+
+/// How two internal places lie, and whether they are equal.
+fn internal_compared(
+    place: PdbInternalSectionOffset,
+    other: PdbInternalSectionOffset,
+) -> (Option<Ordering>, bool) {
+    (place.partial_cmp(&other), place == other)
+}
+
+/// An offset in section 1, another section and an offset there, how the two places lie, and whether
+/// they are equal.
+const PLACES: &[(u32, u16, u32, Option<Ordering>, bool)] = &[
+    (5, 1, 6, Some(Ordering::Less), false),
+    (6, 1, 5, Some(Ordering::Greater), false),
+    (5, 1, 5, Some(Ordering::Equal), true),
+    (5, 2, 5, None, false),
+];
+
+#[test]
+fn places(rt: HostRuntime) {
+    for (offset, section, other, order, equal) in PLACES {
+        let given = compared(
+            SectionOffset::new(1, *offset),
+            SectionOffset::new(*section, *other),
+        );
+        let internal = internal_compared(
+            PdbInternalSectionOffset::new(1, *offset),
+            PdbInternalSectionOffset::new(*section, *other),
+        );
+        let want = (*order, *equal);
+        assert!(rt;
+            given == want && internal == want,
+            "{offset} and {other} in {section}"
+        );
+    }
 }
 
 #[test]
-fn places(rt: HostRuntime) -> Result<(), Fail> {
-    let rows = [
-        ((1, 5), (1, 6), Some(Ordering::Less)),
-        ((1, 6), (1, 5), Some(Ordering::Greater)),
-        ((1, 5), (1, 5), Some(Ordering::Equal)),
-        ((1, 5), (2, 5), None),
-    ];
-    for ((section, offset), (other_section, other_offset), want) in rows {
-        let place = SectionOffset::new(section, offset);
-        let other = SectionOffset::new(other_section, other_offset);
-        assert_eq!(rt;
-            (place.partial_cmp(&other), place == other),
-            (want, want == Some(Ordering::Equal))
-        );
-
-        let place = PdbInternalSectionOffset::new(section, offset);
-        let other = PdbInternalSectionOffset::new(other_section, other_offset);
-        assert_eq!(rt;
-            (place.partial_cmp(&other), place == other),
-            (want, want == Some(Ordering::Equal))
-        );
-    }
+fn valid_places(rt: HostRuntime) {
     assert!(rt; SectionOffset::new(1, 0).is_valid() && !SectionOffset::default().is_valid());
     let nowhere = PdbInternalSectionOffset::default();
     assert!(rt; PdbInternalSectionOffset::new(1, 0).is_valid() && !nowhere.is_valid());
-    Ok(())
 }

@@ -1,19 +1,27 @@
 //! Frames of both formats.
 
-use pdb_container::{
-    AddrRange, Error, FallibleIterator, FrameData, FrameDataIter, FrameTable, FrameType, Le,
-    NewFrameData, OldFrameData, Parse, PdbInternalRva, Stream, StringRef,
+use pdb_base::{Error, FallibleIterator, Le, Parse};
+use pdb_frames::{
+    AddrRange, FrameData, FrameDataIter, FrameTable, FrameType, NewFrameData, OldFrameData,
 };
+use pdb_msf::Stream;
+use pdb_space::{PdbInternalRva, StringRef};
 use std::alloc::Global;
 use std::test::Fail;
+
+/// Adds a frame: its start, its size and the bytes behind those.
+fn push(bytes: &mut Vec<u8>, start: u32, size: u32, others: &[u8]) -> Result<(), Fail> {
+    bytes.extend_from_slice(&start.to_le_bytes())?;
+    bytes.extend_from_slice(&size.to_le_bytes())?;
+    bytes.extend_from_slice(others)?;
+    Ok(())
+}
 
 /// A stream of frames, each of a start, a size and bytes behind those.
 fn stream(alloc: Global, frames: &[(u32, u32)], others: &[u8]) -> Result<Stream, Fail> {
     let mut bytes = Vec::new(alloc);
     for (start, size) in frames {
-        bytes.extend_from_slice(&start.to_le_bytes())?;
-        bytes.extend_from_slice(&size.to_le_bytes())?;
-        bytes.extend_from_slice(others)?;
+        push(&mut bytes, *start, *size, others)?;
     }
     if bytes.len() >= 0xffff_ffff {
         bytes.clear();
@@ -29,7 +37,7 @@ fn table(alloc: Global, old: &[(u32, u32)], new: &[(u32, u32)]) -> Result<FrameT
 }
 
 /// The format and start of the next frame.
-fn step(frames: &mut FrameDataIter<'_>) -> pdb_container::Result<Option<(FrameType, u32)>> {
+fn step(frames: &mut FrameDataIter<'_>) -> pdb_base::Result<Option<(FrameType, u32)>> {
     match frames.next() {
         Ok(Some(frame)) => Ok(Some((frame.ty, frame.code_start.0))),
         Ok(None) => Ok(None),
@@ -56,159 +64,214 @@ const OLD: FrameType = FrameType::FPO;
 
 const NEW: FrameType = FrameType::FrameData;
 
+/// Frames of a table, each a start and a size.
+type Frames = &'static [(u32, u32)];
+
+const FIRST: Frames = &[(0x10, 8), (0x20, 4)];
+
+const SECOND: Frames = &[(0x10, 8), (0x30, 8)];
+
+const SHORT: Frames = &[(0x10, 1), (0x30, 8)];
+
+const NESTED: Frames = &[(0, 0x64), (10, 1)];
+
+const MERGED: &[(FrameType, u32)] = &[(NEW, 0x10), (OLD, 0x20), (NEW, 0x30)];
+
+/// Tables by their old frames and their new ones, an address, and what the iterator from there
+/// gives, which without an address is that of all frames.
+const TABLES: &[(&str, Frames, Frames, Option<u32>, &[(FrameType, u32)])] = &[
+    ("iter", FIRST, SECOND, None, MERGED),
+    (
+        "in a gap",
+        FIRST,
+        SECOND,
+        Some(0x22),
+        &[(OLD, 0x20), (NEW, 0x30)],
+    ),
+    ("in both", FIRST, SECOND, Some(0x12), MERGED),
+    ("behind all", FIRST, SECOND, Some(0x40), &[]),
+    ("before all", FIRST, SECOND, Some(0), MERGED),
+    (
+        "in the old one",
+        FIRST,
+        SHORT,
+        Some(0x12),
+        &[(OLD, 0x10), (OLD, 0x20), (NEW, 0x30)],
+    ),
+    ("new for old", FIRST, SHORT, None, MERGED),
+    (
+        "to 2^32",
+        &[],
+        &[(0xffff_fff0, 0x20)],
+        Some(0xffff_ffff),
+        &[(NEW, 0xffff_fff0)],
+    ),
+    ("nested, new", &[], NESTED, Some(0x32), &[]),
+    ("nested, old", NESTED, &[], Some(0x32), &[]),
+    ("nested, inside", NESTED, &[], Some(10), &[(OLD, 10)]),
+    ("no size", &[(4, 0)], &[], Some(4), &[(OLD, 4)]),
+    ("none", &[], &[], None, &[]),
+];
+
+/// What the iterator of a table from an address gives, or that of all its frames where there is
+/// none, and whether the table is empty.
+fn told(
+    alloc: Global,
+    old: &[(u32, u32)],
+    new: &[(u32, u32)],
+    address: Option<u32>,
+) -> Result<(Vec<(FrameType, u32)>, bool), Fail> {
+    let table = table(alloc, old, new)?;
+    let mut frames = match address {
+        Some(address) => table.iter_at_rva(PdbInternalRva(address)),
+        None => table.iter(),
+    };
+    Ok((given(alloc, &mut frames)?, table.is_empty()))
+}
+
 #[test]
 fn tables(rt: HostRuntime) -> Result<(), Fail> {
-    let alloc = rt.alloc();
-    let old: &[(u32, u32)] = &[(0x10, 8), (0x20, 4)];
-    let new: &[(u32, u32)] = &[(0x10, 8), (0x30, 8)];
-    let short: &[(u32, u32)] = &[(0x10, 1), (0x30, 8)];
-    let last: &[(u32, u32)] = &[(0xffff_fff0, 0x20)];
-    let nested: &[(u32, u32)] = &[(0, 0x64), (10, 1)];
-    let merged: &[(FrameType, u32)] = &[(NEW, 0x10), (OLD, 0x20), (NEW, 0x30)];
-    let rows = [
-        ("iter", old, new, None, merged),
-        ("in a gap", old, new, Some(0x22), &merged[1..]),
-        ("in both", old, new, Some(0x12), merged),
-        ("behind all", old, new, Some(0x40), &[]),
-        ("before all", old, new, Some(0), merged),
-        (
-            "in the old one",
-            old,
-            short,
-            Some(0x12),
-            &[(OLD, 0x10), (OLD, 0x20), (NEW, 0x30)],
-        ),
-        ("new for old", old, short, None, merged),
-        (
-            "to 2^32",
-            &[],
-            last,
-            Some(0xffff_ffff),
-            &[(NEW, 0xffff_fff0)],
-        ),
-        ("nested, new", &[], nested, Some(0x32), &[]),
-        ("nested, old", nested, &[], Some(0x32), &[]),
-        ("nested, inside", nested, &[], Some(10), &[(OLD, 10)]),
-        ("no size", &[(4, 0)], &[], Some(4), &[(OLD, 4)]),
-        ("none", &[], &[], None, &[]),
-    ];
-    for (name, old, new, address, want) in rows {
-        let table = table(alloc, old, new)?;
-        let mut frames = match address {
-            Some(address) => table.iter_at_rva(PdbInternalRva(address)),
-            None => table.iter(),
-        };
-        let all = given(alloc, &mut frames)?;
-        assert_eq!(rt; all.as_slice(), want, "{name}");
-        assert_eq!(rt;
-            table.is_empty(),
-            old.is_empty() && new.is_empty(),
-            "{name}"
-        );
+    for (name, old, new, address, want) in TABLES {
+        let (all, empty) = told(rt.alloc(), old, new, *address)?;
+        assert!(rt; all.as_slice() == *want, "{name}");
+        assert!(rt; empty == (old.is_empty() && new.is_empty()), "{name}");
     }
-    let nothing = given(alloc, &mut FrameDataIter::default())?;
+    Ok(())
+}
+
+#[test]
+fn no_tables(rt: HostRuntime) -> Result<(), Fail> {
+    let nothing = given(rt.alloc(), &mut FrameDataIter::default())?;
     assert!(rt; nothing.is_empty());
     let absent = FrameTable::parse(None, None)?;
     assert!(rt; absent.is_empty());
     Ok(())
 }
 
+/// A stream of so many zeros, of which there are at most 64.
+fn zeros(alloc: Global, len: Option<usize>) -> Result<Option<Stream>, Fail> {
+    match len {
+        Some(len) => Ok(Some(Stream::new(Vec::from_slice(alloc, &[0; 64][..len.min(64)])?))),
+        None => Ok(None),
+    }
+}
+
 /// The text of what a table of streams of so many bytes is refused with.
 fn refused(alloc: Global, old: Option<usize>, new: Option<usize>) -> Result<String, Fail> {
-    let zeros = [0; 64];
-    let old = match old {
-        Some(len) => Some(Stream::new(Vec::from_slice(alloc, &zeros[..len.min(64)])?)),
-        None => None,
-    };
-    let new = match new {
-        Some(len) => Some(Stream::new(Vec::from_slice(alloc, &zeros[..len.min(64)])?)),
-        None => None,
-    };
+    let old = zeros(alloc, old)?;
+    let new = zeros(alloc, new)?;
     match FrameTable::parse(old, new) {
         Ok(_) => Ok(String::from_str(alloc, "parsed")?),
         Err(error) => Ok(error.to_string(alloc)?),
     }
 }
 
+const BAD_OLD: &str = "FPO stream has an invalid length or alignment for its records";
+
+const BAD_NEW: &str = "FrameData stream has an invalid length or alignment for its records";
+
+/// How many bytes the old stream and the new one have, and the text of what they are refused with.
+const LENGTHS: &[(Option<usize>, Option<usize>, &str)] = &[
+    (Some(15), Some(31), BAD_OLD),
+    (None, Some(31), BAD_NEW),
+    (Some(16), Some(48), BAD_NEW),
+    (Some(17), None, BAD_OLD),
+    (Some(48), Some(64), "parsed"),
+    (Some(0), Some(0), "parsed"),
+];
+
 #[test]
 fn lengths(rt: HostRuntime) -> Result<(), Fail> {
-    let alloc = rt.alloc();
-    let old = "FPO stream has an invalid length or alignment for its records";
-    let new = "FrameData stream has an invalid length or alignment for its records";
-    let rows = [
-        (Some(15), Some(31), old),
-        (None, Some(31), new),
-        (Some(16), Some(48), new),
-        (Some(17), None, old),
-        (Some(48), Some(64), "parsed"),
-        (Some(0), Some(0), "parsed"),
-    ];
-    for (old, new, want) in rows {
-        let text = refused(alloc, old, new)?;
-        assert_eq!(rt; text.as_str(), want);
+    for (old, new, want) in LENGTHS {
+        let text = refused(rt.alloc(), *old, *new)?;
+        assert_eq!(rt; text.as_str(), *want);
     }
     Ok(())
 }
 
-#[test]
-fn records(rt: HostRuntime) -> Result<(), Fail> {
-    let alloc = rt.alloc();
-    let bytes = b"\x00\x10\x00\x00\x20\x00\x00\x00\x01\x00\x00\x40\x03\x00\x05\x9a".as_slice();
-    let (frame, len) = OldFrameData::parse_from(bytes, Le)?;
-    assert_eq!(rt; (len, frame.start(), frame.size()), (16, 0x1000, 0x20));
-    assert_eq!(rt; (frame.prolog_size(), frame.saved_regs_size()), (5, 2));
-    assert!(rt; frame.has_seh() && frame.uses_base_pointer());
-    assert_eq!(rt; frame.frame_type(), FrameType::TSS);
-    let told = FrameData::from(&frame);
-    assert_eq!(rt;
-        (told.ty, told.prolog_size, told.saved_regs_size),
-        (FrameType::TSS, 5, 8)
-    );
-    assert!(rt; told.has_structured_eh && told.uses_base_pointer);
-    assert!(rt; !told.has_cpp_eh && !told.is_function_start);
-    assert_eq!(rt; (told.locals_size, told.params_size), (4, 12));
-    assert_eq!(rt; (told.max_stack_size, told.program), (None, None));
-    assert!(rt;
-        matches!(
-            OldFrameData::parse_from(&bytes[1..], Le),
-            Err(Error::UnexpectedEof)
-        )
-    );
+/// The bytes of an old frame.
+const OLD_BYTES: &[u8] = b"\x00\x10\x00\x00\x20\x00\x00\x00\x01\x00\x00\x40\x03\x00\x05\x9a";
 
-    let bytes =
-        b"\xf0\xff\xff\xff\x20\x00\x00\x00\x08\x00\x00\x00\x0c\x00\x00\x00\x10\x00\x00\x00\x2a\x00\x00\x00\x03\x00\x04\x00\x06\x00\x00\x00".as_slice();
-    let (frame, len) = NewFrameData::parse_from(bytes, Le)?;
+/// The bytes of a new frame.
+const NEW_BYTES: &[u8] =
+    b"\xf0\xff\xff\xff\x20\x00\x00\x00\x08\x00\x00\x00\x0c\x00\x00\x00\x10\x00\x00\x00\x2a\x00\x00\x00\x03\x00\x04\x00\x06\x00\x00\x00";
+
+#[test]
+fn old_records(rt: HostRuntime) -> Result<(), Fail> {
+    let (frame, len) = OldFrameData::parse_from(OLD_BYTES, Le)?;
+    let place = (len, frame.start(), frame.size());
+    let sizes = (frame.prolog_size(), frame.saved_regs_size());
+    assert_eq!(rt; (place, sizes), ((16, 0x1000, 0x20), (5, 2)));
+    let marks = [frame.has_seh(), frame.uses_base_pointer()];
+    assert!(rt; marks == [true, true] && frame.frame_type() == FrameType::TSS);
+    let want = FrameData {
+        ty: FrameType::TSS,
+        code_start: PdbInternalRva(0x1000),
+        code_size: 0x20,
+        locals_size: 4,
+        params_size: 12,
+        prolog_size: 5,
+        saved_regs_size: 8,
+        max_stack_size: None,
+        has_structured_eh: true,
+        has_cpp_eh: false,
+        is_function_start: false,
+        uses_base_pointer: true,
+        program: None,
+    };
+    assert_eq!(rt; FrameData::from(&frame), want);
+    Ok(())
+}
+
+#[test]
+fn new_records(rt: HostRuntime) -> Result<(), Fail> {
+    let (frame, len) = NewFrameData::parse_from(NEW_BYTES, Le)?;
     assert_eq!(rt; len, 32);
     assert!(rt; frame.contains(0xffff_ffff) && frame.contains(0xffff_fff0));
     assert!(rt; !frame.contains(0xffff_ffef) && !frame.contains(0));
     assert!(rt; !frame.has_seh() && frame.has_eh() && frame.is_function_start());
-    let told = FrameData::from(&frame);
-    assert_eq!(rt;
-        (told.locals_size, told.params_size, told.prolog_size),
-        (8, 12, 3)
-    );
-    assert_eq!(rt; (told.saved_regs_size, told.max_stack_size), (4, Some(16)));
-    assert_eq!(rt; told.program, Some(StringRef(42)));
-    assert!(rt; !told.has_structured_eh && told.has_cpp_eh && told.is_function_start);
-    assert!(rt; !told.uses_base_pointer);
-    assert!(rt;
-        matches!(
-            NewFrameData::parse_from(&bytes[..31], Le),
-            Err(Error::UnexpectedEof)
-        )
-    );
+    let want = FrameData {
+        ty: FrameType::FrameData,
+        code_start: PdbInternalRva(0xffff_fff0),
+        code_size: 0x20,
+        locals_size: 8,
+        params_size: 12,
+        prolog_size: 3,
+        saved_regs_size: 4,
+        max_stack_size: Some(16),
+        has_structured_eh: false,
+        has_cpp_eh: true,
+        is_function_start: true,
+        uses_base_pointer: false,
+        program: Some(StringRef(42)),
+    };
+    assert_eq!(rt; FrameData::from(&frame), want);
+    Ok(())
+}
 
-    let rows = [
-        (FrameType::FPO, "fpo"),
-        (FrameType::Trap, "trap"),
-        (FrameType::TSS, "tss"),
-        (FrameType::Standard, "std"),
-        (FrameType::FrameData, "fdata"),
-        (FrameType::Unknown, "unknown"),
-    ];
-    for (kind, want) in rows {
-        let text = kind.to_string(alloc)?;
-        assert_eq!(rt; text.as_str(), want);
+#[test]
+fn short_records(rt: HostRuntime) {
+    let old = OldFrameData::parse_from(&OLD_BYTES[1..], Le);
+    assert!(rt; matches!(old, Err(Error::UnexpectedEof)));
+    let new = NewFrameData::parse_from(&NEW_BYTES[..31], Le);
+    assert!(rt; matches!(new, Err(Error::UnexpectedEof)));
+}
+
+/// Formats, and their texts.
+const FRAME_TYPES: &[(FrameType, &str)] = &[
+    (FrameType::FPO, "fpo"),
+    (FrameType::Trap, "trap"),
+    (FrameType::TSS, "tss"),
+    (FrameType::Standard, "std"),
+    (FrameType::FrameData, "fdata"),
+    (FrameType::Unknown, "unknown"),
+];
+
+#[test]
+fn frame_types(rt: HostRuntime) -> Result<(), Fail> {
+    for (kind, want) in FRAME_TYPES {
+        let text = kind.to_string(rt.alloc())?;
+        assert_eq!(rt; text.as_str(), *want);
     }
     assert!(rt; FrameType::FPO < FrameType::Trap && FrameType::FrameData < FrameType::Unknown);
     Ok(())

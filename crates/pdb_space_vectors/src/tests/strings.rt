@@ -1,6 +1,8 @@
 //! String tables, and the names in them.
 
-use pdb_container::{RawString, Stream, StringRef, StringTable};
+use pdb_base::RawString;
+use pdb_msf::Stream;
+use pdb_space::{StringRef, StringTable};
 use std::alloc::Global;
 use std::test::Fail;
 
@@ -22,6 +24,11 @@ fn stream(alloc: Global, bytes: &[u8]) -> Result<Stream, Fail> {
     Ok(Stream::new(Vec::from_slice(alloc, &bytes[..len])?))
 }
 
+/// The table of these bytes.
+fn table_of(alloc: Global, bytes: &[u8]) -> Result<StringTable, Fail> {
+    Ok(StringTable::parse(stream(alloc, bytes)?)?)
+}
+
 /// What `parse` answers: nothing, or the text of an error.
 fn parsed(alloc: Global, bytes: &[u8]) -> Result<Vec<u8>, Fail> {
     match StringTable::parse(stream(alloc, bytes)?) {
@@ -31,7 +38,7 @@ fn parsed(alloc: Global, bytes: &[u8]) -> Result<Vec<u8>, Fail> {
 }
 
 /// What a look-up answers: the bytes of the name, or the text of an error.
-fn named(alloc: Global, answer: pdb_container::Result<RawString<'_>>) -> Result<Vec<u8>, Fail> {
+fn named(alloc: Global, answer: pdb_base::Result<RawString<'_>>) -> Result<Vec<u8>, Fail> {
     match answer {
         Ok(name) => Ok(Vec::from_slice(alloc, name.as_bytes())?),
         Err(error) => Ok(error.to_string(alloc)?.into_bytes()),
@@ -39,73 +46,97 @@ fn named(alloc: Global, answer: pdb_container::Result<RawString<'_>>) -> Result<
 }
 
 /// What a look-up answers as text: the name, or the text of an error.
-fn lossy(alloc: Global, table: &StringTable, offset: u32) -> Result<Vec<u8>, Fail> {
-    match StringRef(offset).to_string_lossy(alloc, table) {
+fn lossy(alloc: Global, table: &StringTable, name: StringRef) -> Result<Vec<u8>, Fail> {
+    match name.to_string_lossy(alloc, table) {
         Ok(text) => Ok(Vec::from_slice(alloc, text.as_str().as_bytes())?),
         Err(error) => Ok(error.to_string(alloc)?.into_bytes()),
     }
 }
 
+/// Tables, and the texts of what they are refused with, or nothing.
+const TABLES: &[(&[u8], &[u8])] = &[
+    (TABLE, b""),
+    (BROKEN, b""),
+    (b"\xfe\xef\xfe\xef\x01\0\0\0\0\0\0\0", b""),
+    (b"\xfe\xef\xfe\xef\x01\0\0\0\x08\0\0\0\0foo\0ba\0", b""),
+    (b"", ENDS),
+    (b"\xfe\xef\xfe\xef\x01\0\0\0\0\0\0", ENDS),
+    (b"\0\0\0\0\x03\0\0\0\0\0\0", ENDS),
+    (b"\xfe\xef\xfe\xee\x03\0\0\0\x09\0\0\0", OTHER_SIGNATURE),
+    (b"\xef\xfe\xef\xfe\x01\0\0\0\0\0\0\0", OTHER_SIGNATURE),
+    (b"\xfe\xef\xfe\xef\x01\0\0\0\x09\0\0\0\0foo\0ba\0", ENDS),
+    (
+        b"\xfe\xef\xfe\xef\x03\0\0\0\xff\xff\xff\xff\0foo\0ba\0",
+        ENDS,
+    ),
+    (
+        b"\xfe\xef\xfe\xef\x03\0\0\0\x07\0\0\0\0foo\0ba\0",
+        OTHER_VERSION,
+    ),
+    (b"\xfe\xef\xfe\xef\0\0\0\0\0\0\0\0", OTHER_VERSION),
+];
+
 #[test]
 fn string_tables(rt: HostRuntime) -> Result<(), Fail> {
-    let alloc = rt.alloc();
-    let rows = [
-        (TABLE, b"".as_slice()),
-        (BROKEN, b""),
-        (b"\xfe\xef\xfe\xef\x01\0\0\0\0\0\0\0", b""),
-        (b"\xfe\xef\xfe\xef\x01\0\0\0\x08\0\0\0\0foo\0ba\0", b""),
-        (b"", ENDS),
-        (b"\xfe\xef\xfe\xef\x01\0\0\0\0\0\0", ENDS),
-        (b"\0\0\0\0\x03\0\0\0\0\0\0", ENDS),
-        (b"\xfe\xef\xfe\xee\x03\0\0\0\x09\0\0\0", OTHER_SIGNATURE),
-        (b"\xef\xfe\xef\xfe\x01\0\0\0\0\0\0\0", OTHER_SIGNATURE),
-        (b"\xfe\xef\xfe\xef\x01\0\0\0\x09\0\0\0\0foo\0ba\0", ENDS),
-        (
-            b"\xfe\xef\xfe\xef\x03\0\0\0\xff\xff\xff\xff\0foo\0ba\0",
-            ENDS,
-        ),
-        (
-            b"\xfe\xef\xfe\xef\x03\0\0\0\x07\0\0\0\0foo\0ba\0",
-            OTHER_VERSION,
-        ),
-        (b"\xfe\xef\xfe\xef\0\0\0\0\0\0\0\0", OTHER_VERSION),
-    ];
-    for (bytes, want) in rows {
-        let answer = parsed(alloc, bytes)?;
-        assert_eq!(rt; answer.as_slice(), want, "{bytes:?}");
+    for (bytes, want) in TABLES {
+        let answer = parsed(rt.alloc(), bytes)?;
+        assert_eq!(rt; answer.as_slice(), *want, "{bytes:?}");
     }
     Ok(())
 }
 
+/// Whether both look-ups of a name give these bytes.
+fn both_give(
+    alloc: Global,
+    table: &StringTable,
+    name: StringRef,
+    want: &[u8],
+) -> Result<bool, Fail> {
+    let got = named(alloc, table.get(name))?;
+    let raw = named(alloc, name.to_raw_string(table))?;
+    Ok(got.as_slice() == want && raw.as_slice() == want)
+}
+
+/// Whether each look-up of a name in `TABLE` gives these bytes, and its text too.
+fn each_gives(alloc: Global, name: StringRef, want: &[u8]) -> Result<bool, Fail> {
+    let table = table_of(alloc, TABLE)?;
+    let text = lossy(alloc, &table, name)?;
+    Ok(text.as_slice() == want && both_give(alloc, &table, name, want)?)
+}
+
+/// Offsets, and the names there or the texts of what they are refused with.
+const NAMES: &[(u32, &[u8])] = &[
+    (0, b""),
+    (1, b"foo"),
+    (2, b"oo"),
+    (4, b""),
+    (5, ENDS),
+    (6, ENDS),
+    (7, ENDS),
+    (8, ENDS),
+    (0xffff_ffff, ENDS),
+];
+
 #[test]
 fn names(rt: HostRuntime) -> Result<(), Fail> {
-    let alloc = rt.alloc();
-    let table = StringTable::parse(stream(alloc, TABLE)?)?;
-    let rows = [
-        (0, b"".as_slice()),
-        (1, b"foo"),
-        (2, b"oo"),
-        (4, b""),
-        (5, ENDS),
-        (6, ENDS),
-        (7, ENDS),
-        (8, ENDS),
-        (0xffff_ffff, ENDS),
-    ];
-    for (offset, want) in rows {
-        let name = StringRef(offset);
-        for answer in [table.get(name), name.to_raw_string(&table)] {
-            let answer = named(alloc, answer)?;
-            assert_eq!(rt; answer.as_slice(), want, "at {offset}");
-        }
-        let text = lossy(alloc, &table, offset)?;
-        assert_eq!(rt; text.as_slice(), want, "the text at {offset}");
+    for (offset, want) in NAMES {
+        let is = each_gives(rt.alloc(), StringRef(*offset), want)?;
+        assert!(rt; is, "at {offset}");
     }
+    Ok(())
+}
 
-    let table = StringTable::parse(stream(alloc, BROKEN)?)?;
+/// The first name of `BROKEN`: its bytes, and its text.
+fn broken_name(alloc: Global) -> Result<(Vec<u8>, Vec<u8>), Fail> {
+    let table = table_of(alloc, BROKEN)?;
     let raw = named(alloc, table.get(StringRef(0)))?;
-    assert_eq!(rt; raw.as_slice(), b"f\xffo".as_slice());
-    let text = lossy(alloc, &table, 0)?;
-    assert_eq!(rt; text.as_slice(), "f\u{fffd}o".as_bytes());
+    Ok((raw, lossy(alloc, &table, StringRef(0))?))
+}
+
+#[test]
+fn broken(rt: HostRuntime) -> Result<(), Fail> {
+    let (raw, text) = broken_name(rt.alloc())?;
+    assert!(rt; raw.as_slice() == b"f\xffo".as_slice());
+    assert!(rt; text.as_slice() == "f\u{fffd}o".as_bytes());
     Ok(())
 }

@@ -1,8 +1,10 @@
 //! OMAP tables, sections, and the conversions by them.
 
-use pdb_container::{
-    AddressMap, Error, ImageSectionHeader, OMAPRecord, OMAPTable, ParseBuffer, PdbInternalRva,
-    PdbInternalSectionOffset, RangeIter, Rva, SectionCharacteristics, SectionOffset, Stream,
+use pdb_base::{Error, ParseBuffer};
+use pdb_msf::Stream;
+use pdb_space::{
+    AddressMap, ImageSectionHeader, OMAPRecord, OMAPTable, PdbInternalRva,
+    PdbInternalSectionOffset, RangeIter, Rva, SectionCharacteristics, SectionOffset,
 };
 use std::alloc::Global;
 use std::ops::Range;
@@ -28,61 +30,118 @@ fn section(virtual_address: u32, size_of_raw_data: u32) -> ImageSectionHeader {
     }
 }
 
+/// Records, each a source and a target.
+type Records = &'static [(u32, u32)];
+
+const UNMAPPED: Records = &[(0x1000, 0), (0x1008, 0x15d44)];
+
+const LAST: Records = &[(0x10, 0xffff_fff8)];
+
+const EQUAL: Records = &[(0x10, 0x100), (0x10, 0x200)];
+
+/// Tables that are sorted, and what they answer of an address.
+const LOOK_UPS: &[(Records, u32, Option<u32>)] = &[
+    (UNMAPPED, 0x0fff, None),
+    (UNMAPPED, 0x1007, None),
+    (UNMAPPED, 0x1008, Some(0x15d44)),
+    (LAST, 0x0f, None),
+    (LAST, 0x17, Some(0xffff_ffff)),
+    (LAST, 0x18, None),
+    (EQUAL, 0x10, Some(0x200)),
+    (&[], 0x10, None),
+];
+
 #[test]
-fn tables(rt: HostRuntime) -> Result<(), Fail> {
-    let alloc = rt.alloc();
-    let unmapped: &[(u32, u32)] = &[(0x1000, 0), (0x1008, 0x15d44)];
-    let last: &[(u32, u32)] = &[(0x10, 0xffff_fff8)];
-    let equal: &[(u32, u32)] = &[(0x10, 0x100), (0x10, 0x200)];
-    let rows = [
-        (unmapped, 0x0fff, None),
-        (unmapped, 0x1007, None),
-        (unmapped, 0x1008, Some(0x15d44)),
-        (last, 0x0f, None),
-        (last, 0x17, Some(0xffff_ffff)),
-        (last, 0x18, None),
-        (equal, 0x10, Some(0x200)),
-        (&[], 0x10, None),
-    ];
-    for (records, address, want) in rows {
-        let table = table(alloc, records)?;
+fn look_ups(rt: HostRuntime) -> Result<(), Fail> {
+    for (records, address, want) in LOOK_UPS {
+        let table = table(rt.alloc(), records)?;
         assert!(rt; table.is_sorted());
-        assert_eq!(rt; table.lookup(address), want, "lookup of {address}");
+        assert!(rt; table.lookup(*address) == *want, "lookup of {address}");
     }
+    Ok(())
+}
 
-    let rows = [
-        (unmapped, 0..0x1010, 0x15d44..0x15d4c),
-        (last, 0x10..0x20, 0xffff_fff8..0xffff_ffff),
-        (equal, 0x10..0x12, 0x200..0x202),
-    ];
-    for (records, asked, want) in rows {
-        let table = table(alloc, records)?;
-        let ranges: Vec<Range<u32>> = table.lookup_range(asked).collect(alloc)?;
-        assert_eq!(rt; ranges.as_slice(), [want].as_slice());
+/// The ranges that a table answers of a start and an end.
+fn ranges_of(
+    alloc: Global,
+    records: &[(u32, u32)],
+    start: u32,
+    end: u32,
+) -> Result<Vec<Range<u32>>, Fail> {
+    let table = table(alloc, records)?;
+    Ok(table.lookup_range(start..end).collect(alloc)?)
+}
+
+/// Tables, the start and the end of a range, and those of the one range that they answer.
+const RANGES: &[(Records, u32, u32, u32, u32)] = &[
+    (UNMAPPED, 0, 0x1010, 0x15d44, 0x15d4c),
+    (LAST, 0x10, 0x20, 0xffff_fff8, 0xffff_ffff),
+    (EQUAL, 0x10, 0x12, 0x200, 0x202),
+];
+
+#[test]
+fn ranges(rt: HostRuntime) -> Result<(), Fail> {
+    for (records, start, end, first, last) in RANGES {
+        let ranges = ranges_of(rt.alloc(), records, *start, *end)?;
+        assert!(rt;
+            ranges.as_slice() == [*first..*last].as_slice(),
+            "{start}..{end}"
+        );
     }
+    Ok(())
+}
 
-    let falling = table(alloc, &[(2, 1), (1, 2)])?;
-    assert!(rt; !falling.is_sorted());
-    let records: Vec<OMAPRecord> = falling.records().collect(alloc)?;
+/// Whether a table is sorted, and its records.
+fn records_of(alloc: Global, records: &[(u32, u32)]) -> Result<(bool, Vec<OMAPRecord>), Fail> {
+    let table = table(alloc, records)?;
+    Ok((table.is_sorted(), table.records().collect(alloc)?))
+}
+
+#[test]
+fn records(rt: HostRuntime) -> Result<(), Fail> {
+    let (sorted, records) = records_of(rt.alloc(), &[(2, 1), (1, 2)])?;
+    assert!(rt; !sorted);
     assert_eq!(rt;
         records.as_slice(),
         [OMAPRecord::new(2, 1), OMAPRecord::new(1, 2)].as_slice()
     );
-    let first = OMAPRecord::new(1, 9);
-    assert_eq!(rt; (first.source_address(), first.target_address()), (1, 9));
-    assert!(rt; first < OMAPRecord::new(2, 0) && first > OMAPRecord::new(1, 8));
-
-    let odd = OMAPTable::parse(Stream::new(Vec::from_slice(alloc, b"twelve bytes")?));
-    assert!(rt; matches!(odd, Err(Error::InvalidStreamLength("OMAP"))));
-    assert!(rt; RangeIter::empty().next().is_none() && RangeIter::default().next().is_none());
-    assert_eq!(rt; RangeIter::identity(0..3).next(), Some(0..3));
     Ok(())
 }
 
 #[test]
+fn single_records(rt: HostRuntime) {
+    let first = OMAPRecord::new(1, 9);
+    assert_eq!(rt; (first.source_address(), first.target_address()), (1, 9));
+    assert!(rt; first < OMAPRecord::new(2, 0) && first > OMAPRecord::new(1, 8));
+}
+
+#[test]
+fn odd_length(rt: HostRuntime) -> Result<(), Fail> {
+    let bytes = Vec::from_slice(rt.alloc(), b"twelve bytes")?;
+    let odd = OMAPTable::parse(Stream::new(bytes));
+    assert!(rt; matches!(odd, Err(Error::InvalidStreamLength("OMAP"))));
+    Ok(())
+}
+
+#[test]
+fn range_iterators(rt: HostRuntime) {
+    assert!(rt; RangeIter::empty().next().is_none() && RangeIter::default().next().is_none());
+    assert_eq!(rt; RangeIter::identity(0..3).next(), Some(0..3));
+}
+
+/// The bytes of a section's header.
+const HEADER: &[u8] =
+    b".data\0\0\0\x48\x35\x09\x00\x00\xd0\x1e\x00\x00\xfe\x00\x00\x00\xa2\x1e\x00\x00\x00\x00\x00\x00\x00\x00\x00\x00\x00\x00\x00\x40\x00\x00\xc8";
+
+/// The header at the front of bytes, and how many of them are read.
+fn header_of(bytes: &[u8]) -> pdb_base::Result<(ImageSectionHeader, usize)> {
+    let mut buffer = ParseBuffer::from(bytes);
+    let header = ImageSectionHeader::parse(&mut buffer)?;
+    Ok((header, buffer.pos()))
+}
+
+#[test]
 fn headers(rt: HostRuntime) -> Result<(), Fail> {
-    let bytes =
-        b".data\0\0\0\x48\x35\x09\x00\x00\xd0\x1e\x00\x00\xfe\x00\x00\x00\xa2\x1e\x00\x00\x00\x00\x00\x00\x00\x00\x00\x00\x00\x00\x00\x40\x00\x00\xc8".as_slice();
     let want = ImageSectionHeader {
         name: *b".data\0\0\0",
         virtual_size: 0x93548,
@@ -95,114 +154,186 @@ fn headers(rt: HostRuntime) -> Result<(), Fail> {
         number_of_line_numbers: 0,
         characteristics: SectionCharacteristics(0xc800_0040),
     };
-    let mut buffer = ParseBuffer::from(bytes);
-    let header = ImageSectionHeader::parse(&mut buffer)?;
-    assert_eq!(rt; (header, buffer.pos()), (want, 40));
-    assert_eq!(rt; header.name(), ".data");
-    let mut short = ParseBuffer::from(&bytes[..39]);
+    assert_eq!(rt; header_of(HEADER)?, (want, 40));
+    Ok(())
+}
+
+#[test]
+fn short_header(rt: HostRuntime) {
+    let mut short = ParseBuffer::from(&HEADER[..39]);
     let refused = ImageSectionHeader::parse(&mut short);
     assert!(rt; matches!(refused, Err(Error::UnexpectedEof)) && short.pos() == 0);
-    let mut header = header;
-    header.name = *b"\xff\0\0\0\0\0\0\0";
-    assert_eq!(rt; header.name(), "");
-    header.name = *b"no nul..";
-    assert_eq!(rt; header.name(), "no nul..");
+}
 
-    let flags = header.characteristics;
+#[test]
+fn section_names(rt: HostRuntime) {
+    let rows = [
+        (*b".data\0\0\0", ".data"),
+        (*b"\xff\0\0\0\0\0\0\0", ""),
+        (*b"no nul..", "no nul.."),
+    ];
+    for (name, want) in rows {
+        let header = ImageSectionHeader {
+            name,
+            ..ImageSectionHeader::default()
+        };
+        assert_eq!(rt; header.name(), want);
+    }
+}
+
+/// Characteristics, and the alignments that they say.
+const ALIGNMENTS: &[(u32, Option<u16>)] = &[
+    (0xc800_0040, None),
+    (0x8, Some(1)),
+    (0x10_0000, Some(1)),
+    (0x70_0000, Some(64)),
+    (0xe0_0000, Some(8192)),
+    (0xf0_0000, None),
+    (0x70_0008, None),
+    (0, None),
+];
+
+#[test]
+fn characteristics(rt: HostRuntime) {
+    let flags = SectionCharacteristics(0xc800_0040);
     assert!(rt; flags.initialized_data() && flags.not_paged() && flags.read() && flags.write());
     assert!(rt; !flags.execute() && !flags.not_cached() && !flags.executable());
     assert_eq!(rt; SectionCharacteristics::new(flags.bits()), flags);
-    let rows = [
-        (0xc800_0040, None),
-        (0x8, Some(1)),
-        (0x10_0000, Some(1)),
-        (0x70_0000, Some(64)),
-        (0xe0_0000, Some(8192)),
-        (0xf0_0000, None),
-        (0x70_0008, None),
-        (0, None),
-    ];
-    for (word, want) in rows {
-        assert_eq!(rt; SectionCharacteristics(word).alignment(), want);
+    for (word, want) in ALIGNMENTS {
+        assert_eq!(rt; SectionCharacteristics(*word).alignment(), *want);
     }
-    Ok(())
+}
+
+/// A map of one section, without OMAP tables.
+fn map_of(alloc: Global, section: ImageSectionHeader) -> Result<AddressMap, Fail> {
+    let sections = Vec::from_slice(alloc, &[section])?;
+    Ok(AddressMap::new(sections, None, None, None))
+}
+
+/// The place of an address, where there is one section.
+fn place_of(
+    alloc: Global,
+    section: ImageSectionHeader,
+    address: u32,
+) -> Result<Option<SectionOffset>, Fail> {
+    let map = map_of(alloc, section)?;
+    Ok(Rva(address).to_section_offset(&map))
 }
 
 #[test]
 fn places(rt: HostRuntime) -> Result<(), Fail> {
-    let alloc = rt.alloc();
     let rows = [
-        (section(0x1000, 0x100), 0x10ff, Some((1, 0xff))),
-        (section(0x1000, 0x100), 0x1100, None),
-        (section(0x1000, 0x100), 0x0fff, None),
-        (section(0xffff_fff0, 0x100), 0xffff_ffff, Some((1, 0xf))),
+        (0x1000, 0x10ff, Some(SectionOffset::new(1, 0xff))),
+        (0x1000, 0x1100, None),
+        (0x1000, 0x0fff, None),
+        (0xffff_fff0, 0xffff_ffff, Some(SectionOffset::new(1, 0xf))),
     ];
-    for (section, address, want) in rows {
-        let map = AddressMap::new(Vec::from_slice(alloc, &[section])?, None, None, None);
-        let want = want.map(|(number, offset)| SectionOffset::new(number, offset));
-        assert_eq!(rt; Rva(address).to_section_offset(&map), want);
+    for (start, address, want) in rows {
+        let place = place_of(rt.alloc(), section(start, 0x100), address)?;
+        assert_eq!(rt; place, want);
     }
-
-    let sections = Vec::from_slice(alloc, &[section(0x1000_0000, 0)])?;
-    let map = AddressMap::new(sections, None, None, None);
-    for (number, want) in [(1, Some(0x1000_1234)), (2, None), (0, None)] {
-        let address = PdbInternalSectionOffset::new(number, 0x1234).to_internal_rva(&map);
-        assert_eq!(rt; address, want.map(|address| PdbInternalRva(address)));
-    }
-
-    let map = AddressMap::empty(alloc);
-    assert_eq!(rt; Rva(5).to_internal_rva(&map), Some(PdbInternalRva(5)));
-    assert_eq!(rt; PdbInternalRva(5).to_rva(&map), Some(Rva(5)));
-    assert_eq!(rt; Rva(5).to_section_offset(&map), None);
-    assert_eq!(rt;
-        SectionOffset::new(0, 7).to_internal_offset(&map),
-        Some(PdbInternalSectionOffset::new(0, 7))
-    );
-    assert_eq!(rt;
-        PdbInternalSectionOffset::new(0, 7).to_section_offset(&map),
-        Some(SectionOffset::new(0, 7))
-    );
-    let mut ranges = map.rva_ranges(PdbInternalRva(0)..PdbInternalRva(0x10));
-    assert_eq!(rt; ranges.next(), Some(Rva(0)..Rva(0x10)));
-    assert_eq!(rt; ranges.next(), None);
-    let mut ranges = map.rva_ranges(PdbInternalRva(5)..PdbInternalRva(5));
-    assert_eq!(rt; ranges.next(), None);
-    assert_eq!(rt; map.internal_rva_ranges(Rva(5)..Rva(5)).next(), None);
     Ok(())
 }
 
 #[test]
-fn rearranged(rt: HostRuntime) -> Result<(), Fail> {
-    let alloc = rt.alloc();
-    let map = AddressMap::new(
-        Vec::from_slice(alloc, &[section(0x1000, 0x1000)])?,
-        Some(Vec::from_slice(alloc, &[section(0x2000, 0x1000)])?),
-        Some(table(alloc, &[(0x2000, 0x1000)])?),
-        Some(table(alloc, &[(0x1000, 0x2000)])?),
-    );
-    let (address, internal) = (Rva(0x2010), PdbInternalRva(0x1010));
-    let place = SectionOffset::new(1, 0x10);
-    let internal_place = PdbInternalSectionOffset::new(1, 0x10);
+fn sections(rt: HostRuntime) -> Result<(), Fail> {
+    let map = map_of(rt.alloc(), section(0x1000_0000, 0))?;
+    let rows = [(1, Some(PdbInternalRva(0x1000_1234))), (2, None), (0, None)];
+    for (number, want) in rows {
+        let address = PdbInternalSectionOffset::new(number, 0x1234).to_internal_rva(&map);
+        assert!(rt; address == want, "section {number}");
+    }
+    Ok(())
+}
 
-    assert_eq!(rt; internal_place.to_internal_rva(&map), Some(internal));
-    assert_eq!(rt; internal_place.to_rva(&map), Some(address));
-    assert_eq!(rt; internal_place.to_section_offset(&map), Some(place));
-    assert_eq!(rt; address.to_internal_offset(&map), Some(internal_place));
-    assert_eq!(rt; Rva(0x1fff).to_internal_rva(&map), None);
+#[test]
+fn no_sections(rt: HostRuntime) {
+    let map = AddressMap::empty(rt.alloc());
+    assert!(rt; Rva(5).to_internal_rva(&map) == Some(PdbInternalRva(5)));
+    assert!(rt; PdbInternalRva(5).to_rva(&map) == Some(Rva(5)));
+    assert!(rt; Rva(5).to_section_offset(&map).is_none());
+    let place = SectionOffset::new(0, 7);
+    let internal = PdbInternalSectionOffset::new(0, 7);
+    assert!(rt; place.to_internal_offset(&map) == Some(internal));
+    assert!(rt; internal.to_section_offset(&map) == Some(place));
+}
 
-    assert_eq!(rt; internal.to_section_offset(&map), Some(place));
-    assert_eq!(rt; internal.to_internal_offset(&map), Some(internal_place));
-    assert_eq!(rt; place.to_rva(&map), Some(address));
-    assert_eq!(rt; place.to_internal_rva(&map), Some(internal));
-    assert_eq!(rt; place.to_internal_offset(&map), Some(internal_place));
+/// The first two ranges that a map answers of a start and an end of internal addresses.
+fn two_ranges(map: &AddressMap, start: u32, end: u32) -> [Option<Range<Rva>>; 2] {
+    let mut ranges = map.rva_ranges(PdbInternalRva(start)..PdbInternalRva(end));
+    [ranges.next(), ranges.next()]
+}
 
-    let mut ranges = map.rva_ranges(PdbInternalRva(0x1010)..PdbInternalRva(0x1020));
-    assert_eq!(rt; ranges.next(), Some(Rva(0x2010)..Rva(0x2020)));
-    assert_eq!(rt; ranges.next(), None);
-    let mut ranges = map.internal_rva_ranges(Rva(0x2010)..Rva(0x2020));
-    assert_eq!(rt;
-        ranges.next(),
-        Some(PdbInternalRva(0x1010)..PdbInternalRva(0x1020))
-    );
+/// The first two ranges that a map answers of a start and an end of addresses.
+fn two_internal_ranges(
+    map: &AddressMap,
+    start: u32,
+    end: u32,
+) -> [Option<Range<PdbInternalRva>>; 2] {
+    let mut ranges = map.internal_rva_ranges(Rva(start)..Rva(end));
+    [ranges.next(), ranges.next()]
+}
+
+#[test]
+fn unmapped_ranges(rt: HostRuntime) {
+    let map = AddressMap::empty(rt.alloc());
+    let ranges = two_ranges(&map, 0, 0x10);
+    assert!(rt; ranges == [Some(Rva(0)..Rva(0x10)), None]);
+    assert!(rt; two_ranges(&map, 5, 5) == [None, None]);
+    assert!(rt; two_internal_ranges(&map, 5, 5) == [None, None]);
+}
+
+/// A map whose one section lay at 0x1000, and lies at 0x2000.
+fn rearranged(alloc: Global) -> Result<AddressMap, Fail> {
+    let before = Vec::from_slice(alloc, &[section(0x1000, 0x1000)])?;
+    let after = Vec::from_slice(alloc, &[section(0x2000, 0x1000)])?;
+    let to_internal = table(alloc, &[(0x2000, 0x1000)])?;
+    let from_internal = table(alloc, &[(0x1000, 0x2000)])?;
+    Ok(AddressMap::new(before, Some(after), Some(to_internal), Some(from_internal)))
+}
+
+const ADDRESS: Rva = Rva(0x2010);
+
+const INTERNAL: PdbInternalRva = PdbInternalRva(0x1010);
+
+const PLACE: SectionOffset = SectionOffset {
+    section: 1,
+    offset: 0x10,
+};
+
+const INTERNAL_PLACE: PdbInternalSectionOffset = PdbInternalSectionOffset {
+    section: 1,
+    offset: 0x10,
+};
+
+#[test]
+fn rearranged_places(rt: HostRuntime) -> Result<(), Fail> {
+    let map = rearranged(rt.alloc())?;
+    assert!(rt; INTERNAL_PLACE.to_internal_rva(&map) == Some(INTERNAL));
+    assert!(rt; INTERNAL_PLACE.to_rva(&map) == Some(ADDRESS));
+    assert!(rt; INTERNAL_PLACE.to_section_offset(&map) == Some(PLACE));
+    assert!(rt; PLACE.to_rva(&map) == Some(ADDRESS));
+    assert!(rt; PLACE.to_internal_rva(&map) == Some(INTERNAL));
+    assert!(rt; PLACE.to_internal_offset(&map) == Some(INTERNAL_PLACE));
+    Ok(())
+}
+
+#[test]
+fn rearranged_addresses(rt: HostRuntime) -> Result<(), Fail> {
+    let map = rearranged(rt.alloc())?;
+    assert!(rt; ADDRESS.to_internal_offset(&map) == Some(INTERNAL_PLACE));
+    assert!(rt; Rva(0x1fff).to_internal_rva(&map).is_none());
+    assert!(rt; INTERNAL.to_section_offset(&map) == Some(PLACE));
+    assert!(rt; INTERNAL.to_internal_offset(&map) == Some(INTERNAL_PLACE));
+    Ok(())
+}
+
+#[test]
+fn rearranged_ranges(rt: HostRuntime) -> Result<(), Fail> {
+    let map = rearranged(rt.alloc())?;
+    let ranges = two_ranges(&map, 0x1010, 0x1020);
+    assert!(rt; ranges == [Some(Rva(0x2010)..Rva(0x2020)), None]);
+    let [first, _] = two_internal_ranges(&map, 0x2010, 0x2020);
+    assert!(rt; first == Some(PdbInternalRva(0x1010)..PdbInternalRva(0x1020)));
     Ok(())
 }

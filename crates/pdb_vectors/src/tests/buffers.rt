@@ -1,6 +1,9 @@
 //! What a buffer reads, and where it stands.
 
-use pdb_container::{Error, ParseBuffer, RawString, Variant};
+use super::shows;
+use pdb_base::{Error, ParseBuffer, RawString, Variant};
+use pdb_msf::Stream;
+use std::alloc::Global;
 use std::fmt;
 use std::test::Fail;
 
@@ -12,65 +15,77 @@ fn buffer_of(count: usize) -> ParseBuffer<'static> {
 }
 
 /// Whether a call is refused, since bytes end too soon.
-fn ends<T: Drop>(answer: pdb_container::Result<T>) -> bool {
+fn ends<T: Drop>(answer: pdb_base::Result<T>) -> bool {
     matches!(answer, Err(Error::UnexpectedEof))
 }
 
+/// Whether a call answers this.
+fn reads<T: PartialEq + Drop>(answer: pdb_base::Result<T>, want: T) -> bool {
+    matches!(answer, Ok(found) if found == want)
+}
+
+/// Whether a buffer stands at this place, with so many bytes left.
+fn stands(buffer: &ParseBuffer<'_>, pos: usize, left: usize) -> bool {
+    buffer.pos() == pos && buffer.len() == left
+}
+
 #[test]
-fn numbers(rt: HostRuntime) -> Result<(), Fail> {
+fn numbers_of_one_byte(rt: HostRuntime) {
     let mut buffer = buffer_of(4);
     for want in 1..5u8 {
-        assert_eq!(rt;
-            (buffer.peek_u8()?, buffer.peek_u8()?, buffer.parse_u8()?),
-            (want, want, want)
-        );
+        assert!(rt; reads(buffer.peek_u8(), want));
+        assert!(rt; reads(buffer.peek_u8(), want));
+        assert!(rt; reads(buffer.parse_u8(), want));
     }
     assert!(rt; ends(buffer.peek_u8()) && ends(buffer.parse_u8()) && buffer.pos() == 4);
+}
 
+#[test]
+fn numbers_of_two_bytes(rt: HostRuntime) {
     let mut buffer = buffer_of(3);
-    assert_eq!(rt;
-        (buffer.peek_u16()?, buffer.peek_u16()?, buffer.parse_u16()?),
-        (0x0201, 0x0201, 0x0201)
-    );
+    assert!(rt; reads(buffer.peek_u16(), 0x0201));
+    assert!(rt; reads(buffer.peek_u16(), 0x0201));
+    assert!(rt; reads(buffer.parse_u16(), 0x0201));
     assert!(rt; ends(buffer.peek_u16()) && ends(buffer.parse_u16()) && buffer.pos() == 2);
-    buffer.take(1)?;
-    assert!(rt; ends(buffer.parse_u16()));
+    assert!(rt; buffer.take(1).is_ok() && ends(buffer.parse_u16()));
+}
 
+#[test]
+fn numbers_of_more_bytes(rt: HostRuntime) {
     let mut buffer = buffer_of(7);
-    assert_eq!(rt; (buffer.parse_u32()?, buffer.len()), (0x0403_0201, 3));
+    assert!(rt; reads(buffer.parse_u32(), 0x0403_0201) && buffer.len() == 3);
     for pos in 4..8 {
         buffer.seek(pos);
         assert!(rt; ends(buffer.parse_u32()) && buffer.pos() == pos, "at {pos}");
     }
 
     let mut buffer = buffer_of(15);
-    assert_eq!(rt; buffer.parse_u64()?, 0x0807_0605_0403_0201);
+    assert!(rt; reads(buffer.parse_u64(), 0x0807_0605_0403_0201));
     assert!(rt; ends(buffer.parse_u64()));
+}
 
+#[test]
+fn signed_numbers(rt: HostRuntime) {
     let mut buffer = ParseBuffer::from(b"\xfe\xff\x00".as_slice());
-    assert_eq!(rt; (buffer.parse_i16()?, buffer.pos()), (-2, 2));
+    assert!(rt; reads(buffer.parse_i16(), -2) && buffer.pos() == 2);
     assert!(rt; ends(buffer.parse_i16()) && buffer.pos() == 2);
 
     let mut buffer = ParseBuffer::from(b"\xfe\xff\xff\xff\x05\x06\x07".as_slice());
-    assert_eq!(rt;
-        (buffer.parse_i32()?, buffer.pos(), buffer.len()),
-        (-2, 4, 3)
-    );
+    assert!(rt; reads(buffer.parse_i32(), -2) && stands(&buffer, 4, 3));
     assert!(rt; ends(buffer.parse_i32()) && ends(buffer.parse_u32()));
 
     let mut buffer = ParseBuffer::from(b"\xff\xff\xff\xff\xff\xff\xff\xff\x00".as_slice());
-    assert_eq!(rt; buffer.parse_i64()?, -1);
+    assert!(rt; reads(buffer.parse_i64(), -1));
     assert!(rt; ends(buffer.parse_i64()));
-    Ok(())
 }
 
 /// Whether a number is refused by this prefix.
-fn names<T: Drop>(answer: pdb_container::Result<T>, prefix: u16) -> bool {
+fn names<T: Drop>(answer: pdb_base::Result<T>, prefix: u16) -> bool {
     matches!(answer, Err(Error::UnexpectedNumericPrefix(found)) if found == prefix)
 }
 
 #[test]
-fn variants(rt: HostRuntime) -> Result<(), Fail> {
+fn variants(rt: HostRuntime) {
     let alloc = rt.alloc();
     let rows = [
         (b"\x00\x7f".as_slice(), Variant::U16(0x7f00), "32512"),
@@ -104,14 +119,17 @@ fn variants(rt: HostRuntime) -> Result<(), Fail> {
     ];
     for (bytes, want, text) in rows {
         let mut buffer = ParseBuffer::from(bytes);
-        let value = buffer.parse_variant()?;
-        assert_eq!(rt; (value, buffer.len()), (want, 0));
-        let shown = value.to_string(alloc)?;
-        assert_eq!(rt; shown.as_str(), text);
+        assert!(rt;
+            reads(buffer.parse_variant(), want) && buffer.len() == 0,
+            "{text}"
+        );
+        assert!(rt; shows(alloc, &want, text), "{text}");
     }
-    let shown = Variant::I8(-128).to_string(alloc)?;
-    assert_eq!(rt; shown.as_str(), "-128");
+    assert!(rt; shows(alloc, &Variant::I8(-128), "-128"));
+}
 
+#[test]
+fn refused_variants(rt: HostRuntime) {
     let mut buffer = ParseBuffer::from(b"\x05\x80\x00\x00\x00\x00".as_slice());
     assert!(rt; names(buffer.parse_variant(), 0x8005) && buffer.pos() == 0);
     for bytes in [
@@ -123,11 +141,10 @@ fn variants(rt: HostRuntime) -> Result<(), Fail> {
         assert!(rt; ends(buffer.parse_variant()) && buffer.pos() == 0);
         assert!(rt; ends(buffer.parse_num()) && buffer.pos() == 0);
     }
-    Ok(())
 }
 
 #[test]
-fn nums(rt: HostRuntime) -> Result<(), Fail> {
+fn nums(rt: HostRuntime) {
     let rows = [
         (b"\xff\x7f\xff".as_slice(), 0x7fff, 1),
         (b"\x00\x80\xff".as_slice(), 255, 0),
@@ -141,7 +158,7 @@ fn nums(rt: HostRuntime) -> Result<(), Fail> {
     ];
     for (bytes, want, left) in rows {
         let mut buffer = ParseBuffer::from(bytes);
-        assert_eq!(rt; (buffer.parse_num()?, buffer.len()), (want, left));
+        assert!(rt; reads(buffer.parse_num(), want) && buffer.len() == left);
     }
     for (bytes, prefix) in [
         (b"\x01\x80".as_slice(), 0x8001),
@@ -151,7 +168,6 @@ fn nums(rt: HostRuntime) -> Result<(), Fail> {
         let mut buffer = ParseBuffer::from(bytes);
         assert!(rt; names(buffer.parse_num(), prefix) && buffer.pos() == 0);
     }
-    Ok(())
 }
 
 /// A buffer in hexadecimal. The `x` of a format string is for integers alone.
@@ -165,95 +181,123 @@ impl fmt::Display for InHexadecimal<'_> {
 }
 
 #[test]
-fn printed(rt: HostRuntime) -> Result<(), Fail> {
+fn printed(rt: HostRuntime) {
     let alloc = rt.alloc();
     let mut buffer = buffer_of(3);
-    buffer.parse_u8()?;
-    let shown = InHexadecimal(buffer).to_string(alloc)?;
-    assert_eq!(rt;
-        shown.as_str(),
-        "ParseBuf::from(\"\\x01\\x02\\x03\").as_bytes() at offset 1"
+    assert!(rt; reads(buffer.parse_u8(), 1));
+    assert!(rt;
+        shows(
+            alloc,
+            &InHexadecimal(buffer),
+            "ParseBuf::from(\"\\x01\\x02\\x03\").as_bytes() at offset 1"
+        )
     );
     let buffer = ParseBuffer::default();
-    assert_eq!(rt;
-        (buffer.pos(), buffer.len(), buffer.is_empty()),
-        (0, 0, true)
+    assert!(rt; stands(&buffer, 0, 0) && buffer.is_empty());
+    assert!(rt;
+        shows(
+            alloc,
+            &InHexadecimal(buffer),
+            "ParseBuf::from(\"\").as_bytes() at offset 0"
+        )
     );
-    let shown = InHexadecimal(buffer).to_string(alloc)?;
-    assert_eq!(rt;
-        shown.as_str(),
-        "ParseBuf::from(\"\").as_bytes() at offset 0"
-    );
-    Ok(())
 }
 
 #[test]
-fn places(rt: HostRuntime) -> Result<(), Fail> {
+fn places(rt: HostRuntime) {
     let mut buffer = ParseBuffer::from(b"hello".as_slice());
     for (to, want) in [(5, 5), (2, 2), (10, 5)] {
         buffer.seek(to);
-        assert_eq!(rt; buffer.pos(), want, "sought {to}");
+        assert!(rt; buffer.pos() == want, "sought {to}");
     }
+}
 
+#[test]
+fn truncations(rt: HostRuntime) {
     let mut buffer = buffer_of(7);
     buffer.seek(4);
-    assert!(rt; ends(buffer.truncate(8)));
-    assert_eq!(rt; (buffer.pos(), buffer.len()), (4, 3));
-    buffer.truncate(2)?;
-    assert_eq!(rt; (buffer.pos(), buffer.len()), (2, 0));
+    assert!(rt; ends(buffer.truncate(8)) && stands(&buffer, 4, 3));
+    assert!(rt; buffer.truncate(2).is_ok() && stands(&buffer, 2, 0));
+}
 
+/// Where a buffer stands behind so many bytes and up to the next multiple of four, and how many
+/// bytes are left.
+fn aligned(bytes: &str, taken: usize) -> pdb_base::Result<(usize, usize)> {
+    let mut buffer = ParseBuffer::from(bytes.as_bytes());
+    buffer.take(taken)?;
+    buffer.align(4)?;
+    Ok((buffer.pos(), buffer.len()))
+}
+
+#[test]
+fn alignments(rt: HostRuntime) {
     for (bytes, taken, left) in [
         ("1234", 3, 0),
         ("1234", 1, 0),
         ("12345", 3, 1),
         ("12345", 4, 1),
     ] {
-        let mut buffer = ParseBuffer::from(bytes.as_bytes());
-        buffer.take(taken)?;
-        buffer.align(4)?;
-        assert_eq!(rt;
-            (buffer.pos(), buffer.len()),
-            (4, left),
+        assert!(rt;
+            reads(aligned(bytes, taken), (4, left)),
             "{bytes} behind {taken}"
         );
     }
     let mut buffer = buffer_of(3);
-    buffer.take(3)?;
+    assert!(rt; buffer.take(3).is_ok());
     assert!(rt; ends(buffer.align(4)) && buffer.pos() == 3);
-    Ok(())
+}
+
+/// Whether a call answers this text.
+fn reads_text(answer: pdb_base::Result<RawString<'_>>, want: &str) -> bool {
+    matches!(answer, Ok(text) if text.as_bytes() == want.as_bytes())
 }
 
 #[test]
-fn strings(rt: HostRuntime) -> Result<(), Fail> {
-    let alloc = rt.alloc();
+fn strings(rt: HostRuntime) {
+    let rows = [("hello", 6), ("world", 12), ("", 13)];
     let mut buffer = ParseBuffer::from(b"hello\0world\0\0\x01".as_slice());
-    for (text, pos) in [("hello", 6), ("world", 12), ("", 13)] {
-        let read = buffer.parse_cstring()?;
-        assert_eq!(rt; (read.as_bytes(), buffer.pos()), (text.as_bytes(), pos));
+    for (text, pos) in rows {
+        assert!(rt; reads_text(buffer.parse_cstring(), text) && buffer.pos() == pos);
     }
     assert!(rt; ends(buffer.parse_cstring()) && buffer.pos() == 13);
 
     let mut buffer = ParseBuffer::from(b"\x05hello\x05world\x00\x01".as_slice());
-    for (text, pos) in [("hello", 6), ("world", 12), ("", 13)] {
-        let read = buffer.parse_u8_pascal_string()?;
-        assert_eq!(rt; (read.as_bytes(), buffer.pos()), (text.as_bytes(), pos));
+    for (text, pos) in rows {
+        assert!(rt; reads_text(buffer.parse_u8_pascal_string(), text) && buffer.pos() == pos);
     }
     assert!(rt; ends(buffer.parse_u8_pascal_string()) && buffer.pos() == 14);
+}
 
+/// Whether a text is this one, with what is no UTF-8 in it replaced.
+fn is_lossy(alloc: Global, raw: RawString<'_>, want: &str) -> bool {
+    matches!(raw.to_string(alloc), Ok(text) if text.as_str() == want)
+}
+
+#[test]
+fn raw_strings(rt: HostRuntime) {
+    let alloc = rt.alloc();
     for (bytes, text) in [
         (b"f\xffo".as_slice(), "f\u{fffd}o"),
         (b"foo".as_slice(), "foo"),
     ] {
         let raw = RawString::from(bytes);
-        let lossy = raw.to_string(alloc)?;
-        assert_eq!(rt; lossy.as_str(), text);
-        let shown = format!(in alloc; "{raw}")?;
-        assert_eq!(rt; shown.as_str(), text);
-        assert_eq!(rt; (raw.len(), raw.is_empty()), (3, false));
+        assert!(rt; is_lossy(alloc, raw, text) && shows(alloc, &raw, text));
+        assert!(rt; raw.len() == 3 && !raw.is_empty());
     }
-    assert_eq!(rt; RawString::from("ab"), RawString::from(b"ab".as_slice()));
+    assert!(rt; RawString::from("ab") == RawString::from(b"ab".as_slice()));
     let bytes: &[u8] = RawString::from("ab").into();
-    assert_eq!(rt; bytes, b"ab".as_slice());
+    assert!(rt; bytes == b"ab".as_slice());
     assert!(rt; RawString::default().is_empty());
+}
+
+#[test]
+fn streams(rt: HostRuntime) -> Result<(), Fail> {
+    let stream = Stream::new(Vec::from_slice(rt.alloc(), b"\x01\x02\x03\x04ab")?);
+    assert!(rt; stream.as_slice().len() == 6);
+    let mut buffer = stream.parse_buffer();
+    assert!(rt; reads(buffer.parse_u32(), 0x0403_0201) && ends(buffer.parse_u32()));
+    assert!(rt; stands(&buffer, 4, 2) && !buffer.is_empty());
+    assert!(rt; reads(buffer.take(2), b"ab".as_slice()));
+    assert!(rt; ParseBuffer::from(b"".as_slice()).is_empty());
     Ok(())
 }

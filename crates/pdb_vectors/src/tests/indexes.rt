@@ -2,45 +2,35 @@
 
 ghost use Rattle.std.specs.Prelude.{⊤};
 
-use pdb_container::{
+use super::{shows, shows_debug};
+use pdb_base::{
     Count, Error, FallibleIterator, FileIndex, IdIndex, ItemIndex, Local, ParseBuffer, Register,
     StreamIndex, SymbolIndex, TypeIndex,
 };
-use std::test::Fail;
 
 #[test]
-fn printed(rt: HostRuntime) -> Result<(), Fail> {
+fn printed(rt: HostRuntime) {
     let alloc = rt.alloc();
-    let rows = [
-        (StreamIndex(7).to_string(alloc)?, "7"),
-        (StreamIndex(0xfffe).to_string(alloc)?, "65534"),
-        (StreamIndex::none().to_string(alloc)?, "None"),
-        (TypeIndex(0x1000).to_string(alloc)?, "0x1000"),
-        (IdIndex(0).to_string(alloc)?, "0x0"),
-        (FileIndex(0xffff_ffff).to_string(alloc)?, "0xffffffff"),
-        (SymbolIndex(0x42).to_string(alloc)?, "0x42"),
-        (Local(TypeIndex(0x1001)).to_string(alloc)?, "0x1001"),
-        (
-            format!(in alloc; "{:?}", TypeIndex(0x1000))?,
-            "TypeIndex(0x1000)",
-        ),
-        (format!(in alloc; "{:?}", IdIndex(0))?, "IdIndex(0x0)"),
-        (format!(in alloc; "{:?}", FileIndex(10))?, "FileIndex(0xa)"),
-        (
-            format!(in alloc; "{:?}", SymbolIndex(0x42))?,
-            "SymbolIndex(0x42)",
-        ),
-        (
-            format!(in alloc; "{:?}", Local(IdIndex(1)))?,
-            "Local(IdIndex(0x1))",
-        ),
-        (format!(in alloc; "{:?}", StreamIndex(7))?, "StreamIndex(7)"),
-        (format!(in alloc; "{:?}", Register(335))?, "Register(335)"),
-    ];
-    for (text, want) in rows {
-        assert_eq!(rt; text.as_str(), want);
-    }
-    Ok(())
+    assert!(rt; shows(alloc, &StreamIndex(7), "7"));
+    assert!(rt; shows(alloc, &StreamIndex(0xfffe), "65534"));
+    assert!(rt; shows(alloc, &StreamIndex::none(), "None"));
+    assert!(rt; shows(alloc, &TypeIndex(0x1000), "0x1000"));
+    assert!(rt; shows(alloc, &IdIndex(0), "0x0"));
+    assert!(rt; shows(alloc, &FileIndex(0xffff_ffff), "0xffffffff"));
+    assert!(rt; shows(alloc, &SymbolIndex(0x42), "0x42"));
+    assert!(rt; shows(alloc, &Local(TypeIndex(0x1001)), "0x1001"));
+}
+
+#[test]
+fn printed_with_names(rt: HostRuntime) {
+    let alloc = rt.alloc();
+    assert!(rt; shows_debug(alloc, &TypeIndex(0x1000), "TypeIndex(0x1000)"));
+    assert!(rt; shows_debug(alloc, &IdIndex(0), "IdIndex(0x0)"));
+    assert!(rt; shows_debug(alloc, &FileIndex(10), "FileIndex(0xa)"));
+    assert!(rt; shows_debug(alloc, &SymbolIndex(0x42), "SymbolIndex(0x42)"));
+    assert!(rt; shows_debug(alloc, &Local(IdIndex(1)), "Local(IdIndex(0x1))"));
+    assert!(rt; shows_debug(alloc, &StreamIndex(7), "StreamIndex(7)"));
+    assert!(rt; shows_debug(alloc, &Register(335), "Register(335)"));
 }
 
 /// An index that is made anew of its number, and whether its item stands in another module.
@@ -50,7 +40,7 @@ fn remade<I: ItemIndex>(index: I) -> (I, bool) {
 }
 
 #[test]
-fn indexes(rt: HostRuntime) -> Result<(), Fail> {
+fn stream_indexes(rt: HostRuntime) {
     let rows = [
         (0, Some(0)),
         (7, Some(7)),
@@ -59,29 +49,35 @@ fn indexes(rt: HostRuntime) -> Result<(), Fail> {
     ];
     for (number, stream) in rows {
         let index = StreamIndex(number);
-        assert_eq!(rt; index.msf_number(), stream);
-        assert_eq!(rt;
-            (index.is_some(), index.is_none()),
-            (stream.is_some(), stream.is_none())
+        assert!(rt; index.msf_number() == stream, "{number}");
+        assert!(rt; index.is_some() == stream.is_some(), "{number}");
+        assert!(rt; index.is_none() == stream.is_none(), "{number}");
+        assert!(rt;
+            (index == StreamIndex::none()) == (number == 0xffff),
+            "{number}"
         );
-        assert_eq!(rt; index == StreamIndex::none(), number == 0xffff);
     }
-    assert_eq!(rt; StreamIndex::default().0, 0xffff);
+    assert!(rt; StreamIndex::default().0 == 0xffff);
+}
 
+#[test]
+fn indexes(rt: HostRuntime) {
     for (number, elsewhere) in [(0x1000, false), (0x7fff_ffff, false), (0x8000_0001, true)] {
         let (index, other_module) = remade(TypeIndex(number));
-        assert_eq!(rt; (index.0, other_module), (number, elsewhere));
+        assert!(rt; index.0 == number && other_module == elsewhere, "{number}");
         let (index, other_module) = remade(IdIndex::from(number));
-        assert_eq!(rt; (u32::from(index), other_module), (number, elsewhere));
+        assert!(rt;
+            u32::from(index) == number && other_module == elsewhere,
+            "{number}"
+        );
     }
     assert!(rt; TypeIndex(2) < TypeIndex(0x10) && TypeIndex::default() == TypeIndex(0));
     assert!(rt;
         Local(IdIndex(1)) != Local(IdIndex(2)) && Local::<IdIndex>::default().0 == IdIndex(0)
     );
-    assert_eq!(rt; u32::from(FileIndex::from(8)), 8);
-    assert_eq!(rt; u32::from(SymbolIndex::from(0x42)), 0x42);
-    assert_eq!(rt; u16::from(Register::from(17)), 17);
-    Ok(())
+    assert!(rt; u32::from(FileIndex::from(8)) == 8);
+    assert!(rt; u32::from(SymbolIndex::from(0x42)) == 0x42);
+    assert!(rt; u16::from(Register::from(17)) == 17);
 }
 
 /// The numbers of a buffer.
@@ -113,14 +109,13 @@ fn step<I: FallibleIterator>(
 }
 
 #[test]
-fn steps(rt: HostRuntime) -> Result<(), Fail> {
+fn steps(rt: HostRuntime) {
     let mut count = Count::new();
     let mut words = Words(ParseBuffer::from(b"\x07\x00\x00\x00\x08\x00\x00\x00".as_slice()));
-    assert_eq!(rt; step(&mut words, &mut count)?, Some(7));
-    assert_eq!(rt; step(&mut words, &mut count)?, Some(8));
-    assert_eq!(rt; step(&mut words, &mut count)?, None);
+    assert!(rt; matches!(step(&mut words, &mut count), Ok(Some(7))));
+    assert!(rt; matches!(step(&mut words, &mut count), Ok(Some(8))));
+    assert!(rt; matches!(step(&mut words, &mut count), Ok(None)));
     let mut cut = Words(ParseBuffer::from(b"\x07\x00".as_slice()));
     assert!(rt; matches!(step(&mut cut, &mut count), Err(Error::UnexpectedEof)));
-    assert_eq!(rt; count.get(), 4);
-    Ok(())
+    assert!(rt; count.get() == 4);
 }

@@ -1,11 +1,11 @@
-//! Pages that are joined, and sources that note and fail.
+//! Pages that are joined, and sources, also those that note and fail.
 
-use super::{answered, stream_1};
+use super::{answers, stream_1};
 use crate::{Failing, Noting, s1};
-use pdb_container::{
-    BigMSF, Error, Msf, PageList, ReadView, Source, SourceSlice, SourceView, open_msf,
-};
+use pdb_base::Error;
+use pdb_msf::{BigMSF, Msf, PageList, ReadView, Source, SourceSlice, SourceView, Stream, open_msf};
 use std::alloc::Global;
+use std::io;
 use std::io::ErrorKind;
 use std::test::Fail;
 
@@ -14,7 +14,7 @@ fn slice(offset: u64, size: usize) -> SourceSlice {
 }
 
 /// Pages of 4096 bytes, added in turn.
-fn list_of(alloc: Global, pages: &[u32]) -> Result<PageList, Fail> {
+fn list_of(alloc: Global, pages: &[u32]) -> pdb_base::Result<PageList> {
     let mut list = PageList::new(alloc, 4096);
     for page in pages {
         if !list.is_truncated() && list.len() < 0x10000 {
@@ -24,194 +24,220 @@ fn list_of(alloc: Global, pages: &[u32]) -> Result<PageList, Fail> {
     Ok(list)
 }
 
+/// Whether slices begin at these places and have these sizes.
+fn are_slices(slices: &[SourceSlice], want: &[(u64, usize)]) -> bool {
+    slices.len() == want.len()
+        && slices.iter().zip(want).all(|(slice, (offset, size))| slice.offset == *offset
+            && slice.size == *size)
+}
+
+/// Whether pages of 4096 bytes are joined into these slices, of so many bytes in all.
+fn joins(
+    alloc: Global,
+    pages: &[u32],
+    len: usize,
+    want: &[(u64, usize)],
+) -> pdb_base::Result<bool> {
+    let list = list_of(alloc, pages)?;
+    Ok(list.len() == len && are_slices(list.source_slices(), want) && !list.is_truncated())
+}
+
 /// Where the highest page begins.
 const LAST: u64 = 17592186040320;
 
 #[test]
 fn page_lists(rt: HostRuntime) -> Result<(), Fail> {
-    let alloc = rt.alloc();
-    let rows: [(&[u32], usize, &[SourceSlice]); 8] = [
+    let rows: [(&[u32], usize, &[(u64, usize)]); 8] = [
         (&[], 0, &[]),
-        (&[0, 1], 8192, &[slice(0, 8192)]),
-        (&[0, 1, 4, 5], 16384, &[slice(0, 8192), slice(16384, 8192)]),
+        (&[0, 1], 8192, &[(0, 8192)]),
+        (&[0, 1, 4, 5], 16384, &[(0, 8192), (16384, 8192)]),
         (
             &[0, 1, 4, 5, 2],
             20480,
-            &[slice(0, 8192), slice(16384, 8192), slice(8192, 4096)],
+            &[(0, 8192), (16384, 8192), (8192, 4096)],
         ),
         (
             &[0, 1, 4, 5, 2, 2],
             24576,
-            &[
-                slice(0, 8192),
-                slice(16384, 8192),
-                slice(8192, 4096),
-                slice(8192, 4096),
-            ],
+            &[(0, 8192), (16384, 8192), (8192, 4096), (8192, 4096)],
         ),
-        (&[2, 1], 8192, &[slice(8192, 4096), slice(4096, 4096)]),
+        (&[2, 1], 8192, &[(8192, 4096), (4096, 4096)]),
         (
             &[0xffff_ffff, 0xffff_ffff],
             8192,
-            &[slice(LAST, 4096), slice(LAST, 4096)],
+            &[(LAST, 4096), (LAST, 4096)],
         ),
         (
             &[0xffff_fffe, 0xffff_ffff, 0],
             12288,
-            &[slice(LAST - 4096, 8192), slice(0, 4096)],
+            &[(LAST - 4096, 8192), (0, 4096)],
         ),
     ];
     for (pages, len, want) in rows {
-        let list = list_of(alloc, pages)?;
-        assert_eq!(rt;
-            (list.len(), list.source_slices()),
-            (len, want),
-            "{pages:?}"
-        );
-        assert!(rt; !list.is_truncated());
+        assert!(rt; joins(rt.alloc(), pages, len, want)?, "{pages:?}");
     }
     Ok(())
 }
 
 #[test]
 fn cuts(rt: HostRuntime) -> Result<(), Fail> {
-    let alloc = rt.alloc();
-    let mut list = list_of(alloc, &[0, 1, 4, 5, 2, 2])?;
-    let rows: [(usize, usize, &[SourceSlice]); 5] = [
+    let mut list = list_of(rt.alloc(), &[0, 1, 4, 5, 2, 2])?;
+    let rows: [(usize, usize, &[(u64, usize)]); 5] = [
         (
             25000,
             24576,
-            &[
-                slice(0, 8192),
-                slice(16384, 8192),
-                slice(8192, 4096),
-                slice(8192, 4096),
-            ],
+            &[(0, 8192), (16384, 8192), (8192, 4096), (8192, 4096)],
         ),
         (
             24000,
             24000,
-            &[
-                slice(0, 8192),
-                slice(16384, 8192),
-                slice(8192, 4096),
-                slice(8192, 3520),
-            ],
+            &[(0, 8192), (16384, 8192), (8192, 4096), (8192, 3520)],
         ),
-        (10000, 10000, &[slice(0, 8192), slice(16384, 1808)]),
-        (12000, 10000, &[slice(0, 8192), slice(16384, 1808)]),
+        (10000, 10000, &[(0, 8192), (16384, 1808)]),
+        (12000, 10000, &[(0, 8192), (16384, 1808)]),
         (0, 0, &[]),
     ];
     for (to, len, left) in rows {
         list.truncate(to);
-        assert_eq!(rt;
-            (list.len(), list.source_slices()),
-            (len, left),
-            "cut to {to}"
-        );
+        assert!(rt; list.len() == len, "cut to {to}");
+        assert!(rt; are_slices(list.source_slices(), left), "cut to {to}");
         assert!(rt; list.is_truncated());
     }
     Ok(())
 }
 
+/// Whether a view of these slices shows these bytes.
+fn sees(alloc: Global, source: &mut Vec<u8>, asked: &[SourceSlice], want: &[u8]) -> bool {
+    matches!(source.view(alloc, asked), Ok(view) if view.as_slice() == want)
+}
+
+/// Whether a view is refused, since the source ends too soon.
+fn is_past_end(answer: io::Result<ReadView>) -> bool {
+    matches!(answer, Err(error) if error.kind() == ErrorKind::UnexpectedEof)
+}
+
+#[test]
+fn sources(rt: HostRuntime) -> Result<(), Fail> {
+    let alloc = rt.alloc();
+    let mut source = Vec::from_slice(alloc, b"abcdef")?;
+    let asked = [slice(4, 2), slice(0, 3), slice(6, 0)];
+    assert!(rt; sees(alloc, &mut source, &asked, b"efabc"));
+    for (offset, size) in [(4, 3), (u64::MAX, 2)] {
+        assert!(rt; is_past_end(source.view(alloc, &[slice(offset, size)])));
+    }
+    let view = ReadView::new(Vec::from_slice(alloc, b"xy")?);
+    assert!(rt; view.as_slice() == b"xy".as_slice());
+    Ok(())
+}
+
+/// 4096 bytes, of which two are not 0.
+fn two_bytes(alloc: Global) -> pdb_base::Result<Vec<u8>> {
+    let mut bytes = vec![in alloc; 0u8; 42]?;
+    bytes.push(42)?;
+    bytes.resize(88, 0)?;
+    bytes.push(88)?;
+    bytes.resize(4096, 0)?;
+    Ok(bytes)
+}
+
 #[test]
 fn views(rt: HostRuntime) -> Result<(), Fail> {
     let alloc = rt.alloc();
-    let mut source = vec![in alloc; 0u8; 4096]?;
-    for (place, byte) in [(42, 42), (88, 88)] {
-        assert!(rt; place < source.len());
-        source[place] = byte;
-    }
-    let rows: [(&[SourceSlice], &[u8]); 4] = [
-        (
-            &[slice(88, 1), slice(40, 4), slice(88, 1)],
-            &[88, 0, 0, 42, 0, 88],
-        ),
-        (&[slice(40, 4)], &[0, 0, 42, 0]),
-        (&[slice(5000, 0)], &[]),
-        (&[slice(u64::MAX, 0)], &[]),
-    ];
-    for (asked, want) in rows {
-        let view = source.view(alloc, asked)?;
-        assert_eq!(rt; view.as_slice(), want, "{asked:?}");
-    }
+    let mut source = two_bytes(alloc)?;
+    let asked = [slice(88, 1), slice(40, 4), slice(88, 1)];
+    assert!(rt; sees(alloc, &mut source, &asked, &[88, 0, 0, 42, 0, 88]));
+    assert!(rt; sees(alloc, &mut source, &[slice(40, 4)], &[0, 0, 42, 0]));
+    assert!(rt; sees(alloc, &mut source, &[slice(5000, 0)], &[]));
+    assert!(rt; sees(alloc, &mut source, &[slice(u64::MAX, 0)], &[]));
     for (offset, size) in [(4095, 2), (u64::MAX, 2)] {
-        let refused = source.view(alloc, &[SourceSlice { offset, size }]);
-        assert!(rt; matches!(refused, Err(error) if error.kind() == ErrorKind::UnexpectedEof));
+        assert!(rt; is_past_end(source.view(alloc, &[slice(offset, size)])));
     }
     Ok(())
 }
 
-#[test]
-fn noted_views(rt: HostRuntime) -> Result<(), Fail> {
-    let alloc = rt.alloc();
+/// S1 behind a source that notes, of which streams 1, 3 and 0 were read.
+fn noted(alloc: Global) -> pdb_base::Result<BigMSF<Noting>> {
     let mut file = open_msf(alloc, Noting::new(alloc, s1(alloc)?))?;
     for number in [1, 3, 0] {
         file.get(alloc, number, None)?;
     }
-    let opening = [slice(0, 4096)];
-    let location = [slice(1536, 4)];
-    let directory = [slice(1024, 32)];
-    let stream_1 = [slice(3072, 512), slice(2560, 88)];
-    let stream_3 = [slice(3584, 5)];
-    let wanted: [&[SourceSlice]; 10] = [
-        &opening,
-        &location,
-        &directory,
-        &stream_1,
-        &location,
-        &directory,
-        &stream_3,
-        &location,
-        &directory,
+    Ok(file)
+}
+
+/// Whether notes are of these slices, in turn.
+fn are_notes(notes: &[Vec<SourceSlice>], wanted: &[&[(u64, usize)]]) -> bool {
+    notes.len() == wanted.len()
+        && notes
+            .iter()
+            .zip(wanted)
+            .all(|(note, want)| are_slices(note.as_slice(), want))
+}
+
+#[test]
+fn noted_views(rt: HostRuntime) -> Result<(), Fail> {
+    let location: &[(u64, usize)] = &[(1536, 4)];
+    let directory: &[(u64, usize)] = &[(1024, 32)];
+    let wanted: [&[(u64, usize)]; 10] = [
+        &[(0, 4096)],
+        location,
+        directory,
+        &[(3072, 512), (2560, 88)],
+        location,
+        directory,
+        &[(3584, 5)],
+        location,
+        directory,
         &[],
     ];
-    let notes = file.source().notes();
-    assert_eq!(rt; notes.len(), wanted.len());
-    for (note, want) in notes.iter().zip(wanted) {
-        assert_eq!(rt; note.as_slice(), want);
-    }
+    let file = noted(rt.alloc())?;
+    assert!(rt; are_notes(file.source().notes(), &wanted));
     Ok(())
+}
+
+/// Whether a call is refused since a view failed.
+fn is_fault<T: Drop>(answer: pdb_base::Result<T>) -> bool {
+    matches!(answer, Err(Error::IoError(error)) if error.kind() == ErrorKind::Other)
+}
+
+/// Whether this is the answer for stream 1.
+fn is_stream_1(alloc: Global, answer: pdb_base::Result<Stream>) -> pdb_base::Result<bool> {
+    let whole = stream_1(alloc)?;
+    Ok(answers(alloc, answer, whole.as_slice()))
+}
+
+/// Whether stream 1 is refused where this view fails, and is read in whole when asked for again.
+fn recovers(alloc: Global, n: u64) -> pdb_base::Result<bool> {
+    let mut file = open_msf(alloc, Failing::new(s1(alloc)?, n))?;
+    let refused = is_fault(file.get(alloc, 1, None));
+    let again = is_stream_1(alloc, file.get(alloc, 1, None))?;
+    Ok(refused && again)
 }
 
 #[test]
 fn failing_views(rt: HostRuntime) -> Result<(), Fail> {
     let alloc = rt.alloc();
-    let whole = stream_1(alloc)?;
-    let refused = open_msf(alloc, Failing::new(s1(alloc)?, 1));
-    assert!(rt; matches!(refused, Err(Error::IoError(error)) if error.kind() == ErrorKind::Other));
+    assert!(rt; is_fault(open_msf(alloc, Failing::new(s1(alloc)?, 1))));
     for n in 2..5u64 {
-        let mut file = open_msf(alloc, Failing::new(s1(alloc)?, n))?;
-        let refused = file.get(alloc, 1, None);
-        assert!(rt;
-            matches!(refused, Err(Error::IoError(error)) if error.kind() == ErrorKind::Other),
-            "view {n}"
-        );
-        let again = answered(alloc, file.get(alloc, 1, None))?;
-        assert_eq!(rt; again.as_slice(), whole.as_slice(), "after view {n}");
+        assert!(rt; recovers(alloc, n)?, "view {n}");
     }
     Ok(())
+}
+
+/// S1, opened by its first so many bytes.
+fn opened_by(alloc: Global, len: usize) -> pdb_base::Result<BigMSF<Vec<u8>>> {
+    let mut front = s1(alloc)?;
+    front.truncate(len);
+    BigMSF::new(alloc, s1(alloc)?, ReadView::new(front))
 }
 
 #[test]
 fn header_views(rt: HostRuntime) -> Result<(), Fail> {
     let alloc = rt.alloc();
-    let whole = stream_1(alloc)?;
-    let view = ReadView::new(s1(alloc)?);
-    let mut file = BigMSF::new(alloc, s1(alloc)?, view)?;
-    let answer = answered(alloc, file.get(alloc, 1, None))?;
-    assert_eq!(rt; answer.as_slice(), whole.as_slice());
-    assert_eq!(rt; file.source().len(), 4096);
+    let mut file = opened_by(alloc, 4096)?;
+    assert!(rt; is_stream_1(alloc, file.get(alloc, 1, None))?);
+    assert!(rt; file.source().len() == 4096);
 
-    for (len, want) in [(51, true), (56, false)] {
-        let mut front = s1(alloc)?;
-        front.truncate(len);
-        let answer = BigMSF::new(alloc, s1(alloc)?, ReadView::new(front));
-        assert_eq!(rt;
-            matches!(answer, Err(Error::UnexpectedEof)),
-            want,
-            "{len} bytes"
-        );
-    }
+    assert!(rt; matches!(opened_by(alloc, 51), Err(Error::UnexpectedEof)));
+    assert!(rt; opened_by(alloc, 56).is_ok());
     Ok(())
 }

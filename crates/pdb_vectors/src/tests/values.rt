@@ -1,11 +1,13 @@
 //! Values that are read by the rule that their type says.
 
-use pdb_container::{
-    Error, FileIndex, IdIndex, Le, OMAPRecord, Parse, ParseBuffer, PdbInternalRva,
-    PdbInternalSectionOffset, Register, SectionCharacteristics, StreamIndex, StringRef,
-    SymbolIndex, TypeIndex, Variant,
+use super::shows_debug;
+use pdb_base::{
+    Error, FileIndex, IdIndex, Le, Parse, ParseBuffer, Register, StreamIndex, SymbolIndex,
+    TypeIndex, Variant,
 };
-use std::test::Fail;
+use pdb_space::{
+    OMAPRecord, PdbInternalRva, PdbInternalSectionOffset, SectionCharacteristics, StringRef,
+};
 
 /// Eight bytes, of which no number of their first ones reads the same in another order or sign.
 const BYTES: &[u8] = b"\xfe\xff\x01\x80\x05\x00\x07\xf8";
@@ -30,69 +32,52 @@ fn first<T: Parse<Le> + Drop>(len: usize) -> Option<T> {
     }
 }
 
+/// Whether this value stands in the first so many bytes.
+fn begins<T: Parse<Le> + PartialEq + Drop>(len: usize, want: T) -> bool {
+    matches!(first::<T>(len), Some(value) if value == want)
+}
+
 #[test]
-fn values(rt: HostRuntime) -> Result<(), Fail> {
-    assert_eq!(rt; (first(1), first(1)), (Some(0xfe_u8), Some(-2_i8)));
-    assert_eq!(rt; (first(2), first(2)), (Some(0xfffe_u16), Some(-2_i16)));
-    assert_eq!(rt;
-        (first(4), first(4)),
-        (Some(0x8001_fffe_u32), Some(-0x7ffe_0002_i32))
-    );
-    assert_eq!(rt;
-        (first(8), first(8)),
-        (
-            Some(0xf807_0005_8001_fffe_u64),
-            Some(-0x07f8_fffa_7ffe_0002_i64)
-        )
-    );
-    assert_eq!(rt;
-        (first(2), first(2)),
-        (Some(StreamIndex(0xfffe)), Some(Register(0xfffe)))
-    );
-    assert_eq!(rt;
-        (first(4), first(4), first(4)),
-        (
-            Some(TypeIndex(0x8001_fffe)),
-            Some(IdIndex(0x8001_fffe)),
-            Some(FileIndex(0x8001_fffe))
-        )
-    );
-    assert_eq!(rt;
-        (first(4), first(4), first(6)),
-        (
-            Some(StringRef(0x8001_fffe)),
-            Some(PdbInternalRva(0x8001_fffe)),
-            Some(PdbInternalSectionOffset::new(5, 0x8001_fffe))
-        )
-    );
-    assert_eq!(rt;
-        (first(4), first(8)),
-        (
-            Some(SectionCharacteristics(0x8001_fffe)),
-            Some(OMAPRecord::new(0x8001_fffe, 0xf807_0005))
-        )
-    );
+fn numbers(rt: HostRuntime) {
+    assert!(rt; begins(1, 0xfe_u8) && begins(1, -2_i8));
+    assert!(rt; begins(2, 0xfffe_u16) && begins(2, -2_i16));
+    assert!(rt; begins(4, 0x8001_fffe_u32) && begins(4, -0x7ffe_0002_i32));
+    assert!(rt; begins(8, 0xf807_0005_8001_fffe_u64));
+    assert!(rt; begins(8, -0x07f8_fffa_7ffe_0002_i64));
+}
+
+#[test]
+fn named_values(rt: HostRuntime) {
+    assert!(rt; begins(2, StreamIndex(0xfffe)) && begins(2, Register(0xfffe)));
+    assert!(rt; begins(4, TypeIndex(0x8001_fffe)));
+    assert!(rt; begins(4, IdIndex(0x8001_fffe)));
+    assert!(rt; begins(4, FileIndex(0x8001_fffe)));
+    assert!(rt; begins(4, StringRef(0x8001_fffe)));
+    assert!(rt; begins(4, PdbInternalRva(0x8001_fffe)));
+    assert!(rt; begins(6, PdbInternalSectionOffset::new(5, 0x8001_fffe)));
+    assert!(rt; begins(4, SectionCharacteristics(0x8001_fffe)));
+    assert!(rt; begins(8, OMAPRecord::new(0x8001_fffe, 0xf807_0005)));
+}
+
+#[test]
+fn values(rt: HostRuntime) {
     let mut buffer = ParseBuffer::from(
         b"\x00\x80\xff\x09\x80\xff\xff\xff\xff\xff\xff\xff\xff\x05\x80".as_slice(),
     );
-    assert_eq!(rt; buffer.parse::<Variant>()?, Variant::U8(255));
-    assert_eq!(rt; buffer.parse::<Variant>()?, Variant::I64(-1));
+    assert!(rt; matches!(buffer.parse(), Ok(Variant::U8(255))));
+    assert!(rt; matches!(buffer.parse(), Ok(Variant::I64(-1))));
     assert!(rt;
         matches!(
             buffer.parse::<Variant>(),
             Err(Error::UnexpectedNumericPrefix(0x8005))
         )
     );
-    assert_eq!(rt; buffer.pos(), 13);
-    Ok(())
+    assert!(rt; buffer.pos() == 13);
 }
 
 #[test]
-fn symbol(rt: HostRuntime) -> Result<(), Fail> {
+fn symbol(rt: HostRuntime) {
     let mut buffer = ParseBuffer::from(b"\x42\x00\x00\x00".as_slice());
-    let symbol = buffer.parse::<SymbolIndex>()?;
-    assert_eq!(rt; (symbol, buffer.is_empty()), (SymbolIndex(0x42), true));
-    let text = format!(in rt.alloc(); "{symbol:?}")?;
-    assert_eq!(rt; text.as_str(), "SymbolIndex(0x42)");
-    Ok(())
+    assert!(rt; matches!(buffer.parse(), Ok(SymbolIndex(0x42))) && buffer.is_empty());
+    assert!(rt; shows_debug(rt.alloc(), &SymbolIndex(0x42), "SymbolIndex(0x42)"));
 }

@@ -1,5 +1,5 @@
 use Rattle.std.proofs.lemmas.Result.{IfOk-weaker, IfErr-weaker}
-use Rattle.pdbq.proofs.OutcomeLemmas.{shown_outcome, usage_outcome, want_of_channels}
+use Rattle.pdbq.proofs.ShownLemmas.{shown_outcome, usage_outcome, want_of_channels}
 use Rattle.pdbq.proofs.answer.Goals as goal
 
 pub returns-in-Err-clause-shown : goal.returns-in-Err-clause-shown

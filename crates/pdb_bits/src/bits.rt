@@ -1,0 +1,35 @@
+//! The parts of a word that is made of bits. Place 0 is the lowest bit, and above the highest every
+//! bit is 0.
+
+ghost use Rattle.std.specs.Prelude.{◌≡◌, ◌<◌, ◌/◌, ◌^◌};
+ghost use Rattle.pdb_bits.specs.Bits.{bits};
+ghost use Rattle.pdb_bits.specs.Parts.{is_set};
+
+/// What is left of a word above the bits below `place`.
+#[tactic(auto, using(crate::proofs::BitLemmas::shifted_out))]
+fn shifted(word: u32, place: u32) -> u32
+    ensures { result ≡ word / 2 ^ place }
+{
+    if place < 32 { word >> place } else { 0 }
+}
+
+/// The number that `count` bits of a word say, from the bit at `place` on.
+#[tactic(auto, using(crate::proofs::BitLemmas::shifted_and_masked, crate::proofs::BitLemmas::bits_below, crate::proofs::BitLemmas::bits_of_all))]
+pub fn part(word: u32, place: u32, count: u32) -> u32
+    ensures part { result ≡ bits word place count }
+    ensures below { result < 2 ^ count }
+{
+    let shifted = shifted(word, place);
+    if count < 32 {
+        shifted & ((1 << count) - 1)
+    } else {
+        shifted
+    }
+}
+
+/// Whether the bit at `place` of a word is set.
+pub fn is_set(word: u32, place: u32) -> bool
+    ensures { result ≡ is_set word place }
+{
+    part(word, place, 1) == 1
+}

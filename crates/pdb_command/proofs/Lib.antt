@@ -1,0 +1,4 @@
+pub mod WordLemmas
+pub mod LineLemmas
+pub mod OutcomeLemmas
+pub mod InputLemmas

@@ -1,0 +1,77 @@
+-- What the program prints, on which channel, and with which status.
+use Rattle.std.specs.Prelude.{◌≡◌, ◌⊎◌, ℕ, List, [], codes, Option, Some, None, IfSome, Ok, Err, ⊤}
+use Rattle.std.specs.Option.{option_map}
+use Rattle.std.specs.declared.ops.Range.{Range}
+use Rattle.pdb_container.specs.declared.query.Query.{Query}
+use Rattle.pdb_container.specs.declared.query.Query.TheVariants as queries
+use Rattle.pdb_base.specs.declared.error.Error.{Error}
+use Rattle.pdb_base.specs.declared.error.Error.TheVariants.{IoError, OutOfMemory}
+use Rattle.pdb_container.specs.Refusal.{Refusal, out_of_memory}
+use Rattle.pdb_container.specs.ErrorText.{text_of}
+use Rattle.pdb_base.specs.Text.{lossy}
+use Rattle.pdb_container.specs.Answer.{Answer, ◌>>=◌}
+use Rattle.pdb_container.specs.Header.{opened}
+use Rattle.pdb_container.specs.Reply.{Said, bytes, entry, name, moved, AreMoved, reply_of}
+use Rattle.pdb_vectors.specs.Example.{s1_bytes}
+use Rattle.pdb_command.specs.declared.outcome.Outcome.{Outcome}
+use Rattle.pdb_command.specs.Lines.{line, hex_lines, record_line, range_lines}
+use Rattle.pdb_command.specs.Words.{query_of}
+
+-- What is printed of a reply: a stream's bytes in hexadecimal lines, a record on a line, a name's text
+-- on a line, or a line for each range that the addresses are moved to.
+abbrev pub IsPrinted : Said → List ℕ → Type 0
+IsPrinted (bytes stream) out = out ≡ hex_lines stream
+IsPrinted (entry index kind text) out = out ≡ record_line index kind text
+IsPrinted (name text) out = out ≡ line (lossy text)
+IsPrinted (moved table asked) out = (ranges : List (Range ℕ)) × AreMoved table asked ranges × (out ≡ range_lines ranges)
+
+-- status 0: the reply on standard output, and nothing on standard error
+pub record IsAnswered (said : Said) (outcome : Outcome) : Type 0 where
+  pub status : outcome.status ≡ 0
+  pub out : IsPrinted said outcome.out.items
+  pub err : outcome.err.items ≡ []
+
+-- status 1: a text on a line of standard error, the refusal's own where that is stated, and nothing
+-- on standard output
+pub record IsRefused (refusal : Refusal) (outcome : Outcome) : Type 0 where
+  pub status : outcome.status ≡ 1
+  pub out : outcome.out.items ≡ []
+  pub text : List ℕ
+  pub err : outcome.err.items ≡ line text
+  pub own : IfSome (text_of refusal) (λ own. text ≡ own)
+
+-- status 2: the words that the program takes on a line of standard error
+pub record IsUsage (outcome : Outcome) : Type 0 where
+  pub status : outcome.status ≡ 2
+  pub out : outcome.out.items ≡ []
+  pub err : outcome.err.items ≡ line (codes "usage: pdbq stream N [LIMIT] | type S I | id S I | name S O | ranges S A B")
+
+abbrev pub IsOutcomeOf : Answer Said → Outcome → Type 0
+IsOutcomeOf (Ok said) outcome = IsAnswered said outcome
+IsOutcomeOf (Err refusal) outcome = IsRefused refusal outcome
+
+-- what a file answers to a query
+unfoldable pub answer_of : List ℕ → Query → Answer Said
+answer_of file query = opened file >>= λ head. reply_of file head query
+
+-- the query that the words spell, and the file that is asked: without words stream 1 of S1
+abbrev pub asked : List (List ℕ) → List ℕ → Option (Query × List ℕ)
+asked [] file = Some (queries.Stream 1 None, s1_bytes)
+asked words file = option_map (λ query. (query, file)) (query_of words)
+
+-- what the program shows: the answer to what was asked, or want of memory, or how to ask
+abbrev pub Shows : Option (Query × List ℕ) → Outcome → Type 0
+Shows (Some question) outcome = IsOutcomeOf (answer_of question.1 question.0) outcome ⊎ IsRefused out_of_memory outcome
+Shows None outcome = IsUsage outcome
+
+-- why the program has nothing to show: a channel failed, or memory was refused
+abbrev pub IsOfChannels : Error → Type 0
+IsOfChannels (IoError fault) = ⊤
+IsOfChannels OutOfMemory = ⊤
+IsOfChannels other = ⊥
+
+-- an outcome of the program: what it shows of some words and some file
+pub record IsOutcome (outcome : Outcome) : Type 0 where
+  pub words : List (List ℕ)
+  pub file : List ℕ
+  pub shows : Shows (asked words file) outcome

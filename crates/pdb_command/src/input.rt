@@ -1,0 +1,37 @@
+//! Reads standard input whole.
+
+ghost use Rattle.std.specs.Prelude.{◌≡◌, IfOk, IfErr, IfSome};
+ghost use Rattle.pdb_command.specs.Printed.{IsOfChannels};
+
+use pdb_container::Result;
+use std::alloc::Global;
+use std::io;
+use std::io::{ErrorKind, Read};
+
+/// Bytes that are asked for at a time.
+const BLOCK_SIZE: usize = 65_536;
+
+/// How many reads an input may take.
+const MOST_READS: u32 = u32::MAX;
+
+/// All bytes to the end of an input.
+///
+/// # Errors
+/// `IoError` where a read fails, or of kind `Other` where the input has not ended after 4,294,967,295
+/// reads; `OutOfMemory` where memory is refused. A read that was interrupted is asked again.
+pub fn read_all<R: Read>(alloc: Global, input: &mut R) -> Result<Vec<u8>>
+    ensures bytes { IfOk result (λ file. IfSome (R.remaining input.old) (λ xs. file.items ≡ xs)) }
+    ensures refused { IfErr result IsOfChannels }
+{
+    let mut block = vec![in alloc; 0; BLOCK_SIZE]?;
+    let mut bytes = Vec::new(alloc);
+    for _ in 0..MOST_READS {
+        match input.read(&mut block) {
+            Ok(0) => return Ok(bytes),
+            Ok(count) => bytes.extend_from_slice(&block[..count])?,
+            Err(error) if error.kind() == ErrorKind::Interrupted => {}
+            Err(error) => return Err(error.into()),
+        }
+    }
+    Err(io::Error::other("the input does not end").into())
+}

@@ -1,0 +1,99 @@
+//! The lines that a reply is printed as.
+
+ghost use Rattle.std.specs.Prelude.{◌≡◌, ◌≤◌, ◌++◌, length, IfOk, IfErr, OnOk, Some};
+ghost use Rattle.std.specs.Option.{option_map};
+ghost use Rattle.pdb_base.specs.Text.{lossy};
+ghost use Rattle.pdb_base.specs.ErrorText.{hexadecimal_of_four};
+ghost use Rattle.pdb_command.specs.Lines.{line, hex_line, hex_lines, record_line, range_lines};
+
+use pdb_container::{Error, RawString, Result};
+use std::alloc::Global;
+use std::fmt;
+use std::ops::Range;
+
+/// Bytes on a line of hexadecimal digits.
+const LINE_SIZE: usize = 32;
+
+/// Adds a line of hexadecimal digits.
+fn push_line(out: &mut Vec<u8>, bytes: &[u8]) -> Result<()>
+    requires { length bytes.now ≤ 32 }
+    ensures ok { OnOk result (out.new.items ≡ out.old.items ++ hex_line bytes.now) }
+    ensures want { IfErr result (λ e. e ≡ Error.OutOfMemory) }
+{
+    let mut buffer = [0u8; 64];
+    let digits = &mut buffer[..2 * bytes.len()];
+    hex::encode_to_slice(bytes, digits).unwrap();
+    out.extend_from_slice(digits)?;
+    out.push(b'\n')?;
+    Ok(())
+}
+
+/// Bytes as lines of hexadecimal digits.
+#[tactic(auto, unfolding(crate::specs::Lines::hex_lines))]
+pub fn hex_lines(alloc: Global, all: &[u8]) -> Result<Vec<u8>>
+    ensures ok { IfOk result (λ out. out.items ≡ hex_lines all.now) }
+    ensures want { IfErr result (λ e. e ≡ Error.OutOfMemory) }
+{
+    let mut out = Vec::new(alloc);
+    for k in 0..all.len().div_ceil(LINE_SIZE) {
+        let start = LINE_SIZE * k;
+        let end = all.len().min(start + LINE_SIZE);
+        push_line(&mut out, &all[start..end])?;
+    }
+    Ok(out)
+}
+
+/// The kind of a record, as `0x` and at least four hexadecimal digits.
+#[derive(Clone, Copy)]
+struct Kind(u16);
+
+impl fmt::Display for Kind {
+    ghost output = { λ kind. Some (hexadecimal_of_four kind.0) };
+
+    #[tactic(auto, using(crate::proofs::LineLemmas::four_digits))]
+    fn fmt<W: fmt::Write>(&self, f: &mut fmt::Formatter<W>) -> fmt::Result {
+        let kind = self.0;
+        write!(f, "0x{kind:04x}")
+    }
+}
+
+/// A record as a line: its index, its kind and its name, or `-` where it has none.
+#[tactic(auto, unfolding(crate::specs::Lines::record_line))]
+pub fn record_line(alloc: Global, index: u32, kind: u16, name: Option<&[u8]>) -> Result<Vec<u8>>
+    ensures ok { IfOk result (λ out. out.items
+        ≡ record_line index kind (option_map (λ text. text.now) name.entry)) }
+    ensures want { IfErr result (λ e. e ≡ Error.OutOfMemory) }
+{
+    let kind = Kind(kind);
+    match name {
+        Some(name) => {
+            let name = RawString::from(name);
+            Ok(format!(in alloc; "0x{index:x} {kind} {name}\n")?.into_bytes())
+        }
+        None => Ok(format!(in alloc; "0x{index:x} {kind} -\n")?.into_bytes()),
+    }
+}
+
+/// The text of a name as a line.
+pub fn name_line(alloc: Global, name: &[u8]) -> Result<Vec<u8>>
+    ensures ok { IfOk result (λ out. out.items ≡ line (lossy name.now)) }
+    ensures want { IfErr result (λ e. e ≡ Error.OutOfMemory) }
+{
+    let name = RawString::from(name);
+    Ok(format!(in alloc; "{name}\n")?.into_bytes())
+}
+
+/// Ranges, a line each.
+#[tactic(auto, unfolding(crate::specs::Lines::range_lines))]
+pub fn range_lines(alloc: Global, ranges: &[Range<u32>]) -> Result<Vec<u8>>
+    ensures ok { IfOk result (λ out. out.items ≡ range_lines ranges.now) }
+    ensures want { IfErr result (λ e. e ≡ Error.OutOfMemory) }
+{
+    let mut out = String::new(alloc);
+    for range in ranges {
+        let start = range.start;
+        let end = range.end;
+        writeln!(out, "0x{start:x}..0x{end:x}")?;
+    }
+    Ok(out.into_bytes())
+}

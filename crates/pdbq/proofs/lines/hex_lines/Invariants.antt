@@ -1,6 +1,0 @@
-use Rattle.std.proofs.Common.{◌≡◌}
-use Rattle.pdbq.proofs.LineLemmas.{lines_to}
-use Rattle.pdbq.proofs.lines.hex_lines.Given as goal
-
-abbrev pub invariant-loop-k : goal.invariant-loop-k
-invariant-loop-k l = l.out.items ≡ lines_to l.all l.k
