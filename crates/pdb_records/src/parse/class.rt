@@ -6,7 +6,9 @@ ghost use Rattle.pdb_grammar.specs.Row.{row};
 ghost use Rattle.pdb_values.specs.TypeView.{type_value};
 ghost use Rattle.pdb_records.specs.Rows.{class_row, wide_class_row, union_row};
 
-use crate::parse::shape::{low_16_bits, parse_some_type, parse_text, parse_type_index};
+use crate::parse::shape::{
+    low_16_bits, parse_some_text, parse_some_type, parse_text, parse_type_index,
+};
 use pdb_base::{ParseBuffer, Result};
 use pdb_flags::TypeProperties;
 use pdb_values::{ClassKind, ClassType, TypeData, UnionType};
@@ -31,11 +33,7 @@ pub(crate) fn parse_class<'t>(
         vtable_shape: parse_some_type(buffer)?,
         size: buffer.parse_num()?,
         name: parse_text(buffer, leaf)?,
-        unique_name: if properties.has_unique_name() {
-            Some(parse_text(buffer, leaf)?)
-        } else {
-            None
-        },
+        unique_name: parse_some_text(buffer, leaf, properties.has_unique_name())?,
     }))
 }
 
@@ -61,11 +59,7 @@ pub(crate) fn parse_wide_class<'t>(
         vtable_shape,
         size: buffer.parse_num()?,
         name: parse_text(buffer, leaf)?,
-        unique_name: if properties.has_unique_name() {
-            Some(parse_text(buffer, leaf)?)
-        } else {
-            None
-        },
+        unique_name: parse_some_text(buffer, leaf, properties.has_unique_name())?,
     }))
 }
 
@@ -82,10 +76,6 @@ pub(crate) fn parse_union<'t>(buffer: &mut ParseBuffer<'t>, leaf: u16) -> Result
         fields: parse_type_index(buffer)?,
         size: buffer.parse_num()?,
         name: parse_text(buffer, leaf)?,
-        unique_name: if properties.has_unique_name() {
-            Some(parse_text(buffer, leaf)?)
-        } else {
-            None
-        },
+        unique_name: parse_some_text(buffer, leaf, properties.has_unique_name())?,
     }))
 }

@@ -6,7 +6,7 @@ ghost use Rattle.pdb_grammar.specs.Row.{row};
 ghost use Rattle.pdb_values.specs.TypeView.{type_value};
 ghost use Rattle.pdb_records.specs.Rows.{enumeration_row, enumerate_row};
 
-use crate::parse::shape::{parse_text, parse_type_index};
+use crate::parse::shape::{parse_some_text, parse_text, parse_type_index};
 use pdb_base::{ParseBuffer, Result};
 use pdb_flags::{FieldAttributes, TypeProperties};
 use pdb_values::{EnumerateType, EnumerationType, TypeData};
@@ -24,11 +24,7 @@ pub(crate) fn parse_enumeration<'t>(buffer: &mut ParseBuffer<'t>, leaf: u16) -> 
         underlying_type: parse_type_index(buffer)?,
         fields: parse_type_index(buffer)?,
         name: parse_text(buffer, leaf)?,
-        unique_name: if properties.has_unique_name() {
-            Some(parse_text(buffer, leaf)?)
-        } else {
-            None
-        },
+        unique_name: parse_some_text(buffer, leaf, properties.has_unique_name())?,
     }))
 }
 

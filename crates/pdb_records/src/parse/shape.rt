@@ -1,9 +1,10 @@
 //! What stands in records.
 
 ghost use Rattle.std.specs.Prelude.{◌≡◌};
+ghost use Rattle.std.specs.Option.{option_map};
 ghost use Rattle.pdb_base.specs.Answer.{Gives};
 ghost use Rattle.pdb_base.specs.Place.{left};
-ghost use Rattle.pdb_grammar.specs.Shape.{read_shape, type_index, id_index, some_type, some_id, text};
+ghost use Rattle.pdb_grammar.specs.Shape.{read_shape, type_index, id_index, some_type, some_id, text, when};
 ghost use Rattle.pdb_records.specs.Rows.{low_16, low_32};
 
 use crate::parse::index::parse_index;
@@ -54,6 +55,21 @@ pub(crate) fn parse_text<'t>(buffer: &mut ParseBuffer<'t>, leaf: u16) -> Result<
         buffer.parse_cstring()
     } else {
         buffer.parse_u8_pascal_string()
+    }
+}
+
+/// A text in a record of a leaf, where the record has it.
+pub(crate) fn parse_some_text<'t>(
+    buffer: &mut ParseBuffer<'t>,
+    leaf: u16,
+    is_there: bool,
+) -> Result<Option<RawString<'t>>>
+    ensures { Gives (λ name. (option_map (λ text. text.0.now) name, left buffer.new)) result (read_shape (when is_there (text leaf)) (left buffer.old)) }
+{
+    if is_there {
+        Ok(Some(parse_text(buffer, leaf)?))
+    } else {
+        Ok(None)
     }
 }
 
