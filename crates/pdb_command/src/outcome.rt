@@ -48,6 +48,9 @@ fn refused(alloc: Global, error: &Error) -> Result<Outcome>
 }
 
 /// Status 2: how to call the program, on a line of standard error.
+///
+/// # Errors
+/// `OutOfMemory` where memory is refused.
 pub fn usage(alloc: Global) -> Result<Outcome>
     ensures ok { IfOk result IsUsage }
     ensures want { IfErr result (λ e. e ≡ Error.OutOfMemory) }
