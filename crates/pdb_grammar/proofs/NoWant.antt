@@ -1,6 +1,6 @@
 -- Bytes are never refused for want of memory.
-use Rattle.std.proofs.Common.{◌≡◌, ◌≢◌, inl, inr, ℕ, zero, suc, List, Err}
-use Rattle.pdb_base.specs.Refusal.{Refusal, out_of_memory, unexpected_eof, unexpected_numeric_prefix, unimplemented_feature, unimplemented_type_kind}
+use Rattle.std.proofs.Common.{◌≢◌, inl, inr, ℕ, zero, suc, List, Err}
+use Rattle.pdb_base.specs.Refusal.{Refusal, out_of_memory, unexpected_eof, unexpected_numeric_prefix, unimplemented_type_kind}
 use Rattle.pdb_base.specs.Reading.{number_at}
 use Rattle.pdb_base.specs.Numeric.{numeric_leaves, unsigned_leaves}
 use Rattle.pdb_base.specs.Laws.{BeginsBadly}

@@ -105,13 +105,26 @@ indexes_short {A} said (suc count) bytes short = elim (cases_lt (length bytes) 4
       ∙ bind_no (repeated (index_at said) count one.1) (λ xs. ok (one.0 ∷ xs.0, xs.1)) unexpected_eof (indexes_short said count one.1 (omega (arith, short, one.3)))
 ]
 
+-- an index, and so many behind it
+one_more : {A : Type 0} (said : ℕ → A) (count : ℕ) (bytes : List ℕ) (x : A) (rest : List ℕ) (xs : List A × List ℕ) → index_at said bytes ≡ Ok (x, rest) → repeated (index_at said) count rest ≡ Ok xs
+    → repeated (index_at said) (suc count) bytes ≡ Ok (x ∷ xs.0, xs.1)
+one_more said count bytes x rest xs is more =
+    bind_at (index_at said bytes) (λ y. repeated (index_at said) count y.1 >>= λ ys. ok (y.0 ∷ ys.0, ys.1)) (x, rest) is
+    ∙ bind_at (repeated (index_at said) count rest) (λ ys. ok (x ∷ ys.0, ys.1)) xs more
+
 -- bytes that hold so many have them
-pub indexes_whole : {A : Type 0} (said : ℕ → A) (count : ℕ) (bytes : List ℕ) → 4 * count ≤ length bytes → (xs : List A × List ℕ) × (repeated (index_at said) count bytes ≡ Ok xs)
+indexes_whole : {A : Type 0} (said : ℕ → A) (count : ℕ) (bytes : List ℕ) → 4 * count ≤ length bytes → (xs : List A × List ℕ) × (repeated (index_at said) count bytes ≡ Ok xs)
 indexes_whole {A} said zero bytes fits = (([], bytes), refl)
 indexes_whole {A} said (suc count) bytes fits =
     let one = index_whole said bytes (omega (arith, fits)) in
-    let more = indexes_whole said count one.1 (omega (arith, fits, one.3)) in (
-      (one.0 ∷ more.0.0, more.0.1),
-      bind_at (index_at said bytes) (λ y. repeated (index_at said) count y.1 >>= λ xs. ok (y.0 ∷ xs.0, xs.1)) (one.0, one.1) one.2
-          ∙ bind_at (repeated (index_at said) count one.1) (λ xs. ok (one.0 ∷ xs.0, xs.1)) more.0 more.1,
-    )
+    let more = indexes_whole said count one.1 (omega (arith, fits, one.3)) in
+    ((one.0 ∷ more.0.0, more.0.1), one_more said count bytes one.0 one.1 more.0 one.2 more.1)
+
+-- of more than none there is a first one
+pub indexes_item : {A : Type 0} (said : ℕ → A) (count : ℕ) (bytes : List ℕ) → 4 * count ≤ length bytes → 0 < count
+    → (x : A) × (xs : List A) × (end : List ℕ) × (repeated (index_at said) count bytes ≡ Ok (x ∷ xs, end))
+indexes_item {A} said zero bytes fits some = absurd (omega (arith, some))
+indexes_item {A} said (suc count) bytes fits some =
+    let one = index_whole said bytes (omega (arith, fits)) in
+    let more = indexes_whole said count one.1 (omega (arith, fits, one.3)) in
+    (one.0, more.0.0, more.0.1, one_more said count bytes one.0 one.1 more.0 one.2 more.1)

@@ -1,5 +1,6 @@
 -- Lists of indexes behind their count.
-use Rattle.std.proofs.Common.{◌≡◌, ◌≢◌, ℕ, List, refl, ap, ◌∙◌, sym, Result, Ok, Err, IsOk, IsErrAnd}
+use Rattle.std.specs.Prelude.{IsOkAnd}
+use Rattle.std.proofs.Common.{◌≡◌, ◌≢◌, ℕ, List, refl, ap, ◌∙◌, sym, Result, Ok, Err, IsErrAnd}
 use Rattle.pdb_base.specs.declared.error.Error.{Error}
 use Rattle.pdb_base.specs.declared.error.Error.TheVariants.{OutOfMemory}
 use Rattle.pdb_base.specs.Refusal.{Refusal, refusal_of, unexpected_eof, out_of_memory}
@@ -11,6 +12,7 @@ use Rattle.pdb_grammar.specs.Shape.{index_at}
 use Rattle.pdb_grammar.proofs.Agreeing.{bind_at, bind_no}
 use Rattle.pdb_grammar.proofs.ShapeLaws.{number_ends}
 use Rattle.pdb_base.proofs.Refused.{passed_on}
+use Rattle.pdb_records.specs.Memory.{HasItem}
 use Rattle.pdb_records.proofs.ListLemmas.{refused, cause_is}
 
 -- what so many indexes make, behind their count
@@ -31,14 +33,10 @@ pub counted_cut : {A B : Type 0} (made : List A → B) (said : ℕ → A) (width
     → number_at width bytes ≡ Err e → (number_at width bytes >>= counted made said) ≡ Err e
 counted_cut made said width bytes e is = bind_no (number_at width bytes) (counted made said) e is
 
--- where the indexes are there, their list is what is read
-pub indexes_meant : {A : Type 0} (answer : Answer (List A × List ℕ)) → IsOk answer → (xs : List A) × (end : List ℕ) × (answer ≡ Ok (xs, end))
-indexes_meant (Ok xs) meant = (xs.0, xs.1, refl)
-indexes_meant (Err e) meant = absurd cc
-
--- a list that is there is meant
-pub is_meant : {A : Type 0} (answer : Answer (List A × List ℕ)) (xs : List A × List ℕ) → answer ≡ Ok xs → IsOk answer
-is_meant answer xs is = rw is refl
+-- where indexes are there, their list is what is read
+pub indexes_meant : {A : Type 0} (answer : Answer (List A × List ℕ)) → IsOkAnd answer (λ read. HasItem read.0) → (xs : List A) × (end : List ℕ) × (answer ≡ Ok (xs, end)) × HasItem xs
+indexes_meant (Ok xs) meant = (xs.0, xs.1, refl, meant)
+indexes_meant (Err e) meant = absurd meant
 
 -- what a refused call answers is passed on
 pub wants_too : {X Y : Type 0} (result : Result Y Error) (cause : Error) → IsErrAnd result (λ e. e ≡ cause) → result ≡ Err OutOfMemory → refused {X = X} cause ≡ Err OutOfMemory

@@ -20,7 +20,7 @@ use Rattle.pdb_records.specs.declared.id_leaf.IdLeaf.{IdLeaf}
 use Rattle.pdb_records.specs.declared.id_leaf.IdLeaf.TheVariants.{Function, MemberFunction, BuildInfo, StringList, String, Source, RemoteSource}
 use Rattle.pdb_records.specs.IdRows.{function_row, member_function_row, build_info_row, string_list_row, string_row, source_row, remote_source_row}
 use Rattle.pdb_records.specs.Ids.{id_leaf_of, id_behind, id_at, id_record, IsBehindId, IsId}
-use Rattle.pdb_records.specs.IdLists.{SaysIdList, entry_count, HasIdList, IsCutIdList}
+use Rattle.pdb_records.specs.IdLists.{SaysIdEntry, entry_count, HoldsIdEntry, IsCutIdList}
 use Rattle.pdb_records.specs.Memory.{LacksOnlyIf}
 use Rattle.pdb_records.specs.Claims.{ClaimsMore}
 use Rattle.pdb_records.proofs.CountedLemmas.{counted, counted_refused}
@@ -63,18 +63,18 @@ cut_at : (bytes : List ℕ) → IsCutIdList bytes → id_at bytes ≡ Err unexpe
 cut_at bytes (inl claims) = build_info_cut bytes claims
 cut_at bytes (inr claims) = string_list_cut bytes claims
 
-pub refuses_cut : (bytes rest : List ℕ) (result : Result IdData Error) → Answers (λ id. (id_value id, rest)) result (id_at bytes) → LacksOnlyIf result (SaysIdList (id_at bytes)) → IsCutIdList bytes → result ≡ Err errors.UnexpectedEof
+pub refuses_cut : (bytes rest : List ℕ) (result : Result IdData Error) → Answers (λ id. (id_value id, rest)) result (id_at bytes) → LacksOnlyIf result (SaysIdEntry (id_at bytes)) → IsCutIdList bytes → result ≡ Err errors.UnexpectedEof
 refuses_cut bytes rest (Ok id) is want cut = absurd (ok_is_no_err (id_value id, rest) unexpected_eof (sym is ∙ cut_at bytes cut))
 refuses_cut bytes rest (Err e) (inl is) want cut = ap (λ (d : Error). Err d) (end_is e (err_is {A = IdValue × List ℕ} (refusal_of e) unexpected_eof (sym is ∙ cut_at bytes cut)))
 refuses_cut bytes rest (Err e) (inr lacks) want cut = absurd (rw (cut_at bytes cut) at want (ap (λ (d : Error). Err d) lacks))
 
 -- ---- memory is asked for only where a list is assigned
 
-list_meant : (bytes : List ℕ) (answer : Answer (IdValue × List ℕ)) → id_at bytes ≡ answer → SaysIdList answer → HasIdList bytes
+list_meant : (bytes : List ℕ) (answer : Answer (IdValue × List ℕ)) → id_at bytes ≡ answer → SaysIdEntry answer → HoldsIdEntry bytes
 list_meant bytes (Ok read) is list = (read.0, read.1, ids_agree.found bytes read.0 read.1 is, list)
 list_meant bytes (Err e) is list = absurd list
 
-pub lacks_for_list : (bytes : List ℕ) (result : Result IdData Error) → LacksOnlyIf result (SaysIdList (id_at bytes)) → LacksOnlyIf result (HasIdList bytes)
+pub lacks_for_list : (bytes : List ℕ) (result : Result IdData Error) → LacksOnlyIf result (SaysIdEntry (id_at bytes)) → LacksOnlyIf result (HoldsIdEntry bytes)
 lacks_for_list bytes result want lacks = list_meant bytes (id_at bytes) refl (want lacks)
 
 -- ---- how long lists can be

@@ -1,7 +1,7 @@
 -- Where calls lack memory, and that counts that say too much need none.
-use Rattle.std.specs.Prelude.{IsErrAnd}
+use Rattle.std.specs.Prelude.{IsOkAnd, IsErrAnd}
 use Rattle.std.proofs.lemmas.Bool.{false≢true, eq-eqb, ne_eqb}
-use Rattle.std.proofs.Common.{◌≡◌, ◌≢◌, ◌⊎◌, inl, inr, ℕ, ◌*◌, ◌<◌, ◌==◌, Bool, true, false, List, [], length, refl, sym, ap, ◌∙◌, subst, arith, length-append, Option, Some, None, Result, Ok, Err, IsOk}
+use Rattle.std.proofs.Common.{◌≡◌, ◌≢◌, ◌⊎◌, inl, inr, ℕ, ◌*◌, ◌<◌, ◌==◌, Bool, true, false, List, [], length, refl, sym, ap, ◌∙◌, subst, arith, length-append, Option, Some, None, Result, Ok, Err}
 use Rattle.pdb_base.specs.declared.error.Error.{Error}
 use Rattle.pdb_base.specs.declared.error.Error.TheVariants.{OutOfMemory}
 use Rattle.pdb_base.specs.declared.index.TypeIndex.{TypeIndex}
@@ -27,7 +27,7 @@ use Rattle.pdb_records.specs.Rows.{entry_row}
 use Rattle.pdb_records.specs.Records.{behind_leaf}
 use Rattle.pdb_records.specs.Fields.{Entry, field, entry_of, field_at, field_list_of, record_of, record_at, continuation_leaf, field_list_leaf}
 use Rattle.pdb_records.specs.Lists.{arguments_row, array_row}
-use Rattle.pdb_records.specs.Memory.{LacksOnlyIf, HoldsArguments, HoldsMethod, HoldsDimension, HoldsArray, HoldsEntry, HoldsField, HoldsItemBehind, RecordHoldsItem, NeedsMemoryOf, NeedsMemory, argument_list_leaf, IsFalseCount}
+use Rattle.pdb_records.specs.Memory.{LacksOnlyIf, HasItem, HoldsArguments, HoldsMethod, HoldsDimension, HoldsArray, HoldsEntry, HoldsField, HoldsItemBehind, RecordHoldsItem, NeedsMemoryOf, NeedsMemory, argument_list_leaf, IsFalseCount}
 use Rattle.pdb_records.specs.Claims.{ClaimsMore}
 use Rattle.pdb_records.proofs.GrammarLaws.{field_agrees}
 use Rattle.pdb_records.proofs.ListLemmas.{refused, cause_is, entries_agree, arguments_refused}
@@ -81,10 +81,10 @@ field_holds now start (inl same) there = inr (subst RecordHoldsItem same there)
 field_holds now start (inr begun) there = inl begun
 
 -- arguments that can be read
-pub arguments_there : (bytes : List ℕ) → IsOk (row arguments_row bytes) → HoldsArguments bytes
+pub arguments_there : (bytes : List ℕ) → IsOkAnd (row arguments_row bytes) (λ read. HasItem read.0) → HoldsArguments bytes
 arguments_there bytes whole = elim (answer_cases (row arguments_row bytes)) [
-  | inl there ↦ (there.0.0, there.0.1, (rows arguments_row).found bytes there.0.0 there.0.1 there.1)
-  | inr none ↦ absurd (false≢true (rw none.1 at whole))
+  | inl there ↦ (there.0.0, there.0.1, (rows arguments_row).found bytes there.0.0 there.0.1 there.1, rw there.1 at whole)
+  | inr none ↦ absurd (rw none.1 at whole)
 ]
 
 -- ---- arrays

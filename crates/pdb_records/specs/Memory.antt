@@ -1,6 +1,6 @@
 -- Where memory is asked for: a list takes it for its items, and only once an item is there. A count that
 -- its record doesn't hold takes none.
-use Rattle.std.specs.Prelude.{◌≡◌, ◌⊎◌, ℕ, Bool, true, false, ◌==◌, List, Option, Some, None, Result, Err}
+use Rattle.std.specs.Prelude.{◌≡◌, ◌⊎◌, ⊤, ℕ, Bool, true, false, ◌==◌, List, [], ◌∷◌, Option, Some, None, Result, Err}
 use Rattle.pdb_base.specs.declared.error.Error.{Error}
 use Rattle.pdb_base.specs.declared.error.Error.TheVariants.{OutOfMemory}
 use Rattle.pdb_base.specs.declared.index.TypeIndex.{TypeIndex}
@@ -24,9 +24,14 @@ LacksOnlyIf result needed = result ≡ Err OutOfMemory → needed
 
 -- ---- lists with an item
 
--- a list of arguments, whole: its record holds as many as the count says
+-- an item at least
+abbrev pub HasItem : {A : Type 0} → List A → Type 0
+HasItem [] = ⊥
+HasItem (x ∷ xs) = ⊤
+
+-- arguments, as many as their count says
 abbrev pub HoldsArguments : List ℕ → Type 0
-HoldsArguments bytes = (list : List TypeIndex) × (rest : List ℕ) × Assigns arguments_row bytes list rest
+HoldsArguments bytes = (list : List TypeIndex) × (rest : List ℕ) × Assigns arguments_row bytes list rest × HasItem list
 
 -- the first method of a list
 abbrev pub HoldsMethod : List ℕ → Type 0

@@ -1,12 +1,12 @@
 -- The item at the front of bytes: what is known where it is there.
-use Rattle.std.proofs.Common.{◌≡◌, ℕ, ◌+◌, ◌≤◌, ◌<◌, inl, inr, Bool, true, false, leb, ltb, List, [], length, take, drop, refl, sym, ap, ◌∙◌, arith, Ok, Err}
-use Rattle.std.proofs.lemmas.Bool.{cases_lt, le-ltb, lt-ltb}
+use Rattle.std.proofs.Common.{◌≡◌, ℕ, ◌+◌, ◌≤◌, ◌<◌, inl, inr, Bool, true, false, leb, List, [], length, take, drop, refl, sym, ap, ◌∙◌, arith, Ok, Err}
+use Rattle.std.proofs.lemmas.Bool.{cases_lt}
 use Rattle.std.proofs.lemmas.Bool.Decides.{nat_tests}
 use Rattle.std.proofs.lemmas.List.{length-take-le, length-drop}
 use Rattle.byteorder.specs.Endian.{little_number}
 use Rattle.pdb_base.specs.Refusal.{Refusal, unexpected_eof, type_too_short}
 use Rattle.pdb_base.specs.Answer.{◌>>=◌, required}
-use Rattle.pdb_base.specs.Reading.{number_at, front_at}
+use Rattle.pdb_base.specs.Reading.{front_at}
 use Rattle.pdb_base.proofs.Collected.{ok, ok_is, ok_is_no_err, bind_ok}
 use Rattle.pdb_base.proofs.ReadingLemmas.{front_whole, front_cut, number_whole, number_cut}
 use Rattle.pdb_tpi.specs.Walk.{first_item}

@@ -1,5 +1,5 @@
 -- A primitive type is no list: its index says it, or is refused by name.
-use Rattle.std.proofs.Common.{◌≡◌, ◌≢◌, ℕ, List, length, refl, sym, ap, ◌∙◌, subst, Result, Ok, Err, IfOk}
+use Rattle.std.proofs.Common.{◌≡◌, ◌≢◌, ℕ, refl, sym, ◌∙◌, subst, Result, Ok, Err, IfOk}
 use Rattle.pdb_base.specs.declared.error.Error.{Error}
 use Rattle.pdb_base.specs.Refusal.{Refusal, out_of_memory, type_not_found}
 use Rattle.pdb_base.specs.Answer.{Answer, Gives, ◌>>=◌}

@@ -6,7 +6,7 @@ ghost use Rattle.pdb_base.specs.Refusal.{Refusal};
 ghost use Rattle.pdb_base.specs.Answer.{Answers};
 ghost use Rattle.pdb_values.specs.IdValue.{IdValue, id_value};
 ghost use Rattle.pdb_records.specs.Ids.{IsId, NoId};
-ghost use Rattle.pdb_records.specs.IdLists.{entry_count, HasIdList, IsCutIdList};
+ghost use Rattle.pdb_records.specs.IdLists.{entry_count, HoldsIdEntry, IsCutIdList};
 ghost use Rattle.pdb_records.specs.Memory.{LacksOnlyIf};
 ghost use Rattle.pdb_records.specs.Assigned.{SaysAssigned, ShowsOrLacks, RefusesOrLacks};
 ghost use Rattle.pdb_tpi.specs.Record.{id_of};
@@ -31,7 +31,7 @@ impl<'t> Item<'t, IdIndex> {
         ensures answers { SaysAssigned id_value (IsId self.now.bytes.now) (NoId self.now.bytes.now) result }
         ensures answered { (value : IdValue) (rest : List ℕ) → IsId self.now.bytes.now value rest → ShowsOrLacks id_value value result }
         ensures refused { (refusal : Refusal) → NoId self.now.bytes.now refusal → RefusesOrLacks refusal result }
-        ensures want { LacksOnlyIf result (HasIdList self.now.bytes.now) }
+        ensures want { LacksOnlyIf result (HoldsIdEntry self.now.bytes.now) }
         ensures cut { IsCutIdList self.now.bytes.now → result ≡ Err UnexpectedEof }
         ensures short { IfOk result (λ id. 2 * entry_count (id_value id) ≤ length self.now.bytes.now) }
     {

@@ -1,11 +1,11 @@
 //! Lists of indexes that stand behind their count.
 
-ghost use Rattle.std.specs.Prelude.{◌*◌, ◌≤◌, length, IsOk};
+ghost use Rattle.std.specs.Prelude.{◌*◌, ◌<◌, ◌≤◌, length, IsOkAnd};
 ghost use Rattle.pdb_base.specs.Answer.{Answers};
 ghost use Rattle.pdb_base.specs.Place.{left};
 ghost use Rattle.pdb_grammar.specs.Repeated.{repeated};
 ghost use Rattle.pdb_grammar.specs.Shape.{index_at};
-ghost use Rattle.pdb_records.specs.Memory.{LacksOnlyIf};
+ghost use Rattle.pdb_records.specs.Memory.{LacksOnlyIf, HasItem};
 
 use crate::parse::index::{Index, parse_index};
 use pdb_base::{Error, ParseBuffer, Result};
@@ -18,7 +18,8 @@ fn parse_held_indexes<I: Index>(
     count: usize,
 ) -> Result<Vec<I>>
     requires { 4 * count ≤ length (left buffer.old) }
-    ensures { Answers (λ list. (list.items, left buffer.new)) result (repeated (index_at I.said) count (left buffer.old)) }
+    ensures read { Answers (λ list. (list.items, left buffer.new)) result (repeated (index_at I.said) count (left buffer.old)) }
+    ensures held { LacksOnlyIf result (0 < count) }
 {
     let mut indexes = Vec::new(alloc);
     while indexes.len() < count {
@@ -37,7 +38,7 @@ pub(crate) fn parse_indexes<I: Index>(
     count: usize,
 ) -> Result<Vec<I>>
     ensures read { Answers (λ list. (list.items, left buffer.new)) result (repeated (index_at I.said) count (left buffer.old)) }
-    ensures held { LacksOnlyIf result (IsOk (repeated (index_at I.said) count (left buffer.old))) }
+    ensures held { LacksOnlyIf result (IsOkAnd (repeated (index_at I.said) count (left buffer.old)) (λ read. HasItem read.0)) }
 {
     if buffer.len() / 4 < count {
         return Err(Error::UnexpectedEof);

@@ -8,7 +8,7 @@ ghost use Rattle.pdb_base.specs.Place.{left};
 ghost use Rattle.pdb_grammar.specs.Row.{row};
 ghost use Rattle.pdb_values.specs.IdValue.{IdValue, id_value};
 ghost use Rattle.pdb_records.specs.Ids.{id_row_of, id_behind, id_at, id_record, id_leaf_of, IsId, NoId};
-ghost use Rattle.pdb_records.specs.IdLists.{entry_count, HasIdList, IsCutIdList, SaysIdList};
+ghost use Rattle.pdb_records.specs.IdLists.{entry_count, HoldsIdEntry, IsCutIdList, SaysIdEntry};
 ghost use Rattle.pdb_records.specs.Memory.{LacksOnlyIf};
 ghost use Rattle.pdb_records.specs.Assigned.{SaysAssigned, ShowsOrLacks, RefusesOrLacks};
 
@@ -29,7 +29,7 @@ fn parse_id_leaf<'t>(
     leaf: IdLeaf,
 ) -> Result<IdData<'t>>
     ensures read { Answers (λ id. (id_value id, left buffer.new)) result (row (id_row_of number leaf) (left buffer.old)) }
-    ensures want { LacksOnlyIf result (SaysIdList (row (id_row_of number leaf) (left buffer.old))) }
+    ensures want { LacksOnlyIf result (SaysIdEntry (row (id_row_of number leaf) (left buffer.old))) }
 {
     match leaf {
         IdLeaf::Function => parse_function_id(buffer, number),
@@ -52,7 +52,7 @@ fn parse_behind_id_leaf<'t>(
     number: u16,
 ) -> Result<IdData<'t>>
     ensures read { Answers (λ id. (id_value id, left buffer.new)) result (id_behind number (id_leaf_of number) (left buffer.old)) }
-    ensures want { LacksOnlyIf result (SaysIdList (id_behind number (id_leaf_of number) (left buffer.old))) }
+    ensures want { LacksOnlyIf result (SaysIdEntry (id_behind number (id_leaf_of number) (left buffer.old))) }
 {
     match IdLeaf::from_number(number) {
         Some(leaf) => parse_id_leaf(alloc, buffer, number, leaf),
@@ -64,7 +64,7 @@ fn parse_behind_id_leaf<'t>(
 #[tactic(auto, unfolding(crate::specs::Ids::id_at))]
 fn parse_id_record<'t>(alloc: Global, buffer: &mut ParseBuffer<'t>) -> Result<IdData<'t>>
     ensures read { Answers (λ id. (id_value id, left buffer.new)) result (id_at (left buffer.old)) }
-    ensures want { LacksOnlyIf result (SaysIdList (id_at (left buffer.old))) }
+    ensures want { LacksOnlyIf result (SaysIdEntry (id_at (left buffer.old))) }
 {
     let number = buffer.parse_u16()?;
     parse_behind_id_leaf(alloc, buffer, number)
@@ -86,7 +86,7 @@ pub fn parse_id_data<'t>(alloc: Global, bytes: &'t [u8]) -> Result<IdData<'t>>
     ensures answers { SaysAssigned id_value (IsId bytes.now) (NoId bytes.now) result }
     ensures answered { (value : IdValue) (rest : List ℕ) → IsId bytes.now value rest → ShowsOrLacks id_value value result }
     ensures refused { (refusal : Refusal) → NoId bytes.now refusal → RefusesOrLacks refusal result }
-    ensures want { LacksOnlyIf result (HasIdList bytes.now) }
+    ensures want { LacksOnlyIf result (HoldsIdEntry bytes.now) }
     ensures cut { IsCutIdList bytes.now → result ≡ Err UnexpectedEof }
     ensures short { IfOk result (λ id. 2 * entry_count (id_value id) ≤ length bytes.now) }
 {

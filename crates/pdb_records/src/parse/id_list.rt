@@ -5,7 +5,7 @@ ghost use Rattle.pdb_base.specs.Place.{left};
 ghost use Rattle.pdb_grammar.specs.Row.{row};
 ghost use Rattle.pdb_values.specs.IdValue.{build_arguments, build_info, text_parts, string_list};
 ghost use Rattle.pdb_records.specs.IdRows.{build_info_row, string_list_row};
-ghost use Rattle.pdb_records.specs.IdLists.{SaysIdList};
+ghost use Rattle.pdb_records.specs.IdLists.{SaysIdEntry};
 ghost use Rattle.pdb_records.specs.Memory.{LacksOnlyIf};
 
 use crate::parse::counted::parse_indexes;
@@ -19,7 +19,7 @@ use std::alloc::Global;
 /// `UnexpectedEof` where the bytes don't hold as many as the count says, before memory is asked for.
 pub(crate) fn parse_build_info(alloc: Global, buffer: &mut ParseBuffer<'_>) -> Result<BuildInfoId>
     ensures read { Answers (λ list. (build_info (build_arguments list), left buffer.new)) result (row build_info_row (left buffer.old)) }
-    ensures want { LacksOnlyIf result (SaysIdList (row build_info_row (left buffer.old))) }
+    ensures want { LacksOnlyIf result (SaysIdEntry (row build_info_row (left buffer.old))) }
 {
     let count = buffer.parse_u16()? as usize;
     Ok(BuildInfoId {
@@ -33,7 +33,7 @@ pub(crate) fn parse_build_info(alloc: Global, buffer: &mut ParseBuffer<'_>) -> R
 /// `UnexpectedEof` where the bytes don't hold as many as the count says, before memory is asked for.
 pub(crate) fn parse_string_list(alloc: Global, buffer: &mut ParseBuffer<'_>) -> Result<StringListId>
     ensures read { Answers (λ list. (string_list (text_parts list), left buffer.new)) result (row string_list_row (left buffer.old)) }
-    ensures want { LacksOnlyIf result (SaysIdList (row string_list_row (left buffer.old))) }
+    ensures want { LacksOnlyIf result (SaysIdEntry (row string_list_row (left buffer.old))) }
 {
     let count = buffer.parse_u32()? as usize;
     Ok(StringListId {

@@ -1,13 +1,13 @@
 //! Lists of arguments and of methods.
 
-ghost use Rattle.std.specs.Prelude.{IsOk};
+ghost use Rattle.std.specs.Prelude.{IsOkAnd};
 ghost use Rattle.pdb_base.specs.Answer.{Answers};
 ghost use Rattle.pdb_base.specs.Place.{left};
 ghost use Rattle.pdb_grammar.specs.Row.{row};
 ghost use Rattle.pdb_grammar.specs.ToEnd.{to_end};
 ghost use Rattle.pdb_records.specs.Rows.{entry_row};
 ghost use Rattle.pdb_records.specs.Lists.{arguments_row};
-ghost use Rattle.pdb_records.specs.Memory.{LacksOnlyIf, HoldsMethod};
+ghost use Rattle.pdb_records.specs.Memory.{LacksOnlyIf, HasItem, HoldsMethod};
 
 use crate::parse::counted::parse_indexes;
 use crate::parse::function::parse_entry;
@@ -24,7 +24,7 @@ pub(crate) fn parse_argument_list(
     buffer: &mut ParseBuffer<'_>,
 ) -> Result<ArgumentList>
     ensures read { Answers (λ list. (list.arguments.items, left buffer.new)) result (row arguments_row (left buffer.old)) }
-    ensures held { LacksOnlyIf result (IsOk (row arguments_row (left buffer.old))) }
+    ensures held { LacksOnlyIf result (IsOkAnd (row arguments_row (left buffer.old)) (λ read. HasItem read.0)) }
 {
     let count = buffer.parse_u32()? as usize;
     Ok(ArgumentList {

@@ -7,8 +7,8 @@ use Rattle.pdb_grammar.specs.Shape.{index_at}
 use Rattle.pdb_grammar.proofs.StepLemmas.{behind, repeated_step, repeated_stops}
 use Rattle.pdb_records.proofs.parse.counted.parse_held_indexes.Goals as goal
 
-pub returns-in_err-parse_index : goal.returns-in_err-parse_index
-returns-in_err-parse_index g c =
+pub returns-in_err-parse_index-clause-read : goal.returns-in_err-parse_index-clause-read
+returns-in_err-parse_index-clause-read g c =
     let some : 0 < c.args.count - length c.loop-indexes.indexes.items = omega (arith, c.loop-indexes-test.true, c.len.ensures) in
     rw (passed_on _ _ c.from_residual.ensures.1) (inl (c.loop-indexes.invariant.all ∙ repeated_stops (index_at g.I.Index.said) c.loop-indexes.indexes.items _ _ _ some c.in_err-parse_index.ensures))
 

@@ -1,7 +1,6 @@
 use Rattle.std.proofs.Common.{inl, arith}
 use Rattle.pdb_base.specs.Place.{left}
-use Rattle.pdb_grammar.proofs.StepLemmas.{indexes_short, indexes_whole}
-use Rattle.pdb_records.proofs.CountedLemmas.{is_meant}
+use Rattle.pdb_grammar.proofs.StepLemmas.{indexes_short, indexes_item}
 use Rattle.pdb_records.proofs.parse.counted.parse_indexes.Goals as goal
 
 pub returns-then-len-count-clause-read : goal.returns-then-len-count-clause-read
@@ -10,5 +9,5 @@ returns-then-len-count-clause-read g c =
 
 pub returns-clause-held : goal.returns-clause-held
 returns-clause-held g c = λ want.
-    let whole = indexes_whole g.I.Index.said c.args.count (left c.args.buffer.now) (omega (arith, c.len.ensures, c.if-len-count.false)) in
-    is_meant _ whole.0 whole.1
+    let there = indexes_item g.I.Index.said c.args.count (left c.args.buffer.now) (omega (arith, c.len.ensures, c.if-len-count.false)) (c.parse_held_indexes.ensures.held want) in
+    rw there.3 tt

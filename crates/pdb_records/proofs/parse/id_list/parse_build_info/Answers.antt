@@ -25,7 +25,7 @@ returns-in_err-parse_indexes-clause-read c = rw (passed_on _ _ c.from_residual-i
 pub returns-in_err-parse_indexes-clause-want : goal.returns-in_err-parse_indexes-clause-want
 returns-in_err-parse_indexes-clause-want c = λ want.
     let there = indexes_meant _ (c.in_err-parse_indexes.ensures.held (wants_too _ _ c.from_residual-in_err-parse_indexes.ensures.1 want)) in
-    rw (build_info_is (left c.args.buffer.now) ∙ counted_read build_info as_id 2 (left c.args.buffer.now) _ _ there.0 there.1 c.in_ok-count.ensures.read there.2) tt
+    rw (build_info_is (left c.args.buffer.now) ∙ counted_read build_info as_id 2 (left c.args.buffer.now) _ _ there.0 there.1 c.in_ok-count.ensures.read there.2) there.3
 
 pub returns-clause-read : goal.returns-clause-read
 returns-clause-read c = build_info_is (left c.args.buffer.now) ∙ counted_read build_info as_id 2 (left c.args.buffer.now) _ _ _ _ c.in_ok-count.ensures.read c.in_ok-parse_indexes.ensures.read

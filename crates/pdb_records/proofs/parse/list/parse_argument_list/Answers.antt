@@ -1,4 +1,4 @@
-use Rattle.std.proofs.Common.{inl, inr, refl, ◌∙◌, sym}
+use Rattle.std.proofs.Common.{inl, inr, ◌∙◌, sym}
 use Rattle.pdb_base.specs.Place.{left}
 use Rattle.pdb_base.proofs.Refused.{passed_on}
 use Rattle.pdb_records.proofs.ListLemmas.{arguments_cut, arguments_read, arguments_refused, cause_is}
@@ -21,7 +21,7 @@ returns-in_err-parse_indexes-clause-read c = rw (passed_on _ _ c.from_residual-i
 pub returns-in_err-parse_indexes-clause-held : goal.returns-in_err-parse_indexes-clause-held
 returns-in_err-parse_indexes-clause-held c = λ want.
     let there = indexes_meant _ (c.in_err-parse_indexes.ensures.held (wants_too _ _ c.from_residual-in_err-parse_indexes.ensures.1 want)) in
-    rw (arguments_read (left c.args.buffer.now) _ _ (there.0, there.1) c.in_ok-count.ensures.read there.2) refl
+    rw (arguments_read (left c.args.buffer.now) _ _ (there.0, there.1) c.in_ok-count.ensures.read there.2) there.3
 
 pub returns-clause-read : goal.returns-clause-read
 returns-clause-read c = arguments_read (left c.args.buffer.now) _ _ _ c.in_ok-count.ensures.read c.in_ok-parse_indexes.ensures.read
