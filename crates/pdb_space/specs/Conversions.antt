@@ -1,12 +1,12 @@
 -- Addresses and places of an image before and after a tool rearranged it, and how each is made of
 -- another. "Internal" are those of before, of which the parts of a program database speak.
-use Rattle.std.specs.Prelude.{ℕ, if◌then◌else◌, List, [], Option, Some, None, unwrap_or}
+use Rattle.std.specs.Prelude.{◌≡◌, ℕ, if◌then◌else◌, List, [], Option, Some, None, unwrap_or}
 use Rattle.std.specs.declared.ops.Range.{Range}
 use Rattle.std.specs.List.{cons_option}
 use Rattle.std.specs.Option.{is_none}
 use Rattle.pdb_space.specs.declared.section_header.ImageSectionHeader.{ImageSectionHeader}
 use Rattle.pdb_space.specs.SectionPlace.{SectionPlace}
-use Rattle.pdb_space.specs.Omap.{Mapping, shift}
+use Rattle.pdb_space.specs.Omap.{Mapping, MovesSomehow, shift}
 use Rattle.pdb_space.specs.Ranges.{parts, unless_empty}
 use Rattle.pdb_space.specs.Sections.{section_of, address_of}
 use Rattle.pdb_space.specs.Steps.{◌>>=◌}
@@ -99,3 +99,14 @@ internal_offset_to_rva map place = do
 unfoldable pub internal_offset_to_section_offset : Arrangement → SectionPlace → Option SectionPlace
 internal_offset_to_section_offset map place =
     if is_none map.transformed_sections then Some place else internal_offset_to_rva map place >>= rva_to_section_offset map
+
+-- ---- over a table that isn't sorted
+
+-- Some record of the table, at or below the address that is started from, moves it, and the result is what
+-- is made of where it goes.
+pub record ComesSomehow {A : Type 0} (start : Option ℕ) (made : ℕ → Option A) (table : List Mapping) (result : A) : Type 0 where
+  pub address : ℕ
+  pub starts : start ≡ Some address
+  pub goes_to : ℕ
+  pub moves : MovesSomehow table address goes_to
+  pub comes : made goes_to ≡ Some result

@@ -1,11 +1,12 @@
 //! What is made of an address or a place by an address map.
 //!
 //! Where a conversion goes by a table, its contract says what it gives where that table is sorted, as
-//! those that tools write are.
+//! those that tools write are. Over another table it gives nothing, or what is made of an address to which
+//! some record at or below moves the first one.
 
 ghost use Rattle.std.specs.Prelude.{◌≡◌, None, Some, IfSome};
 ghost use Rattle.pdb_space.specs.Omap.{IsSortedBySource, MovesSomehow};
-ghost use Rattle.pdb_space.specs.Conversions.{rva_to_internal_rva, rva_to_section_offset, rva_to_internal_offset, internal_rva_to_rva, internal_rva_to_section_offset, internal_rva_to_internal_offset, section_offset_to_rva, section_offset_to_internal_rva, section_offset_to_internal_offset, internal_offset_to_internal_rva, internal_offset_to_rva, internal_offset_to_section_offset};
+ghost use Rattle.pdb_space.specs.Conversions.{ComesSomehow, rva_to_internal_rva, rva_to_section_offset, rva_to_internal_offset, internal_rva_to_rva, internal_rva_to_section_offset, internal_rva_to_internal_offset, section_offset_to_rva, section_offset_to_internal_rva, section_offset_to_internal_offset, internal_offset_to_internal_rva, internal_offset_to_rva, internal_offset_to_section_offset};
 
 use crate::address::Rva;
 use crate::address_map::{AddressMap, translate};
@@ -38,7 +39,8 @@ impl Rva {
     /// The place of the internal address in a section of the original image.
     #[tactic(auto, unfolding(crate::specs::Conversions::rva_to_internal_offset, crate::specs::Conversions::internal_rva_to_internal_offset))]
     pub fn to_internal_offset(self, map: &AddressMap) -> Option<PdbInternalSectionOffset>
-        ensures { IfSome map.now.transformed_to_original IsSortedBySource → result ≡ rva_to_internal_offset map.now self }
+        ensures exact { IfSome map.now.transformed_to_original IsSortedBySource → result ≡ rva_to_internal_offset map.now self }
+        ensures somehow { IfSome map.now.transformed_to_original (λ table. IfSome result (ComesSomehow (Some self) (internal_rva_to_internal_offset map.now) table)) }
     {
         self.to_internal_rva(map)?.to_internal_offset(map)
     }
@@ -58,7 +60,8 @@ impl PdbInternalRva {
     /// The place in a section of the image as it is loaded to which this address was moved.
     #[tactic(auto, unfolding(crate::specs::Conversions::internal_rva_to_section_offset, crate::specs::Conversions::rva_to_section_offset))]
     pub fn to_section_offset(self, map: &AddressMap) -> Option<SectionOffset>
-        ensures { IfSome map.now.original_to_transformed IsSortedBySource → result ≡ internal_rva_to_section_offset map.now self }
+        ensures exact { IfSome map.now.original_to_transformed IsSortedBySource → result ≡ internal_rva_to_section_offset map.now self }
+        ensures somehow { IfSome map.now.original_to_transformed (λ table. IfSome result (ComesSomehow (Some self) (rva_to_section_offset map.now) table)) }
     {
         self.to_rva(map)?.to_section_offset(map)
     }
@@ -87,7 +90,8 @@ impl SectionOffset {
     /// The address in the original image from which the place was moved.
     #[tactic(auto, unfolding(crate::specs::Conversions::section_offset_to_internal_rva))]
     pub fn to_internal_rva(self, map: &AddressMap) -> Option<PdbInternalRva>
-        ensures { IfSome map.now.transformed_to_original IsSortedBySource → result ≡ section_offset_to_internal_rva map.now self }
+        ensures exact { IfSome map.now.transformed_to_original IsSortedBySource → result ≡ section_offset_to_internal_rva map.now self }
+        ensures somehow { IfSome map.now.transformed_to_original (λ table. IfSome result (ComesSomehow (section_offset_to_rva map.now self) Some table)) }
     {
         self.to_rva(map)?.to_internal_rva(map)
     }
@@ -97,6 +101,7 @@ impl SectionOffset {
     #[tactic(auto, unfolding(crate::specs::Conversions::section_offset_to_internal_offset))]
     pub fn to_internal_offset(self, map: &AddressMap) -> Option<PdbInternalSectionOffset>
         ensures exact { IfSome map.now.transformed_to_original IsSortedBySource → result ≡ section_offset_to_internal_offset map.now self }
+        ensures somehow { IfSome map.now.transformed_sections (λ _. IfSome map.now.transformed_to_original (λ table. IfSome result (ComesSomehow (section_offset_to_rva map.now self) (internal_rva_to_internal_offset map.now) table))) }
         ensures same { map.now.transformed_sections ≡ None → result ≡ Some self }
     {
         if map.transformed_sections.is_none() {
@@ -120,7 +125,8 @@ impl PdbInternalSectionOffset {
     /// The address in the image as it is loaded to which the place was moved.
     #[tactic(auto, unfolding(crate::specs::Conversions::internal_offset_to_rva))]
     pub fn to_rva(self, map: &AddressMap) -> Option<Rva>
-        ensures { IfSome map.now.original_to_transformed IsSortedBySource → result ≡ internal_offset_to_rva map.now self }
+        ensures exact { IfSome map.now.original_to_transformed IsSortedBySource → result ≡ internal_offset_to_rva map.now self }
+        ensures somehow { IfSome map.now.original_to_transformed (λ table. IfSome result (ComesSomehow (internal_offset_to_internal_rva map.now self) Some table)) }
     {
         self.to_internal_rva(map)?.to_rva(map)
     }
@@ -130,6 +136,7 @@ impl PdbInternalSectionOffset {
     #[tactic(auto, unfolding(crate::specs::Conversions::internal_offset_to_section_offset))]
     pub fn to_section_offset(self, map: &AddressMap) -> Option<SectionOffset>
         ensures exact { IfSome map.now.original_to_transformed IsSortedBySource → result ≡ internal_offset_to_section_offset map.now self }
+        ensures somehow { IfSome map.now.transformed_sections (λ _. IfSome map.now.original_to_transformed (λ table. IfSome result (ComesSomehow (internal_offset_to_internal_rva map.now self) (rva_to_section_offset map.now) table))) }
         ensures same { map.now.transformed_sections ≡ None → result ≡ Some self }
     {
         if map.transformed_sections.is_none() {
