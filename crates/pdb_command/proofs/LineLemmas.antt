@@ -1,12 +1,14 @@
 -- Lines of hexadecimal digits, one after another.
-use Rattle.std.proofs.Common.{◌≡◌, ℕ, ◌+◌, ◌-◌, ◌*◌, ◌^◌, List, [], ◌∷◌, ◌++◌, length, replicate, take, drop, false, sym, ap, ◌∙◌, arith, min}
+use Rattle.std.specs.Int.{div_ceil}
+use Rattle.std.proofs.Common.{◌≡◌, ℕ, ◌+◌, ◌-◌, ◌*◌, ◌^◌, ◌<◌, ◌≤◌, List, [], ◌∷◌, ◌++◌, length, replicate, take, drop, false, sym, ap, ◌∙◌, arith, min}
 use Rattle.std.specs.Fmt.{padded_integral, format_spec}
 use Rattle.std.specs.List.{flat_map, range_with_len}
 use Rattle.std.proofs.lemmas.Grind.{flat_map-append}
-use Rattle.std.proofs.lemmas.List.{append-nil, map-id, take_min, length-drop}
+use Rattle.std.proofs.Math.Seq.{take-append_seam, drop-append_seam}
+use Rattle.std.proofs.lemmas.List.{append-nil, map-id, take_min, drop_min, drop-drop, length-drop}
 use Rattle.std.proofs.lemmas.List.FromFn.{map-range_with_len_more}
 use Rattle.pdb_base.proofs.Padding.{padded_with_zeros}
-use Rattle.pdb_command.specs.Lines.{hex_line, line_of}
+use Rattle.pdb_command.specs.Lines.{hex_line, hex_lines, line_of}
 
 range_more : (n : ℕ) → range_with_len 0 (n + 1) ≡ range_with_len 0 n ++ n ∷ []
 range_more n =
@@ -23,11 +25,26 @@ lines_more all n =
     ∙ flat_map-append (λ k. hex_line (line_of all k)) (range_with_len 0 n) (n ∷ [])
     ∙ ap (λ (r : List ℕ). lines_to all n ++ r) (append-nil (hex_line (line_of all n)))
 
--- the bytes between where a line begins and where it or the whole ends
-pub line_cut : (all : List ℕ) (n : ℕ) → take (min (length all) (32 * n + 32) - 32 * n) (drop (32 * n) all) ≡ line_of all n
-line_cut all n =
-    let cut : min (length all) (32 * n + 32) - 32 * n ≡ min 32 (length (drop (32 * n) all)) = omega (arith, length-drop (32 * n) all) in
-    ap (λ (k : ℕ). take k (drop (32 * n) all)) cut ∙ take_min 32 (drop (32 * n) all)
+-- the next of the pieces of what is left is the next line, and behind it stands what is left then
+pub piece_is_line : (all piece rest : List ℕ) (n : ℕ) → drop (32 * n) all ≡ piece ++ rest → length piece ≡ min 32 (length (drop (32 * n) all))
+    → (piece ≡ line_of all n) × (rest ≡ drop (32 * (n + 1)) all)
+piece_is_line all piece rest n is long =
+    let left = drop (32 * n) all in (
+      sym (take-append_seam piece rest) ∙ ap (λ (k : ℕ). take k (piece ++ rest)) long ∙ ap (λ (xs : List ℕ). take (min 32 (length left)) xs) (sym is) ∙ take_min 32 left,
+      sym (drop-append_seam piece rest) ∙ ap (λ (k : ℕ). drop k (piece ++ rest)) long ∙ ap (λ (xs : List ℕ). drop (min 32 (length left)) xs) (sym is)
+          ∙ drop_min 32 left ∙ drop-drop 32 (32 * n) all ∙ ap (λ (k : ℕ). drop k all) (omega arith),
+    )
+
+-- as long as something is left there is another line
+pub line_left : (all : List ℕ) (n : ℕ) → 0 < length (drop (32 * n) all) → n ≤ div_ceil (length all) 32 → n + 1 ≤ div_ceil (length all) 32
+line_left all n some most = omega (arith, some, most, length-drop (32 * n) all)
+
+-- and where nothing is left, those are all
+pub no_line_left : (all : List ℕ) (n : ℕ) → length (drop (32 * n) all) ≡ 0 → n ≤ div_ceil (length all) 32 → lines_to all n ≡ hex_lines all
+unfolding hex_lines
+no_line_left all n none most =
+    let same : n ≡ div_ceil (length all) 32 = omega (arith, none, most, length-drop (32 * n) all) in
+    ap (lines_to all) same
 
 -- what `{:04x}` writes
 pub four_digits : (digits : List ℕ) → padded_integral (format_spec 32 0 4 4 (2 ^ 64 - 1)) false [] digits ≡ replicate (4 - length digits) 48 ++ digits

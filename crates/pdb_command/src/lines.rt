@@ -35,10 +35,8 @@ pub fn hex_lines(alloc: Global, all: &[u8]) -> Result<Vec<u8>>
     ensures want { IfErr result (λ e. e ≡ Error.OutOfMemory) }
 {
     let mut out = Vec::new(alloc);
-    for k in 0..all.len().div_ceil(LINE_SIZE) {
-        let start = LINE_SIZE * k;
-        let end = all.len().min(start + LINE_SIZE);
-        push_line(&mut out, &all[start..end])?;
+    for bytes in all.chunks(LINE_SIZE) {
+        push_line(&mut out, bytes)?;
     }
     Ok(out)
 }

@@ -1,5 +1,6 @@
 //! What the program prints of S1, row by row.
 
+mod inputs;
 mod runs;
 
 use crate::act;
