@@ -216,6 +216,6 @@ pub cuts_only : (file : List ℕ) (head : Head) (n limit : ℕ) → CutsOnly fil
 unfolding stream_of
 cuts_only file head n limit bytes e =
     let directory = bind_ok (directory_of file head) _ bytes e in
-    let entry = bind_ok (entry_of head.geometry n (words directory.0)) _ bytes directory.2 in
+    let entry = bind_ok (entry_of head.geometry n directory.0) _ bytes directory.2 in
     let whole = found_there (scatter file head.geometry.page_size entry.0.pages entry.0.size) bytes entry.2 in
     rw (directory.1, entry.1, cut_is file head.geometry.page_size entry.0.pages entry.0.size limit bytes whole) refl

@@ -2,8 +2,11 @@ pub mod PlacesLemmas
 pub mod SliceLemmas
 pub mod RunLemmas
 pub mod WordLemmas
+pub mod ExactLemmas
 pub mod PageLemmas
-pub mod EntryLemmas
+pub mod PlaceLemmas
 pub mod LawLemmas
+pub mod KindLemmas
+pub mod AskedLemmas
 pub mod Kept
 pub mod MagicLemmas

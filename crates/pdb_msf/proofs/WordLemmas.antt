@@ -61,7 +61,7 @@ words-drop (suc count) bytes =
     ∙ ap (λ (n : ℕ). drop n (words bytes)) one
 
 -- bytes have as many words as they have whole fours
-length-words : (bytes : List ℕ) → (4 * length (words bytes) ≤ length bytes) × (length bytes < 4 * length (words bytes) + 4)
+pub length-words : (bytes : List ℕ) → (4 * length (words bytes) ≤ length bytes) × (length bytes < 4 * length (words bytes) + 4)
 length-words [] = (omega arith, omega arith)
 length-words (a ∷ []) = (omega arith, omega arith)
 length-words (a ∷ b ∷ []) = (omega arith, omega arith)

@@ -1,12 +1,14 @@
 -- The directory of a file: u32 count of streams, a u32 size for each, then the page numbers of the
 -- first stream, of the second and so on, as many for each as its size takes.
-use Rattle.std.specs.Prelude.{◌≡◌, ℕ, ◌+◌, ◌*◌, ◌<◌, not, nat_lt, nat_le, ◌==◌, if◌then◌else◌, List, length, take, drop, slice_get, Ok, Err}
-use Rattle.std.specs.List.{sum_by}
+use Rattle.std.specs.Prelude.{◌≡◌, ℕ, ◌+◌, ◌*◌, ◌<◌, ◌≤◌, not, nat_lt, nat_le, ◌==◌, if◌then◌else◌, List, length, map, take, drop, min, slice_get, slice_index, vec_capacity, Ok, Err}
+use Rattle.std.specs.List.{sum_by, range_with_len}
 use Rattle.pdb_base.specs.Refusal.{unexpected_eof, stream_not_found}
 use Rattle.pdb_base.specs.Answer.{Answer, ◌>>=◌, required}
 use Rattle.pdb_msf.specs.Source.{found}
 use Rattle.pdb_msf.specs.Pages.{pages, scatter, words, present, page_numbers}
 use Rattle.pdb_msf.specs.declared.header.Geometry.{Geometry}
+use Rattle.pdb_msf.specs.declared.directory.Directory.{Directory}
+use Rattle.pdb_msf.specs.declared.directory.StreamPlace.{StreamPlace}
 use Rattle.pdb_msf.specs.declared.directory.StreamEntry.{StreamEntry}
 use Rattle.pdb_msf.specs.Header.{Head, directory_pages}
 
@@ -17,6 +19,26 @@ absent = 0xffffffff
 -- how many pages a stream of this size takes: none if it is absent
 unfoldable pub pages_taken : ℕ → ℕ → ℕ
 pages_taken page_size size = if size == absent then 0 else pages page_size size
+
+-- the sizes of the streams, as far as they stand in the directory, and what follows them
+abbrev pub sizes_of : List ℕ → List ℕ
+sizes_of directory = drop 1 (words directory)
+
+-- the place at which the page numbers of stream n begin, where there are so many streams: behind the
+-- count, the size of each stream, and the page numbers of the streams before
+abbrev pub start_of : ℕ → ℕ → List ℕ → ℕ → ℕ
+start_of page_size count directory n = 4 + 4 * count + 4 * sum_by (pages_taken page_size) (take n (sizes_of directory))
+
+-- Where stream n stands in a directory: its size, and the place at which its page numbers begin.
+unfoldable pub place_in : ℕ → ℕ → List ℕ → Answer StreamPlace
+place_in page_size n directory = do
+  count ← present (slice_get (words directory) 0)
+  known ← required (nat_lt n count) (stream_not_found n)
+  size ← present (slice_get (sizes_of directory) n)
+  there ← required (not (size == absent)) (stream_not_found n)
+  let start = start_of page_size count directory n
+  reached ← required (nat_le start (length directory)) unexpected_eof
+  Ok (record { size = size; start = start })
 
 -- a stream as the directory describes it: its size in bytes and its pages
 pub record Entry : Type 0 where
@@ -32,22 +54,12 @@ pub record HasPages (geometry : Geometry) (entry : StreamEntry) : Type 0 where
   pub size : entry.size < absent
   pub pages : length entry.pages.items ≡ pages geometry.page_size entry.size
 
--- how many pages the first so many streams take, whose sizes follow one another
-unfoldable pub pages_before : ℕ → ℕ → List ℕ → Answer ℕ
-pages_before page_size count sizes = if nat_lt (length sizes) count then Err unexpected_eof else Ok (sum_by (pages_taken page_size) (take count sizes))
-
--- Stream n of a directory, whose words are the count of streams, their sizes and their page numbers.
+-- Stream n of a directory. Its page numbers are the words from its place on.
 unfoldable pub entry_of : Geometry → ℕ → List ℕ → Answer Entry
 entry_of geometry n directory = do
-  count ← present (slice_get directory 0)
-  known ← required (nat_lt n count) (stream_not_found n)
-  let behind = drop 1 directory
-  before ← pages_before geometry.page_size n behind
-  size ← present (slice_get behind n)
-  there ← required (not (size == absent)) (stream_not_found n)
-  reached ← required (nat_le (count + before) (length behind)) unexpected_eof
-  numbers ← page_numbers geometry.pages_used (pages geometry.page_size size) (drop (count + before) behind)
-  Ok (record { size = size; pages = numbers })
+  place ← place_in geometry.page_size n directory
+  numbers ← page_numbers geometry.pages_used (pages geometry.page_size place.size) (words (drop place.start directory))
+  Ok (record { size = place.size; pages = numbers })
 
 -- The directory's bytes. Its page numbers stand in the pages that the header lists.
 unfoldable pub directory_of : List ℕ → Head → Answer (List ℕ)
@@ -55,3 +67,17 @@ directory_of file head = do
   location ← found (scatter file head.geometry.page_size head.location (4 * directory_pages head.geometry))
   numbers ← page_numbers head.geometry.pages_used (directory_pages head.geometry) (words location)
   found (scatter file head.geometry.page_size numbers head.geometry.directory_size)
+
+-- the first word of a directory, its count of streams
+abbrev pub count_of : List ℕ → ℕ
+count_of directory = slice_index (words directory) 0
+
+-- the places at which page numbers begin, of each stream whose size stands in the directory
+abbrev pub starts_of : ℕ → List ℕ → List ℕ
+starts_of page_size directory =
+    map (start_of page_size (count_of directory) directory) (range_with_len 0 (min (count_of directory) (length (sizes_of directory))))
+
+-- A directory that is kept has the places of its streams, in no more memory than one for each four bytes.
+pub record HasStarts (page_size : ℕ) (directory : Directory) : Type 0 where
+  pub starts : directory.starts.items ≡ starts_of page_size directory.bytes.items
+  pub small : 4 * vec_capacity directory.starts ≤ length directory.bytes.items

@@ -61,12 +61,19 @@ pub record IsHeader (header : Header) : Type 0 where
   pub sized : IsTrue (is_page_size header.geometry.page_size)
   pub located : length header.location.items ≡ location_pages header.geometry
 
--- the header at the front of a file
-unfoldable pub head_of : List ℕ → Answer Head
-head_of view = do
+-- the numbers of the header at the front of a file, which has the format that is read and a good page
+-- size, and the bytes behind them
+unfoldable pub geometry_of : List ℕ → Answer (Geometry × List ℕ)
+geometry_of view = do
   magic ← magic_of view
   fields ← fields_of view
   sized ← required (is_page_size fields.0.page_size) (invalid_page_size fields.0.page_size)
+  Ok fields
+
+-- the header at the front of a file
+unfoldable pub head_of : List ℕ → Answer Head
+head_of view = do
+  fields ← geometry_of view
   location ← page_numbers fields.0.pages_used (location_pages fields.0) (words fields.1)
   Ok (record { geometry = fields.0; location = location })
 

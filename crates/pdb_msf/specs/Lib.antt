@@ -4,6 +4,8 @@ pub mod Pages
 pub mod PageList
 pub mod Runs
 pub mod Header
+pub mod Asked
+pub mod Exactly
 pub mod Directory
 pub mod File
 pub mod Laws

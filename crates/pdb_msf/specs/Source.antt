@@ -1,20 +1,27 @@
 -- What a source of bytes stands for, and what its views show.
-use Rattle.std.specs.Prelude.{◌≡◌, ◌≢◌, ◌⊎◌, ℕ, ◌<◌, ◌≤◌, Bool, IsTrue, nat_lt, if◌then◌else◌, List, length, map, slice_index, Option, Some, None, Result, Ok, Err}
+use Rattle.std.specs.Prelude.{◌≡◌, ◌≢◌, ◌⊎◌, ℕ, ◌<◌, ◌≤◌, Bool, true, IsTrue, nat_lt, if◌then◌else◌, List, length, map, slice_index, Option, Some, None, Result, Ok, Err, IfErr}
 use Rattle.std.specs.List.{flat_map, list_all, range_with_len}
 use Rattle.std.specs.declared.io.Error.{Error}
 use Rattle.std.specs.declared.io.ErrorKind.{ErrorKind}
 use Rattle.std.specs.declared.io.ErrorKind.TheVariants.{UnexpectedEof, OutOfMemory}
 use Rattle.std.specs.IoError.{error_kind}
-use Rattle.pdb_base.specs.Refusal.{io_error}
+use Rattle.pdb_base.specs.declared.error.Error.{Error as Refused}
+use Rattle.pdb_base.specs.Refusal.{Refusal, refusal_of, io_error}
 use Rattle.pdb_base.specs.Answer.{Answer}
 use Rattle.pdb_msf.specs.declared.source.SourceSlice.{SourceSlice}
 
--- A source stands for fixed bytes, for how many faults it has met so far, and for whether it is
--- sound: a sound source fails only at the end of its bytes, or for want of memory.
+-- A source stands for fixed bytes, for how many faults it has met so far, for the kind of the last
+-- of them, if there was one, and for whether it is sound: a sound source fails only at the end of its
+-- bytes, or for want of memory.
 pub record State : Type 0 where
   pub bytes : List ℕ
   pub faults : ℕ
+  pub last_fault : Option ErrorKind
   pub is_sound : Bool
+
+-- bytes in memory are a source that never fails but by their end, or for want of memory
+abbrev pub in_memory : List ℕ → State
+in_memory bytes = record { bytes = bytes; faults = 0; last_fault = None; is_sound = true }
 
 -- What a view keeps: the bytes never change, the count of faults never falls, and a sound source
 -- stays sound and meets no fault.
@@ -43,6 +50,19 @@ bytes_at file at = if list_all (λ place. nat_lt place (length file)) at then So
 pub record IsOther (kind : ErrorKind) : Type 0 where
   pub no_end : kind ≢ UnexpectedEof
   pub no_want : kind ≢ OutOfMemory
+
+-- an error of this kind is the fault that the source met last, unless it is the end of the bytes or want of memory
+abbrev pub IsLastFault : State → ErrorKind → Type 0
+IsLastFault state kind = IsOther kind → state.last_fault ≡ Some kind
+
+-- a refusal that is an error of the source has the kind of the fault that the source met last
+abbrev pub TellsKind : State → Refusal → Type 0
+TellsKind state (io_error kind) = IsLastFault state kind
+TellsKind state refusal = Unit {0}
+
+-- a call keeps the kind of an error that it passes on from the source
+abbrev pub KeepsKind : {X : Type 0} → State → Result X Refused → Type 0
+KeepsKind state result = IfErr result (λ e. TellsKind state (refusal_of e))
 
 -- A view shows the bytes that are meant. It is refused as ending where there are none, for want of
 -- memory, or by another fault, which is so only where `failed` holds.

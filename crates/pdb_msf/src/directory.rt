@@ -1,23 +1,41 @@
-//! The directory of a file: which streams it holds, and over which pages each lies scattered.
+//! The directory of a file: which streams it holds, and where the page numbers of each begin.
 
-ghost use Rattle.std.specs.Prelude.{◌≡◌, ◌*◌, ◌^◌, ◌<◌, ◌≤◌, Ok, length, map, drop, IfOk, OnOk};
-ghost use Rattle.std.specs.List.{range_with_len};
+ghost use Rattle.std.specs.Prelude.{◌≡◌, ◌*◌, ◌^◌, ◌<◌, ◌≤◌, false, length, vec_capacity, IfOk, IfErr};
 ghost use Rattle.pdb_base.specs.Answer.{Answers, AnswersUnless, Gives};
-ghost use Rattle.pdb_base.specs.Place.{left};
-ghost use Rattle.pdb_msf.specs.Source.{HasFailed, IsKept, bytes_at, found, places};
-ghost use Rattle.pdb_msf.specs.Pages.{place_of, scatter, words};
+ghost use Rattle.pdb_msf.specs.Source.{HasFailed, IsKept, KeepsKind};
 ghost use Rattle.pdb_msf.specs.Header.{header_view, IsHeader};
-ghost use Rattle.pdb_msf.specs.Directory.{directory_of, entry_of, entry_view, pages_taken, pages_before, HasPages};
+ghost use Rattle.pdb_msf.specs.Asked.{Asks};
+ghost use Rattle.pdb_msf.specs.Exactly.{RefusesExactly};
+ghost use Rattle.pdb_msf.specs.Directory.{absent, directory_of, entry_of, entry_view, pages_taken, place_in, starts_of, HasPages, HasStarts};
+ghost use Rattle.pdb_msf.specs.File.{locating};
 
 use crate::header::{Geometry, Header};
-use crate::page_list::PageList;
-use crate::source::{ReadView, Source, SourceSlice, SourceView};
+use crate::scattered::CountedSource;
+use crate::source::{ReadView, Source, SourceView};
 use pdb_base::{Error, ParseBuffer, Result};
 use std::alloc::Global;
-use std::io::ErrorKind;
 
 /// The size of a stream that is absent.
 const ABSENT: u32 = 0xffffffff;
+
+/// The directory of a file, with the places of the streams in it.
+#[derive(Debug, Drop)]
+pub struct Directory {
+    /// The directory as it stands in the file.
+    pub bytes: Vec<u8>,
+    /// Where the page numbers of each stream begin whose size stands in the directory, in bytes from
+    /// its start.
+    pub starts: Vec<u64>,
+}
+
+/// Where a stream stands in the directory.
+#[derive(Clone, Copy, Debug)]
+pub struct StreamPlace {
+    /// Bytes in the stream.
+    pub size: u32,
+    /// Where its page numbers begin, in bytes from the directory's start.
+    pub start: usize,
+}
 
 /// A stream as the directory describes it.
 #[derive(Debug, Drop)]
@@ -28,78 +46,29 @@ pub struct StreamEntry {
     pub pages: Vec<u32>,
 }
 
-/// Views a source. Its want of memory is the library's own.
-pub fn view<S: Source>(source: &mut S, alloc: Global, slices: &[SourceSlice]) -> Result<ReadView>
-    ensures bytes { AnswersUnless (HasFailed (S.state source.old) (S.state source.new)) (λ v. v) result
-        (found (bytes_at (S.state source.old).bytes (places slices.now))) }
-    ensures kept { IsKept (S.state source.old) (S.state source.new) }
-{
-    match source.view(alloc, slices) {
-        Ok(view) => Ok(view),
-        Err(error) => match error.kind() {
-            ErrorKind::OutOfMemory => Err(Error::OutOfMemory),
-            _ => Err(Error::IoError(error)),
-        },
-    }
-}
-
-/// The places of the first `size` bytes of these pages.
-fn page_list(alloc: Global, page_size: u32, numbers: &[u32], size: usize) -> Result<PageList>
-    requires size { (0 < page_size) × (page_size ≤ 0x800000) }
-    requires reached { size ≤ length numbers.now * page_size }
-    requires few { length numbers.now ≤ 2 ^ 40 }
-    ensures { Answers (λ l. places l.slices) result (Ok (map (place_of page_size numbers.now) (range_with_len 0 size))) }
-{
-    let mut list = PageList::new(alloc, page_size);
-    for number in numbers {
-        list.push(*number)?;
-    }
-    list.truncate(size);
-    Ok(list)
-}
-
-/// Reads the first `size` bytes of what is scattered over these pages.
-#[tactic(auto, unfolding(crate::specs::Pages::scatter), using(crate::proofs::PageLemmas::length_found))]
-pub fn read_scattered<S: Source>(
-    source: &mut S,
-    alloc: Global,
-    page_size: u32,
-    numbers: &[u32],
-    size: usize,
-) -> Result<ReadView>
-    requires size { (0 < page_size) × (page_size ≤ 0x800000) }
-    requires reached { size ≤ length numbers.now * page_size }
-    requires few { length numbers.now ≤ 2 ^ 40 }
-    ensures bytes { AnswersUnless (HasFailed (S.state source.old) (S.state source.new)) (λ v. v) result
-        (found (scatter (S.state source.old).bytes page_size numbers.now size)) }
-    ensures len { IfOk result (λ v. length v ≡ size) }
-    ensures kept { IsKept (S.state source.old) (S.state source.new) }
-{
-    let list = page_list(alloc, page_size, numbers, size)?;
-    view(source, alloc, list.source_slices())
-}
-
-/// Reads the directory.
+/// Reads the bytes of the directory.
 #[tactic(auto, unfolding(crate::specs::Directory::directory_of))]
-pub fn read_directory<S: Source>(source: &mut S, alloc: Global, header: &Header) -> Result<ReadView>
+fn read_directory<S: Source>(
+    source: &mut CountedSource<S>,
+    alloc: Global,
+    header: &Header,
+) -> Result<ReadView>
     requires { IsHeader header.now }
-    ensures bytes { AnswersUnless (HasFailed (S.state source.old) (S.state source.new)) (λ v. v) result
-        (directory_of (S.state source.old).bytes (header_view header.now)) }
-    ensures kept { IsKept (S.state source.old) (S.state source.new) }
+    ensures bytes { AnswersUnless (HasFailed (S.state source.old.source) (S.state source.new.source)) (λ v. v) result
+        (directory_of (S.state source.old.source).bytes (header_view header.now)) }
+    ensures short { IfOk result (λ v. length v < 2 ^ 32) }
+    ensures kept { IsKept (S.state source.old.source) (S.state source.new.source) }
+    ensures kind { KeepsKind (S.state source.new.source) result }
+    ensures asked { Asks source.old.asked source.new.asked (locating false header.now.geometry) result }
 {
     let geometry = header.geometry;
     let count = geometry.directory_pages();
-    let location = read_scattered(
-        source,
-        alloc,
-        geometry.page_size,
-        &header.location,
-        4 * count,
-    )?;
+    let location =
+        source.read_scattered(alloc, geometry.page_size, &header.location, 4 * count)?;
     let mut buffer = ParseBuffer::from(location.as_slice());
     let numbers = geometry.page_numbers(alloc, &mut buffer, count)?;
     let size = geometry.directory_size as usize;
-    read_scattered(source, alloc, geometry.page_size, &numbers, size)
+    source.read_scattered(alloc, geometry.page_size, &numbers, size)
 }
 
 impl Geometry {
@@ -118,45 +87,99 @@ impl Geometry {
     }
 }
 
-/// How many pages the next `count` streams take, whose sizes follow.
-fn pages_before(geometry: Geometry, buffer: &mut ParseBuffer<'_>, count: u32) -> Result<usize>
-    requires { 256 ≤ geometry.page_size }
-    ensures pages { Gives (λ pages. pages) result (pages_before geometry.page_size count (words (left buffer.old))) }
-    ensures rest { OnOk result (words (left buffer.new) ≡ drop count (words (left buffer.old))) }
-    ensures few { IfOk result (λ pages. pages ≤ count * 2 ^ 24) }
-{
-    let mut pages = 0;
-    for _ in 0..count {
-        let size = buffer.parse_u32()?;
-        pages += geometry.pages_taken(size);
-    }
-    Ok(pages)
-}
-
-/// Finds a stream in the directory.
-#[tactic(auto, unfolding(crate::specs::Directory::entry_of))]
-pub fn find_entry(
-    alloc: Global,
-    geometry: Geometry,
-    directory: &[u8],
-    stream_number: u32,
-) -> Result<StreamEntry>
-    requires { 256 ≤ geometry.page_size }
-    ensures entry { Answers entry_view result (entry_of geometry stream_number (words directory.now)) }
-    ensures whole { IfOk result (HasPages geometry) }
+/// Where the page numbers of each stream begin whose size stands in the directory. Memory is asked
+/// for once, and never for more streams than the directory has sizes.
+fn starts_of(alloc: Global, geometry: Geometry, directory: &[u8]) -> Result<Vec<u64>>
+    requires sized { 256 ≤ geometry.page_size }
+    requires short { length directory.now < 2 ^ 32 }
+    ensures starts { IfOk result (λ starts. starts.items ≡ starts_of geometry.page_size directory.now) }
+    ensures small { IfOk result (λ starts. 4 * vec_capacity starts ≤ length directory.now) }
+    ensures want { IfErr result (λ e. e ≡ Error.OutOfMemory) }
 {
     let mut buffer = ParseBuffer::from(directory);
-    let count = buffer.parse_u32()?;
-    if stream_number >= count {
-        return Err(Error::StreamNotFound(stream_number));
+    let Ok(count) = buffer.parse_u32() else {
+        return Ok(Vec::new(alloc));
+    };
+    let known = (count as usize).min(buffer.len() / 4);
+    let mut starts = Vec::with_capacity(alloc, known)?;
+    let mut start = 4 + 4 * count as u64;
+    for _ in 0..known {
+        let size = buffer.parse_u32()?;
+        starts.push_reserved(start);
+        start += 4 * geometry.pages_taken(size) as u64;
     }
-    let before = pages_before(geometry, &mut buffer, stream_number)?;
-    let size = buffer.parse_u32()?;
-    if size == ABSENT {
-        return Err(Error::StreamNotFound(stream_number));
+    Ok(starts)
+}
+
+impl Directory {
+    /// Reads the directory of a file.
+    pub fn read<S: Source>(
+        source: &mut CountedSource<S>,
+        alloc: Global,
+        header: &Header,
+    ) -> Result<Directory>
+        requires { IsHeader header.now }
+        ensures bytes { AnswersUnless (HasFailed (S.state source.old.source) (S.state source.new.source)) (λ d. d.bytes.items) result
+            (directory_of (S.state source.old.source).bytes (header_view header.now)) }
+        ensures places { IfOk result (HasStarts header.now.geometry.page_size) }
+        ensures kept { IsKept (S.state source.old.source) (S.state source.new.source) }
+        ensures kind { KeepsKind (S.state source.new.source) result }
+        ensures asked { Asks source.old.asked source.new.asked (locating false header.now.geometry) result }
+    {
+        let bytes = read_directory(source, alloc, header)?.into_bytes();
+        let starts = starts_of(alloc, header.geometry, &bytes)?;
+        Ok(Directory { bytes, starts })
     }
-    let later = (count - stream_number - 1) as usize;
-    buffer.take(4 * (later + before))?;
-    let pages = geometry.page_numbers(alloc, &mut buffer, geometry.pages(size as usize))?;
-    Ok(StreamEntry { size, pages })
+
+    /// Where a stream stands.
+    #[tactic(auto, unfolding(crate::specs::Directory::place_in))]
+    fn place(&self, page_size: u32, stream_number: u32) -> Result<StreamPlace>
+        requires { HasStarts page_size self.now }
+        ensures place { Gives (λ place. place) result (place_in page_size stream_number self.now.bytes.items) }
+        ensures there { IfOk result (λ place. place.size < absent) }
+    {
+        let mut buffer = ParseBuffer::from(self.bytes.as_slice());
+        let count = buffer.parse_u32()?;
+        if stream_number >= count {
+            return Err(Error::StreamNotFound(stream_number));
+        }
+        buffer.seek(4 + 4 * stream_number as usize);
+        let size = buffer.parse_u32()?;
+        if size == ABSENT {
+            return Err(Error::StreamNotFound(stream_number));
+        }
+        let start = self.starts[stream_number as usize];
+        if start > self.bytes.len() as u64 {
+            return Err(Error::UnexpectedEof);
+        }
+        Ok(StreamPlace {
+            size,
+            start: start as usize,
+        })
+    }
+
+    /// A stream with its page numbers.
+    #[tactic(auto, unfolding(crate::specs::Directory::entry_of))]
+    pub fn entry(
+        &self,
+        alloc: Global,
+        geometry: Geometry,
+        stream_number: u32,
+    ) -> Result<StreamEntry>
+        requires sized { 256 ≤ geometry.page_size }
+        requires places { HasStarts geometry.page_size self.now }
+        ensures entry { Answers entry_view result (entry_of geometry stream_number self.now.bytes.items) }
+        ensures exact { RefusesExactly result (place_in geometry.page_size stream_number self.now.bytes.items) }
+        ensures whole { IfOk result (HasPages geometry) }
+    {
+        let place = self.place(geometry.page_size, stream_number)?;
+        let mut buffer = ParseBuffer::from(self.bytes.as_slice());
+        buffer.seek(place.start);
+        let count = geometry.pages(place.size as usize);
+        let pages = geometry.page_numbers(alloc, &mut buffer, count)?;
+        Ok(StreamEntry {
+            size: place.size,
+            pages,
+        })
+    }
 }

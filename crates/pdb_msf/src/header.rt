@@ -1,10 +1,11 @@
 //! The header of a file.
 
-ghost use Rattle.std.specs.Prelude.{◌≡◌, ◌<◌, ◌≤◌, ◌*◌, ◌^◌, length, drop, vec_len, IfOk, OnOk};
+ghost use Rattle.std.specs.Prelude.{◌≡◌, ◌<◌, ◌≤◌, ◌*◌, ◌^◌, length, drop, min, vec_len, IfOk, OnOk};
 ghost use Rattle.pdb_base.specs.Answer.{Answers, Gives};
 ghost use Rattle.pdb_base.specs.Place.{left};
 ghost use Rattle.pdb_msf.specs.Pages.{pages, words, judged, page_numbers};
-ghost use Rattle.pdb_msf.specs.Header.{is_page_size, magic_of, fields_of, head_of, header_view, IsHeader, directory_pages, location_pages};
+ghost use Rattle.pdb_msf.specs.Header.{is_page_size, magic_of, fields_of, geometry_of, head_of, header_view, IsHeader, directory_pages, location_pages};
+ghost use Rattle.pdb_msf.specs.Exactly.{RefusesExactly};
 
 use crate::magic::{big, small};
 use pdb_base::{Error, ParseBuffer, Result};
@@ -80,6 +81,8 @@ impl Geometry {
         ensures numbers { Answers (λ v. v.items) result (page_numbers self.pages_used count (words (left buffer.old))) }
         ensures count { IfOk result (λ v. vec_len v ≡ count) }
         ensures rest { OnOk result (words (left buffer.new) ≡ drop count (words (left buffer.old))) }
+        // The first number is judged before any memory is asked for.
+        ensures exact { RefusesExactly result (page_numbers self.pages_used (min 1 count) (words (left buffer.old))) }
     {
         let mut numbers = Vec::new(alloc);
         for _ in 0..count {
@@ -133,11 +136,10 @@ fn read_fields(buffer: &mut ParseBuffer<'_>) -> Result<Geometry>
     })
 }
 
-/// Reads the header at the front of a file.
-#[tactic(auto, unfolding(crate::specs::Header::head_of))]
-pub fn read_header(alloc: Global, view: &[u8]) -> Result<Header>
-    ensures head { Answers header_view result (head_of view.now) }
-    ensures sound { IfOk result IsHeader }
+/// Reads the numbers at the front of a file, and gives them with a buffer behind them.
+#[tactic(auto, unfolding(crate::specs::Header::geometry_of))]
+fn read_geometry(view: &[u8]) -> Result<(Geometry, ParseBuffer<'_>)>
+    ensures { Gives (λ read. (read.0, left read.1)) result (geometry_of view.now) }
 {
     check_magic(view)?;
     let mut buffer = ParseBuffer::from(view);
@@ -145,6 +147,17 @@ pub fn read_header(alloc: Global, view: &[u8]) -> Result<Header>
     if !is_page_size(geometry.page_size) {
         return Err(Error::InvalidPageSize(geometry.page_size));
     }
+    Ok((geometry, buffer))
+}
+
+/// Reads the header at the front of a file.
+#[tactic(auto, unfolding(crate::specs::Header::head_of, crate::specs::Header::geometry_of))]
+pub fn read_header(alloc: Global, view: &[u8]) -> Result<Header>
+    ensures head { Answers header_view result (head_of view.now) }
+    ensures exact { RefusesExactly result (geometry_of view.now) }
+    ensures sound { IfOk result IsHeader }
+{
+    let (geometry, mut buffer) = read_geometry(view)?;
     let count = geometry.location_pages();
     let location = geometry.page_numbers(alloc, &mut buffer, count)?;
     Ok(Header { geometry, location })

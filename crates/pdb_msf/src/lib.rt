@@ -7,6 +7,7 @@ pub mod laws;
 mod magic;
 mod msf;
 mod page_list;
+mod scattered;
 mod source;
 mod stream;
 

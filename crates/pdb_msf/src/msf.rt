@@ -1,13 +1,17 @@
 //! Files in the multi-stream format (MSF), the container of a program database.
 
-ghost use Rattle.std.specs.Prelude.{◌≡◌, ◌≤◌, IsTrue, IfOk};
-ghost use Rattle.pdb_base.specs.Answer.{Answers, AnswersUnless};
-ghost use Rattle.pdb_msf.specs.Source.{HasFailed, IsKept};
-ghost use Rattle.pdb_msf.specs.Header.{head_of, opening, opened};
-ghost use Rattle.pdb_msf.specs.File.{Opened, limited, stream_of};
+ghost use Rattle.std.specs.Prelude.{◌≡◌, ◌+◌, ◌^◌, ◌<◌, ◌≤◌, false, IsTrue, IsOk, IfOk, MatchResult};
+ghost use Rattle.pdb_base.specs.Answer.{Answers, AnswersUnless, RefusesUnless};
+ghost use Rattle.pdb_msf.specs.Source.{HasFailed, IsKept, KeepsKind};
+ghost use Rattle.pdb_msf.specs.Header.{geometry_of, head_of, opening, opened};
+ghost use Rattle.pdb_msf.specs.Asked.{Asks};
+ghost use Rattle.pdb_msf.specs.Exactly.{RefusesExactly};
+ghost use Rattle.pdb_msf.specs.Directory.{directory_of};
+ghost use Rattle.pdb_msf.specs.File.{Opened, IsFresh, described, limited, locating, placed, stream_of, wanted};
 
-use crate::directory::{find_entry, read_directory, read_scattered, view};
+use crate::directory::Directory;
 use crate::header::{Header, read_header};
+use crate::scattered::{CountedSource, view};
 use crate::source::{ReadView, Source, SourceSlice, SourceView};
 use crate::stream::Stream;
 use pdb_base::{Error, Result};
@@ -20,13 +24,14 @@ const OPENING_SIZE: usize = 4096;
 
 /// A file of streams.
 pub trait Msf<S: Source> {
-    // The source, and what the header says.
+    // The source, what the header says, how many bytes were asked for, and whether the directory is kept.
     ghost file: { Self → Opened S };
 
     /// The bytes of a stream, at most as many as the limit.
     ///
     /// The answer depends on the file's bytes and its header alone, whatever was asked before. A
-    /// refused call leaves the file usable.
+    /// refused call leaves the file usable. The first call that reads the directory keeps it, also
+    /// where it then refuses: a later one asks the source for the bytes of its stream alone.
     ///
     /// # Errors
     /// The first of these, in this order: `IoError`, `UnexpectedEof` or `PageReferenceOutOfRange`
@@ -36,31 +41,48 @@ pub trait Msf<S: Source> {
     /// a page number of an earlier stream, is missing; `UnexpectedEof` or `PageReferenceOutOfRange`
     /// for the first of the stream's own page numbers, whatever the limit, that is missing or bad;
     /// `IoError` where a page below the limit passes the end of the source. `OutOfMemory` where
-    /// memory is asked for and refused.
+    /// memory is asked for and refused; once the directory is kept, never in place of a refusal that
+    /// comes before the stream's own page numbers.
     fn get(&mut self, alloc: Global, stream_number: u32, limit: Option<usize>) -> Result<Stream>
         ensures answer { AnswersUnless (HasFailed (S.state (file self.old).source) (S.state (file self.new).source)) (λ stream. stream) result
             (stream_of (S.state (file self.old).source).bytes (file self.old).head stream_number limit) }
         ensures source { IsKept (S.state (file self.old).source) (S.state (file self.new).source) }
-        ensures head { (file self.new).head ≡ (file self.old).head };
+        ensures head { (file self.new).head ≡ (file self.old).head }
+        // An error of the source that is neither its end nor want of memory keeps its kind.
+        ensures kind { KeepsKind (S.state (file self.new).source) result }
+        // The directory is asked for where it is not kept yet, and of the stream what is answered.
+        ensures asked { Asks (file self.old).asked (file self.new).asked
+            (locating (file self.old).located (file self.old).head.geometry
+                + wanted (described (S.state (file self.old).source).bytes (file self.old).head stream_number) limit) result }
+        // The directory stays where it is kept, and is kept but where reading or keeping it is refused.
+        ensures stays { IsTrue (file self.old).located → IsTrue (file self.new).located }
+        ensures located { MatchResult result (λ _. IsTrue (file self.new).located)
+            (λ e. (file self.new).located ≡ false → RefusesUnless (HasFailed (S.state (file self.old).source) (S.state (file self.new).source)) e
+                (directory_of (S.state (file self.old).source).bytes (file self.old).head)) }
+        ensures read { IsTrue (file self.new).located → IsOk (directory_of (S.state (file self.old).source).bytes (file self.old).head) }
+        // Where the directory is kept, what it says of the stream's place needs no memory.
+        ensures exact { IsTrue (file self.old).located → RefusesExactly result
+            (placed (S.state (file self.old).source).bytes (file self.old).head stream_number) };
 }
 
 /// A file in the format MSF 7.00, whose bytes come from a source.
 #[derive(Drop)]
 pub struct BigMSF<S: Source> {
-    source: S,
+    source: CountedSource<S>,
     header: Header,
+    directory: Option<Directory>,
 }
 
 impl<S: Source> Model for BigMSF<S> {
-    ghost use Rattle.pdb_msf.specs.File.{Opened};
+    ghost use Rattle.std.specs.Prelude.{is_some};
+    ghost use Rattle.pdb_msf.specs.File.{Opened, IsOpen};
+    ghost use Rattle.pdb_msf.specs.Header.{header_view};
 
     ghost Value = { Opened S };
 
-    ghost use Rattle.pdb_msf.specs.Header.{IsHeader, header_view};
+    ghost view = { λ m. record { source = m.source.source; head = header_view m.header; asked = m.source.asked; located = is_some m.directory } };
 
-    ghost view = { λ m. record { source = m.source; head = header_view m.header } };
-
-    ghost invariant = { λ m. IsHeader m.header };
+    ghost invariant = { λ m. IsOpen (S.state m.source.source).bytes m.header m.directory };
 }
 
 impl<S: Source + Drop> BigMSF<S> {
@@ -71,13 +93,19 @@ impl<S: Source + Drop> BigMSF<S> {
     /// `UnimplementedFeature` for the format MSF 2.00; `UnrecognizedFileFormat` for other magic;
     /// `InvalidPageSize`; `UnexpectedEof` or `PageReferenceOutOfRange` for the first number of the
     /// pages that locate the directory that is missing or bad. `OutOfMemory` where memory is asked
-    /// for and refused.
+    /// for and refused, which is for these numbers alone.
     pub fn new(alloc: Global, source: S, header_view: ReadView) -> Result<BigMSF<S>>
         ensures head { Answers (λ m. m.head) result (head_of header_view) }
+        ensures exact { RefusesExactly result (geometry_of header_view) }
         ensures source { IfOk result (λ m. m.source ≡ source) }
+        ensures fresh { IfOk result (λ m. IsFresh m) }
     {
         let header = read_header(alloc, header_view.as_slice())?;
-        Ok(BigMSF { source, header })
+        Ok(BigMSF {
+            source: CountedSource::new(source),
+            header,
+            directory: None,
+        })
     }
 }
 
@@ -86,7 +114,42 @@ impl<S: Source> BigMSF<S> {
     pub fn source(&self) -> &S
         ensures { result.now ≡ self.now.source }
     {
-        &self.source
+        self.source.source()
+    }
+
+    /// How many bytes `get` has asked of the source in all calls so far, at most `u64::MAX`. What
+    /// opening the file looks at does not count.
+    pub fn asked(&self) -> u64
+        ensures { result ≡ self.now.asked }
+    {
+        self.source.asked()
+    }
+
+    /// Whether the directory is kept, so that `get` reads it no more.
+    pub fn located(&self) -> bool
+        ensures { result ≡ self.now.located }
+    {
+        self.directory.is_some()
+    }
+
+    /// Reads the directory and keeps it, unless it is kept already.
+    fn locate(&mut self, alloc: Global) -> Result<()>
+        ensures fits { self.old.asked < 2 ^ 64 }
+        ensures kept { IsTrue self.old.located → IsOk result × (self.new ≡ self.old) }
+        ensures located { MatchResult result (λ _. IsTrue self.new.located)
+            (λ e. (self.new.located ≡ false) × RefusesUnless (HasFailed (S.state self.old.source) (S.state self.new.source)) e
+                (directory_of (S.state self.old.source).bytes self.old.head)) }
+        ensures source { IsKept (S.state self.old.source) (S.state self.new.source) }
+        ensures head { self.new.head ≡ self.old.head }
+        ensures kind { KeepsKind (S.state self.new.source) result }
+        ensures asked { Asks self.old.asked self.new.asked (locating self.old.located self.old.head.geometry) result }
+    {
+        if self.directory.is_some() {
+            return Ok(());
+        }
+        let directory = Directory::read(&mut self.source, alloc, &self.header)?;
+        self.directory = Some(directory);
+        Ok(())
     }
 }
 
@@ -95,17 +158,16 @@ impl<S: Source> Msf<S> for BigMSF<S> {
 
     #[tactic(auto, unfolding(crate::specs::File::stream_of))]
     fn get(&mut self, alloc: Global, stream_number: u32, limit: Option<usize>) -> Result<Stream> {
+        self.locate(alloc)?;
+        let Some(directory) = &self.directory else {
+            unreachable!();
+        };
         let geometry = self.header.geometry;
-        let directory = read_directory(&mut self.source, alloc, &self.header)?;
-        let entry = find_entry(alloc, geometry, directory.as_slice(), stream_number)?;
+        let entry = directory.entry(alloc, geometry, stream_number)?;
         let size = limited(entry.size, limit);
-        let bytes = read_scattered(
-            &mut self.source,
-            alloc,
-            geometry.page_size,
-            &entry.pages,
-            size,
-        )?;
+        let bytes =
+            self.source
+                .read_scattered(alloc, geometry.page_size, &entry.pages, size)?;
         Ok(Stream::new(bytes.into_bytes()))
     }
 }

@@ -1,7 +1,8 @@
 //! Where the bytes of a file come from.
 
-ghost use Rattle.std.specs.Prelude.{◌≡◌, ℕ, List, length, map, true, IsTrue, IfOk, slice_index};
-ghost use Rattle.pdb_msf.specs.Source.{State, IsKept, HasFailed, Shows, bytes_at, places, slice_places};
+ghost use Rattle.std.specs.Prelude.{◌≡◌, ℕ, List, length, map, true, IsTrue, IfOk, IfErr, IsErrAnd, None, slice_index};
+ghost use Rattle.std.specs.IoError.{error_kind};
+ghost use Rattle.pdb_msf.specs.Source.{State, IsKept, IsLastFault, in_memory, HasFailed, Shows, bytes_at, places, slice_places};
 ghost use Rattle.std.specs.List.{list_all};
 ghost use Rattle.pdb_msf.specs.Within.{is_within, fitting};
 
@@ -73,7 +74,7 @@ impl SourceView for ReadView {
 /// A source stands for fixed bytes. It may fail in other ways than by ending, and counts when it
 /// does; a sound source does not.
 pub trait Source {
-    // The bytes, the count of faults so far, and whether the source is sound.
+    // The bytes, the count of faults so far and the kind of the last one, and whether the source is sound.
     ghost state: { Self → State };
 
     /// The bytes that the slices name, slice after slice.
@@ -84,23 +85,50 @@ pub trait Source {
     fn view(&mut self, alloc: Global, slices: &[SourceSlice]) -> Result<ReadView, io::Error>
         ensures view { Shows (HasFailed (state self.old) (state self.new)) (λ v. v) result
             (bytes_at (state self.old).bytes (places slices.now)) }
+        ensures kind { IfErr result (λ e. IsLastFault (state self.new) (error_kind e)) }
         ensures kept { IsKept (state self.old) (state self.new) };
 }
 
 impl Source for Vec<u8> {
-    ghost state = { λ file. record { bytes = file.items; faults = 0; is_sound = true } };
+    ghost state = { λ file. in_memory file.items };
 
-    #[tactic(auto, using(crate::proofs::PlacesLemmas::bytes_within, crate::proofs::PlacesLemmas::bytes_past))]
-    fn view(&mut self, alloc: Global, slices: &[SourceSlice]) -> Result<ReadView, io::Error> {
-        let file = self.as_slice();
-        if !all_within(file.len(), slices) {
-            return Err(io::Error::from(ErrorKind::UnexpectedEof));
-        }
-        let Some(size) = total_size(slices) else {
-            return Err(io::Error::from(ErrorKind::OutOfMemory));
-        };
-        Ok(ReadView::new(copied(alloc, file, slices, size)?))
+    /// The bytes that the slices name, which are copied.
+    ///
+    /// # Errors
+    /// Kind `UnexpectedEof` where a slice of any bytes passes the end, before memory is asked for;
+    /// `OutOfMemory` where it is refused, or where the sizes have a sum above `usize::MAX`.
+    fn view(&mut self, alloc: Global, slices: &[SourceSlice]) -> Result<ReadView, io::Error>
+        ensures view { Shows ⊥ (λ v. v) result (bytes_at self.old.items (places slices.now)) }
+        ensures exact { bytes_at self.old.items (places slices.now) ≡ None → IsErrAnd result (λ e. error_kind e ≡ ErrorKind.UnexpectedEof) }
+        ensures kept { self.new ≡ self.old }
+    {
+        view_of(self.as_slice(), alloc, slices)
     }
+}
+
+/// Bytes that are borrowed, such as those of a file that is mapped into memory. Only the bytes that a
+/// view names are copied.
+impl<'b> Source for &'b [u8] {
+    ghost state = { λ file. in_memory file.now };
+
+    fn view(&mut self, alloc: Global, slices: &[SourceSlice]) -> Result<ReadView, io::Error> {
+        view_of(*self, alloc, slices)
+    }
+}
+
+// A view of bytes in memory. The slices are judged before memory is asked for.
+#[tactic(auto, using(crate::proofs::PlacesLemmas::bytes_within, crate::proofs::PlacesLemmas::bytes_past))]
+fn view_of(file: &[u8], alloc: Global, slices: &[SourceSlice]) -> Result<ReadView, io::Error>
+    ensures view { Shows ⊥ (λ v. v) result (bytes_at file.now (places slices.now)) }
+    ensures exact { bytes_at file.now (places slices.now) ≡ None → IsErrAnd result (λ e. error_kind e ≡ ErrorKind.UnexpectedEof) }
+{
+    if !all_within(file.len(), slices) {
+        return Err(io::Error::from(ErrorKind::UnexpectedEof));
+    }
+    let Some(size) = total_size(slices) else {
+        return Err(io::Error::from(ErrorKind::OutOfMemory));
+    };
+    Ok(ReadView::new(copied(alloc, file, slices, size)?))
 }
 
 // Whether no slice of any bytes passes the end of a file of this length.

@@ -1,4 +1,5 @@
-use Rattle.std.proofs.Common.{◌≡◌, ℕ, refl, ap, sym, ◌∙◌, arith, inl, List, drop, map, Ok, Err}
+use Rattle.std.proofs.Common.{◌≡◌, ◌+◌, ℕ, refl, ap, sym, ◌∙◌, arith, inl, List, drop, map, Result, Ok, Err, Vec, Global}
+use Rattle.pdb_base.specs.declared.error.Error.{Error}
 use Rattle.std.specs.List.{range_with_len}
 use Rattle.pdb_base.specs.Place.{left}
 use Rattle.pdb_base.specs.Answer.{collected}
@@ -6,6 +7,7 @@ use Rattle.pdb_base.proofs.Refused.{passed_on}
 use Rattle.pdb_base.specs.Refusal.{refusal_of}
 use Rattle.pdb_msf.specs.Pages.{words, page_number, page_numbers}
 use Rattle.pdb_msf.proofs.WordLemmas.{next_word, no_word, collected_more, collected_stops}
+use Rattle.pdb_msf.proofs.ExactLemmas.{first_there, first_refused}
 use Rattle.pdb_msf.proofs.header.Geometry.page_numbers.Goals as goal
 
 pub loop-preserved : goal.loop-preserved
@@ -47,3 +49,31 @@ pub returns-clause-rest : goal.returns-clause-rest
 returns-clause-rest c =
     let end : c.loop.counter ≡ c.args.count = omega arith in
     c.loop.invariant.rest ∙ ap (λ (n : ℕ). drop n (words (left c.args.buffer.now))) end
+
+-- the first number is judged before any memory is asked for
+pub returns-in_err-word-clause-exact : goal.returns-in_err-word-clause-exact
+returns-in_err-word-clause-exact c =
+    let all = words (left c.args.buffer.now) in
+    let none = no_word all c.loop.counter _ _ c.loop.invariant.rest c.in_err-word.ensures.read in
+    let here : page_number c.args.self.pages_used all c.loop.counter ≡ Err (refusal_of c.in_err-word.field-0.0) = rw (none.0, none.1) refl in
+    rw (passed_on _ _ c.from_residual.ensures.1) (first_refused (Vec ℕ Global) c.args.self.pages_used c.args.count c.loop.counter all _ _ c.loop-test.true c.loop.invariant.so_far here)
+
+pub returns-in_err-number-clause-exact : goal.returns-in_err-number-clause-exact
+returns-in_err-number-clause-exact c =
+    let all = words (left c.args.buffer.now) in
+    let next = next_word all c.loop.counter _ _ c.loop.invariant.rest c.in_ok-word.ensures.read in
+    let here : page_number c.args.self.pages_used all c.loop.counter ≡ Err (refusal_of c.in_err-number.field-0.0) = rw next.0 c.in_err-number.ensures in
+    rw (passed_on _ _ c.from_residual-in_err-number.ensures.1) (first_refused (Vec ℕ Global) c.args.self.pages_used c.args.count c.loop.counter all _ _ c.loop-test.true c.loop.invariant.so_far here)
+
+pub returns-in_err-push-clause-exact : goal.returns-in_err-push-clause-exact
+returns-in_err-push-clause-exact c =
+    let all = words (left c.args.buffer.now) in
+    let next = next_word all c.loop.counter _ _ c.loop.invariant.rest c.in_ok-word.ensures.read in
+    let here : page_number c.args.self.pages_used all c.loop.counter ≡ Ok c.in_ok-number.number = rw next.0 c.in_ok-number.ensures in
+    first_there c.args.self.pages_used c.args.count (c.loop.counter + 1) all _ _ (collected_more (page_number c.args.self.pages_used all) c.loop.counter c.loop.numbers.items c.in_ok-number.number c.loop.invariant.so_far here) (omega arith)
+
+pub returns-clause-exact : goal.returns-clause-exact
+returns-clause-exact c =
+    let all = words (left c.args.buffer.now) in
+    let answered : Result (Vec ℕ Global) Error = Ok c.loop.numbers in
+    first_there c.args.self.pages_used c.args.count c.loop.counter all _ answered c.loop.invariant.so_far (omega arith)

@@ -1,13 +1,20 @@
-use Rattle.std.proofs.Common.{◌≡◌, length, ap, ◌∙◌, arith}
+use Rattle.std.proofs.Common.{rules, ◌≡◌, ◌<◌, ◌^◌, length, ap, sym, ◌∙◌, arith}
+use Rattle.pdb_base.proofs.Refused.{passed_on}
 use Rattle.pdb_msf.specs.Pages.{pages}
+use Rattle.std.proofs.Common.{List, ℕ}
+use Rattle.pdb_msf.specs.Directory.{entry_view}
+use Rattle.pdb_msf.specs.Header.{header_view}
+use Rattle.pdb_msf.specs.File.{IsKeptOf}
 use Rattle.pdb_msf.proofs.PageLemmas.{page_size_bounds, pages_reach, pages_few}
+use Rattle.pdb_msf.proofs.KindLemmas.{tells_entry}
+use Rattle.pdb_msf.proofs.AskedLemmas.{asks_stopped, asks_refused, wanted_is}
 use Rattle.pdb_msf.proofs.msf.BigMSFMsf.get.Goals as goal
 
 pub read_scattered-requires-clause-reached : goal.read_scattered-requires-clause-reached
 read_scattered-requires-clause-reached g c =
     let page_size = c.self.inside.header.geometry.page_size in
     let entry = c.in_ok-entry.entry in
-    let size = page_size_bounds page_size c.self.invariant.sized in
+    let size = page_size_bounds page_size c.self.invariant.read.sized in
     let reach = pages_reach page_size entry.size (omega arith) in
     let whole : length c.deref.result.now ≡ pages page_size entry.size = ap length c.deref.ensures.value ∙ c.in_ok-entry.ensures.whole.pages in
     rw whole (omega (arith, reach, c.limited-size.ensures.cut))
@@ -16,7 +23,31 @@ pub read_scattered-requires-clause-few : goal.read_scattered-requires-clause-few
 read_scattered-requires-clause-few g c =
     let page_size = c.self.inside.header.geometry.page_size in
     let entry = c.in_ok-entry.entry in
-    let size = page_size_bounds page_size c.self.invariant.sized in
+    let size = page_size_bounds page_size c.self.invariant.read.sized in
     let few = pages_few page_size entry.size (omega arith) (omega (arith, c.in_ok-entry.ensures.whole.size)) in
     let whole : length c.deref.result.now ≡ pages page_size entry.size = ap length c.deref.ensures.value ∙ c.in_ok-entry.ensures.whole.pages in
     omega arith
+
+pub returns-in_err-entry-clause-kind : goal.returns-in_err-entry-clause-kind
+returns-in_err-entry-clause-kind g c =
+    rw (passed_on _ _ c.from_residual-in_err-entry.ensures.1)
+    (tells_entry (g.S.Source.state c.locate.new.self.source) entry_view c.in_err-entry.field-0.0 _ _ _ c.in_err-entry.ensures.entry)
+
+pub returns-in_err-entry-clause-asked : goal.returns-in_err-entry-clause-asked
+returns-in_err-entry-clause-asked g c =
+    rw (passed_on _ _ c.from_residual-in_err-entry.ensures.1)
+    (asks_stopped (List ℕ) _ _ _ _ c.in_err-entry.field-0.0 c.in_ok-locate.ensures.fits c.in_ok-locate.ensures.asked)
+
+pub returns-in_err-bytes-clause-asked : goal.returns-in_err-bytes-clause-asked
+returns-in_err-bytes-clause-asked g c =
+    let inside = c.self.inside in
+    let kept : IsKeptOf (g.S.Source.state inside.source.source).bytes (header_view inside.header) c.in-Some.directory = rw c.in-Some.is at c.self.invariant.kept in
+    let file : (g.S.Source.state inside.source.source).bytes ≡ (g.S.Source.state c.args.self.now.source).bytes =
+    ap (λ m. (g.S.Source.state m.source).bytes) c.self.view_is ∙ c.in_ok-locate.ensures.source.bytes in
+    let head : header_view inside.header ≡ c.args.self.now.head = ap (λ m. m.head) c.self.view_is ∙ c.in_ok-locate.ensures.head in
+    let wants = wanted_is _ _ _ _ c.args.stream_number c.args.limit c.in-Some.directory.bytes.items (entry_view c.in_ok-entry.entry) file head kept.bytes c.in_ok-entry.ensures.entry in
+    let whole = c.limited-size.ensures.size ∙ sym wants in
+    let middle : inside.source.asked ≡ _ = ap (λ m. m.asked) c.self.view_is ∙ c.in_ok-locate.ensures.asked in
+    rw (passed_on _ _ c.from_residual-in_err-bytes.ensures.1)
+    (asks_refused (List ℕ) _ inside.source.asked _ _ _ c.in_err-bytes.field-0.0 c.in_ok-locate.ensures.fits middle
+    (c.in_err-bytes.ensures.asked.0, omega (arith, whole, c.in_err-bytes.ensures.asked.1)))

@@ -1,7 +1,7 @@
 use Rattle.std.proofs.Common.{◌≡◌, false, take}
 use Rattle.pdb_msf.specs.Source.{places}
 use Rattle.pdb_msf.proofs.PageLemmas.{all_places}
-use Rattle.pdb_msf.proofs.directory.page_list.Given as goal
+use Rattle.pdb_msf.proofs.scattered.page_list.Given as goal
 
 abbrev pub invariant-loop-number : goal.invariant-loop-number
 invariant-loop-number l = record {
