@@ -44,9 +44,11 @@ plain_judged pages_used word = elim (cases_Bool (ltb 0 word && leb word pages_us
 ]
 
 plain_numbers : (pages_used count : ℕ) (words : List ℕ) → Plain (page_numbers pages_used count words)
-plain_numbers pages_used count words = record { tells = λ state e is.
-    let first = first_fault pages_used count words e is in
-    (plain_then (present (slice_get words first.place)) (judged pages_used) (plain_present (slice_get words first.place)) (plain_judged pages_used)).tells state e first.here }
+plain_numbers pages_used count words = record {
+  tells = λ state e is.
+      let first = first_fault pages_used count words e is in
+      (plain_then (present (slice_get words first.place)) (judged pages_used) (plain_present (slice_get words first.place)) (plain_judged pages_used)).tells state e first.here;
+}
 
 plain_place : (page_size n : ℕ) (d : List ℕ) → Plain (place_in page_size n d)
 unfolding place_in

@@ -130,7 +130,7 @@ stand_at_offsets view long =
 
 -- ---- page numbers
 
-word_there : (o : Option ℕ) (word : ℕ) → present o ≡ Ok word → o ≡ Some word
+pub word_there : (o : Option ℕ) (word : ℕ) → present o ≡ Ok word → o ≡ Some word
 word_there None word e = absurd cc
 word_there (Some there) word e = ap (λ (n : ℕ). Some n) (ok_is there word e)
 
@@ -199,7 +199,7 @@ first_fault pages_used count words fault e =
 
 -- ---- streams
 
-found_there : (o : Option (List ℕ)) (bytes : List ℕ) → found o ≡ Ok bytes → o ≡ Some bytes
+pub found_there : (o : Option (List ℕ)) (bytes : List ℕ) → found o ≡ Ok bytes → o ≡ Some bytes
 found_there None bytes e = absurd cc
 found_there (Some there) bytes e = ap (λ (r : List ℕ). Some r) (ok_is there bytes e)
 

@@ -10,3 +10,4 @@ pub mod KindLemmas
 pub mod AskedLemmas
 pub mod Kept
 pub mod MagicLemmas
+pub mod StreamLaws

@@ -1,10 +1,16 @@
 -- What the definitions of pages, headers and streams say in other words.
-use Rattle.std.specs.Prelude.{◌≡◌, ℕ, ◌*◌, ◌<◌, ◌≤◌, List, length, take, drop, slice_index, slice_get, Some, None, Ok, Err}
+use Rattle.std.specs.Prelude.{◌≡◌, ◌≢◌, ◌⊎◌, ℕ, ◌+◌, ◌*◌, ◌<◌, ◌≤◌, List, length, take, drop, slice_index, slice_get, Option, Some, None, Result, Ok, Err}
+use Rattle.std.specs.List.{sum_by}
+use Rattle.pdb_base.specs.declared.error.Error.{Error}
+use Rattle.pdb_base.specs.declared.error.Error.TheVariants.{OutOfMemory}
 use Rattle.pdb_base.specs.Endian.{little_number}
-use Rattle.pdb_base.specs.Refusal.{Refusal}
-use Rattle.pdb_msf.specs.Pages.{place_of, scatter, page_number, page_numbers}
-use Rattle.pdb_msf.specs.Header.{Head, fields_of}
-use Rattle.pdb_msf.specs.File.{stream_of}
+use Rattle.pdb_base.specs.Refusal.{Refusal, refusal_of}
+use Rattle.pdb_base.specs.Answer.{AnswersUnless, IsOtherFault}
+use Rattle.pdb_msf.specs.Source.{State, IsKept, HasFailed}
+use Rattle.pdb_msf.specs.Pages.{pages, place_of, scatter, words, page_number, page_numbers}
+use Rattle.pdb_msf.specs.Header.{Head, fields_of, directory_pages}
+use Rattle.pdb_msf.specs.Directory.{absent, pages_taken, sizes_of}
+use Rattle.pdb_msf.specs.File.{limited, stream_of}
 
 -- A count of pages that holds so many bytes, as no lower count does.
 pub record IsLeast (page_size bytes count : ℕ) : Type 0 where
@@ -47,3 +53,63 @@ pub record FirstFault (pages_used count : ℕ) (words : List ℕ) (fault : Refus
 -- Of a stream that is answered whole, a limit takes the front.
 abbrev pub CutsOnly : List ℕ → Head → ℕ → ℕ → Type 0
 CutsOnly file head n limit = (bytes : List ℕ) → stream_of file head n None ≡ Ok bytes → stream_of file head n (Some limit) ≡ Ok (take limit bytes)
+
+-- The directory of a file: its page numbers stand in the pages that the header lists, four bytes each,
+-- and its bytes lie scattered over the pages of these numbers.
+pub record IsDirectory (file : List ℕ) (head : Head) (directory : List ℕ) : Type 0 where
+  pub location : List ℕ
+  pub located : IsScattered file head.geometry.page_size head.location (4 * directory_pages head.geometry) location
+  pub numbers : List ℕ
+  pub good : AreGood head.geometry.pages_used (directory_pages head.geometry) (words location) numbers
+  pub read : IsScattered file head.geometry.page_size numbers head.geometry.directory_size directory
+
+-- Stream n of a file under a limit. The directory begins with the count of streams and a size for
+-- each. The page numbers of stream n are as many words as its size takes pages, from the place behind
+-- the sizes and behind the page numbers of the streams before on; absent streams take none. Over the
+-- pages of these numbers lie the bytes, as many as the size, cut to the limit.
+pub record IsStream (file : List ℕ) (head : Head) (n : ℕ) (limit : Option ℕ) (bytes : List ℕ) : Type 0 where
+  pub directory : List ℕ
+  pub has : IsDirectory file head directory
+  pub count : ℕ
+  pub counted : slice_get (words directory) 0 ≡ Some count
+  pub known : n < count
+  pub size : ℕ
+  pub sized : slice_get (words directory) (1 + n) ≡ Some size
+  pub there : size ≢ absent
+  pub start : ℕ
+  pub place : start ≡ 4 + 4 * count + 4 * sum_by (pages_taken head.geometry.page_size) (take n (sizes_of directory))
+  pub reached : start ≤ length directory
+  pub numbers : List ℕ
+  pub good : AreGood head.geometry.pages_used (pages head.geometry.page_size size) (words (drop start directory)) numbers
+  pub lies : IsScattered file head.geometry.page_size numbers (limited size limit) bytes
+
+-- A file at one moment: what its source stands for, and what its header says.
+pub record Moment : Type 0 where
+  pub state : State
+  pub head : Head
+
+-- A later moment of the same file, whatever was asked between the two: the source keeps its bytes, and
+-- the header stays.
+pub record IsLater (before after : Moment) : Type 0 where
+  pub source : IsKept before.state after.state
+  pub head : after.head ≡ before.head
+
+-- an error that no byte of the file makes: want of memory, or a fault of the source of itself, which
+-- is so only where `failed` holds
+abbrev pub ComesFromOutside : Type 0 → Error → Type 0
+ComesFromOutside failed e = (e ≡ OutOfMemory) ⊎ (IsOtherFault e × failed)
+
+-- Two calls answer the same bytes or refuse the same, unless an error of one comes from outside.
+abbrev pub AgreeUnless : Type 0 → Type 0 → Result (List ℕ) Error → Result (List ℕ) Error → Type 0
+AgreeUnless failed later (Ok bytes) (Ok again) = again ≡ bytes
+AgreeUnless failed later (Ok bytes) (Err e) = ComesFromOutside later e
+AgreeUnless failed later (Err d) (Ok again) = ComesFromOutside failed d
+AgreeUnless failed later (Err d) (Err e) = (refusal_of e ≡ refusal_of d) ⊎ (ComesFromOutside failed d ⊎ ComesFromOutside later e)
+
+-- A stream that is asked for twice, at one moment of a file and at a later one, gets one answer. The
+-- two calls leave the source in the states `once_left` and `again_left`.
+abbrev pub AnswersAlike : Moment → Moment → ℕ → Option ℕ → Type 0
+AnswersAlike before after n limit = (once_left again_left : State) (once again : Result (List ℕ) Error)
+    → AnswersUnless (HasFailed before.state once_left) (λ stream. stream) once (stream_of before.state.bytes before.head n limit)
+    → AnswersUnless (HasFailed after.state again_left) (λ stream. stream) again (stream_of after.state.bytes after.head n limit)
+    → AgreeUnless (HasFailed before.state once_left) (HasFailed after.state again_left) once again

@@ -63,8 +63,7 @@ fn read_directory<S: Source>(
 {
     let geometry = header.geometry;
     let count = geometry.directory_pages();
-    let location =
-        source.read_scattered(alloc, geometry.page_size, &header.location, 4 * count)?;
+    let location = source.read_scattered(alloc, geometry.page_size, &header.location, 4 * count)?;
     let mut buffer = ParseBuffer::from(location.as_slice());
     let numbers = geometry.page_numbers(alloc, &mut buffer, count)?;
     let size = geometry.directory_size as usize;
@@ -79,10 +78,9 @@ impl Geometry {
         ensures pages { result ≡ pages_taken self.page_size size }
         ensures few { result ≤ 2 ^ 24 }
     {
-        if size == ABSENT {
-            0
-        } else {
-            self.pages(size as usize)
+        match size {
+            ABSENT => 0,
+            _ => self.pages(size as usize),
         }
     }
 }

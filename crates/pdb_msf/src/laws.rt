@@ -1,12 +1,13 @@
 //! What the definitions that contracts cite say in other words. The functions do nothing: each
 //! contract is a law.
 
-ghost use Rattle.std.specs.Prelude.{◌≡◌, ℕ, ◌<◌, List, [], ◌∷◌, map, Ok, Err};
+ghost use Rattle.std.specs.Prelude.{◌≡◌, ℕ, ◌<◌, List, [], ◌∷◌, map, Option, Ok, Err};
 ghost use Rattle.pdb_base.specs.Refusal.{Refusal, page_reference_out_of_range};
 ghost use Rattle.pdb_msf.specs.Pages.{pages, judged, page_numbers};
 ghost use Rattle.pdb_msf.specs.Runs.{AreJoined};
 ghost use Rattle.pdb_msf.specs.Header.{Head};
-ghost use Rattle.pdb_msf.specs.Laws.{IsLeast, Scatters, StandAtOffsets, AreGood, FirstFault, CutsOnly};
+ghost use Rattle.pdb_msf.specs.File.{stream_of};
+ghost use Rattle.pdb_msf.specs.Laws.{IsLeast, Scatters, StandAtOffsets, AreGood, FirstFault, CutsOnly, IsStream, Moment, IsLater, AnswersAlike};
 
 /// So many bytes take the least number of pages that holds them.
 pub fn pages()
@@ -53,4 +54,21 @@ pub fn page_numbers()
 #[tactic(auto, using(crate::proofs::LawLemmas::cuts_only))]
 pub fn limits()
     ensures { (file : List ℕ) (head : Head) (n limit : ℕ) → CutsOnly file head n limit }
+{}
+
+/// The bytes of a stream: its page numbers are the words of the directory from place 4 + 4 c + 4 s on,
+/// for c streams of which those before it take s pages, and byte i of the stream is the file's byte in
+/// page i / page size of these, at i % page size.
+pub fn streams()
+    ensures is { (file : List ℕ) (head : Head) (n : ℕ) (limit : Option ℕ) (bytes : List ℕ) → stream_of file head n limit ≡ Ok bytes → IsStream file head n limit bytes }
+    ensures only { (file : List ℕ) (head : Head) (n : ℕ) (limit : Option ℕ) (bytes : List ℕ) → IsStream file head n limit bytes → stream_of file head n limit ≡ Ok bytes }
+{}
+
+/// A stream has one answer, whatever was asked before: each call of `get` leads to a later moment of
+/// the file, and so do any calls one after another.
+#[tactic(auto, using(crate::proofs::StreamLaws::later_here, crate::proofs::StreamLaws::later_then, crate::proofs::StreamLaws::alike))]
+pub fn answers()
+    ensures here { (moment : Moment) → IsLater moment moment }
+    ensures then_later { (before middle after : Moment) → IsLater before middle → IsLater middle after → IsLater before after }
+    ensures alike { (before after : Moment) (n : ℕ) (limit : Option ℕ) → IsLater before after → AnswersAlike before after n limit }
 {}

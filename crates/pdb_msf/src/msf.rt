@@ -53,12 +53,12 @@ pub trait Msf<S: Source> {
         // The directory is asked for where it is not kept yet, and of the stream what is answered.
         ensures asked { Asks (file self.old).asked (file self.new).asked
             (locating (file self.old).located (file self.old).head.geometry
-                + wanted (described (S.state (file self.old).source).bytes (file self.old).head stream_number) limit) result }
+            + wanted (described (S.state (file self.old).source).bytes (file self.old).head stream_number) limit) result }
         // The directory stays where it is kept, and is kept but where reading or keeping it is refused.
         ensures stays { IsTrue (file self.old).located → IsTrue (file self.new).located }
         ensures located { MatchResult result (λ _. IsTrue (file self.new).located)
             (λ e. (file self.new).located ≡ false → RefusesUnless (HasFailed (S.state (file self.old).source) (S.state (file self.new).source)) e
-                (directory_of (S.state (file self.old).source).bytes (file self.old).head)) }
+            (directory_of (S.state (file self.old).source).bytes (file self.old).head)) }
         ensures read { IsTrue (file self.new).located → IsOk (directory_of (S.state (file self.old).source).bytes (file self.old).head) }
         // Where the directory is kept, what it says of the stream's place needs no memory.
         ensures exact { IsTrue (file self.old).located → RefusesExactly result
@@ -138,7 +138,7 @@ impl<S: Source> BigMSF<S> {
         ensures kept { IsTrue self.old.located → IsOk result × (self.new ≡ self.old) }
         ensures located { MatchResult result (λ _. IsTrue self.new.located)
             (λ e. (self.new.located ≡ false) × RefusesUnless (HasFailed (S.state self.old.source) (S.state self.new.source)) e
-                (directory_of (S.state self.old.source).bytes self.old.head)) }
+            (directory_of (S.state self.old.source).bytes self.old.head)) }
         ensures source { IsKept (S.state self.old.source) (S.state self.new.source) }
         ensures head { self.new.head ≡ self.old.head }
         ensures kind { KeepsKind (S.state self.new.source) result }
@@ -165,9 +165,9 @@ impl<S: Source> Msf<S> for BigMSF<S> {
         let geometry = self.header.geometry;
         let entry = directory.entry(alloc, geometry, stream_number)?;
         let size = limited(entry.size, limit);
-        let bytes =
-            self.source
-                .read_scattered(alloc, geometry.page_size, &entry.pages, size)?;
+        let bytes = self
+            .source
+            .read_scattered(alloc, geometry.page_size, &entry.pages, size)?;
         Ok(Stream::new(bytes.into_bytes()))
     }
 }
@@ -213,6 +213,7 @@ fn view_front<S: Source>(source: &mut S, alloc: Global, size: usize) -> Result<R
 pub fn open_msf<S: Source + Drop>(alloc: Global, mut source: S) -> Result<BigMSF<S>>
     ensures head { AnswersUnless (¬ IsTrue (S.state source).is_sound) (λ m. m.head) result (opened (S.state source).bytes) }
     ensures kept { IfOk result (λ m. IsKept (S.state source) (S.state m.source)) }
+    ensures fresh { IfOk result (λ m. IsFresh m) }
 {
     let view = view_front(&mut source, alloc, OPENING_SIZE)?;
     BigMSF::new(alloc, source, view)
