@@ -1,7 +1,7 @@
 -- A source that notes which slices are viewed.
-use Rattle.std.specs.Prelude.{ℕ, List, true}
+use Rattle.std.specs.Prelude.{ℕ, List}
 use Rattle.pdb_msf.specs.declared.source.SourceSlice.{SourceSlice}
-use Rattle.pdb_msf.specs.Source.{State}
+use Rattle.pdb_msf.specs.Source.{State, in_memory}
 
 -- its bytes, and the slices of each view so far
 pub record Noted : Type 0 where
@@ -10,4 +10,4 @@ pub record Noted : Type 0 where
 
 -- what it stands for as a source, which is sound
 abbrev pub state_of : Noted → State
-state_of source = record { bytes = source.bytes; faults = 0; is_sound = true }
+state_of source = in_memory source.bytes

@@ -1,8 +1,8 @@
 //! A source that fails once.
 
-ghost use Rattle.std.specs.Prelude.{◌≡◌, ◌==◌, MatchBool, IsErrAnd};
+ghost use Rattle.std.specs.Prelude.{◌≡◌, ◌==◌, IfErr, MatchBool, IsErrAnd};
 ghost use Rattle.std.specs.IoError.{error_kind};
-ghost use Rattle.pdb_msf.specs.Source.{HasFailed, IsKept, Shows, bytes_at, places};
+ghost use Rattle.pdb_msf.specs.Source.{HasFailed, IsKept, IsLastFault, IsOther, Shows, bytes_at, places};
 ghost use Rattle.pdb_vectors.specs.Failing.{counted_down, state_of};
 
 use pdb_msf::{ReadView, Source, SourceSlice};
@@ -16,28 +16,41 @@ use std::marker::Model;
 pub struct Failing {
     bytes: Vec<u8>,
     until: u64,
+    kind: ErrorKind,
     faults: u64,
 }
 
 impl Model for Failing {
     ghost use Rattle.std.specs.Prelude.{◌≡◌, ◌<◌};
+    ghost use Rattle.pdb_msf.specs.Source.{IsOther};
     ghost use Rattle.pdb_vectors.specs.Failing.{Countdown};
 
     ghost Value = { Countdown };
 
-    ghost view = { λ f. record { bytes = f.bytes.items; until = f.until; faults = f.faults } };
+    ghost view = { λ f. record { bytes = f.bytes.items; until = f.until; kind = f.kind; faults = f.faults } };
 
-    ghost invariant = { λ f. 0 < f.until → f.faults ≡ 0 };
+    ghost invariant = { λ f. (0 < f.until → f.faults ≡ 0) × IsOther f.kind };
 }
 
 impl Failing {
-    /// A source of these bytes of which view number `n` fails, counted from 1. For 0 none does.
+    /// A source of these bytes of which view number `n` fails with kind `Other`, counted from 1. For 0
+    /// none does.
     pub fn new(bytes: Vec<u8>, n: u64) -> Self
-        ensures { result ≡ record { bytes = bytes.items; until = n; faults = 0 } }
+        ensures { result ≡ record { bytes = bytes.items; until = n; kind = ErrorKind.Other; faults = 0 } }
+    {
+        Failing::of_kind(bytes, n, ErrorKind::Other)
+    }
+
+    /// A source of these bytes of which view number `n` fails with this kind, which is neither
+    /// `UnexpectedEof` nor `OutOfMemory`.
+    pub fn of_kind(bytes: Vec<u8>, n: u64, kind: ErrorKind) -> Self
+        requires { IsOther kind }
+        ensures { result ≡ record { bytes = bytes.items; until = n; kind = kind; faults = 0 } }
     {
         Failing {
             bytes,
             until: n,
+            kind,
             faults: 0,
         }
     }
@@ -46,17 +59,18 @@ impl Failing {
 impl Source for Failing {
     ghost state = { state_of };
 
-    /// The bytes that the slices name, or a fault of kind `Other` where this is the view that fails.
+    /// The bytes that the slices name, or a fault of the source's kind where this is the view that fails.
     fn view(&mut self, alloc: Global, slices: &[SourceSlice]) -> Result<ReadView, io::Error>
         ensures view { Shows (HasFailed (state_of self.old) (state_of self.new)) (λ v. v) result (bytes_at self.old.bytes (places slices.now)) }
+        ensures kind { IfErr result (λ e. IsLastFault (state_of self.new) (error_kind e)) }
         ensures kept { IsKept (state_of self.old) (state_of self.new) }
         ensures counts { self.new ≡ counted_down self.old }
-        ensures fails { MatchBool (self.old.until == 1) (IsErrAnd result (λ e. error_kind e ≡ ErrorKind.Other)) (Shows ⊥ (λ v. v) result (bytes_at self.old.bytes (places slices.now))) }
+        ensures fails { MatchBool (self.old.until == 1) (IsErrAnd result (λ e. error_kind e ≡ self.old.kind)) (Shows ⊥ (λ v. v) result (bytes_at self.old.bytes (places slices.now))) }
     {
         if self.until == 1 {
             self.until = 0;
             self.faults += 1;
-            return Err(io::Error::from(ErrorKind::Other));
+            return Err(io::Error::from(self.kind));
         }
         self.until = self.until.saturating_sub(1);
         self.bytes.view(alloc, slices)

@@ -1,9 +1,9 @@
 //! A source that notes what is asked of it.
 
-ghost use Rattle.std.specs.Prelude.{◌≡◌, ◌⊎◌, ◌∷◌, ◌++◌, [], map, IsErrAnd};
+ghost use Rattle.std.specs.Prelude.{◌≡◌, ◌⊎◌, ◌∷◌, ◌++◌, [], map, IfErr, IsErrAnd};
 ghost use Rattle.std.specs.IoError.{error_kind};
 ghost use Rattle.std.specs.declared.io.ErrorKind.TheVariants.{OutOfMemory};
-ghost use Rattle.pdb_msf.specs.Source.{HasFailed, IsKept, Shows, bytes_at, places};
+ghost use Rattle.pdb_msf.specs.Source.{HasFailed, IsKept, IsLastFault, Shows, bytes_at, places};
 ghost use Rattle.pdb_vectors.specs.Noting.{state_of};
 
 use pdb_msf::{ReadView, Source, SourceSlice};
@@ -53,6 +53,7 @@ impl Source for Noting {
     /// view is refused with kind `OutOfMemory`, and nothing is noted.
     fn view(&mut self, alloc: Global, slices: &[SourceSlice]) -> Result<ReadView, io::Error>
         ensures view { Shows (HasFailed (state_of self.old) (state_of self.new)) (λ v. v) result (bytes_at self.old.bytes (places slices.now)) }
+        ensures kind { IfErr result (λ e. IsLastFault (state_of self.new) (error_kind e)) }
         ensures kept { IsKept (state_of self.old) (state_of self.new) }
         ensures noted { (self.new ≡ record self.old { notes = self.old.notes ++ slices.now ∷ [] })
             ⊎ ((self.new ≡ self.old) × IsErrAnd result (λ e. error_kind e ≡ OutOfMemory)) }

@@ -49,6 +49,8 @@ fn stream_1(alloc: Global) -> pdb_base::Result<Vec<u8>> {
     Ok(bytes)
 }
 
+const STREAM_2_ABSENT: &[u8] = b"The requested stream (2) is not stored in this file";
+
 const SOURCE_ENDS: &[u8] = b"IO error while reading PDB: unexpected end of file";
 
 const OUT_OF_RANGE: &[u8] = b"MSF referred to page number (9) out of range";
@@ -89,15 +91,10 @@ fn streams(rt: HostRuntime) -> Result<(), Fail> {
         );
     }
 
-    let rows: [(&[(usize, u8)], u32, Option<usize>, &[u8]); 11] = [
+    let rows: [(&[(usize, u8)], u32, Option<usize>, &[u8]); 19] = [
         (&[], 0, None, b""),
         (&[], 1, Some(0), b""),
-        (
-            &[],
-            2,
-            None,
-            b"The requested stream (2) is not stored in this file",
-        ),
+        (&[], 2, None, STREAM_2_ABSENT),
         (&[], 3, None, b"hello"),
         (
             &[],
@@ -111,11 +108,47 @@ fn streams(rt: HostRuntime) -> Result<(), Fail> {
         (&[(PAGE_OF_3, 9)], 3, Some(0), OUT_OF_RANGE),
         (&[(DIRECTORY_SIZE, 0)], 0, None, b"UnexpectedEof"),
         (&[(DIRECTORY_SIZE, 0)], 1, Some(1), b"UnexpectedEof"),
+        // The directory ends behind the size of stream 1, of stream 2, and so on.
+        (&[(DIRECTORY_SIZE, 12)], 2, None, b"UnexpectedEof"),
+        (&[(DIRECTORY_SIZE, 12)], 0, None, b"UnexpectedEof"),
+        (&[(DIRECTORY_SIZE, 16)], 2, None, STREAM_2_ABSENT),
+        (&[(DIRECTORY_SIZE, 16)], 0, None, b"UnexpectedEof"),
+        (&[(DIRECTORY_SIZE, 24)], 0, None, b""),
+        (&[(DIRECTORY_SIZE, 24)], 1, None, b"UnexpectedEof"),
+        (&[(DIRECTORY_SIZE, 24)], 3, None, b"UnexpectedEof"),
+        (&[(DIRECTORY_SIZE, 28)], 3, None, b"UnexpectedEof"),
     ];
     for (edits, number, limit, want) in rows {
         assert!(rt;
             answers_twice(alloc, edits, number, limit, want)?,
             "stream {number}, limit {limit:?}"
+        );
+    }
+    Ok(())
+}
+
+/// The count of streams that S1 claims, where it stands.
+const CLAIMED: [(usize, u8); 4] = [(1024, 0xff), (1025, 0xff), (1026, 0xff), (1027, 0xff)];
+
+#[test]
+fn claimed_streams(rt: HostRuntime) -> Result<(), Fail> {
+    let alloc = rt.alloc();
+    let last = b"The requested stream (4294967295) is not stored in this file".as_slice();
+    let rows: [(u32, &[u8]); 8] = [
+        (0, b"UnexpectedEof"),
+        (2, STREAM_2_ABSENT),
+        (7, b"UnexpectedEof"),
+        (u32::MAX, last),
+        (7, b"UnexpectedEof"),
+        (u32::MAX, last),
+        (2, STREAM_2_ABSENT),
+        (0, b"UnexpectedEof"),
+    ];
+    let mut file = open_msf(alloc, edited(alloc, &CLAIMED)?)?;
+    for (number, want) in rows {
+        assert!(rt;
+            answers(alloc, file.get(alloc, number, None), want),
+            "stream {number}"
         );
     }
     Ok(())

@@ -107,7 +107,7 @@ fn cuts(rt: HostRuntime) -> Result<(), Fail> {
 }
 
 /// Whether a view of these slices shows these bytes.
-fn sees(alloc: Global, source: &mut Vec<u8>, asked: &[SourceSlice], want: &[u8]) -> bool {
+fn sees<S: Source>(alloc: Global, source: &mut S, asked: &[SourceSlice], want: &[u8]) -> bool {
     matches!(source.view(alloc, asked), Ok(view) if view.as_slice() == want)
 }
 
@@ -120,10 +120,13 @@ fn is_past_end(answer: io::Result<ReadView>) -> bool {
 fn sources(rt: HostRuntime) -> Result<(), Fail> {
     let alloc = rt.alloc();
     let mut source = Vec::from_slice(alloc, b"abcdef")?;
+    let mut borrowed = b"abcdef".as_slice();
     let asked = [slice(4, 2), slice(0, 3), slice(6, 0)];
     assert!(rt; sees(alloc, &mut source, &asked, b"efabc"));
-    for (offset, size) in [(4, 3), (u64::MAX, 2)] {
+    assert!(rt; sees(alloc, &mut borrowed, &asked, b"efabc"));
+    for (offset, size) in [(4, 3), (u64::MAX, 2), (0, 1 << 50)] {
         assert!(rt; is_past_end(source.view(alloc, &[slice(offset, size)])));
+        assert!(rt; is_past_end(borrowed.view(alloc, &[slice(offset, size)])));
     }
     let view = ReadView::new(Vec::from_slice(alloc, b"xy")?);
     assert!(rt; view.as_slice() == b"xy".as_slice());
@@ -143,25 +146,49 @@ fn two_bytes(alloc: Global) -> pdb_base::Result<Vec<u8>> {
 #[test]
 fn views(rt: HostRuntime) -> Result<(), Fail> {
     let alloc = rt.alloc();
+    let bytes = two_bytes(alloc)?;
+    let rows: [(&[SourceSlice], &[u8]); 4] = [
+        (
+            &[slice(88, 1), slice(40, 4), slice(88, 1)],
+            &[88, 0, 0, 42, 0, 88],
+        ),
+        (&[slice(40, 4)], &[0, 0, 42, 0]),
+        (&[slice(5000, 0)], &[]),
+        (&[slice(u64::MAX, 0)], &[]),
+    ];
+    let mut borrowed = bytes.as_slice();
     let mut source = two_bytes(alloc)?;
-    let asked = [slice(88, 1), slice(40, 4), slice(88, 1)];
-    assert!(rt; sees(alloc, &mut source, &asked, &[88, 0, 0, 42, 0, 88]));
-    assert!(rt; sees(alloc, &mut source, &[slice(40, 4)], &[0, 0, 42, 0]));
-    assert!(rt; sees(alloc, &mut source, &[slice(5000, 0)], &[]));
-    assert!(rt; sees(alloc, &mut source, &[slice(u64::MAX, 0)], &[]));
+    for (asked, want) in rows {
+        assert!(rt; sees(alloc, &mut source, asked, want), "{asked:?}");
+        assert!(rt; sees(alloc, &mut borrowed, asked, want), "{asked:?}");
+    }
     for (offset, size) in [(4095, 2), (u64::MAX, 2)] {
         assert!(rt; is_past_end(source.view(alloc, &[slice(offset, size)])));
+        assert!(rt; is_past_end(borrowed.view(alloc, &[slice(offset, size)])));
     }
     Ok(())
 }
 
-/// S1 behind a source that notes, of which streams 1, 3 and 0 were read.
-fn noted(alloc: Global) -> pdb_base::Result<BigMSF<Noting>> {
-    let mut file = open_msf(alloc, Noting::new(alloc, s1(alloc)?))?;
-    for number in [1, 3, 0] {
-        file.get(alloc, number, None)?;
+/// The stream and the limit of one call after another, and what the file has then asked of its source:
+/// of S1 36 bytes to locate the directory and 600 of stream 1, then 5, none of an absent stream, 2, and
+/// none of an empty stream.
+const ASKED: [(u32, Option<usize>, u64); 5] = [
+    (1, None, 636),
+    (3, None, 641),
+    (2, None, 641),
+    (3, Some(2), 643),
+    (0, None, 643),
+];
+
+/// The bytes in all views but the first, by which the file was opened.
+fn noted_bytes(notes: &[Vec<SourceSlice>]) -> u64 {
+    let mut sum = 0u64;
+    for note in notes.iter().skip(1) {
+        for slice in note.as_slice() {
+            sum = sum.saturating_add(slice.size as u64);
+        }
     }
-    Ok(file)
+    sum
 }
 
 /// Whether notes are of these slices, in turn.
@@ -175,28 +202,33 @@ fn are_notes(notes: &[Vec<SourceSlice>], wanted: &[&[(u64, usize)]]) -> bool {
 
 #[test]
 fn noted_views(rt: HostRuntime) -> Result<(), Fail> {
-    let location: &[(u64, usize)] = &[(1536, 4)];
-    let directory: &[(u64, usize)] = &[(1024, 32)];
-    let wanted: [&[(u64, usize)]; 10] = [
+    let wanted: [&[(u64, usize)]; 7] = [
         &[(0, 4096)],
-        location,
-        directory,
+        &[(1536, 4)],
+        &[(1024, 32)],
         &[(3072, 512), (2560, 88)],
-        location,
-        directory,
         &[(3584, 5)],
-        location,
-        directory,
+        &[(3584, 2)],
         &[],
     ];
-    let file = noted(rt.alloc())?;
+    let alloc = rt.alloc();
+    let mut file = open_msf(alloc, Noting::new(alloc, s1(alloc)?))?;
+    assert!(rt; file.asked() == 0 && !file.located());
+    for (number, limit, asked) in ASKED {
+        let _ = file.get(alloc, number, limit);
+        assert!(rt; file.located() && file.asked() == asked, "stream {number}");
+        assert!(rt;
+            noted_bytes(file.source().notes()) == asked,
+            "stream {number}"
+        );
+    }
     assert!(rt; are_notes(file.source().notes(), &wanted));
     Ok(())
 }
 
-/// Whether a call is refused since a view failed.
-fn is_fault<T: Drop>(answer: pdb_base::Result<T>) -> bool {
-    matches!(answer, Err(Error::IoError(error)) if error.kind() == ErrorKind::Other)
+/// Whether a call is refused by a fault of this kind.
+fn is_fault<T: Drop>(answer: pdb_base::Result<T>, kind: ErrorKind) -> bool {
+    matches!(answer, Err(Error::IoError(error)) if error.kind() == kind)
 }
 
 /// Whether this is the answer for stream 1.
@@ -205,20 +237,37 @@ fn is_stream_1(alloc: Global, answer: pdb_base::Result<Stream>) -> pdb_base::Res
     Ok(answers(alloc, answer, whole.as_slice()))
 }
 
-/// Whether stream 1 is refused where this view fails, and is read in whole when asked for again.
-fn recovers(alloc: Global, n: u64) -> pdb_base::Result<bool> {
-    let mut file = open_msf(alloc, Failing::new(s1(alloc)?, n))?;
-    let refused = is_fault(file.get(alloc, 1, None));
+/// Whether stream 1 is refused by a fault of this kind, which leaves the file located or not, and is
+/// read in whole when asked for again.
+fn recovers(
+    alloc: Global,
+    source: Failing,
+    kind: ErrorKind,
+    located: bool,
+) -> pdb_base::Result<bool> {
+    let mut file = open_msf(alloc, source)?;
+    let refused = is_fault(file.get(alloc, 1, None), kind);
+    let stays = file.located() == located;
     let again = is_stream_1(alloc, file.get(alloc, 1, None))?;
-    Ok(refused && again)
+    Ok(refused && stays && again && file.located())
 }
 
 #[test]
 fn failing_views(rt: HostRuntime) -> Result<(), Fail> {
     let alloc = rt.alloc();
-    assert!(rt; is_fault(open_msf(alloc, Failing::new(s1(alloc)?, 1))));
+    let opened = open_msf(alloc, Failing::new(s1(alloc)?, 1));
+    assert!(rt; is_fault(opened, ErrorKind::Other));
     for n in 2..5u64 {
-        assert!(rt; recovers(alloc, n)?, "view {n}");
+        let other = Failing::new(s1(alloc)?, n);
+        assert!(rt;
+            recovers(alloc, other, ErrorKind::Other, n == 4)?,
+            "view {n}"
+        );
+        let denied = Failing::of_kind(s1(alloc)?, n, ErrorKind::PermissionDenied);
+        assert!(rt;
+            recovers(alloc, denied, ErrorKind::PermissionDenied, n == 4)?,
+            "view {n}"
+        );
     }
     Ok(())
 }
@@ -239,5 +288,9 @@ fn header_views(rt: HostRuntime) -> Result<(), Fail> {
 
     assert!(rt; matches!(opened_by(alloc, 51), Err(Error::UnexpectedEof)));
     assert!(rt; opened_by(alloc, 56).is_ok());
+
+    let bytes = s1(alloc)?;
+    let mut borrowed = open_msf(alloc, bytes.as_slice())?;
+    assert!(rt; is_stream_1(alloc, borrowed.get(alloc, 1, None))?);
     Ok(())
 }
