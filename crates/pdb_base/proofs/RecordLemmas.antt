@@ -1,14 +1,17 @@
 -- The records that bytes spell, one after another.
-use Rattle.std.proofs.Common.{◌≡◌, ℕ, zero, suc, ◌+◌, ◌-◌, ◌*◌, ◌/◌, ◌%◌, ◌<◌, ◌≤◌, ◌==◌, ◌↔◌, ltb, inl, inr, Bool, false, IsTrue, List, [], ◌∷◌, length, get_or, take, drop, map, Some, Option, refl, sym, ap, ◌∙◌, arith}
+use Rattle.std.proofs.Common.{◌≡◌, ℕ, zero, suc, ◌+◌, ◌-◌, ◌*◌, ◌/◌, ◌%◌, ◌<◌, ◌≤◌, ◌==◌, ◌↔◌, ltb, inl, inr, Bool, false, IsTrue, List, [], ◌∷◌, length, get_or, take, drop, map, Some, Option, Ok, refl, sym, ap, ◌∙◌, arith}
 use Rattle.std.specs.List.{range_with_len}
 use Rattle.std.proofs.Math.Nat.{div-eq-sub-div, div-eq_of_lt, mod-eq_of_lt, mul-le-mul_left, mul-div-le}
-use Rattle.std.proofs.lemmas.List.{length-drop, drop-drop}
+use Rattle.std.proofs.lemmas.List.{length-drop, length-take-le, drop-drop}
 use Rattle.std.proofs.lemmas.List.FromFn.{length-map-range_with_len, get_or-map-range_with_len}
 use Rattle.std.proofs.lemmas.Option.{slice_get_within, slice_get-get_or}
 use Rattle.std.proofs.lemmas.Bool.{cases_lt, eqb-true, le-ltb}
 use Rattle.pdb_base.specs.Reading.{front_at}
 use Rattle.pdb_base.specs.Records.{spelled}
 use Rattle.pdb_base.specs.Laws.{AreReadInTurn}
+use Rattle.pdb_base.specs.Refusal.{unexpected_eof}
+use Rattle.pdb_base.proofs.Collected.{ok_is, ok_is_no_err}
+use Rattle.pdb_base.proofs.ReadingLemmas.{front_whole, front_cut}
 
 cons_is_not_nil : {A : Type 0} {x : A} {xs : List A} → x ∷ xs ≡ [] → ⊥
 cons_is_not_nil e = cc
@@ -27,6 +30,15 @@ spelled_at size value bytes k d within = get_or-map-range_with_len (λ j. value 
 pub record_within : (size k : ℕ) (bytes : List ℕ) → k < length bytes / size → size ≤ length (drop (size * k) bytes)
 record_within size k bytes within =
     rw length-drop (omega (arith, mul-le-mul_left size within, mul-div-le (length bytes) size))
+
+-- bytes that were taken from the front are as many as were asked for
+pub front_length : (count : ℕ) (bytes front rest : List ℕ) → front_at count bytes ≡ Ok (front, rest) → length front ≡ count
+front_length count bytes front rest taken = elim (cases_lt (length bytes) count) [
+  | inl short ↦ absurd (ok_is_no_err (front, rest) unexpected_eof (sym taken ∙ front_cut count bytes short))
+  | inr long ↦
+      let both = ok_is (front, rest) (take count bytes, drop count bytes) (sym taken ∙ front_whole count bytes long) in
+      ap (λ (x : List ℕ × List ℕ). length x.0) both ∙ length-take-le count bytes long
+]
 
 -- ---- the first, and the rest
 
