@@ -141,13 +141,14 @@ fn plain_ranges(
     asked: &Range<u32>,
 ) -> Result<Vec<Range<u32>>, Fail> {
     let mut ranges = Vec::new(alloc);
-    let mut rest = records;
-    while let [(source, target), others @ ..] = rest {
-        let next = others.first().map_or(asked.end, |(next, _)| *next);
+    for (place, (source, target)) in records.iter().enumerate() {
+        let next = match records.get(place + 1) {
+            Some((next, _)) => *next,
+            None => asked.end,
+        };
         if let Some(part) = plain_part(*source, *target, next, asked) {
             ranges.push(part)?;
         }
-        rest = others;
     }
     Ok(ranges)
 }
@@ -204,17 +205,14 @@ fn increasing(alloc: Global, code: usize) -> Result<Vec<(u32, u32)>, Fail> {
 
 /// The frames from an address on, by a look at each of them from the front.
 fn plain_frames(frames: &[(u32, u32)], address: u32) -> &[(u32, u32)] {
-    let mut from = frames;
-    let mut rest = frames;
-    while let [(start, size), others @ ..] = rest {
-        if address < *start {
-            return from;
+    let mut from = 0;
+    for (place, (start, size)) in frames.iter().enumerate() {
+        if *start <= address {
+            let begins = *start == address || address - *start < *size;
+            from = if begins { place } else { place + 1 };
         }
-        let begins = *start == address || address - *start < *size;
-        from = if begins { rest } else { others };
-        rest = others;
     }
-    from
+    &frames[from.min(frames.len())..]
 }
 
 /// The start and size of the next frame.
