@@ -9,3 +9,6 @@ pub mod SpellingLaws
 pub mod NumericLemmas
 pub mod NumericLaws
 pub mod AlignmentLaws
+pub mod CountLemmas
+pub mod HalvingLemmas
+pub mod RecordLemmas

@@ -1,10 +1,11 @@
--- What the definitions of `Answer` and `Reading` say in other words.
-use Rattle.std.specs.Prelude.{◌≡◌, ℕ, ◌%◌, ◌<◌, ◌≤◌, ◌^◌, List, ◌∷◌, ◌++◌, length, map, None, Ok, Err}
+-- What the definitions of `Answer`, `Reading`, `Halving` and `Records` say in other words.
+use Rattle.std.specs.Prelude.{◌≡◌, ℕ, ◌%◌, ◌+◌, ◌*◌, ◌/◌, ◌<◌, ◌≤◌, ◌^◌, List, ◌∷◌, ◌++◌, length, map, drop, slice_get, Some, None, Ok, Err}
 use Rattle.byteorder.specs.Endian.{little_bytes}
 use Rattle.pdb_base.specs.Refusal.{Refusal, unexpected_eof, unexpected_numeric_prefix}
 use Rattle.pdb_base.specs.Answer.{Answer, collected}
 use Rattle.pdb_base.specs.Place.{Place, aligned}
-use Rattle.pdb_base.specs.Reading.{number_at}
+use Rattle.pdb_base.specs.Reading.{number_at, front_at, read_as}
+use Rattle.pdb_base.specs.Records.{spelled}
 use Rattle.pdb_base.specs.Numeric.{NumberKind, least_leaf, kind_behind}
 use Rattle.pdb_base.specs.Spelling.{SpellsNumber, Begins}
 
@@ -52,3 +53,13 @@ pub record AlignsToNext (alignment : ℕ) (place : Place) : Type 0 where
   pub is_next : IsNextMultiple alignment place.pos next
   pub within : next ≤ length place.slice → aligned alignment place ≡ Ok (record place { pos = next })
   pub past : length place.slice < next → aligned alignment place ≡ Err unexpected_eof
+
+-- So many bits hold a number, and no fewer do.
+pub record IsLeastToHold (number bits : ℕ) : Type 0 where
+  pub held : number < 2 ^ bits
+  pub least : (other : ℕ) → number < 2 ^ other → bits ≤ other
+
+-- Values that bytes spell are as many as fit, and each is read where the one before it ends.
+pub record AreReadInTurn {A : Type 0} (size : ℕ) (value : List ℕ → A) (bytes : List ℕ) : Type 0 where
+  pub count : length (spelled size value bytes) ≡ length bytes / size
+  pub each : (k : ℕ) (x : A) → slice_get (spelled size value bytes) k ≡ Some x → read_as value (front_at size (drop (size * k) bytes)) ≡ Ok (x, drop (size * (k + 1)) bytes)

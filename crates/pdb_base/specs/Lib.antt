@@ -5,6 +5,8 @@ pub mod Place
 pub mod BufferText
 pub mod Index
 pub mod Count
+pub mod Halving
+pub mod Records
 pub mod Reading
 pub mod Text
 pub mod Numeric

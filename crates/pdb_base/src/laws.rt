@@ -1,10 +1,12 @@
 //! What the definitions that contracts cite say in other words. The functions do nothing: each
 //! contract is a law.
 
-ghost use Rattle.std.specs.Prelude.{◌≡◌, ◌≢◌, ℕ, List};
+ghost use Rattle.std.specs.Prelude.{◌≡◌, ◌≢◌, ◌+◌, ◌-◌, ◌^◌, ◌<◌, min, ℕ, List};
 ghost use Rattle.pdb_base.specs.Answer.{Answer};
 ghost use Rattle.std.specs.Int.{Width};
-ghost use Rattle.pdb_base.specs.Laws.{CollectsAll, RefusesAsFirst, ReadsSpelling, RefusesPrefixFirst, AlignsToNext};
+ghost use Rattle.pdb_base.specs.Count.{after_calls};
+ghost use Rattle.pdb_base.specs.Halving.{binary_digits};
+ghost use Rattle.pdb_base.specs.Laws.{CollectsAll, RefusesAsFirst, ReadsSpelling, RefusesPrefixFirst, AlignsToNext, IsLeastToHold, AreReadInTurn};
 ghost use Rattle.pdb_base.specs.Place.{Place};
 ghost use Rattle.pdb_base.specs.Reading.{number_at, signed_at, text_at, counted_at};
 ghost use Rattle.pdb_base.specs.Numeric.{unsigned_leaves, numeric_leaves, num_at, variant_at};
@@ -56,4 +58,21 @@ pub fn alignment()
 pub fn conversions<I: ItemIndex>()
     ensures back { (index again : I) (n : ℕ) → I.converts index n → I.from_gives n again → again ≡ index }
     ensures forth { (n again : ℕ) (index : I) → I.from_gives n index → I.converts index again → again ≡ n }
+{}
+
+/// A count after so many calls more is their sum, up to the largest number of 64 bits.
+#[tactic(auto, using(crate::proofs::CountLemmas::calls_are))]
+pub fn counts()
+    ensures { (more calls : ℕ) → calls < 2 ^ 64 → after_calls more calls ≡ min (calls + more) (2 ^ 64 - 1) }
+{}
+
+/// A number has as many binary digits as bits are needed to hold it, and no more.
+pub fn digits()
+    ensures { (number : ℕ) → IsLeastToHold number (binary_digits number) }
+{}
+
+/// Records of one size that bytes spell are as many as fit, and each is read where the one before it
+/// ends.
+pub fn records<A>()
+    ensures { (size : ℕ) (value : List ℕ → A) (bytes : List ℕ) → AreReadInTurn size value bytes }
 {}

@@ -1,18 +1,11 @@
 -- The laws of frames.
-use Rattle.std.proofs.Common.{◌≡◌, ℕ, ◌+◌, ◌-◌, ◌*◌, ◌/◌, ◌<◌, ◌≤◌, true, false, ◌&&◌, ltb, leb, eqb, cond, List, [], ◌∷◌, length, map, take, drop, Option, Some, None, Result, Ok, refl, sym, ◌∙◌, arith}
+use Rattle.std.proofs.Common.{◌≡◌, ℕ, ◌+◌, ◌-◌, ◌<◌, ◌≤◌, true, false, ◌&&◌, ltb, leb, eqb, cond, List, [], ◌∷◌, length, map, Option, Some, None, Result, Ok, refl, sym, ◌∙◌, arith}
 use Rattle.std.proofs.lemmas.Bool.Decides.{nat_tests}
-use Rattle.pdb_base.specs.Reading.{front_at}
 use Rattle.pdb_frames.specs.Span.{Span}
-use Rattle.pdb_frames.specs.Stored.{spelled}
 use Rattle.pdb_frames.specs.Frames.{of_old, of_new}
 use Rattle.pdb_frames.specs.Merge.{with_old, by_heads}
 use Rattle.pdb_frames.specs.Table.{Frames, StartsIncrease, IsStep}
-use Rattle.pdb_frames.specs.Laws.{CoversToItsEnd, AreReadInTurn, IsMerged, IsWoven, end, takes_new, takes_old, drops_old, EndsForGood}
-use Rattle.std.proofs.lemmas.List.{length-drop, drop-drop}
-use Rattle.std.proofs.lemmas.List.FromFn.{length-map-range_with_len, get_or-map-range_with_len}
-use Rattle.std.proofs.lemmas.Option.{slice_get_within, slice_get-get_or}
-use Rattle.std.proofs.lemmas.Bool.{le-ltb}
-use Rattle.std.proofs.Math.Nat.{mul-le-mul_left, mul-div-le}
+use Rattle.pdb_frames.specs.Laws.{CoversToItsEnd, IsMerged, IsWoven, end, takes_new, takes_old, drops_old, EndsForGood}
 use Rattle.pdb_frames.proofs.Rising.{rising, increasing}
 use Rattle.pdb_frames.proofs.MergeLemmas.{old_starts, new_starts, frame_starts, rising-by_heads}
 use Rattle.pdb_frames.proofs.TableLemmas.{all_merged}
@@ -80,26 +73,3 @@ is_merged frames up =
     let old = rising (old_starts frames.old) up.old in
     let new = rising (new_starts frames.new) up.new in
     record { same = same; increases = rw (← same) (increasing (frame_starts (by_heads frames.old frames.new)) (rising-by_heads frames.old frames.new old new)) }
-
--- ---- reading
-
-abbrev some_of : {A : Type 0} → A → Option A
-some_of x = Some x
-
-some_is : {A : Type 0} {x y : A} → some_of x ≡ Some y → x ≡ y
-some_is e = cc
-
-pub read_in_turn : {A : Type 0} (size : ℕ) (value : List ℕ → A) (bytes : List ℕ) → 0 < size → AreReadInTurn size value bytes
-unfolding spelled front_at
-read_in_turn size value bytes some = record {
-  count = length-map-range_with_len (λ k. value (take size (drop (size * k) bytes))) 0 (length bytes / size);
-  each = λ k x is.
-      let within : k < length bytes / size = rw length-map-range_with_len at (slice_get_within (spelled size value bytes) k x is) in
-      let long : size ≤ length (drop (size * k) bytes) = rw length-drop (omega (arith, mul-le-mul_left size within, mul-div-le (length bytes) size)) in
-      let test : ltb (length (drop (size * k) bytes)) size ≡ false = le-ltb (length (drop (size * k) bytes)) size long in
-      let here : x ≡ value (take size (drop (size * k) bytes)) =
-      some_is (sym is ∙ slice_get-get_or (spelled size value bytes) k x (slice_get_within (spelled size value bytes) k x is))
-      ∙ get_or-map-range_with_len (λ j. value (take size (drop (size * j) bytes))) 0 (length bytes / size) k k x within (omega arith) in
-      let place : size * (k + 1) ≡ size * k + size = omega arith in
-      rw (test, drop-drop size (size * k) bytes, place, here) refl;
-}

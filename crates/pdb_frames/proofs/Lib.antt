@@ -1,4 +1,3 @@
-pub mod StoredLemmas
 pub mod Rising
 pub mod SearchLemmas
 pub mod MergeLemmas

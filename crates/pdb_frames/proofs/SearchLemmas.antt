@@ -1,21 +1,18 @@
--- The walk that looks for the records from an address on.
-use Rattle.std.proofs.Common.{◌≡◌, ℕ, ◌+◌, ◌<◌, ◌≤◌, inl, inr, Bool, true, false, ◌==◌, nat_lt, cond, eqb, ltb, if◌then◌else◌, List, [], ◌∷◌, drop, map, Option, Some, None, option_and_then, unwrap_or, refl, sym, ap, ◌∙◌, arith, eq-eqb}
+-- What a search for the records from an address on has found, in the words of the definition.
+use Rattle.std.proofs.Common.{◌≡◌, ℕ, zero, suc, add-one, ◌+◌, ◌-◌, ◌*◌, ◌/◌, ◌<◌, ◌≤◌, inl, inr, Bool, true, false, ◌==◌, nat_lt, cond, eqb, ltb, List, [], ◌∷◌, length, get_or, take, drop, map, Option, Some, None, option_and_then, unwrap_or, refl, sym, ap, subst, ◌∙◌, arith, eq-eqb}
 use Rattle.std.specs.Option.{option_or}
 use Rattle.std.proofs.lemmas.Bool.{cases_lt, le-ltb, lt-ltb, ne_eqb, cases_Bool}
-use Rattle.std.proofs.lemmas.List.{drop-drop}
+use Rattle.std.proofs.lemmas.List.{get_or-map, length-map}
 use Rattle.std.specs.List.Sorted.{IsStrictlyIncreasing}
-use Rattle.pdb_frames.specs.Span.{Span, covers, begins, from_first, from_last, if_first, from_address, IsEnd}
-use Rattle.pdb_frames.proofs.Rising.{Above, rising, above-lower}
+use Rattle.pdb_base.specs.Halving.{Rises, IsFound}
+use Rattle.pdb_base.specs.Records.{spelled}
+use Rattle.pdb_base.proofs.RecordLemmas.{spelled_length, spelled_at}
+use Rattle.pdb_frames.specs.Span.{Span, covers, begins, start_at, from_first, from_last, if_first, from_address}
+use Rattle.pdb_frames.proofs.Rising.{Above, Rising, rising, above-lower}
 
 -- where the code that a record tells of starts
 abbrev pub starts : {A : Type 0} → (A → Span) → List A → List ℕ
 starts {A} span records = map (λ (x : A). (span x).start) records
-
--- the walk: what is left after `rest`, if so far the answer would begin at `from`
-abbrev pub walk : {A : Type 0} → (A → Span) → ℕ → List A → List A → List A
-walk span address from [] = from
-walk span address from (x ∷ rest) =
-    if nat_lt address (span x).start then from else walk span address (if begins (span x) address then x ∷ rest else rest) rest
 
 -- ---- above the address nothing starts at it or below it
 
@@ -40,7 +37,7 @@ none_below span address (x ∷ xs) up =
     let test : ltb (span x).start address ≡ false = le-ltb (span x).start address (omega (arith, up.0)) in
     rw (test, none_below span address xs (above-lower address (span x).start (starts span xs) (omega (arith, up.0)) up.1)) refl
 
--- ---- the walk finds what the definition says
+-- ---- what the definition says
 
 -- what is chosen of three
 abbrev chosen : {A : Type 0} → (A → Span) → ℕ → Option (List A) → Option (List A) → Option (List A) → List A
@@ -114,67 +111,95 @@ two_not_above {A} span address x y xs rises low =
           rw same (sym (from_address-is span address (y ∷ xs) ∙ rw same refl))
     ])
 
-walk_from : {A : Type 0} (span : A → Span) (address : ℕ) (x : A) (xs : List A) → (span x).start ≤ address → Above (span x).start (starts span xs) → walk span address (cond (begins (span x) address) (x ∷ xs) xs) xs ≡ from_address span address (x ∷ xs)
-walk_from span address x [] low up = sym (one_not_above span address x [] low tt)
-walk_from span address x (y ∷ ys) low up = elim (cases_lt address (span y).start) [
-  | inl high ↦
-      let test : ltb address (span y).start ≡ true = lt-ltb address (span y).start high in
-      rw test (sym (one_not_above span address x (y ∷ ys) low (high, up.1)))
-  | inr also_low ↦
-      let test : ltb address (span y).start ≡ false = le-ltb address (span y).start also_low in
-      rw test (walk_from span address y ys also_low up.1 ∙ sym (two_not_above span address x y ys up.0 also_low))
+-- ---- what halving has found
+
+-- starts that increase rise
+pub starts_rise : {A : Type 0} (span : A → Span) (xs : List A) → IsStrictlyIncreasing (starts span xs) → Rises (start_at span xs) (length xs)
+starts_rise {A} span xs up i zero before within =
+    let same : i ≡ 0 = omega (arith, before) in
+    rw same (omega arith)
+starts_rise {A} span xs up i (suc j) before within = elim (cases_lt i (suc j)) [
+  | inl earlier ↦
+      let ih = starts_rise span xs up i j (omega (arith, earlier)) (omega (arith, within)) in
+      let step = rw (add-one j) at (up j (omega (arith, within, length-map xs (λ (x : A). (span x).start)))) in
+      omega (arith, ih, step)
+  | inr here ↦
+      let same : i ≡ suc j = omega (arith, before, here) in
+      rw same (omega arith)
 ]
 
-pub walk-is : {A : Type 0} (span : A → Span) (address : ℕ) (xs : List A) → IsStrictlyIncreasing (starts span xs) → walk span address xs xs ≡ from_address span address xs
-walk-is span address [] up = sym (from_address-is span address [])
-walk-is span address (x ∷ xs) up = elim (cases_lt address (span x).start) [
-  | inl high ↦
-      let test : ltb address (span x).start ≡ true = lt-ltb address (span x).start high in
-      rw test (sym (all_above span address (x ∷ xs) (high, rising (starts span (x ∷ xs)) up)))
-  | inr low ↦
-      let test : ltb address (span x).start ≡ false = le-ltb address (span x).start low in
-      rw test (walk_from span address x xs low (rising (starts span (x ∷ xs)) up))
-]
+-- none starts at or below the address
+none_from : {A : Type 0} (span : A → Span) (address : ℕ) (xs : List A) → Rising (starts span xs) → ((j : ℕ) → j < length xs → address < start_at span xs j) → from_address span address xs ≡ xs
+none_from span address [] up above = from_address-is span address []
+none_from span address (x ∷ xs) up above = all_above span address (x ∷ xs) (above 0 (omega arith), up)
 
--- ---- the steps of the walk
+-- those that start behind the first are above the address
+above_rest : {A : Type 0} (span : A → Span) (address : ℕ) (x : A) (xs : List A) → Rising (starts span (x ∷ xs)) → ((j : ℕ) → 0 < j → j < length (x ∷ xs) → address < start_at span (x ∷ xs) j) → Above address (starts span xs)
+above_rest span address x [] up above = tt
+above_rest span address x (y ∷ ys) up above = (above 1 (omega arith) (omega arith), up.1)
 
--- The walk has come to `rest`, and the answer so far begins at `from`.
-pub record IsWalked {A : Type 0} (span : A → Span) (address : ℕ) (whole from rest : List A) : Type 0 where
-  pub same : walk span address from rest ≡ walk span address whole whole
-  pub from_end : IsEnd from whole
-  pub rest_end : IsEnd rest whole
+-- the last that starts at or below it stands at a place
+last_from : {A : Type 0} (span : A → Span) (address k : ℕ) (xs : List A) (d : A) → Rising (starts span xs) → k < length xs → ((j : ℕ) → j ≤ k → start_at span xs j ≤ address) → ((j : ℕ) → k < j → j < length xs → address < start_at span xs j)
+    → from_address span address xs ≡ cond (begins (span (get_or xs k d)) address) (drop k xs) (drop (suc k) xs)
+last_from span address k [] d up within below above = absurd (omega (arith, within))
+last_from span address zero (x ∷ xs) d up within below above = one_not_above span address x xs (below 0 (omega arith)) (above_rest span address x xs up above)
+last_from span address (suc k) (x ∷ []) d up within below above = absurd (omega (arith, within))
+last_from span address (suc k) (x ∷ y ∷ xs) d up within below above =
+    two_not_above span address x y xs up.0 (below 1 (omega arith))
+    ∙ last_from span address k (y ∷ xs) d up.1 (omega (arith, within)) (λ j before. below (suc j) (omega (arith, before))) (λ j behind inside. above (suc j) (omega (arith, behind)) (omega (arith, inside)))
 
-end_more : {A : Type 0} (rest others whole : List A) (x : A) → rest ≡ x ∷ others → IsEnd rest whole → IsEnd others whole
-end_more {A} rest others whole x is end =
-    let all : x ∷ others ≡ drop end.0 whole = sym is ∙ end.1 in
-    let one : others ≡ drop 1 (drop end.0 whole) = ap (λ (xs : List A). drop 1 xs) all in
-    (end.0 + 1, one ∙ drop-drop 1 end.0 whole)
+pub found_none : {A : Type 0} (span : A → Span) (address : ℕ) (xs : List A) (place last : ℕ) → IsFound (start_at span xs) (length xs) address place last → place ≡ 0 → IsStrictlyIncreasing (starts span xs) → xs ≡ from_address span address xs
+found_none span address xs place last found none up =
+    sym (none_from span address xs (rising (starts span xs) up) (λ j within. found.above (starts_rise span xs up) j (omega (arith, none)) within))
 
-pub walk_begins : {A : Type 0} (span : A → Span) (address : ℕ) (whole : List A) → IsWalked span address whole whole whole
-walk_begins span address whole = record { same = refl; from_end = (0, refl); rest_end = (0, refl) }
+pub found_last : {A : Type 0} (span : A → Span) (address : ℕ) (xs : List A) (place last : ℕ) (d : A) → IsFound (start_at span xs) (length xs) address place last → 0 < place → IsStrictlyIncreasing (starts span xs)
+    → cond (begins (span (get_or xs (place - 1) d)) address) (drop (place - 1) xs) (drop place xs) ≡ from_address span address xs
+found_last span address xs place last d found some up =
+    let one : place ≡ suc (place - 1) = omega (arith, some) in
+    ap (λ (n : ℕ). cond (begins (span (get_or xs (place - 1) d)) address) (drop (place - 1) xs) (drop n xs)) one
+    ∙ sym (last_from span address (place - 1) xs d (rising (starts span xs) up) (omega (arith, some, found.within))
+    (λ j before. found.below (starts_rise span xs up) j (omega (arith, before, some)))
+    (λ j behind inside. found.above (starts_rise span xs up) j (omega (arith, behind)) inside))
 
-pub walk_here : {A : Type 0} (span : A → Span) (address : ℕ) (whole from rest others : List A) (x : A) → rest ≡ x ∷ others → (span x).start ≤ address → begins (span x) address ≡ true → IsWalked span address whole from rest → IsWalked span address whole rest others
-walk_here span address whole from rest others x is low test so_far =
-    let stays : ltb address (span x).start ≡ false = le-ltb address (span x).start low in
-    let step = rw (is, stays, test) at so_far.same in
-    record { same = rw is step; from_end = so_far.rest_end; rest_end = end_more rest others whole x is so_far.rest_end }
+-- ---- what stands in bytes
 
-pub walk_past : {A : Type 0} (span : A → Span) (address : ℕ) (whole from rest others : List A) (x : A) → rest ≡ x ∷ others → (span x).start ≤ address → begins (span x) address ≡ false → IsWalked span address whole from rest → IsWalked span address whole others others
-walk_past span address whole from rest others x is low test so_far =
-    let stays : ltb address (span x).start ≡ false = le-ltb address (span x).start low in
-    let behind = end_more rest others whole x is so_far.rest_end in
-    record { same = rw (is, stays, test) at so_far.same; from_end = behind; rest_end = behind }
+pub start_there : {A : Type 0} (span : A → Span) (size : ℕ) (value : List ℕ → A) (bytes : List ℕ) (k : ℕ) → k < length bytes / size → start_at span (spelled size value bytes) k ≡ (span (value (take size (drop (size * k) bytes)))).start
+start_there {A} span size value bytes k within =
+    get_or-map (λ (x : A). (span x).start) (spelled size value bytes) k (value []) 0 (omega (arith, within, spelled_length size value bytes))
+    ∙ ap (λ (x : A). (span x).start) (spelled_at size value bytes k (value []) within)
 
-pub walk_stops : {A : Type 0} (span : A → Span) (address : ℕ) (whole from rest others : List A) (x : A) → rest ≡ x ∷ others → address < (span x).start → IsWalked span address whole from rest → IsStrictlyIncreasing (starts span whole) → from ≡ from_address span address whole
-walk_stops span address whole from rest others x is high so_far up =
-    let stops : ltb address (span x).start ≡ true = lt-ltb address (span x).start high in
-    let step = rw (is, stops) at so_far.same in
-    step ∙ walk-is span address whole up
+pub found_in : {A : Type 0} (span : A → Span) (size : ℕ) (value : List ℕ → A) (bytes : List ℕ) (address place last : ℕ) → IsFound (start_at span (spelled size value bytes)) (length bytes / size) address place last
+    → IsFound (start_at span (spelled size value bytes)) (length (spelled size value bytes)) address place last
+found_in span size value bytes address place last found =
+    subst (λ (n : ℕ). IsFound (start_at span (spelled size value bytes)) n address place last) (sym (spelled_length size value bytes)) found
 
-pub walk_ends : {A : Type 0} (span : A → Span) (address : ℕ) (whole from rest : List A) → rest ≡ [] → IsWalked span address whole from rest → IsStrictlyIncreasing (starts span whole) → from ≡ from_address span address whole
-walk_ends span address whole from rest is so_far up =
-    let step = rw is at so_far.same in
-    step ∙ walk-is span address whole up
+abbrev span_with : ℕ → ℕ → Span
+span_with start size = record { start = start; size = size }
 
-pub walk_within : {A : Type 0} (span : A → Span) (address : ℕ) (whole from rest : List A) → IsWalked span address whole from rest → IsEnd from whole
-walk_within span address whole from rest so_far = so_far.from_end
+span_is : (there : Span) (start size : ℕ) → there.start ≡ start → there.size ≡ size → there ≡ record { start = start; size = size }
+span_is there start size same also = ap (λ (n : ℕ). span_with n there.size) same ∙ ap (λ (n : ℕ). span_with start n) also
+
+-- the record before the place found, of which its start and its size are known
+found_there : {A : Type 0} (span : A → Span) (size : ℕ) (value : List ℕ → A) (bytes : List ℕ) (address place start code : ℕ) → IsFound (start_at span (spelled size value bytes)) (length bytes / size) address place start → 0 < place
+    → code ≡ (span (value (take size (drop (size * (place - 1)) bytes)))).size → IsStrictlyIncreasing (starts span (spelled size value bytes))
+    → cond (begins (record { start = start; size = code }) address) (drop (place - 1) (spelled size value bytes)) (drop place (spelled size value bytes)) ≡ from_address span address (spelled size value bytes)
+found_there {A} span size value bytes address place start code found some is up =
+    let records = spelled size value bytes in
+    let within : place - 1 < length bytes / size = omega (arith, some, found.within) in
+    let here = spelled_at size value bytes (place - 1) (value []) within in
+    let starts_here : (span (get_or records (place - 1) (value []))).start ≡ start = ap (λ (x : A). (span x).start) here ∙ sym (start_there span size value bytes (place - 1) within) ∙ (found.before some).0 in
+    let sized : (span (get_or records (place - 1) (value []))).size ≡ code = ap (λ (x : A). (span x).size) here ∙ sym is in
+    ap (λ (s : Span). cond (begins s address) (drop (place - 1) records) (drop place records)) (sym (span_is (span (get_or records (place - 1) (value []))) start code starts_here sized))
+    ∙ found_last span address records place start (value []) (found_in span size value bytes address place start found) some up
+
+pub found_begins : {A : Type 0} (span : A → Span) (size : ℕ) (value : List ℕ → A) (bytes : List ℕ) (address place start code : ℕ) → IsFound (start_at span (spelled size value bytes)) (length bytes / size) address place start → 0 < place
+    → code ≡ (span (value (take size (drop (size * (place - 1)) bytes)))).size → begins (record { start = start; size = code }) address ≡ true → IsStrictlyIncreasing (starts span (spelled size value bytes))
+    → drop (place - 1) (spelled size value bytes) ≡ from_address span address (spelled size value bytes)
+found_begins {A} span size value bytes address place start code found some is test up =
+    ap (λ (b : Bool). cond b (drop (place - 1) (spelled size value bytes)) (drop place (spelled size value bytes))) (sym test) ∙ found_there span size value bytes address place start code found some is up
+
+pub found_passes : {A : Type 0} (span : A → Span) (size : ℕ) (value : List ℕ → A) (bytes : List ℕ) (address place start code : ℕ) → IsFound (start_at span (spelled size value bytes)) (length bytes / size) address place start → 0 < place
+    → code ≡ (span (value (take size (drop (size * (place - 1)) bytes)))).size → begins (record { start = start; size = code }) address ≡ false → IsStrictlyIncreasing (starts span (spelled size value bytes))
+    → drop place (spelled size value bytes) ≡ from_address span address (spelled size value bytes)
+found_passes {A} span size value bytes address place start code found some is test up =
+    ap (λ (b : Bool). cond b (drop (place - 1) (spelled size value bytes)) (drop place (spelled size value bytes))) (sym test) ∙ found_there span size value bytes address place start code found some is up

@@ -1,12 +1,10 @@
 -- What the definitions say in other words.
-use Rattle.std.specs.Prelude.{◌≡◌, ◌↔◌, ℕ, ◌+◌, ◌*◌, ◌/◌, ◌<◌, ◌≤◌, Bool, IsTrue, List, [], ◌∷◌, length, map, drop, Option, Some, None, Result, Ok, slice_get, count_by}
+use Rattle.std.specs.Prelude.{◌≡◌, ◌↔◌, ℕ, ◌+◌, ◌<◌, ◌≤◌, Bool, IsTrue, List, [], ◌∷◌, length, map, Option, Some, None, Result, Ok, count_by}
 use Rattle.std.specs.declared.cmp.Ordering.{Ordering}
 use Rattle.std.specs.Ordering.{nat_cmp}
 use Rattle.std.specs.List.Sorted.{IsNonDecreasingBy, IsStrictlyIncreasing}
-use Rattle.pdb_base.specs.Reading.{front_at, read_as}
 use Rattle.pdb_frames.specs.Span.{Span, covers}
 use Rattle.pdb_frames.specs.FrameNumbers.{kind_number}
-use Rattle.pdb_frames.specs.Stored.{spelled}
 use Rattle.pdb_frames.specs.Frames.{of_old, of_new}
 use Rattle.pdb_frames.specs.Merge.{by_start, by_heads, merge}
 use Rattle.pdb_frames.specs.Table.{Frames}
@@ -18,11 +16,6 @@ use Rattle.pdb_frames.specs.declared.new_frame_data.NewFrameData.{NewFrameData}
 -- Code is at the addresses from its start to before its end, wherever the end lies.
 abbrev pub CoversToItsEnd : Span → ℕ → Type 0
 CoversToItsEnd span address = IsTrue (covers span address) ↔ ((span.start ≤ address) × (address < span.start + span.size))
-
--- Values that bytes spell are as many as fit, and each is read where the one before it ends.
-pub record AreReadInTurn {A : Type 0} (size : ℕ) (value : List ℕ → A) (bytes : List ℕ) : Type 0 where
-  pub count : length (spelled size value bytes) ≡ length bytes / size
-  pub each : (k : ℕ) (x : A) → slice_get (spelled size value bytes) k ≡ Some x → read_as value (front_at size (drop (size * k) bytes)) ≡ Ok (x, drop (size * (k + 1)) bytes)
 
 -- Frames by their starts are the same frames, of which as many pass any test, and no start falls.
 pub record IsSortedByStart (frames : List FrameData) : Type 0 where

@@ -1,11 +1,15 @@
 -- The addresses that code takes, and where in a list of records one begins for an address.
-use Rattle.std.specs.Prelude.{◌≡◌, ℕ, drop, ◌-◌, Bool, ◌==◌, ◌&&◌, ◌||◌, nat_le, nat_lt, if◌then◌else◌, List, [], ◌∷◌, Option, Some, None, unwrap_or, option_and_then}
+use Rattle.std.specs.Prelude.{◌≡◌, ℕ, drop, map, slice_index, ◌-◌, Bool, ◌==◌, ◌&&◌, ◌||◌, nat_le, nat_lt, if◌then◌else◌, List, [], ◌∷◌, Option, Some, None, unwrap_or, option_and_then}
 use Rattle.std.specs.Option.{option_or}
 
 -- where code begins, and how many bytes it has
 pub record Span : Type 0 where
   pub start : ℕ
   pub size : ℕ
+
+-- where the code of the record at a place starts
+abbrev pub start_at : {A : Type 0} → (A → Span) → List A → ℕ → ℕ
+start_at span records place = slice_index (map (λ record_there. (span record_there).start) records) place
 
 -- whether code is at an address: one that is less than the size behind the start
 abbrev pub covers : Span → ℕ → Bool

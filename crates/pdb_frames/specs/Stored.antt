@@ -1,7 +1,7 @@
 -- Records of frames as they stand in bytes. Of each number the lowest byte comes first.
-use Rattle.std.specs.Prelude.{ℕ, ◌*◌, ◌/◌, List, length, map, take, drop}
-use Rattle.std.specs.List.{range_with_len}
+use Rattle.std.specs.Prelude.{ℕ, List, drop}
 use Rattle.pdb_base.specs.Endian.{little_number}
+use Rattle.pdb_base.specs.Records.{spelled}
 use Rattle.pdb_frames.specs.Span.{Span}
 use Rattle.pdb_frames.specs.declared.old_frame_data.OldFrameData.{OldFrameData}
 use Rattle.pdb_frames.specs.declared.new_frame_data.NewFrameData.{NewFrameData}
@@ -36,10 +36,6 @@ old_span frame = record { start = frame.code_start; size = frame.code_size }
 
 abbrev pub new_span : NewFrameData → Span
 new_span frame = record { start = frame.code_start; size = frame.code_size }
-
--- what bytes spell, so many bytes for each value: value k stands behind k times so many
-unfoldable pub spelled : {A : Type 0} → ℕ → (List ℕ → A) → List ℕ → List A
-spelled size value bytes = map (λ k. value (take size (drop (size * k) bytes))) (range_with_len 0 (length bytes / size))
 
 -- the old records, 16 bytes each, and the new ones, 32 bytes each
 abbrev pub old_frames : List ℕ → List OldFrameData

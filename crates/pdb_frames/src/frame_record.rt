@@ -1,7 +1,7 @@
 //! Records that follow one another in a stream.
 
-ghost use Rattle.std.specs.Prelude.{◌≡◌, ◌≤◌, ◌<◌, ℕ, List, [], ◌∷◌, length, drop, IfSome, IfNone};
-ghost use Rattle.pdb_frames.specs.Stored.{spelled};
+ghost use Rattle.std.specs.Prelude.{◌≡◌, ◌≤◌, ◌<◌, ◌*◌, ◌/◌, ℕ, List, [], ◌∷◌, length, take, drop, IfSome, IfNone};
+ghost use Rattle.pdb_base.specs.Records.{spelled};
 
 use crate::addr_range::AddrRange;
 
@@ -25,7 +25,7 @@ pub(crate) trait FrameRecord: AddrRange + Copy {
 }
 
 /// The first of the records that bytes spell, and the bytes behind it.
-#[tactic(auto, using(crate::proofs::StoredLemmas::spelled_none, crate::proofs::StoredLemmas::spelled_first))]
+#[tactic(auto, using(pdb_base::proofs::RecordLemmas::spelled_none, pdb_base::proofs::RecordLemmas::spelled_first))]
 pub(crate) fn first<R: FrameRecord>(bytes: &[u8]) -> Option<(R, &[u8])>
     ensures none { IfNone result (spelled R.SIZE R.value bytes.now ≡ []) }
     ensures some { IfSome result
@@ -37,4 +37,21 @@ pub(crate) fn first<R: FrameRecord>(bytes: &[u8]) -> Option<(R, &[u8])>
     }
     let (front, behind) = bytes.split_at(R::SIZE);
     Some((R::read(front), behind))
+}
+
+/// The record at a place.
+pub(crate) fn record_at<R: FrameRecord>(bytes: &[u8], place: usize) -> R
+    requires { place < length bytes.now / R.SIZE }
+    ensures { result ≡ R.value (take R.SIZE (drop (R.SIZE * place) bytes.now)) }
+{
+    let start = place * R::SIZE;
+    R::read(&bytes[start..start + R::SIZE])
+}
+
+/// The bytes of the records from a place on.
+pub(crate) fn from_place<R: FrameRecord>(bytes: &[u8], place: usize) -> &[u8]
+    requires { place ≤ length bytes.now / R.SIZE }
+    ensures { spelled R.SIZE R.value result.now ≡ drop place (spelled R.SIZE R.value bytes.now) }
+{
+    &bytes[place * R::SIZE..]
 }

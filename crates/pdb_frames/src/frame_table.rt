@@ -1,10 +1,8 @@
 //! Tables of frames.
 
-ghost use Rattle.std.specs.Prelude.{◌≡◌, ◌↔◌, [], map, IsTrue, unwrap_or};
-ghost use Rattle.std.specs.List.Sorted.{IsStrictlyIncreasing};
+ghost use Rattle.std.specs.Prelude.{◌≡◌, ◌↔◌, [], IsTrue, unwrap_or};
 ghost use Rattle.pdb_base.specs.Answer.{Gives};
-ghost use Rattle.pdb_frames.specs.Stored.{spelled, old_frames, new_frames};
-ghost use Rattle.pdb_frames.specs.Span.{begins, from_address, IsEnd};
+ghost use Rattle.pdb_frames.specs.Stored.{old_frames, new_frames};
 ghost use Rattle.pdb_frames.specs.Merge.{by_heads, merge};
 ghost use Rattle.pdb_frames.specs.Table.{BeginsSomewhere, IsStep, StartsIncrease, merge_from, table_of};
 
@@ -13,6 +11,7 @@ use crate::frame_data::FrameData;
 use crate::frame_record::{FrameRecord, first};
 use crate::new_frame_data::NewFrameData;
 use crate::old_frame_data::OldFrameData;
+use crate::search::starting_at;
 use pdb_base::{Error, FallibleIterator, Result};
 use pdb_msf::Stream;
 use pdb_space::PdbInternalRva;
@@ -70,7 +69,7 @@ impl FrameTable {
     }
 
     /// Whether there are no frames.
-    #[tactic(auto, using(crate::proofs::StoredLemmas::spelled_nothing, crate::proofs::StoredLemmas::none_spelled))]
+    #[tactic(auto, using(pdb_base::proofs::RecordLemmas::spelled_nothing, pdb_base::proofs::RecordLemmas::none_spelled))]
     pub fn is_empty(&self) -> bool
         ensures { IsTrue result ↔ ((self.now.old ≡ []) × (self.now.new ≡ [])) }
     {
@@ -133,7 +132,7 @@ impl<'t> Model for FrameDataIter<'t> {
 impl<'t> Default for FrameDataIter<'t> {
     ghost is_default = { λ frames. frames ≡ [] };
 
-    #[tactic(auto, using(crate::proofs::StoredLemmas::spelled_nothing))]
+    #[tactic(auto, using(pdb_base::proofs::RecordLemmas::spelled_nothing))]
     fn default() -> Self {
         FrameDataIter { old: &[], new: &[] }
     }
@@ -173,38 +172,4 @@ impl<'t> FallibleIterator for FrameDataIter<'t> {
             }
         }
     }
-}
-
-/// Whether the records from an address on begin at this one, which doesn't start above it, where every
-/// later one does.
-fn begins_at<R: FrameRecord>(frame: R, address: u32) -> bool
-    ensures { result ≡ begins (R.span frame) address }
-{
-    frame.start() == address || frame.contains(address)
-}
-
-/// The bytes of the records from the one on that starts at an address, else from the last that starts
-/// below it, if that one's code reaches to the address, else from the first that starts above it.
-///
-/// It walks from the front, and stops at the first record that starts above the address.
-#[tactic(auto, using(crate::proofs::SearchLemmas::walk_begins, crate::proofs::SearchLemmas::walk_here, crate::proofs::SearchLemmas::walk_past, crate::proofs::SearchLemmas::walk_stops, crate::proofs::SearchLemmas::walk_ends, crate::proofs::SearchLemmas::walk_within))]
-fn starting_at<R: FrameRecord>(bytes: &[u8], address: u32) -> &[u8]
-    ensures exact { IsStrictlyIncreasing (map (λ frame. (R.span frame).start) (spelled R.SIZE R.value bytes.now))
-        → spelled R.SIZE R.value result.now ≡ from_address R.span address (spelled R.SIZE R.value bytes.now) }
-    ensures end { IsEnd (spelled R.SIZE R.value result.now) (spelled R.SIZE R.value bytes.now) }
-{
-    let mut from = bytes;
-    let mut rest = bytes;
-    while let Some((frame, others)) = first::<R>(rest) {
-        if address < frame.start() {
-            return from;
-        }
-        from = if begins_at(frame, address) {
-            rest
-        } else {
-            others
-        };
-        rest = others;
-    }
-    from
 }

@@ -7,10 +7,9 @@ ghost use Rattle.pdb_frames.specs.declared.frame_data.FrameData.{FrameData};
 ghost use Rattle.pdb_frames.specs.declared.old_frame_data.OldFrameData.{OldFrameData};
 ghost use Rattle.pdb_frames.specs.declared.new_frame_data.NewFrameData.{NewFrameData};
 ghost use Rattle.pdb_frames.specs.Span.{Span};
-ghost use Rattle.pdb_frames.specs.Stored.{old_frame, new_frame};
 ghost use Rattle.pdb_frames.specs.Merge.{by_heads};
 ghost use Rattle.pdb_frames.specs.Table.{Frames, IsStep, StartsIncrease};
-ghost use Rattle.pdb_frames.specs.Laws.{CoversToItsEnd, AreReadInTurn, IsSortedByStart, IsMerged, IsWoven, EndsForGood, ComparesByNumber};
+ghost use Rattle.pdb_frames.specs.Laws.{CoversToItsEnd, IsSortedByStart, IsMerged, IsWoven, EndsForGood, ComparesByNumber};
 
 use crate::frame_type::FrameType;
 
@@ -19,12 +18,6 @@ use crate::frame_type::FrameType;
 #[tactic(auto, using(crate::proofs::LawLemmas::covers_to_its_end))]
 pub fn ranges()
     ensures { (span : Span) (address : ℕ) → CoversToItsEnd span address }
-{}
-
-/// The records of a stream are those that are read one behind the other.
-pub fn records()
-    ensures old { (bytes : List ℕ) → AreReadInTurn 16 old_frame bytes }
-    ensures new { (bytes : List ℕ) → AreReadInTurn 32 new_frame bytes }
 {}
 
 /// Frames by their starts are the same frames, in order.

@@ -10,6 +10,7 @@ mod frame_type;
 pub mod laws;
 mod new_frame_data;
 mod old_frame_data;
+mod search;
 
 pub use addr_range::AddrRange;
 pub use frame_data::FrameData;

@@ -3,5 +3,5 @@ pub mod NameLemmas
 pub mod RangeLemmas
 pub mod RecordLemmas
 pub mod OrderLemmas
-pub mod HeaderLemmas
 pub mod SectionLemmas
+pub mod SearchLemmas

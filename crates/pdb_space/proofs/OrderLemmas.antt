@@ -1,13 +1,9 @@
--- Records in order, and those at or below an address.
-use Rattle.std.proofs.Common.{◌≡◌, ℕ, zero, suc, ◌<◌, ◌≤◌, Bool, true, false, ◌&&◌, leb, List, [], ◌∷◌, ◌++◌, length, get_or, refl, sym, ap, subst, ◌∙◌, append_assoc, arith, Some, Option}
-use Rattle.std.specs.List.{filter, last_or, Contains}
+-- Records in order.
+use Rattle.std.proofs.Common.{◌≡◌, ℕ, zero, suc, ◌<◌, ◌≤◌, Bool, true, false, ◌&&◌, leb, List, [], ◌∷◌, length, get_or, refl, sym, ap, ◌∙◌, arith}
 use Rattle.std.proofs.lemmas.Bool.{false≢true, and_from, and_parts, le-leb, leb-true, lt-leb}
-use Rattle.std.proofs.lemmas.List.{drop_at}
-use Rattle.std.proofs.lemmas.List.Sorted.{IsNonDecreasingBy-drop}
-use Rattle.std.proofs.lemmas.List.Elements.{Contains-append_right, Contains-get_or}
-use Rattle.pdb_space.specs.Omap.{Mapping, IsSortedBySource, last_at_or_below}
+use Rattle.pdb_space.specs.Omap.{Mapping, IsSortedBySource}
 use Rattle.pdb_space.specs.Ranges.{next_source}
-use Rattle.pdb_space.proofs.RangeLemmas.{sorted-rest, none-below}
+use Rattle.pdb_space.proofs.RangeLemmas.{sorted-rest}
 
 -- ---- in order
 
@@ -50,27 +46,3 @@ pub falls : (highest : ℕ) (left rest table : List Mapping) (here : Mapping) �
 falls highest left rest table here rising next below sorted =
     let falling : rises highest (here ∷ rest) ≡ false = ap (λ (b : Bool). b && rises here.source rest) (lt-leb highest here.source below) in
     false≢true (sym falling ∙ ap (rises highest) (sym next) ∙ rising ∙ rises-from_sorted 0 table sorted (omega arith))
-
--- ---- at or below an address
-
-sorted-behind : (front rest table : List Mapping) → front ++ rest ≡ table → IsSortedBySource table → IsSortedBySource rest
-sorted-behind front rest table whole sorted =
-    subst IsSortedBySource (drop_at front rest (length front) refl) (IsNonDecreasingBy-drop (λ m. m.source) (length front) (front ++ rest) (subst IsSortedBySource (sym whole) sorted))
-
--- a record above the address ends the search
-pub last-stop : (front left rest table : List Mapping) (here : Mapping) (found : Option Mapping) (a : ℕ) → left ≡ here ∷ rest → front ++ left ≡ table → a < here.source
-    → last_or found (filter (λ m. leb m.source a) left) ≡ last_at_or_below table a → IsSortedBySource table → found ≡ last_at_or_below table a
-last-stop front left rest table here found a next whole above last sorted =
-    let behind : IsSortedBySource (here ∷ rest) = subst IsSortedBySource next (sorted-behind front left table whole sorted) in
-    ap (last_or found) (sym (none-below (here ∷ rest) a behind above)) ∙ ap (λ (l : List Mapping). last_or found (filter (λ m. leb m.source a) l)) (sym next) ∙ last
-
--- any other is the last so far
-pub last-on : (left rest : List Mapping) (here : Mapping) (found : Option Mapping) (a : ℕ) → left ≡ here ∷ rest → here.source ≤ a → last_or found (filter (λ m. leb m.source a) left) ≡ last_or (Some here) (filter (λ m. leb m.source a) rest)
-last-on left rest here found a next at = let below : leb here.source a ≡ true = le-leb here.source a at in rw (next, below) refl
-
-pub whole-on : (front left rest table : List Mapping) (here : Mapping) → left ≡ here ∷ rest → front ++ left ≡ table → (front ++ here ∷ []) ++ rest ≡ table
-whole-on front left rest table here next whole = append_assoc front (here ∷ []) rest ∙ ap (λ (l : List Mapping). front ++ l) (sym next) ∙ whole
-
-pub contains-next : (front left rest table : List Mapping) (here : Mapping) → left ≡ here ∷ rest → front ++ left ≡ table → Contains table here
-contains-next front left rest table here next whole =
-    subst (λ (t : List Mapping). Contains t here) (ap (λ (l : List Mapping). front ++ l) (sym next) ∙ whole) (Contains-append_right front (here ∷ rest) here (Contains-get_or (here ∷ rest) 0 here (omega arith)))

@@ -61,7 +61,7 @@ past-second mapping [] e sorted past = omega arith
 past-second mapping (next ∷ table) e sorted past = let least = sorted 0 1 mapping (omega arith) (omega arith) in omega (arith, least)
 
 -- no record is at or below an address before the first
-pub none-below : (table : List Mapping) (a : ℕ) → IsSortedBySource table → a < next_source table (a + 1) → filter (λ m. leb m.source a) table ≡ []
+none-below : (table : List Mapping) (a : ℕ) → IsSortedBySource table → a < next_source table (a + 1) → filter (λ m. leb m.source a) table ≡ []
 none-below [] a sorted before = refl
 none-below (mapping ∷ table) a sorted before =
     let above : leb mapping.source a ≡ false = lt-leb mapping.source a before in
@@ -151,7 +151,7 @@ part-before mapping next s e before =
     rw (low, further) refl
 
 -- where the record's addresses and the range have none in common, there is no part
-part-none : (mapping : Mapping) (next s e : ℕ) → min next e ≤ max mapping.source s → part mapping next (span s e) ≡ None
+pub part-none : (mapping : Mapping) (next s e : ℕ) → min next e ≤ max mapping.source s → part mapping next (span s e) ≡ None
 unfolding part unless_empty
 part-none mapping next s e apart =
     let start = mapping.target + (max mapping.source s - mapping.source) in

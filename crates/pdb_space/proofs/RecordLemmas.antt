@@ -1,32 +1,32 @@
--- The records that bytes hold, one after another.
-use Rattle.std.proofs.Common.{◌≡◌, ℕ, zero, suc, ◌+◌, ◌*◌, ◌/◌, ◌<◌, ◌≤◌, List, [], ◌∷◌, length, drop, map, refl, ap, arith}
-use Rattle.std.specs.List.{range_with_len}
-use Rattle.std.proofs.lemmas.List.{length-drop, drop-drop}
-use Rattle.pdb_space.specs.Omap.{Mapping, mapping_at, mappings_of}
+-- The records of a table, as they stand in bytes.
+use Rattle.std.proofs.Common.{◌≡◌, ℕ, ◌+◌, ◌-◌, ◌*◌, ◌/◌, ◌<◌, ◌≤◌, List, length, get_or, take, drop, map, refl, sym, ap, ◌∙◌, arith}
+use Rattle.std.proofs.lemmas.List.{get_or-map, drop-drop, drop-take, take_rest}
+use Rattle.byteorder.specs.Endian.{little_number}
+use Rattle.byteorder.specs.Numbers.{little_from-take}
+use Rattle.pdb_base.proofs.RecordLemmas.{spelled_length, spelled_at}
+use Rattle.pdb_space.specs.Omap.{Mapping, mapping_of, mappings_of, source_at, target_at}
 
--- what is made of the later numbers of a range, where each is made as its neighbour below by another
-pub map-range_with_len_later : {X : Type 0} (f g : ℕ → X) (from count : ℕ) → ((k : ℕ) → f (k + 1) ≡ g k) → map f (range_with_len (from + 1) count) ≡ map g (range_with_len from count)
-map-range_with_len_later f g from zero same = refl
-map-range_with_len_later f g from (suc count) same = rw (same from, map-range_with_len_later f g (from + 1) count same) refl
+nowhere : Mapping
+nowhere = record { source = 0; target = 0 }
 
--- a record is where it was, counted from behind the first
-mapping_at-drop : (bytes : List ℕ) (k : ℕ) → mapping_at bytes (8 * (k + 1)) ≡ mapping_at (drop 8 bytes) (8 * k)
-unfolding mapping_at
-mapping_at-drop bytes k =
-    let source : 8 * (k + 1) ≡ 8 + 8 * k = omega arith in
-    let target : 8 + 8 * k + 4 ≡ 8 + (8 * k + 4) = omega arith in
-    rw (drop-drop (8 * k) 8 bytes, drop-drop (8 * k + 4) 8 bytes, source, target) refl
+-- a number of the record at a place
+part_at : (part : Mapping → ℕ) (bytes : List ℕ) (k : ℕ) → k < length bytes / 8 → get_or (map part (mappings_of bytes)) k 0 ≡ part (mapping_of (take 8 (drop (8 * k) bytes)))
+part_at part bytes k within =
+    get_or-map part (mappings_of bytes) k nowhere 0 (omega (arith, within, spelled_length 8 mapping_of bytes))
+    ∙ ap part (spelled_at 8 mapping_of bytes k nowhere within)
 
--- bytes of less than a record hold none
-pub mappings_none : (bytes : List ℕ) → length bytes < 8 → mappings_of bytes ≡ []
-unfolding mappings_of
-mappings_none bytes short =
-    let none : length bytes / 8 ≡ 0 = omega arith in
-    rw none refl
+pub source_there : (bytes : List ℕ) (k : ℕ) → k < length bytes / 8 → source_at (mappings_of bytes) k ≡ little_number 4 (drop (8 * k) bytes)
+unfolding mapping_of
+source_there bytes k within = part_at (λ m. m.source) bytes k within ∙ little_from-take 0 4 8 (drop (8 * k) bytes) (omega arith)
 
--- other bytes hold the first record, and those behind it
-pub mappings_first : (bytes : List ℕ) → 8 ≤ length bytes → mappings_of bytes ≡ mapping_at bytes 0 ∷ mappings_of (drop 8 bytes)
-unfolding mappings_of
-mappings_first bytes long =
-    let one : length bytes / 8 ≡ suc (length (drop 8 bytes) / 8) = omega (arith, length-drop 8 bytes) in
-    rw one (ap (λ (rest : List Mapping). mapping_at bytes 0 ∷ rest) (map-range_with_len_later (λ k. mapping_at bytes (8 * k)) (λ k. mapping_at (drop 8 bytes) (8 * k)) 0 (length (drop 8 bytes) / 8) (mapping_at-drop bytes)))
+pub target_there : (bytes : List ℕ) (k : ℕ) → k < length bytes / 8 → target_at (mappings_of bytes) k ≡ little_number 4 (drop (8 * k + 4) bytes)
+unfolding mapping_of
+target_there bytes k within =
+    part_at (λ m. m.target) bytes k within
+    ∙ ap (λ (b : List ℕ). little_number 4 b) (drop-take 4 4 (drop (8 * k) bytes))
+    ∙ little_from-take 0 4 4 (drop 4 (drop (8 * k) bytes)) (omega arith)
+    ∙ ap (λ (b : List ℕ). little_number 4 b) (drop-drop 4 (8 * k) bytes)
+
+-- the bytes from a place on, as a slice has them
+pub from_place : (bytes : List ℕ) (written place : ℕ) → written ≡ place → take (length bytes - written) (drop written bytes) ≡ drop place bytes
+from_place bytes written place same = take_rest bytes written ∙ ap (λ (n : ℕ). drop n bytes) same

@@ -1,31 +1,37 @@
 -- OMAP tables: where addresses go when a tool rearranges an image. A record says where the addresses
 -- from its source on go, as far as the next record's source.
-use Rattle.std.specs.Prelude.{◌≡◌, ℕ, ◌+◌, ◌-◌, ◌*◌, ◌/◌, ◌%◌, ◌≤◌, ◌==◌, nat_le, if◌then◌else◌, List, length, map, filter, drop, codes, Contains, Option, Some, None, option_and_then, Ok}
-use Rattle.std.specs.List.{range_with_len, last_or}
+use Rattle.std.specs.Prelude.{◌≡◌, ℕ, ◌+◌, ◌-◌, ◌%◌, ◌≤◌, ◌==◌, nat_le, if◌then◌else◌, List, length, map, filter, drop, slice_index, codes, Contains, Option, Some, None, option_and_then, Ok}
+use Rattle.std.specs.List.{last_or}
 use Rattle.std.specs.List.Sorted.{IsNonDecreasingBy}
 use Rattle.pdb_base.specs.Endian.{little_number}
 use Rattle.pdb_base.specs.Refusal.{invalid_stream_length}
 use Rattle.pdb_base.specs.Answer.{Answer, ◌>>=◌, required}
-use Rattle.pdb_base.specs.Reading.{front_at}
+use Rattle.pdb_base.specs.Reading.{front_at, read_as}
+use Rattle.pdb_base.specs.Records.{spelled}
 use Rattle.pdb_space.specs.Sum.{fitting}
 
 pub record Mapping : Type 0 where
   pub source : ℕ
   pub target : ℕ
 
--- the record that stands at a place: u32 source, u32 target
-unfoldable pub mapping_at : List ℕ → ℕ → Mapping
-mapping_at bytes place = record { source = little_number 4 (drop place bytes); target = little_number 4 (drop (place + 4) bytes) }
+-- the record that eight bytes spell: u32 source, u32 target
+unfoldable pub mapping_of : List ℕ → Mapping
+mapping_of bytes = record { source = little_number 4 bytes; target = little_number 4 (drop 4 bytes) }
 
 -- the record at the front of bytes, and what is behind its eight bytes
-unfoldable pub first_mapping : List ℕ → Answer (Mapping × List ℕ)
-first_mapping bytes = do
-  front ← front_at 8 bytes
-  Ok (mapping_at front.0 0, front.1)
+abbrev pub first_mapping : List ℕ → Answer (Mapping × List ℕ)
+first_mapping bytes = read_as mapping_of (front_at 8 bytes)
 
 -- the records that bytes hold, eight bytes each
-unfoldable pub mappings_of : List ℕ → List Mapping
-mappings_of bytes = map (λ k. mapping_at bytes (8 * k)) (range_with_len 0 (length bytes / 8))
+abbrev pub mappings_of : List ℕ → List Mapping
+mappings_of bytes = spelled 8 mapping_of bytes
+
+-- the source of the record at a place, and its target
+abbrev pub source_at : List Mapping → ℕ → ℕ
+source_at table place = slice_index (map (λ mapping. mapping.source) table) place
+
+abbrev pub target_at : List Mapping → ℕ → ℕ
+target_at table place = slice_index (map (λ mapping. mapping.target) table) place
 
 -- the table that a stream holds, which is records and nothing else
 unfoldable pub table_of : List ℕ → Answer (List Mapping)

@@ -17,10 +17,12 @@ mod omap_records;
 mod omap_table;
 mod parse_address;
 mod range_iter;
+mod search;
 mod section_characteristics;
 mod section_header;
 mod section_offset;
 mod sections;
+mod source;
 mod string_ref;
 mod string_table;
 

@@ -2,7 +2,7 @@
 
 ghost use Rattle.std.specs.Prelude.{◌≡◌, ◌+◌, ◌-◌, ◌≤◌, length, min};
 ghost use Rattle.pdb_space.specs.Sum.{largest};
-ghost use Rattle.pdb_space.specs.Omap.{first_mapping, mapping_at, moved};
+ghost use Rattle.pdb_space.specs.Omap.{first_mapping, mapping_of, moved};
 ghost use Rattle.pdb_space.specs.Ranges.{part};
 
 use byteorder::{ByteOrder, LittleEndian};
@@ -55,11 +55,11 @@ impl OMAPRecord {
         self.target
     }
 
-    /// The record in the first eight of these bytes.
-    #[tactic(auto, unfolding(crate::specs::Omap::mapping_at))]
+    /// The record that eight bytes spell.
+    #[tactic(auto, unfolding(crate::specs::Omap::mapping_of))]
     pub(crate) fn read(bytes: &[u8]) -> Self
-        requires { 8 ≤ length bytes.now }
-        ensures { result ≡ mapping_at bytes.now 0 }
+        requires { length bytes.now ≡ 8 }
+        ensures { result ≡ mapping_of bytes.now }
     {
         OMAPRecord {
             source: LittleEndian::read_u32(bytes),
@@ -106,7 +106,7 @@ impl OMAPRecord {
 impl Parse<Le> for OMAPRecord {
     ghost reads = { λ _. first_mapping };
 
-    #[tactic(auto, unfolding(crate::specs::Omap::first_mapping, pdb_base::specs::Reading::front_at))]
+    #[tactic(auto, unfolding(pdb_base::specs::Reading::front_at))]
     fn parse_from(bytes: &[u8], _: Le) -> Result<(OMAPRecord, usize)> {
         let mut buffer = ParseBuffer::from(bytes);
         let record = buffer.take(8)?;

@@ -1,16 +1,17 @@
 //! The records of an OMAP table, one after another.
 
-ghost use Rattle.std.specs.Prelude.{◌≡◌, ◌%◌, [], ◌∷◌, length, MatchOption};
+ghost use Rattle.std.specs.Prelude.{◌≡◌, ◌<◌, ◌/◌, ◌%◌, [], ◌∷◌, length, MatchOption};
 ghost use Rattle.std.specs.Iterator.{YieldsFirst, item_count};
-ghost use Rattle.pdb_space.specs.Omap.{mappings_of};
+ghost use Rattle.pdb_space.specs.Omap.{mappings_of, target_at};
 ghost use Rattle.pdb_space.specs.Ranges.{next_source};
 
 use crate::omap_record::OMAPRecord;
+use byteorder::{ByteOrder, LittleEndian};
 use std::iter::FusedIterator;
 use std::marker::Model;
 
 /// How many bytes a record takes.
-const RECORD_SIZE: usize = 8;
+pub(crate) const RECORD_SIZE: usize = 8;
 
 /// The records of an OMAP table, in order.
 #[derive(Debug, Drop)]
@@ -29,6 +30,15 @@ impl<'t> Model for OMAPRecords<'t> {
     ghost invariant = { λ r. length r.bytes.now % 8 ≡ 0 };
 }
 
+/// The target of the record at a place.
+#[tactic(auto, using(crate::proofs::RecordLemmas::target_there))]
+pub(crate) fn target_at(bytes: &[u8], place: usize) -> u32
+    requires { place < length bytes.now / 8 }
+    ensures { result ≡ target_at (mappings_of bytes.now) place }
+{
+    LittleEndian::read_u32(&bytes[place * RECORD_SIZE + 4..])
+}
+
 impl<'t> OMAPRecords<'t> {
     /// The records that these bytes hold, and that hold all of them.
     pub(crate) fn new(bytes: &'t [u8]) -> Self
@@ -39,7 +49,7 @@ impl<'t> OMAPRecords<'t> {
     }
 
     /// No record.
-    #[tactic(auto, using(crate::proofs::RecordLemmas::mappings_none))]
+    #[tactic(auto, using(pdb_base::proofs::RecordLemmas::spelled_none))]
     pub(crate) fn empty() -> Self
         ensures { result ≡ [] }
     {
@@ -47,15 +57,15 @@ impl<'t> OMAPRecords<'t> {
     }
 
     /// The first record and those behind it, or nothing where there is none.
-    #[tactic(auto, using(crate::proofs::RecordLemmas::mappings_none, crate::proofs::RecordLemmas::mappings_first))]
+    #[tactic(auto, using(pdb_base::proofs::RecordLemmas::spelled_none, pdb_base::proofs::RecordLemmas::spelled_first))]
     pub(crate) fn split_first(&self) -> Option<(OMAPRecord, OMAPRecords<'t>)>
         ensures { MatchOption result (self.now ≡ []) (λ split. self.now ≡ split.0 ∷ split.1) }
     {
         if self.bytes.len() < RECORD_SIZE {
             return None;
         }
-        let rest = OMAPRecords::new(&self.bytes[RECORD_SIZE..]);
-        Some((OMAPRecord::read(self.bytes), rest))
+        let (front, behind) = self.bytes.split_at(RECORD_SIZE);
+        Some((OMAPRecord::read(front), OMAPRecords::new(behind)))
     }
 
     /// The source of the first record, or `end` where there is none.

@@ -1,14 +1,17 @@
 //! OMAP tables, by which addresses move where a tool has rearranged an image.
 
-ghost use Rattle.std.specs.Prelude.{◌≡◌, ◌↔◌, ◌≤◌, length, All, Contains, IfSome, IsTrue};
+ghost use Rattle.std.specs.Prelude.{◌≡◌, ◌↔◌, ◌%◌, ◌≤◌, length, drop, All, Contains, IfSome, IsTrue};
 ghost use Rattle.pdb_base.specs.Answer.{Gives};
-ghost use Rattle.pdb_space.specs.Omap.{IsSortedBySource, MovesSomehow, last_at_or_below, shift, table_of};
+ghost use Rattle.pdb_base.specs.Count.{calls_of, after_calls};
+ghost use Rattle.pdb_base.specs.Halving.{binary_digits};
+ghost use Rattle.pdb_space.specs.Omap.{IsSortedBySource, MovesSomehow, last_at_or_below, mappings_of, shift, table_of};
 ghost use Rattle.pdb_space.specs.Ranges.{IsNotEmpty, end_to_end, parts, pointwise};
 
 use crate::omap_record::OMAPRecord;
-use crate::omap_records::OMAPRecords;
+use crate::omap_records::{OMAPRecords, RECORD_SIZE, target_at};
 use crate::range_iter::RangeIter;
-use pdb_base::{Error, Result};
+use crate::search::search;
+use pdb_base::{Count, Error, Result};
 use pdb_msf::Stream;
 use std::marker::Model;
 use std::ops::Range;
@@ -73,27 +76,52 @@ impl OMAPTable {
     /// behind that record's source. Nothing where there is no such record, where its target is 0, or
     /// where this doesn't fit 32 bits. Over a table that isn't sorted, nothing or where some record at
     /// or below the address moves it.
-    #[tactic(auto, unfolding(crate::specs::Omap::shift))]
     pub fn lookup(&self, address: u32) -> Option<u32>
         ensures exact { IsSortedBySource self.now → result ≡ shift self.now address }
         ensures somehow { IfSome result (MovesSomehow self.now address) }
     {
-        self.last_at_or_below(address)?.moved(address)
+        self.lookup_counted(address, &mut Count::new())
+    }
+
+    /// `lookup`, which counts the sources that it compares: as many as the number of records has
+    /// binary digits, and so none over no records.
+    #[tactic(auto, unfolding(crate::specs::Omap::shift))]
+    pub fn lookup_counted(&self, address: u32, count: &mut Count) -> Option<u32>
+        ensures exact { IsSortedBySource self.now → result ≡ shift self.now address }
+        ensures somehow { IfSome result (MovesSomehow self.now address) }
+        ensures counted { calls_of count.new ≡ after_calls (binary_digits (length self.now)) (calls_of count.old) }
+    {
+        self.last_at_or_below(address, count)?.moved(address)
     }
 
     /// The last record at or below an address; over a table that isn't sorted, some such record.
-    fn last_at_or_below(&self, address: u32) -> Option<OMAPRecord>
+    #[tactic(auto, using(pdb_base::proofs::RecordLemmas::spelled_length))]
+    fn last_at_or_below(&self, address: u32, count: &mut Count) -> Option<OMAPRecord>
         ensures exact { IsSortedBySource self.now → result ≡ last_at_or_below self.now address }
         ensures somehow { IfSome result (λ mapping. Contains self.now mapping × (mapping.source ≤ address)) }
+        ensures counted { calls_of count.new ≡ after_calls (binary_digits (length self.now)) (calls_of count.old) }
     {
-        let mut found = None;
-        for record in self.records() {
-            if address < record.source_address() {
-                return found;
-            }
-            found = Some(record);
-        }
-        found
+        let bytes = self.bytes();
+        let found = search(bytes, address, count);
+        let last = found.place.checked_sub(1)?;
+        Some(OMAPRecord::new(found.source, target_at(bytes, last)))
+    }
+
+    /// The records from a place on.
+    #[tactic(auto, using(pdb_base::proofs::RecordLemmas::spelled_length))]
+    fn records_from(&self, place: usize) -> OMAPRecords<'_>
+        requires { place ≤ length self.now }
+        ensures { result ≡ drop place self.now }
+    {
+        OMAPRecords::new(&self.bytes()[place * RECORD_SIZE..])
+    }
+
+    /// The bytes of the records.
+    fn bytes(&self) -> &[u8]
+        ensures records { mappings_of result.now ≡ self.now }
+        ensures whole { length result.now % 8 ≡ 0 }
+    {
+        self.stream.as_slice()
     }
 
     /// Where the addresses of a range are moved: one range for each record that moves some of them, in
@@ -101,13 +129,14 @@ impl OMAPTable {
     ///
     /// Laid end to end, the ranges are what `lookup` makes of the addresses one by one, but for those
     /// that it moves to 0xffffffff. Over a table that isn't sorted they are at most one for each record.
-    #[tactic(auto, using(crate::proofs::RangeLemmas::parts_until_sorted, crate::proofs::RangeLemmas::parts_until_laid, crate::proofs::RangeLemmas::parts_until_few, crate::proofs::RangeLemmas::parts_until_not_empty))]
+    #[tactic(auto, using(crate::proofs::SearchLemmas::dropped_few, crate::proofs::RangeLemmas::parts_until_not_empty, pdb_base::proofs::RecordLemmas::spelled_length))]
     pub fn lookup_range(&self, range: Range<u32>) -> RangeIter<'_>
         ensures parts { IsSortedBySource self.now → result ≡ parts self.now range }
         ensures laid { IsSortedBySource self.now → end_to_end result ≡ pointwise (shift self.now) range }
         ensures few { length result ≤ length self.now }
         ensures not_empty { All IsNotEmpty result }
     {
-        RangeIter::translated(self.records(), range)
+        let found = search(self.bytes(), range.start, &mut Count::new());
+        RangeIter::translated(self.records_from(found.place.saturating_sub(1)), range)
     }
 }

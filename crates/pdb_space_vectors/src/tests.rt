@@ -2,5 +2,6 @@
 
 mod addresses;
 mod frames;
+mod searching;
 mod strings;
 mod translation;

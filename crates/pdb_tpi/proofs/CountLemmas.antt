@@ -1,16 +1,13 @@
 -- How many lengths a walk reads.
-use Rattle.std.proofs.Common.{◌≡◌, ℕ, zero, suc, add-one, add-zero, ◌+◌, ◌-◌, ◌^◌, ◌≤◌, ◌<◌, ◌||◌, Bool, true, false, leb, ltb, cond, List, length, min, refl, sym, ap, ◌∙◌, arith, Ok, inl, inr}
+use Rattle.std.proofs.Common.{◌≡◌, ℕ, add-zero, ◌+◌, ◌-◌, ◌≤◌, ◌<◌, ◌||◌, Bool, true, false, leb, ltb, cond, List, length, refl, sym, ap, ◌∙◌, arith, Ok, inl, inr}
 use Rattle.std.proofs.lemmas.Bool.{cases_lt, le-ltb, lt-ltb}
 use Rattle.std.proofs.lemmas.Option.{slice_get_within}
-use Rattle.pdb_base.specs.Count.{one_more}
+use Rattle.pdb_base.specs.Count.{one_more, after_calls}
+use Rattle.pdb_base.proofs.CountLemmas.{one_call}
 use Rattle.pdb_tpi.specs.Table.{Table}
 use Rattle.pdb_tpi.specs.Steps.{Stand, walk, walk_rest, nth_item, place_of, reads_one}
-use Rattle.pdb_tpi.specs.Finder.{after_calls, reads_between}
+use Rattle.pdb_tpi.specs.Finder.{reads_between}
 use Rattle.pdb_tpi.proofs.StepLemmas.{nth_ok}
-
--- one call after others
-pub one_call : (calls more : ℕ) → one_more (after_calls more calls) ≡ after_calls (more + 1) calls
-one_call calls more = ap (λ (n : ℕ). after_calls n calls) (sym (add-one more))
 
 -- an item that was read is in the walk
 pub nth_within : (table : Table) (n : ℕ) (item : List ℕ) → nth_item table n ≡ Ok item → n < length (walk table)
@@ -37,16 +34,6 @@ reads_stopped table from steps done all le =
 stops_by : (test : Bool) (calls done : ℕ) → cond test (one_more (after_calls done calls)) (after_calls done calls) ≡ after_calls (done + cond test 1 0) calls
 stops_by true calls done = one_call calls done
 stops_by false calls done = ap (λ (n : ℕ). after_calls n calls) (sym (add-zero done))
-
--- a count grows by no more than the calls
-pub few_calls : (more calls : ℕ) → after_calls more calls ≤ calls + more
-few_calls zero calls = omega arith
-few_calls (suc more) calls = let ih = few_calls more calls in omega arith
-
--- as many as the calls, up to the largest number of 64 bits
-pub calls_are : (more calls : ℕ) → calls < 2 ^ 64 → after_calls more calls ≡ min (calls + more) (2 ^ 64 - 1)
-calls_are zero calls fits = omega arith
-calls_are (suc more) calls fits = let ih = calls_are more calls fits in rw ih (omega arith)
 
 -- the count after the last read of several: that of the item, or of where the walk stops
 pub last_count : (start now : Stand) (steps done calls : ℕ) → now.table ≡ start.table → place_of now ≡ place_of start + done → place_of now ≤ length (walk now.table) → done ≤ steps

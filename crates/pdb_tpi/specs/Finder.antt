@@ -5,7 +5,6 @@ use Rattle.std.specs.Int.{div_ceil}
 use Rattle.std.specs.List.{fold, range_with_len}
 use Rattle.pdb_base.specs.Refusal.{type_not_found, type_not_indexed}
 use Rattle.pdb_base.specs.Answer.{Answer}
-use Rattle.pdb_base.specs.Count.{one_more}
 use Rattle.pdb_tpi.specs.Table.{Table, count_of}
 use Rattle.pdb_tpi.specs.Steps.{walk, walk_rest, nth_item}
 
@@ -94,11 +93,6 @@ reads_of table known i =
     if is_counted table i && nat_lt (block_of table i) known
     then reads_between table (8 * block_of table i) (i - table.header.minimum_index)
     else 0
-
--- a count after so many calls more, each of which adds one where it can
-abbrev pub after_calls : ℕ → ℕ → ℕ
-after_calls zero calls = calls
-after_calls (suc more) calls = one_more (after_calls more calls)
 
 -- the most blocks that can be known: as many as hold the counted items, and, since an item takes four
 -- bytes or more, one more than 32 bytes each of what stands behind the header

@@ -2,9 +2,9 @@
 
 ghost use Rattle.std.specs.Prelude.{◌≡◌, ◌+◌, ◌≤◌, All, map, IfOk, Ok};
 ghost use Rattle.pdb_base.specs.Answer.{Answers, Gives};
-ghost use Rattle.pdb_base.specs.Count.{calls_of};
+ghost use Rattle.pdb_base.specs.Count.{calls_of, after_calls};
 ghost use Rattle.pdb_tpi.specs.Steps.{Stand};
-ghost use Rattle.pdb_tpi.specs.Finder.{Indexed, known_first, known_after, known_of, max_index_of, most_blocks, find_of, reads_of, after_calls};
+ghost use Rattle.pdb_tpi.specs.Finder.{Indexed, known_first, known_after, known_of, max_index_of, most_blocks, find_of, reads_of};
 
 use crate::item::Item;
 use crate::item_information::ItemInformation;

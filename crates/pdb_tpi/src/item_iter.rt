@@ -2,10 +2,10 @@
 
 ghost use Rattle.std.specs.Prelude.{◌≡◌, ◌+◌, ◌≤◌, ℕ, length, nat_lt, ⊤, if◌then◌else◌, IfOk, OnOk, OnErr};
 ghost use Rattle.pdb_base.specs.Answer.{Gives};
-ghost use Rattle.pdb_base.specs.Count.{calls_of, one_more};
+ghost use Rattle.pdb_base.specs.Count.{calls_of, one_more, after_calls};
 ghost use Rattle.pdb_tpi.specs.Walk.{first_item};
 ghost use Rattle.pdb_tpi.specs.Steps.{Stand, walk, place_of, nth_item, IsStep, reads_one};
-ghost use Rattle.pdb_tpi.specs.Finder.{after_calls, reads_between};
+ghost use Rattle.pdb_tpi.specs.Finder.{reads_between};
 ghost use Rattle.pdb_tpi.specs.Place.{IsPlace};
 
 use crate::item::Item;

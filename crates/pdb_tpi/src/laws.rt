@@ -1,11 +1,11 @@
 //! What the definitions that contracts cite say in other words. The functions do nothing: each
 //! contract is a law.
 
-ghost use Rattle.std.specs.Prelude.{◌≡◌, ℕ, ◌+◌, ◌-◌, ◌*◌, ◌^◌, ◌<◌, ◌≤◌, min, List, length};
+ghost use Rattle.std.specs.Prelude.{◌≡◌, ℕ, ◌+◌, ◌*◌, ◌≤◌, List, length};
 ghost use Rattle.pdb_tpi.specs.Table.{Table};
 ghost use Rattle.pdb_tpi.specs.Walk.{IsWalk, items, rest};
 ghost use Rattle.pdb_tpi.specs.Steps.{room, body, walk, walk_rest};
-ghost use Rattle.pdb_tpi.specs.Finder.{IsKnown, known_of, after_calls};
+ghost use Rattle.pdb_tpi.specs.Finder.{IsKnown, known_of};
 ghost use Rattle.pdb_tpi.specs.Laws.{AreBytes, StandAtOffsets, WalksOnce, HasFault, ReadsFew};
 
 /// The fields of a header stand at fixed offsets.
@@ -35,10 +35,8 @@ pub fn known_blocks()
     ensures only { (table : Table) (known : ℕ) (shown : List ℕ) (most : ℕ) → IsKnown table known shown most → most ≡ known_of table known shown }
 {}
 
-/// A look-up reads few lengths, and a count after so many calls more is their sum, up to the largest
-/// number of 64 bits.
-#[tactic(auto, using(crate::proofs::LawLemmas::reads_few, crate::proofs::CountLemmas::calls_are))]
+/// A look-up reads few lengths.
+#[tactic(auto, using(crate::proofs::LawLemmas::reads_few))]
 pub fn counts()
-    ensures reads { (table : Table) (known i : ℕ) → ReadsFew table known i }
-    ensures calls { (more calls : ℕ) → calls < 2 ^ 64 → after_calls more calls ≡ min (calls + more) (2 ^ 64 - 1) }
+    ensures { (table : Table) (known i : ℕ) → ReadsFew table known i }
 {}

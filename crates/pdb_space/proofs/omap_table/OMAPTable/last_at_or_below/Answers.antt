@@ -1,20 +1,24 @@
-use Rattle.std.proofs.Common.{sym, ◌∙◌, arith}
-use Rattle.pdb_space.proofs.OrderLemmas.{last-stop, last-on, whole-on, contains-next}
+use Rattle.std.proofs.Common.{◌≡◌, ◌-◌, List, ℕ, Some, Option, sym, ◌∙◌, ap, arith}
+use Rattle.pdb_space.specs.Omap.{Mapping, target_at}
+use Rattle.pdb_space.proofs.SearchLemmas.{mapping_with, found_in, none_found, last_found, some_found}
 use Rattle.pdb_space.proofs.omap_table.OMAPTable.last_at_or_below.Goals as goal
 
-pub returns-then-address-source_address-clause-exact : goal.returns-then-address-source_address-clause-exact
-returns-then-address-source_address-clause-exact c = λ sorted.
-    last-stop c.loop-record.yielded c.loop-record.record-iterator c.next.new.self c.args.self.now c.in-Some.record c.loop-record.found c.args.address c.in-Some.ensures.steps c.loop-record.invariant.whole (omega arith) c.loop-record.invariant.last sorted
+pub returns-in_err-last-clause-exact : goal.returns-in_err-last-clause-exact
+returns-in_err-last-clause-exact c = λ sorted.
+    let found = found_in c.bytes-bytes.result.now c.args.self.now c.args.address c.search-found.result.place c.search-found.result.source c.bytes-bytes.ensures.records c.search-found.ensures.found in
+    let first = rw c.in_err-last.was at c.checked_sub.ensures in
+    c.from_residual.ensures ∙ none_found c.args.self.now c.args.address c.search-found.result.place c.search-found.result.source found (omega (arith, first)) sorted
 
-pub loop-record-preserved : goal.loop-record-preserved
-loop-record-preserved c =
-    let here = c.in-Some.record in
-    let front = c.loop-record.yielded in
-    let left = c.loop-record.record-iterator in
-    let rest = c.next.new.self in
-    let table = c.args.self.now in
-    record {
-      whole = whole-on front left rest table here c.in-Some.ensures.steps c.loop-record.invariant.whole;
-      last = sym (last-on left rest here c.loop-record.found c.args.address c.in-Some.ensures.steps (omega arith)) ∙ c.loop-record.invariant.last;
-      known = (contains-next front left rest table here c.in-Some.ensures.steps c.loop-record.invariant.whole, omega arith);
-    }
+pub returns-clause-exact : goal.returns-clause-exact
+returns-clause-exact c = λ sorted.
+    let found = found_in c.bytes-bytes.result.now c.args.self.now c.args.address c.search-found.result.place c.search-found.result.source c.bytes-bytes.ensures.records c.search-found.ensures.found in
+    let target : c.target_at.result ≡ target_at c.args.self.now (c.search-found.result.place - 1) = rw (← c.bytes-bytes.ensures.records, ← c.in_ok-last.ensures.1) c.target_at.ensures in
+    let record_is = c.new.ensures ∙ ap (λ (t : ℕ). mapping_with c.search-found.result.source t) target in
+    ap (λ (m : Mapping). Some m) record_is ∙ last_found c.args.self.now c.args.address c.search-found.result.place c.search-found.result.source found (omega (arith, c.in_ok-last.ensures.0)) sorted
+
+pub returns-clause-somehow : goal.returns-clause-somehow
+returns-clause-somehow c =
+    let found = found_in c.bytes-bytes.result.now c.args.self.now c.args.address c.search-found.result.place c.search-found.result.source c.bytes-bytes.ensures.records c.search-found.ensures.found in
+    let target : c.target_at.result ≡ target_at c.args.self.now (c.search-found.result.place - 1) = rw (← c.bytes-bytes.ensures.records, ← c.in_ok-last.ensures.1) c.target_at.ensures in
+    let record_is = c.new.ensures ∙ ap (λ (t : ℕ). mapping_with c.search-found.result.source t) target in
+    rw record_is (some_found c.args.self.now c.args.address c.search-found.result.place c.search-found.result.source found (omega (arith, c.in_ok-last.ensures.0)))

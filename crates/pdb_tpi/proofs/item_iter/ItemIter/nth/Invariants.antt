@@ -1,7 +1,6 @@
 use Rattle.std.proofs.Common.{◌≡◌, ◌+◌}
-use Rattle.pdb_base.specs.Count.{calls_of}
+use Rattle.pdb_base.specs.Count.{calls_of, after_calls}
 use Rattle.pdb_tpi.specs.Steps.{place_of}
-use Rattle.pdb_tpi.specs.Finder.{after_calls}
 use Rattle.pdb_tpi.proofs.item_iter.ItemIter.nth.Given as goal
 
 abbrev pub invariant-loop : goal.invariant-loop

@@ -1,0 +1,5 @@
+use Rattle.pdb_base.proofs.HalvingLemmas.{least_to_hold}
+use Rattle.pdb_base.proofs.laws.digits.Goals as goal
+
+pub returns : goal.returns
+returns c = least_to_hold

@@ -1,0 +1,78 @@
+//! The search for an address among the records of a stream, by halving.
+
+ghost use Rattle.std.specs.Prelude.{◌≡◌, ◌<◌, ◌≤◌, ◌/◌, length, map};
+ghost use Rattle.std.specs.List.Sorted.{IsStrictlyIncreasing};
+ghost use Rattle.pdb_base.specs.Halving.{IsFound};
+ghost use Rattle.pdb_base.specs.Records.{spelled};
+ghost use Rattle.pdb_frames.specs.Span.{Span, begins, from_address, start_at, IsEnd};
+
+use crate::frame_record::{FrameRecord, from_place, record_at};
+
+/// Where the record at a place starts.
+#[tactic(auto, using(crate::proofs::SearchLemmas::start_there))]
+fn start_at<R: FrameRecord>(bytes: &[u8], place: usize) -> u32
+    requires { place < length bytes.now / R.SIZE }
+    ensures { result ≡ start_at R.span (spelled R.SIZE R.value bytes.now) place }
+{
+    record_at::<R>(bytes, place).start()
+}
+
+/// Where a search has ended.
+#[derive(Clone, Copy)]
+struct Found {
+    /// The place behind the last record that starts at or below the address.
+    place: usize,
+
+    /// Where that record starts, where there is one.
+    start: u32,
+}
+
+/// Searches for the last record that starts at or below an address.
+///
+/// The part of the stream that is left to search halves with each comparison, whichever way it falls,
+/// and the start is kept beside the place. So the step needs no branch.
+#[tactic(auto, using(pdb_base::proofs::HalvingLemmas::halving_begins, pdb_base::proofs::HalvingLemmas::halving_takes, pdb_base::proofs::HalvingLemmas::halving_passes, pdb_base::proofs::HalvingLemmas::halving_ends))]
+fn search<R: FrameRecord>(bytes: &[u8], address: u32) -> Found
+    ensures { IsFound (start_at R.span (spelled R.SIZE R.value bytes.now)) (length bytes.now / R.SIZE) address result.place result.start }
+{
+    let (mut place, mut start) = (0, 0);
+    let mut size = bytes.len() / R::SIZE;
+    while size > 0 {
+        let middle = place + size / 2;
+        let next = start_at::<R>(bytes, middle);
+        if next <= address {
+            place = middle + size % 2;
+            start = next;
+        }
+        size /= 2;
+    }
+    Found { place, start }
+}
+
+/// Whether the records from an address on begin at one that starts there or below it and has so many
+/// bytes of code, where every later one starts above it.
+fn begins_at(start: u32, size: u32, address: u32) -> bool
+    requires { start ≤ address }
+    ensures { result ≡ begins (record { start = start; size = size }) address }
+{
+    start == address || address - start < size
+}
+
+/// The bytes of the records from the one on that starts at an address, else from the last that starts
+/// below it, if that one's code reaches to the address, else from the first that starts above it.
+pub(crate) fn starting_at<R: FrameRecord>(bytes: &[u8], address: u32) -> &[u8]
+    ensures exact { IsStrictlyIncreasing (map (λ frame. (R.span frame).start) (spelled R.SIZE R.value bytes.now))
+        → spelled R.SIZE R.value result.now ≡ from_address R.span address (spelled R.SIZE R.value bytes.now) }
+    ensures end { IsEnd (spelled R.SIZE R.value result.now) (spelled R.SIZE R.value bytes.now) }
+{
+    let found = search::<R>(bytes, address);
+    let Some(last) = found.place.checked_sub(1) else {
+        return bytes;
+    };
+    let size = record_at::<R>(bytes, last).size();
+    if begins_at(found.start, size, address) {
+        from_place::<R>(bytes, last)
+    } else {
+        from_place::<R>(bytes, found.place)
+    }
+}

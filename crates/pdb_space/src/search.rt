@@ -1,0 +1,43 @@
+//! The search for an address among the records of an OMAP table, by halving.
+
+ghost use Rattle.std.specs.Prelude.{◌≡◌, ◌/◌, length};
+ghost use Rattle.pdb_base.specs.Count.{calls_of, after_calls};
+ghost use Rattle.pdb_base.specs.Halving.{IsFound, binary_digits};
+ghost use Rattle.pdb_space.specs.Omap.{mappings_of, source_at};
+
+use crate::omap_records::RECORD_SIZE;
+use crate::source::source_at;
+use pdb_base::Count;
+
+/// Where a search has ended.
+#[derive(Clone, Copy)]
+pub(crate) struct Found {
+    /// The place behind the last record that begins at or below the address.
+    pub(crate) place: usize,
+
+    /// The source of that record, where there is one.
+    pub(crate) source: u32,
+}
+
+/// Searches for the last record that begins at or below an address, and counts the comparisons.
+///
+/// The part of the table that is left to search halves with each comparison, whichever way it falls,
+/// and the source is kept beside the place. So the step needs no branch.
+#[tactic(auto, using(pdb_base::proofs::HalvingLemmas::halving_begins, pdb_base::proofs::HalvingLemmas::halving_takes, pdb_base::proofs::HalvingLemmas::halving_passes, pdb_base::proofs::HalvingLemmas::halving_ends, pdb_base::proofs::HalvingLemmas::halving_counts, pdb_base::proofs::HalvingLemmas::halving_counted))]
+pub(crate) fn search(bytes: &[u8], address: u32, count: &mut Count) -> Found
+    ensures found { IsFound (source_at (mappings_of bytes.now)) (length bytes.now / 8) address result.place result.source }
+    ensures counted { calls_of count.new ≡ after_calls (binary_digits (length bytes.now / 8)) (calls_of count.old) }
+{
+    let (mut place, mut source) = (0, 0);
+    let mut size = bytes.len() / RECORD_SIZE;
+    while size > 0 {
+        let middle = place + size / 2;
+        let next = source_at(bytes, middle, count);
+        if next <= address {
+            place = middle + size % 2;
+            source = next;
+        }
+        size /= 2;
+    }
+    Found { place, source }
+}
