@@ -1,5 +1,5 @@
 -- A count after calls.
-use Rattle.std.proofs.Common.{◌≡◌, ℕ, zero, suc, add-one, ◌+◌, ◌-◌, ◌^◌, ◌≤◌, ◌<◌, min, refl, sym, ap, ◌∙◌, arith}
+use Rattle.std.proofs.Common.{◌≡◌, ℕ, zero, suc, add-one, ◌+◌, ◌-◌, ◌^◌, ◌≤◌, ◌<◌, min, sym, ap, ◌∙◌, arith}
 use Rattle.pdb_base.specs.Count.{one_more, after_calls}
 
 -- one call after others

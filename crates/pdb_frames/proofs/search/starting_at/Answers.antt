@@ -1,6 +1,5 @@
-use Rattle.std.proofs.Common.{◌≡◌, ◌-◌, ◌*◌, ℕ, List, take, drop, sym, ap, ◌∙◌, arith}
+use Rattle.std.proofs.Common.{◌≡◌, ◌-◌, ◌*◌, ℕ, take, drop, sym, ap, ◌∙◌, arith}
 use Rattle.pdb_base.specs.Records.{spelled}
-use Rattle.pdb_frames.specs.Span.{Span}
 use Rattle.pdb_frames.proofs.SearchLemmas.{found_in, found_none, found_begins, found_passes}
 use Rattle.pdb_frames.proofs.search.starting_at.Goals as goal
 

@@ -1,4 +1,4 @@
-use Rattle.std.proofs.Common.{◌≡◌, ◌-◌, List, ℕ, Some, Option, sym, ◌∙◌, ap, arith}
+use Rattle.std.proofs.Common.{◌≡◌, ◌-◌, ℕ, Some, ◌∙◌, ap, arith}
 use Rattle.pdb_space.specs.Omap.{Mapping, target_at}
 use Rattle.pdb_space.proofs.SearchLemmas.{mapping_with, found_in, none_found, last_found, some_found}
 use Rattle.pdb_space.proofs.omap_table.OMAPTable.last_at_or_below.Goals as goal

@@ -1,4 +1,3 @@
-use Rattle.std.proofs.Common.{sym, ◌∙◌, ap, arith}
 use Rattle.pdb_space.proofs.SearchLemmas.{found_in, found_parts, found_laid}
 use Rattle.pdb_space.proofs.omap_table.OMAPTable.lookup_range.Goals as goal
 

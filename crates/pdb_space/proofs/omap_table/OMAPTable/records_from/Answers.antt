@@ -1,4 +1,4 @@
-use Rattle.std.proofs.Common.{◌*◌, sym, ◌∙◌, ap, drop, List, ℕ, lit<, arith}
+use Rattle.std.proofs.Common.{◌*◌, ◌∙◌, ap, drop, List, lit<, arith}
 use Rattle.pdb_base.proofs.RecordLemmas.{spelled_behind}
 use Rattle.pdb_space.specs.Omap.{Mapping, mapping_of, mappings_of}
 use Rattle.pdb_space.proofs.RecordLemmas.{from_place}
