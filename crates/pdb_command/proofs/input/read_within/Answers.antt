@@ -1,11 +1,15 @@
-use Rattle.std.proofs.Common.{◌≡◌, ℕ, ◌<◌, ◌++◌, List, Result, Ok, sym, ap, subst, ◌∙◌, arith, rules, length, take}
+use Rattle.std.proofs.Common.{◌≡◌, ℕ, ◌<◌, ◌++◌, List, Option, Result, Ok, refl, sym, ap, subst, ◌∙◌, arith, rules, length, take}
+use denote.Enum.Bare.{same_false}
+use Rattle.std.specs.contracts.io.ErrorKind.{the_type}
+use Rattle.std.specs.declared.io.ErrorKind.TheVariants.{Interrupted}
 use Rattle.std.specs.Global.{Vec}
 use Rattle.std.specs.declared.io.Error.{Error}
 use Rattle.std.specs.Io.KnownBytes.{Consumes, ReadConsumes}
 use Rattle.std.proofs.KnownBytes.{Consumes-nil, Consumes-trans, Consumes-kept}
+use Rattle.pdb_command.specs.Channels.{IsUnread}
 use Rattle.pdb_command.proofs.InputLemmas.{read_whole, block_read}
-use Rattle.pdb_command.proofs.input.read_all.Goals.{in-Ok+in_ok-extend_from_slice-in-Ok, in-Err}
-use Rattle.pdb_command.proofs.input.read_all.Goals as goal
+use Rattle.pdb_command.proofs.input.read_within.Goals.{in-Ok+in_ok-extend_from_slice-in-Ok, in-Err}
+use Rattle.pdb_command.proofs.input.read_within.Goals as goal
 
 pub loop-init : goal.loop-init
 loop-init g c = record {
@@ -13,15 +17,22 @@ loop-init g c = record {
   read = subst (Consumes _ _) (sym c.new-bytes.ensures.items) (Consumes-nil _);
 }
 
+-- a read with room that gives nothing
+nothing_read : (old new : Option (List ℕ)) (result : Result ℕ Error) (block : List ℕ) → result ≡ Ok 0 → ReadConsumes old new result block → ReadConsumes {E = Error} old new (Ok 0) block
+nothing_read old new result block is read = subst (λ (r : Result ℕ Error). ReadConsumes old new r block) is read
+
 pub returns-in-Ok-eq0-clause-bytes : goal.returns-in-Ok-eq0-clause-bytes
 returns-in-Ok-eq0-clause-bytes g c =
     let long : length c.read.new.buf ≡ 65_536 = search rules in
     let some : 0 < length c.read.new.buf = omega (arith, long) in
-    let none : c.read.result ≡ Ok 0 = c.in-Ok-eq0.is ∙ ap Ok c.in-Ok-eq0.field-0-test in
-    let old = g.R.Read.remaining c.loop.input in
-    let new = g.R.Read.remaining c.read.new.self in
-    let read = subst (λ (r : Result ℕ Error). ReadConsumes old new r c.read.new.buf) none c.read.ensures.bytes in
-    read_whole Error _ old new _ _ some c.loop.invariant.read read
+    let read = nothing_read _ _ _ _ (c.in-Ok-eq0.is ∙ ap Ok c.in-Ok-eq0.field-0-test) c.read.ensures.bytes in
+    read_whole Error _ _ _ _ _ some c.loop.invariant.read read
+
+pub returns-in-Ok-eq0-clause-end : goal.returns-in-Ok-eq0-clause-end
+returns-in-Ok-eq0-clause-end g c =
+    let long : length c.read.new.buf ≡ 65_536 = search rules in
+    let some : 0 < length c.read.new.buf = omega (arith, long) in
+    (nothing_read _ _ _ _ (c.in-Ok-eq0.is ∙ ap Ok c.in-Ok-eq0.field-0-test) c.read.ensures.bytes).1 refl some
 
 pub loop-preserved : goal.loop-preserved
 loop-preserved g c =
@@ -43,3 +54,8 @@ loop-preserved g c =
             read = subst (Consumes _ _) (sym same) (Consumes-kept _ _ _ _ c.loop.invariant.read w.in-Err.ensures.bytes);
           }
     ]
+
+-- a fault that is no interruption is a reason not to have read
+pub returns-in-Err-2-clause-refused : goal.returns-in-Err-2-clause-refused
+returns-in-Err-2-clause-refused g c =
+    subst IsUnread (sym c.into.ensures) (λ is. same_false the_type c.kind.result Interrupted (sym c.if-eq.ensures) (c.kind.ensures ∙ is))

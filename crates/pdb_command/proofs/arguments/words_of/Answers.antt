@@ -4,7 +4,7 @@ use Rattle.std.specs.Iterator.Adapters.{skip_source, skip_count}
 use Rattle.std.specs.Vec.Iter.{into_iter_items, into_iter_len}
 use Rattle.std.proofs.lemmas.Iterator.Adapters.{YieldsList-from_vec, YieldsList-from_skip}
 use Rattle.std.proofs.lemmas.Iterator.Consumers.{YieldsList-end}
-use Rattle.pdbq.proofs.words_of.Goals as goal
+use Rattle.pdb_command.proofs.arguments.words_of.Goals as goal
 
 pub returns : goal.returns
 returns c =

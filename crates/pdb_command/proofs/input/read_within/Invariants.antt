@@ -1,7 +1,7 @@
 -- The block keeps its size, and what was read so far left the input.
 use Rattle.std.proofs.Common.{◌≡◌, vec_len}
 use Rattle.std.specs.Io.KnownBytes.{Consumes}
-use Rattle.pdb_command.proofs.input.read_all.Given as goal
+use Rattle.pdb_command.proofs.input.read_within.Given as goal
 
 abbrev pub invariant-loop : goal.invariant-loop
 invariant-loop g l = record {
