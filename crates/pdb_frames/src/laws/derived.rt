@@ -11,4 +11,5 @@ use crate::old_frame_data::OldFrameData;
 pub fn records()
     ensures old { TellsApart ⟦<OldFrameData as PartialEq>⟧.eq }
     ensures new { TellsApart ⟦<NewFrameData as PartialEq>⟧.eq }
+    ensures frames { TellsApart ⟦<FrameData as PartialEq>⟧.eq }
 {}
