@@ -12,3 +12,4 @@ pub mod AlignmentLaws
 pub mod CountLemmas
 pub mod HalvingLemmas
 pub mod RecordLemmas
+pub mod DerivedLemmas

@@ -15,6 +15,10 @@ hexadecimal n = codes "0x" ++ digits 16 false n
 abbrev pub hexadecimal_of_four : ℕ → List ℕ
 hexadecimal_of_four n = codes "0x" ++ replicate (4 - length (digits 16 false n)) digit_zero ++ digits 16 false n
 
+-- what stands before the text of an `io::Error`, which is not the library's own
+abbrev pub io_error_front : List ℕ
+io_error_front = codes "IO error while reading PDB: "
+
 -- None where the text is not the library's own: that of an `io::Error`
 abbrev pub text_of : Refusal → Option (List ℕ)
 text_of unrecognized_file_format = Some (codes "UnrecognizedFileFormat")

@@ -12,5 +12,6 @@ pub mod Text
 pub mod Numeric
 pub mod Spelling
 pub mod Laws
+pub mod Derived
 -- the words of the libraries below that the contracts of this one speak in
 pub use Rattle.byteorder.specs.Endian

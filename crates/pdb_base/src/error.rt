@@ -8,6 +8,9 @@ ghost use Rattle.pdb_base.specs.ErrorText.{hexadecimal_of_four, text_of};
 use std::alloc::{AllocError, AllocFailed};
 use std::{fmt, io, result};
 
+/// What stands before the text of an `io::Error`, where [`Error::IoError`] is printed.
+pub const IO_ERROR_FRONT: &str = "IO error while reading PDB: ";
+
 /// The result of a call that a program database can refuse.
 pub type Result<T> = result::Result<T, Error>;
 
@@ -144,7 +147,7 @@ impl fmt::Display for Error {
                     "{stream} stream has an invalid length or alignment for its records"
                 )
             }
-            Error::IoError(error) => write!(f, "IO error while reading PDB: {error}"),
+            Error::IoError(error) => write!(f, "{IO_ERROR_FRONT}{error}"),
             Error::UnexpectedEof => write!(f, "UnexpectedEof"),
             Error::UnimplementedFeature(feature) => {
                 write!(f, "Unimplemented PDB feature: {feature}")

@@ -14,6 +14,8 @@ ghost use Rattle.pdb_base.specs.Spelling.{ReadsWhatIsSpelled, SpellsNumber, Spel
 
 use crate::item_index::ItemIndex;
 
+pub mod derived;
+
 /// Answers in order are all their values, or the refusal of the first of them that refuses.
 pub fn collected<A>()
     ensures all { (answers : List (Answer A)) → CollectsAll answers }

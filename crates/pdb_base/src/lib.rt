@@ -18,7 +18,7 @@ mod variant;
 
 pub use buffer::ParseBuffer;
 pub use count::Count;
-pub use error::{Error, Result};
+pub use error::{Error, IO_ERROR_FRONT, Result};
 pub use fallible_iterator::FallibleIterator;
 pub use index::{FileIndex, IdIndex, Local, Register, StreamIndex, SymbolIndex, TypeIndex};
 pub use item_index::ItemIndex;

@@ -1,13 +1,12 @@
 -- What the program prints, on which channel, and with which status.
-use Rattle.std.specs.Prelude.{◌≡◌, ◌⊎◌, ℕ, List, [], codes, Option, Some, None, IfSome, Ok, Err, ⊤}
+use Rattle.std.specs.Prelude.{◌≡◌, ◌⊎◌, ◌++◌, ℕ, List, [], codes, Option, Some, None, IfSome, Ok, Err}
 use Rattle.std.specs.Option.{option_map}
 use Rattle.std.specs.declared.ops.Range.{Range}
 use Rattle.pdb_container.specs.declared.query.Query.{Query}
 use Rattle.pdb_container.specs.declared.query.Query.TheVariants as queries
-use Rattle.pdb_base.specs.declared.error.Error.{Error}
-use Rattle.pdb_base.specs.declared.error.Error.TheVariants.{IoError, OutOfMemory}
-use Rattle.pdb_container.specs.Refusal.{Refusal, out_of_memory}
-use Rattle.pdb_container.specs.ErrorText.{text_of}
+use Rattle.std.specs.declared.io.ErrorKind.{ErrorKind}
+use Rattle.pdb_container.specs.Refusal.{Refusal, io_error, out_of_memory}
+use Rattle.pdb_container.specs.ErrorText.{io_error_front, text_of}
 use Rattle.pdb_base.specs.Text.{lossy}
 use Rattle.pdb_container.specs.Answer.{Answer, ◌>>=◌}
 use Rattle.pdb_container.specs.Header.{opened}
@@ -31,14 +30,23 @@ pub record IsAnswered (said : Said) (outcome : Outcome) : Type 0 where
   pub out : IsPrinted said outcome.out.items
   pub err : outcome.err.items ≡ []
 
--- status 1: a text on a line of standard error, the refusal's own where that is stated, and nothing
--- on standard output
+-- The text of a refusal: the library's own, and of an `io::Error`, which has a text that is not the
+-- library's, that text behind the library's words.
+pub record IsTextOf (refusal : Refusal) (text : List ℕ) : Type 0 where
+  pub own : IfSome (text_of refusal) (λ own. text ≡ own)
+  pub front : (kind : ErrorKind) → refusal ≡ io_error kind → (cause : List ℕ) × (text ≡ io_error_front ++ cause)
+
+-- the text of a refusal on a line
+pub record IsLineOf (refusal : Refusal) (out : List ℕ) : Type 0 where
+  pub text : List ℕ
+  pub is_text : IsTextOf refusal text
+  pub ended : out ≡ line text
+
+-- status 1: the text of a refusal on a line of standard error, and nothing on standard output
 pub record IsRefused (refusal : Refusal) (outcome : Outcome) : Type 0 where
   pub status : outcome.status ≡ 1
   pub out : outcome.out.items ≡ []
-  pub text : List ℕ
-  pub err : outcome.err.items ≡ line text
-  pub own : IfSome (text_of refusal) (λ own. text ≡ own)
+  pub err : IsLineOf refusal outcome.err.items
 
 -- status 2: the words that the program takes on a line of standard error
 pub record IsUsage (outcome : Outcome) : Type 0 where
@@ -63,15 +71,3 @@ asked words file = option_map (λ query. (query, file)) (query_of words)
 abbrev pub Shows : Option (Query × List ℕ) → Outcome → Type 0
 Shows (Some question) outcome = IsOutcomeOf (answer_of question.1 question.0) outcome ⊎ IsRefused out_of_memory outcome
 Shows None outcome = IsUsage outcome
-
--- why the program has nothing to show: a channel failed, or memory was refused
-abbrev pub IsOfChannels : Error → Type 0
-IsOfChannels (IoError fault) = ⊤
-IsOfChannels OutOfMemory = ⊤
-IsOfChannels other = ⊥
-
--- an outcome of the program: what it shows of some words and some file
-pub record IsOutcome (outcome : Outcome) : Type 0 where
-  pub words : List (List ℕ)
-  pub file : List ℕ
-  pub shows : Shows (asked words file) outcome

@@ -1,7 +1,8 @@
 //! Reads standard input whole.
 
-ghost use Rattle.std.specs.Prelude.{◌≡◌, IfOk, IfErr, IfSome};
-ghost use Rattle.pdb_command.specs.Printed.{IsOfChannels};
+ghost use Rattle.std.specs.Prelude.{◌≡◌, IfOk, IfErr, IfSome, OnOk};
+ghost use Rattle.std.specs.Io.KnownBytes.{IsAtEnd};
+ghost use Rattle.pdb_command.specs.Channels.{IsUnread};
 
 use pdb_container::Result;
 use std::alloc::Global;
@@ -14,18 +15,21 @@ const BLOCK_SIZE: usize = 65_536;
 /// How many reads an input may take.
 const MOST_READS: u32 = u32::MAX;
 
-/// All bytes to the end of an input.
+const _: () = prove!(MOST_READS == 4_294_967_295);
+
+/// All bytes to the end of an input, which is read no more often than `most` times.
 ///
 /// # Errors
-/// `IoError` where a read fails, or of kind `Other` where the input has not ended after 4,294,967,295
-/// reads; `OutOfMemory` where memory is refused. A read that was interrupted is asked again.
-pub fn read_all<R: Read>(alloc: Global, input: &mut R) -> Result<Vec<u8>>
+/// `IoError` where a read fails, or of kind `Other` where the input has not ended after so many reads;
+/// `OutOfMemory` where memory is refused. A read that was interrupted is asked again.
+pub fn read_within<R: Read>(alloc: Global, input: &mut R, most: u32) -> Result<Vec<u8>>
     ensures bytes { IfOk result (λ file. IfSome (R.remaining input.old) (λ xs. file.items ≡ xs)) }
-    ensures refused { IfErr result IsOfChannels }
+    ensures end { OnOk result (IsAtEnd (R.remaining input.new)) }
+    ensures refused { IfErr result IsUnread }
 {
     let mut block = vec![in alloc; 0; BLOCK_SIZE]?;
     let mut bytes = Vec::new(alloc);
-    for _ in 0..MOST_READS {
+    for _ in 0..most {
         match input.read(&mut block) {
             Ok(0) => return Ok(bytes),
             Ok(count) => bytes.extend_from_slice(&block[..count])?,
@@ -34,4 +38,17 @@ pub fn read_all<R: Read>(alloc: Global, input: &mut R) -> Result<Vec<u8>>
         }
     }
     Err(io::Error::other("the input does not end").into())
+}
+
+/// All bytes to the end of an input.
+///
+/// # Errors
+/// `IoError` where a read fails, or of kind `Other` where the input has not ended after 4,294,967,295
+/// reads; `OutOfMemory` where memory is refused. A read that was interrupted is asked again.
+pub fn read_all<R: Read>(alloc: Global, input: &mut R) -> Result<Vec<u8>>
+    ensures bytes { IfOk result (λ file. IfSome (R.remaining input.old) (λ xs. file.items ≡ xs)) }
+    ensures end { OnOk result (IsAtEnd (R.remaining input.new)) }
+    ensures refused { IfErr result IsUnread }
+{
+    read_within(alloc, input, MOST_READS)
 }

@@ -1,13 +1,19 @@
-//! What the program `pdbq` does between its input and its output: the words of its command line, the
-//! lines that it prints, and the status that it ends with.
+//! What the program `pdbq` does: the words of its command line, the input that it reads, the lines that
+//! it prints, and the status that it ends with.
 #![tactic(auto)]
 
+mod arguments;
+mod channels;
 mod input;
 mod lines;
 mod outcome;
+mod process;
+mod refusal;
 #[cfg(test)]
 mod tests;
 mod words;
 
+pub use channels::{Ended, serve};
 pub use input::read_all;
 pub use outcome::{Outcome, act, usage};
+pub use process::program;

@@ -6,6 +6,7 @@ ghost use Rattle.pdb_container.specs.Reply.{Said};
 ghost use Rattle.pdb_command.specs.Printed.{IsPrinted, IsAnswered, IsRefused, IsUsage, IsOutcomeOf, answer_of, asked, Shows};
 
 use crate::lines::{hex_lines, name_line, range_lines, record_line};
+use crate::refusal::error_line;
 use crate::words;
 use pdb_container::{Error, Query, Reply, Result, run};
 use pdb_vectors::s1;
@@ -38,12 +39,10 @@ fn refused(alloc: Global, error: &Error) -> Result<Outcome>
     ensures ok { IfOk result (IsRefused (refusal_of error.now)) }
     ensures want { IfErr result (λ e. e ≡ Error.OutOfMemory) }
 {
-    let mut err = format!(in alloc; "{error}")?.into_bytes();
-    err.push(b'\n')?;
     Ok(Outcome {
         status: 1,
         out: Vec::new(alloc),
-        err,
+        err: error_line(alloc, error)?,
     })
 }
 

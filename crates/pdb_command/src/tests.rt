@@ -1,6 +1,7 @@
 //! What the program prints of S1, row by row.
 
-mod inputs;
+mod channels;
+mod processes;
 mod runs;
 
 use crate::act;

@@ -1,14 +1,14 @@
 //! Whole runs: a file, and all that is asked of it.
 
-ghost use Rattle.std.specs.Prelude.{◌≡◌, IsTrue};
+ghost use Rattle.std.specs.Prelude.{◌≡◌, IsTrue, IfOk, IfErr, OnErr};
 ghost use Rattle.pdb_msf.specs.Source.{HasFailed, IsKept};
-ghost use Rattle.pdb_container.specs.Reply.{IsReply, IsRun, RepliesUnless, reply_of};
+ghost use Rattle.pdb_container.specs.Reply.{AreReplies, IsReply, IsRun, RepliesUnless, reply_of};
 
 use crate::name::name;
 use crate::query::{Query, Reply};
 use crate::ranges::ranges;
 use crate::record::{id_record, type_record};
-use pdb_base::{IdIndex, Result, TypeIndex};
+use pdb_base::{Error, IdIndex, Result, TypeIndex};
 use pdb_msf::{BigMSF, Msf, Source, open_msf};
 use pdb_space::StringRef;
 use std::alloc::Global;
@@ -57,6 +57,24 @@ fn ask<S: Source>(alloc: Global, file: &mut BigMSF<S>, query: Query) -> Reply
     }
 }
 
+/// Asks a file all queries: one reply to each, in order.
+///
+/// # Errors
+/// `OutOfMemory` where there is no room for the list of replies, and then nothing was asked. Want of memory
+/// within a query is the reply to that query.
+fn ask_all<S: Source>(alloc: Global, file: &mut BigMSF<S>, queries: &[Query]) -> Result<Vec<Reply>>
+    ensures replies { IfOk result (λ replies. AreReplies (¬ IsTrue (S.state file.old.source).is_sound)
+        (S.state file.old.source).bytes file.old.head queries.now replies.items) }
+    ensures want { IfErr result (λ e. e ≡ Error.OutOfMemory) }
+    ensures unasked { OnErr result (file.new ≡ file.old) }
+{
+    let mut replies = Vec::with_capacity(alloc, queries.len())?;
+    for query in queries {
+        replies.push_reserved(ask(alloc, file, *query));
+    }
+    Ok(replies)
+}
+
 /// Opens a file and asks it all queries: one reply to each, in order. On a sound source a refused query
 /// does not touch the next.
 ///
@@ -66,9 +84,5 @@ pub fn run<S: Source + Drop>(alloc: Global, source: S, queries: &[Query]) -> Res
     ensures { IsRun (¬ IsTrue (S.state source).is_sound) (S.state source).bytes queries.now result }
 {
     let mut file = open_msf(alloc, source)?;
-    let mut replies = Vec::with_capacity(alloc, queries.len())?;
-    for query in queries {
-        replies.push_reserved(ask(alloc, &mut file, *query));
-    }
-    Ok(replies)
+    ask_all(alloc, &mut file, queries)
 }

@@ -4,6 +4,8 @@
 ghost use Rattle.pdb_flags.specs.Laws.{AreToldApart};
 ghost use Rattle.pdb_flags.specs.PointerNumbers.{kind_number, mode_number};
 
+pub mod derived;
+
 /// Kinds and modes of pointers are told apart by their numbers.
 pub fn numbers()
     ensures kinds { AreToldApart kind_number }

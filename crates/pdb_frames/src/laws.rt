@@ -13,6 +13,8 @@ ghost use Rattle.pdb_frames.specs.Laws.{CoversToItsEnd, IsSortedByStart, IsMerge
 
 use crate::frame_type::FrameType;
 
+pub mod derived;
+
 /// Code covers the addresses from its start to before its end, also where the end lies past
 /// 0xffffffff.
 #[tactic(auto, using(crate::proofs::LawLemmas::covers_to_its_end))]

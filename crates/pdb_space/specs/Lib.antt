@@ -4,6 +4,7 @@ pub mod SectionOrder
 pub mod Omap
 pub mod Ranges
 pub mod SectionHeader
+pub mod SectionFlags
 pub mod Steps
 pub mod Sections
 pub mod Conversions

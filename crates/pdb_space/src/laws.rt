@@ -23,6 +23,9 @@ use crate::range_iter::RangeIter;
 use crate::section_offset::SectionOffset;
 use crate::string_ref::StringRef;
 
+pub mod derived;
+pub mod flags;
+
 /// Sums that fit 32 bits are what they are under every way to add, and distances lead back.
 pub fn sums()
     ensures cut { (number : ℕ) → IsCutToFit number }

@@ -1,9 +1,9 @@
 //! The flags of a section (`Characteristics` of a section header in the PE format).
 
 ghost use Rattle.std.specs.Prelude.{◌≡◌};
-ghost use Rattle.pdb_bits.specs.Parts.{is_set};
 ghost use Rattle.pdb_base.specs.Reading.{number_at, read_as};
 ghost use Rattle.pdb_space.specs.SectionHeader.{alignment_of};
+ghost use Rattle.pdb_space.specs.SectionFlags.{executable, initialized_data, uninitialized_data, other, info, remove, comdat, defer_speculative_exceptions, global_pointer_relative, purgeable, locked, preload, lnk_nreloc_ovfl, discardable, not_cached, not_paged, shared, execute, read, write};
 
 use pdb_base::{Le, Parse, Result};
 use pdb_bits::is_set;
@@ -29,140 +29,140 @@ impl SectionCharacteristics {
 
     /// Whether the section holds code (`IMAGE_SCN_CNT_CODE`, 0x00000020).
     pub fn executable(self) -> bool
-        ensures { result ≡ is_set self.0 5 }
+        ensures { result ≡ executable self.0 }
     {
         is_set(self.0, 5)
     }
 
     /// Whether the section holds data that has values from the start (`IMAGE_SCN_CNT_INITIALIZED_DATA`, 0x00000040).
     pub fn initialized_data(self) -> bool
-        ensures { result ≡ is_set self.0 6 }
+        ensures { result ≡ initialized_data self.0 }
     {
         is_set(self.0, 6)
     }
 
     /// Whether the section holds data that has no values at the start (`IMAGE_SCN_CNT_UNINITIALIZED_DATA`, 0x00000080).
     pub fn uninitialized_data(self) -> bool
-        ensures { result ≡ is_set self.0 7 }
+        ensures { result ≡ uninitialized_data self.0 }
     {
         is_set(self.0, 7)
     }
 
     /// Whether the bit that is kept for other contents is set (`IMAGE_SCN_LNK_OTHER`, 0x00000100).
     pub fn other(self) -> bool
-        ensures { result ≡ is_set self.0 8 }
+        ensures { result ≡ other self.0 }
     {
         is_set(self.0, 8)
     }
 
     /// Whether the section holds comments or other information for the linker (`IMAGE_SCN_LNK_INFO`, 0x00000200).
     pub fn info(self) -> bool
-        ensures { result ≡ is_set self.0 9 }
+        ensures { result ≡ info self.0 }
     {
         is_set(self.0, 9)
     }
 
     /// Whether the section is left out of the image (`IMAGE_SCN_LNK_REMOVE`, 0x00000800).
     pub fn remove(self) -> bool
-        ensures { result ≡ is_set self.0 11 }
+        ensures { result ≡ remove self.0 }
     {
         is_set(self.0, 11)
     }
 
     /// Whether the section holds COMDAT data (`IMAGE_SCN_LNK_COMDAT`, 0x00001000).
     pub fn comdat(self) -> bool
-        ensures { result ≡ is_set self.0 12 }
+        ensures { result ≡ comdat self.0 }
     {
         is_set(self.0, 12)
     }
 
     /// Whether the bits that defer speculative exceptions are reset for the section (`IMAGE_SCN_NO_DEFER_SPEC_EXC`, 0x00004000).
     pub fn defer_speculative_exceptions(self) -> bool
-        ensures { result ≡ is_set self.0 14 }
+        ensures { result ≡ defer_speculative_exceptions self.0 }
     {
         is_set(self.0, 14)
     }
 
     /// Whether the section holds data that is reached by the global pointer (`IMAGE_SCN_GPREL`, 0x00008000).
     pub fn global_pointer_relative(self) -> bool
-        ensures { result ≡ is_set self.0 15 }
+        ensures { result ≡ global_pointer_relative self.0 }
     {
         is_set(self.0, 15)
     }
 
     /// Whether the bit for memory that may be given back is set (`IMAGE_SCN_MEM_PURGEABLE`, 0x00020000).
     pub fn purgeable(self) -> bool
-        ensures { result ≡ is_set self.0 17 }
+        ensures { result ≡ purgeable self.0 }
     {
         is_set(self.0, 17)
     }
 
     /// Whether the bit for memory that is kept in place is set (`IMAGE_SCN_MEM_LOCKED`, 0x00040000).
     pub fn locked(self) -> bool
-        ensures { result ≡ is_set self.0 18 }
+        ensures { result ≡ locked self.0 }
     {
         is_set(self.0, 18)
     }
 
     /// Whether the bit for memory that is loaded ahead is set (`IMAGE_SCN_MEM_PRELOAD`, 0x00080000).
     pub fn preload(self) -> bool
-        ensures { result ≡ is_set self.0 19 }
+        ensures { result ≡ preload self.0 }
     {
         is_set(self.0, 19)
     }
 
     /// Whether the section has more relocations than their number in the header can say (`IMAGE_SCN_LNK_NRELOC_OVFL`, 0x01000000).
     pub fn lnk_nreloc_ovfl(self) -> bool
-        ensures { result ≡ is_set self.0 24 }
+        ensures { result ≡ lnk_nreloc_ovfl self.0 }
     {
         is_set(self.0, 24)
     }
 
     /// Whether the section may be thrown away when it isn't needed any more (`IMAGE_SCN_MEM_DISCARDABLE`, 0x02000000).
     pub fn discardable(self) -> bool
-        ensures { result ≡ is_set self.0 25 }
+        ensures { result ≡ discardable self.0 }
     {
         is_set(self.0, 25)
     }
 
     /// Whether the section may not be cached (`IMAGE_SCN_MEM_NOT_CACHED`, 0x04000000).
     pub fn not_cached(self) -> bool
-        ensures { result ≡ is_set self.0 26 }
+        ensures { result ≡ not_cached self.0 }
     {
         is_set(self.0, 26)
     }
 
     /// Whether the section may not be paged out (`IMAGE_SCN_MEM_NOT_PAGED`, 0x08000000).
     pub fn not_paged(self) -> bool
-        ensures { result ≡ is_set self.0 27 }
+        ensures { result ≡ not_paged self.0 }
     {
         is_set(self.0, 27)
     }
 
     /// Whether the section is shared in memory (`IMAGE_SCN_MEM_SHARED`, 0x10000000).
     pub fn shared(self) -> bool
-        ensures { result ≡ is_set self.0 28 }
+        ensures { result ≡ shared self.0 }
     {
         is_set(self.0, 28)
     }
 
     /// Whether the section may be run (`IMAGE_SCN_MEM_EXECUTE`, 0x20000000).
     pub fn execute(self) -> bool
-        ensures { result ≡ is_set self.0 29 }
+        ensures { result ≡ execute self.0 }
     {
         is_set(self.0, 29)
     }
 
     /// Whether the section may be read (`IMAGE_SCN_MEM_READ`, 0x40000000).
     pub fn read(self) -> bool
-        ensures { result ≡ is_set self.0 30 }
+        ensures { result ≡ read self.0 }
     {
         is_set(self.0, 30)
     }
 
     /// Whether the section may be written (`IMAGE_SCN_MEM_WRITE`, 0x80000000).
     pub fn write(self) -> bool
-        ensures { result ≡ is_set self.0 31 }
+        ensures { result ≡ write self.0 }
     {
         is_set(self.0, 31)
     }

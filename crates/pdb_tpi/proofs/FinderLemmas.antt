@@ -23,6 +23,11 @@ places_none table capacity room = record {
   reserved = room;
 }
 
+-- a table that counts no index has no block
+pub no_blocks : (table : Table) → count_of table ≡ 0 → most_blocks table ≡ 0
+unfolding most_blocks
+no_blocks table none = omega arith
+
 -- a table that has indexes has a place for its first block
 pub some_blocks : (table : Table) → 0 < count_of table → 0 < most_blocks table
 unfolding most_blocks

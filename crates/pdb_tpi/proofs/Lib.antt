@@ -8,3 +8,6 @@ pub mod HeaderLemmas
 pub mod LawLemmas
 pub mod KnownLemmas
 pub mod RecordLemmas
+pub mod HeaderFaults
+pub mod WalkSteps
+pub mod DerivedLemmas

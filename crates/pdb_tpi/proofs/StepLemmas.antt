@@ -53,7 +53,7 @@ place_behind table index position place past = elim (cases_lt index (2 ^ 32)) [
 
 -- ---- steps
 
-step_stops : (stand : Stand) → slice_get (walk stand.table) (place_of stand) ≡ None → step_of stand ≡ stopped stand (walk_rest stand.table)
+pub step_stops : (stand : Stand) → slice_get (walk stand.table) (place_of stand) ≡ None → step_of stand ≡ stopped stand (walk_rest stand.table)
 unfolding step_of
 step_stops stand e = rw e refl
 

@@ -14,6 +14,7 @@ use Rattle.pdb_tpi.proofs.FrontLemmas.{required_is}
 
 -- what a header that was checked is known to be
 pub record IsChecked (header : Header) (len : ℕ) : Type 0 where
+  pub typed : 4096 ≤ header.minimum_index
   pub within : header.header_size ≤ len
   pub ordered : header.minimum_index ≤ header.maximum_index
 
@@ -30,7 +31,9 @@ checked_is header len x e =
     let typed = then_required (leb 4096 header.minimum_index) _ _ x whole.1 in
     let ordered : leb header.minimum_index header.maximum_index ≡ true = required_is (leb header.minimum_index header.maximum_index) _ x typed.1 in
     let within : leb header.header_size len ≡ true = whole.0 in
+    let above : leb 4096 header.minimum_index ≡ true = typed.0 in
     record {
+      typed = grind (arith, nat_tests);
       within = grind (arith, nat_tests);
       ordered = grind (arith, nat_tests);
     }
@@ -42,15 +45,14 @@ read_is bytes header e =
     let good = bind_ok (checked fields.0.0 (length bytes)) (λ _. Ok fields.0.0) header fields.2 in
     subst (λ (h : Header). IsChecked h (length bytes)) (ok_is fields.0.0 header good.2) (checked_is fields.0.0 (length bytes) good.0 good.1)
 
-header_is : (bytes : List ℕ) (header : Header) → header_of bytes ≡ Ok header → IsChecked header (length bytes)
-unfolding header_of
-header_is [] header e = subst (λ (h : Header). IsChecked h 0) (ok_is empty_header header e) (record { within = omega arith; ordered = omega arith })
-header_is (byte ∷ bytes) header e = read_is (byte ∷ bytes) header e
-
 pub table_is : (bytes : List ℕ) (header : Header) → header_of bytes ≡ Ok header → header.maximum_index < 2 ^ 32 → length bytes < 0xffffffff → IsTable (record { bytes = bytes; header = header })
-table_is bytes header e indexed short =
-    let is = header_is bytes header e in
-    record { within = is.within; ordered = is.ordered; indexed = indexed; short = short }
+unfolding header_of
+table_is [] header e indexed short =
+    let empty : IsTable (record { bytes = []; header = empty_header }) = record { within = omega arith; ordered = omega arith; typed = λ some. absurd (some refl); indexed = omega arith; short = short } in
+    subst (λ (h : Header). IsTable (record { bytes = []; header = h })) (ok_is empty_header header e) empty
+table_is (byte ∷ bytes) header e indexed short =
+    let is = read_is (byte ∷ bytes) header e in
+    record { within = is.within; ordered = is.ordered; typed = λ some. is.typed; indexed = indexed; short = short }
 
 -- the walk begins behind the header
 goes_first : (table : Table) → GoesOn table 0 table.header.header_size

@@ -6,3 +6,4 @@ pub mod Place
 pub mod Finder
 pub mod Record
 pub mod Laws
+pub mod StepLaws

@@ -1,9 +1,10 @@
 //! Finds items of a table by their indexes.
 
-ghost use Rattle.std.specs.Prelude.{◌≡◌, ◌+◌, ◌≤◌, All, map, IfOk, Ok};
+ghost use Rattle.std.specs.Prelude.{◌≡◌, ◌+◌, ◌≤◌, All, map, IsOk, IfOk, Ok};
 ghost use Rattle.pdb_base.specs.Answer.{Answers, Gives};
 ghost use Rattle.pdb_base.specs.Count.{calls_of, after_calls};
 ghost use Rattle.pdb_tpi.specs.Steps.{Stand};
+ghost use Rattle.pdb_tpi.specs.Table.{count_of};
 ghost use Rattle.pdb_tpi.specs.Finder.{Indexed, known_first, known_after, known_of, max_index_of, most_blocks, find_of, reads_of};
 
 use crate::item::Item;
@@ -48,10 +49,11 @@ impl<I: ItemIndex> ItemInformation<I> {
     /// table's bytes can hold.
     ///
     /// # Errors
-    /// `OutOfMemory` where memory is refused.
+    /// `OutOfMemory` where memory is refused, which is not so where the header counts no index.
     pub fn finder(&self, alloc: Global) -> Result<ItemFinder<'_, I>>
         ensures finder { Answers (λ finder. finder) result (Ok (record { table = self.now; known = known_first self.now })) }
         ensures few { IfOk result (λ finder. finder.known ≤ most_blocks self.now) }
+        ensures uncounted { count_of self.now ≡ 0 → IsOk result }
     {
         let header = self.header();
         let mut positions = Vec::with_capacity(alloc, self.most_blocks())?;
@@ -84,7 +86,8 @@ impl<'t, I: ItemIndex> ItemFinder<'t, I> {
     /// below the maximum. The iterator is one over the finder's table, with equal bytes and header.
     pub fn update(&mut self, iterator: &ItemIter<'_, I>)
         requires { iterator.now.table ≡ self.old.table }
-        ensures { self.new ≡ record self.old { known = known_after self.old.table self.old.known iterator.now.index } }
+        ensures next { self.new ≡ record self.old { known = known_after self.old.table self.old.known iterator.now.index } }
+        ensures few { self.new.known ≤ most_blocks self.new.table }
     {
         let table = self.table;
         let header = table.header();
@@ -98,7 +101,8 @@ impl<'t, I: ItemIndex> ItemFinder<'t, I> {
     /// Learns from each iterator in turn.
     pub fn update_all(&mut self, iterators: &[ItemIter<'_, I>])
         requires { All (λ iterator. iterator.table ≡ self.old.table) iterators.now }
-        ensures { self.new ≡ record self.old { known = known_of self.old.table self.old.known (map (λ iterator. iterator.index) iterators.now) } }
+        ensures next { self.new ≡ record self.old { known = known_of self.old.table self.old.known (map (λ iterator. iterator.index) iterators.now) } }
+        ensures few { self.old.known ≤ most_blocks self.old.table → self.new.known ≤ most_blocks self.new.table }
     {
         for iterator in iterators {
             self.update(iterator);

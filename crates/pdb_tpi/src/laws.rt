@@ -8,6 +8,9 @@ ghost use Rattle.pdb_tpi.specs.Steps.{room, body, walk, walk_rest};
 ghost use Rattle.pdb_tpi.specs.Finder.{IsKnown, known_of};
 ghost use Rattle.pdb_tpi.specs.Laws.{AreBytes, StandAtOffsets, WalksOnce, HasFault, ReadsFew};
 
+pub mod derived;
+pub mod steps;
+
 /// The fields of a header stand at fixed offsets.
 pub fn header()
     ensures { (bytes : List ℕ) → StandAtOffsets bytes }

@@ -13,3 +13,4 @@ pub mod IdValue
 pub mod Laws
 -- the words of the libraries below that the contracts of this one speak in
 pub use Rattle.pdb_base.specs.Answer
+pub mod Derived

@@ -6,6 +6,8 @@ ghost use Rattle.pdb_values.specs.declared.primitive.PrimitiveType.{PrimitiveTyp
 ghost use Rattle.pdb_values.specs.Laws.{HasOneIndex, IsRefusedByIndex};
 ghost use Rattle.pdb_values.specs.TypeValue.{TypeValue, Fields, fields_of, values_in};
 
+pub mod derived;
+
 /// Each primitive type has one index below 0x1000, and an index that stands for none is refused by name.
 #[tactic(auto, using(crate::proofs::PrimitiveLemmas::has_one_index, crate::proofs::PrimitiveLemmas::is_refused_by_index))]
 pub fn primitives()

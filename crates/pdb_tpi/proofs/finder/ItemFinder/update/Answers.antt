@@ -27,3 +27,6 @@ invariant_of-self g c =
     let first : c.place-index.result.0 ≡ first_of s.table.now (length s.positions.items) = omega (arith, least, c.if-index-first.true, c.len.ensures, s.positions.ok.0) in
     rw (c.push_reserved.ensures.items, c.push_reserved.ensures.capacity)
     (places_push s.table.now s.positions.items _ c.place-index.result.0 c.place-index.result.1 c.self.invariant place first (omega (arith, most, c.if-index-header.true)))
+
+pub returns-then-index-header-clause-few : goal.returns-then-index-header-clause-few
+returns-then-index-header-clause-few g c = (invariant_of-self g c).few

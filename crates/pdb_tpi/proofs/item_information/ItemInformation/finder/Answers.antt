@@ -3,7 +3,7 @@ use Rattle.std.specs.Prelude.{IsTrue}
 use Rattle.std.proofs.lemmas.Bool.{cases_lt, false≢true}
 use Rattle.pdb_tpi.specs.declared.header.Header.{Header}
 use Rattle.pdb_tpi.specs.Table.{count_of}
-use Rattle.pdb_tpi.proofs.FinderLemmas.{some_blocks, places_none, places_first}
+use Rattle.pdb_tpi.proofs.FinderLemmas.{some_blocks, no_blocks, places_none, places_first}
 use Rattle.pdb_tpi.proofs.item_information.ItemInformation.finder.Goals.{then-not-is_empty, else-not-is_empty}
 use Rattle.pdb_tpi.proofs.item_information.ItemInformation.finder.Goals as goal
 
@@ -28,3 +28,7 @@ invariant_of-result g c = elim c.if-not-is_empty.branch [
   | else-not-is_empty w ↦
       rw (w.positions-is, c.in_ok-positions.ensures.items) (places_none c.args.self.now (vec_capacity c.in_ok-positions.positions) (omega (arith, c.most_blocks.ensures, c.in_ok-positions.ensures.exact)))
 ]
+
+-- where no index is counted, no place is reserved, and so memory is not refused
+pub returns-in_err-positions-clause-uncounted : goal.returns-in_err-positions-clause-uncounted
+returns-in_err-positions-clause-uncounted g c none = absurd (false≢true (c.in_err-positions.ensures.succeeds (c.most_blocks.ensures ∙ no_blocks c.args.self.now none)))

@@ -1,0 +1,41 @@
+//! The program on the channels of its process.
+
+use crate::channels::serve;
+use std::io::{ErrorKind, Write};
+use std::rt::Env;
+use std::{env, io};
+
+/// The channel of errors of a process as a writer of text.
+#[derive(Drop)]
+struct Errors<'a, P> {
+    process: &'a P,
+}
+
+impl<P: Eprint> Write for Errors<'_, P> {
+    fn write(&mut self, bytes: &[u8]) -> io::Result<usize> {
+        match str::from_utf8(bytes) {
+            Ok(text) => {
+                self.process.eprint(text)?;
+                Ok(bytes.len())
+            }
+            Err(_) => Err(io::Error::from(ErrorKind::InvalidData)),
+        }
+    }
+
+    fn flush(&mut self) -> io::Result<()> {
+        Ok(())
+    }
+}
+
+/// What the program does with the words, the input and the two outputs of its process, and the status
+/// that it ends with.
+pub fn program<P: Env + Input + Print + Eprint + AllocGlobal>(process: &P) -> u8 {
+    let ended = serve(
+        process.alloc(),
+        env::args(process),
+        &mut process.reader(),
+        &mut io::writer(process),
+        &mut Errors { process },
+    );
+    ended.status
+}

@@ -1,0 +1,42 @@
+//! The line that a refusal is told in.
+
+ghost use Rattle.std.specs.Prelude.{◌≡◌, IfOk, IfErr};
+ghost use Rattle.pdb_base.specs.Refusal.{refusal_of};
+ghost use Rattle.pdb_command.specs.Printed.{IsTextOf, IsLineOf};
+
+use pdb_base::IO_ERROR_FRONT;
+use pdb_container::{Error, Result};
+use std::alloc::Global;
+use std::io;
+
+/// The text of an error of a channel or a source: the library's words, and then the text of the cause.
+fn io_error_text(alloc: Global, cause: &io::Error) -> Result<Vec<u8>>
+    ensures ok { IfOk result (λ text. IsTextOf (refusal_of (Error.IoError cause.now)) text.items) }
+    ensures want { IfErr result (λ e. e ≡ Error.OutOfMemory) }
+{
+    let mut text = Vec::from_slice(alloc, IO_ERROR_FRONT.as_bytes())?;
+    let own = format!(in alloc; "{cause}")?;
+    text.extend_from_slice(own.as_bytes())?;
+    Ok(text)
+}
+
+/// The text of an error.
+fn error_text(alloc: Global, error: &Error) -> Result<Vec<u8>>
+    ensures ok { IfOk result (λ text. IsTextOf (refusal_of error.now) text.items) }
+    ensures want { IfErr result (λ e. e ≡ Error.OutOfMemory) }
+{
+    match error {
+        Error::IoError(cause) => io_error_text(alloc, cause),
+        error => Ok(format!(in alloc; "{error}")?.into_bytes()),
+    }
+}
+
+/// The text of an error as a line.
+pub fn error_line(alloc: Global, error: &Error) -> Result<Vec<u8>>
+    ensures ok { IfOk result (λ out. IsLineOf (refusal_of error.now) out.items) }
+    ensures want { IfErr result (λ e. e ≡ Error.OutOfMemory) }
+{
+    let mut line = error_text(alloc, error)?;
+    line.push(b'\n')?;
+    Ok(line)
+}

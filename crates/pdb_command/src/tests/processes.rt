@@ -1,0 +1,144 @@
+//! The program on the channels of a process that lies in memory.
+
+use crate::program;
+use pdb_vectors::s1_with;
+use std::alloc::{Allocator, Global};
+use std::cell::RefCell;
+use std::env::FillError;
+use std::fmt::Display;
+use std::io;
+use std::io::{BufRead, ErrorKind, Lines};
+use std::rt::Env;
+use std::test::Fail;
+
+/// A process: its words, its input, and what it has written.
+#[derive(Drop)]
+struct Process<'a> {
+    alloc: Global,
+    words: &'a [&'a str],
+    input: &'a [u8],
+    out: RefCell<Vec<u8>>,
+    err: RefCell<Vec<u8>>,
+}
+
+/// Adds bytes to what was written.
+fn add(written: &RefCell<Vec<u8>>, bytes: &[u8]) -> io::Result<()> {
+    match written.try_borrow_mut() {
+        Ok(mut written) => Ok(written.extend_from_slice(bytes)?),
+        Err(_) => Err(io::Error::from(ErrorKind::ResourceBusy)),
+    }
+}
+
+impl Alloc for Process<'_> {
+    type A = Global;
+
+    fn alloc(&self) -> Global {
+        self.alloc
+    }
+}
+
+impl Env for Process<'_> {
+    fn arg(&self, index: usize, room: &mut [u8]) -> Result<usize, FillError> {
+        let Some(word) = self.words.get(index) else {
+            return Err(FillError::NotPresent);
+        };
+        let bytes = word.as_bytes();
+        if bytes.len() > room.len() {
+            return Err(FillError::TooLong);
+        }
+        room[..bytes.len()].copy_from_slice(bytes);
+        Ok(bytes.len())
+    }
+
+    fn var(&self, _name: &str, _room: &mut [u8]) -> Result<usize, FillError> {
+        Err(FillError::NotPresent)
+    }
+
+    fn var_at(&self, _index: usize, _room: &mut [u8]) -> Result<usize, FillError> {
+        Err(FillError::NotPresent)
+    }
+}
+
+impl<'a> Input for Process<'a> {
+    type Reader = &'a [u8];
+
+    fn read_line<A: Allocator + Clone>(&self, text: &mut String<A>) -> io::Result<usize> {
+        self.reader().read_line(text)
+    }
+
+    fn lines<A: Allocator>(&self, alloc: A) -> Lines<&'a [u8], A> {
+        self.reader().lines(alloc)
+    }
+
+    fn reader(&self) -> &'a [u8] {
+        self.input
+    }
+}
+
+impl Print for Process<'_> {
+    fn print<D: Display + Drop>(&self, value: D) -> io::Result<()> {
+        add(&self.out, format!(in self.alloc; "{value}")?.as_bytes())
+    }
+
+    fn println<D: Display + Drop>(&self, value: D) -> io::Result<()> {
+        add(&self.out, format!(in self.alloc; "{value}\n")?.as_bytes())
+    }
+
+    fn write_all(&self, bytes: &[u8]) -> io::Result<()> {
+        add(&self.out, bytes)
+    }
+}
+
+impl Eprint for Process<'_> {
+    fn eprint<D: Display + Drop>(&self, value: D) -> io::Result<()> {
+        add(&self.err, format!(in self.alloc; "{value}")?.as_bytes())
+    }
+
+    fn eprintln<D: Display + Drop>(&self, value: D) -> io::Result<()> {
+        add(&self.err, format!(in self.alloc; "{value}\n")?.as_bytes())
+    }
+}
+
+/// What a process is called with; and the status, and what it writes to each output.
+const CALLS: &[(&[&str], u8, &[u8], &[u8])] = &[
+    (&["pdbq", "stream", "3"], 0, b"736576656e\n", b""),
+    (
+        &["pdbq", "stream", "2"],
+        1,
+        b"",
+        b"The requested stream (2) is not stored in this file\n",
+    ),
+    (
+        &["pdbq", "stream"],
+        2,
+        b"",
+        b"usage: pdbq stream N [LIMIT] | type S I | id S I | name S O | ranges S A B\n",
+    ),
+];
+
+/// Whether a cell holds these bytes.
+fn holds(written: &RefCell<Vec<u8>>, bytes: &[u8]) -> bool {
+    matches!(written.try_borrow(), Ok(written) if written.as_slice() == bytes)
+}
+
+#[test]
+fn calls(rt: HostRuntime) -> Result<(), Fail> {
+    let alloc = rt.alloc();
+    let file = s1_with(alloc, b"seven")?;
+    for (words, status, out, err) in CALLS {
+        let process = Process {
+            alloc,
+            words,
+            input: &file,
+            out: RefCell::new(Vec::new(alloc)),
+            err: RefCell::new(Vec::new(alloc)),
+        };
+        let ended = program(&process);
+        assert!(rt; ended == *status, "status {status}");
+        assert!(rt;
+            holds(&process.out, out) && holds(&process.err, err),
+            "status {status}"
+        );
+    }
+    Ok(())
+}

@@ -1,0 +1,47 @@
+//! What `Default` and `==` of each type say that no law of addresses and records tells. The functions do
+//! nothing: each contract is a law.
+
+ghost use Rattle.std.specs.Prelude.{◌≡◌, replicate};
+ghost use Rattle.pdb_base.specs.Derived.{DefaultsTo, TellsApart};
+
+use crate::address::Rva;
+use crate::internal_address::PdbInternalRva;
+use crate::internal_section_offset::PdbInternalSectionOffset;
+use crate::section_characteristics::SectionCharacteristics;
+use crate::section_header::ImageSectionHeader;
+use crate::section_offset::SectionOffset;
+
+/// An address is 0 by default.
+pub fn addresses()
+    ensures default { DefaultsTo ⟦<Rva as Default>⟧.is_default 0 }
+    ensures internal_default { DefaultsTo ⟦<PdbInternalRva as Default>⟧.is_default 0 }
+{}
+
+/// A place is offset 0 of section 0 by default, which is in no section.
+pub fn section_offsets()
+    ensures default { DefaultsTo ⟦<SectionOffset as Default>⟧.is_default (record { section = 0; offset = 0 }) }
+    ensures internal_default { DefaultsTo ⟦<PdbInternalSectionOffset as Default>⟧.is_default (record { section = 0; offset = 0 }) }
+{}
+
+/// No flag is set by default. Flags are equal just where their words are.
+pub fn section_characteristics()
+    ensures default { DefaultsTo ⟦<SectionCharacteristics as Default>⟧.is_default (record { 0 = 0 }) }
+    ensures equal { TellsApart ⟦<SectionCharacteristics as PartialEq>⟧.eq }
+{}
+
+/// Every field of a section's header is 0 by default. Headers are equal just where all fields are.
+pub fn section_headers()
+    ensures default { DefaultsTo ⟦<ImageSectionHeader as Default>⟧.is_default (record {
+        name = replicate 8 0;
+        virtual_size = 0;
+        virtual_address = 0;
+        size_of_raw_data = 0;
+        pointer_to_raw_data = 0;
+        pointer_to_relocations = 0;
+        pointer_to_line_numbers = 0;
+        number_of_relocations = 0;
+        number_of_line_numbers = 0;
+        characteristics = record { 0 = 0 };
+    }) }
+    ensures equal { TellsApart ⟦<ImageSectionHeader as PartialEq>⟧.eq }
+{}

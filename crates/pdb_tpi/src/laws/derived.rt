@@ -1,0 +1,24 @@
+//! What `Default` and `==` of each type say. The functions do nothing: each contract is a law.
+
+ghost use Rattle.std.specs.Prelude.{◌≡◌, ◌↔◌, IsTrue};
+ghost use Rattle.pdb_base.specs.Derived.{DefaultsTo, TellsApart};
+ghost use Rattle.pdb_tpi.specs.declared.item.Item.{Item};
+ghost use Rattle.pdb_tpi.specs.Header.{empty_header, empty_slice};
+
+use crate::header::{Header, Slice};
+use crate::item::Item;
+use pdb_base::{IdIndex, TypeIndex};
+
+/// Every field of a header and of a slice is 0 by default. Two are equal just where all fields are.
+pub fn headers()
+    ensures default { DefaultsTo ⟦<Header as Default>⟧.is_default empty_header }
+    ensures equal { TellsApart ⟦<Header as PartialEq>⟧.eq }
+    ensures slice_default { DefaultsTo ⟦<Slice as Default>⟧.is_default empty_slice }
+    ensures slices_equal { TellsApart ⟦<Slice as PartialEq>⟧.eq }
+{}
+
+/// Items are equal just where their indexes are, and the bytes of their records.
+pub fn items()
+    ensures types { (a b : Item TypeIndex) → IsTrue (⟦<Item<'static, TypeIndex> as PartialEq>⟧.eq a b) ↔ ((a.index ≡ b.index) × (a.bytes.now ≡ b.bytes.now)) }
+    ensures ids { (a b : Item IdIndex) → IsTrue (⟦<Item<'static, IdIndex> as PartialEq>⟧.eq a b) ↔ ((a.index ≡ b.index) × (a.bytes.now ≡ b.bytes.now)) }
+{}

@@ -1,0 +1,78 @@
+//! What `==` of each type says whose values hold no list. The functions do nothing: each contract is a
+//! law.
+
+ghost use Rattle.pdb_base.specs.Derived.{TellsApart};
+ghost use Rattle.pdb_values.specs.Class.{class_value};
+ghost use Rattle.pdb_values.specs.Derived.{TellsApartBy};
+ghost use Rattle.pdb_values.specs.Enumeration.{enumeration_value, enumerate_value};
+ghost use Rattle.pdb_values.specs.IdValue.{function_value, member_function_value, string_value};
+ghost use Rattle.pdb_values.specs.Member.{member_value, nested_value, static_member_value};
+ghost use Rattle.pdb_values.specs.Method.{method_value, overloaded_method_value};
+ghost use Rattle.pdb_values.specs.Union.{union_value};
+
+use crate::base_class::{BaseClassType, VirtualBaseClassType, VirtualFunctionTablePointerType};
+use crate::bitfield::BitfieldType;
+use crate::class::{ClassKind, ClassType};
+use crate::enumeration::{EnumerateType, EnumerationType};
+use crate::function::{MemberFunctionType, ProcedureType};
+use crate::function_id::{FunctionId, MemberFunctionId};
+use crate::list_id::StringId;
+use crate::member::{MemberType, NestedType, StaticMemberType};
+use crate::method::{MethodListEntry, MethodType, OverloadedMethodType};
+use crate::modifier::ModifierType;
+use crate::pointer::PointerType;
+use crate::primitive::{Indirection, PrimitiveKind, PrimitiveType};
+use crate::source_id::{UserDefinedTypeSourceFileRef, UserDefinedTypeSourceId};
+use crate::union_type::UnionType;
+
+/// Primitive types are equal just where both their kinds and their pointers are.
+pub fn primitives()
+    ensures kinds { TellsApart ⟦<PrimitiveKind as PartialEq>⟧.eq }
+    ensures indirections { TellsApart ⟦<Indirection as PartialEq>⟧.eq }
+    ensures types { TellsApart ⟦<PrimitiveType as PartialEq>⟧.eq }
+{}
+
+/// Types that have no name are equal just where all fields are.
+pub fn unnamed_types()
+    ensures pointers { TellsApart ⟦<PointerType as PartialEq>⟧.eq }
+    ensures modifiers { TellsApart ⟦<ModifierType as PartialEq>⟧.eq }
+    ensures bitfields { TellsApart ⟦<BitfieldType as PartialEq>⟧.eq }
+    ensures procedures { TellsApart ⟦<ProcedureType as PartialEq>⟧.eq }
+    ensures member_functions { TellsApart ⟦<MemberFunctionType as PartialEq>⟧.eq }
+{}
+
+/// Parts of a class that have no name are equal just where all fields are.
+pub fn unnamed_parts()
+    ensures kinds { TellsApart ⟦<ClassKind as PartialEq>⟧.eq }
+    ensures bases { TellsApart ⟦<BaseClassType as PartialEq>⟧.eq }
+    ensures virtual_bases { TellsApart ⟦<VirtualBaseClassType as PartialEq>⟧.eq }
+    ensures tables { TellsApart ⟦<VirtualFunctionTablePointerType as PartialEq>⟧.eq }
+    ensures methods { TellsApart ⟦<MethodListEntry as PartialEq>⟧.eq }
+{}
+
+/// Types that have a name are equal just where all fields are, the names by their bytes.
+pub fn named_types()
+    ensures classes { TellsApartBy class_value ⟦<ClassType<'static> as PartialEq>⟧.eq }
+    ensures unions { TellsApartBy union_value ⟦<UnionType<'static> as PartialEq>⟧.eq }
+    ensures enumerations { TellsApartBy enumeration_value ⟦<EnumerationType<'static> as PartialEq>⟧.eq }
+{}
+
+/// Parts of a class or an enumeration that have a name are equal just where all fields are, the names
+/// by their bytes.
+pub fn named_parts()
+    ensures members { TellsApartBy member_value ⟦<MemberType<'static> as PartialEq>⟧.eq }
+    ensures static_members { TellsApartBy static_member_value ⟦<StaticMemberType<'static> as PartialEq>⟧.eq }
+    ensures nested { TellsApartBy nested_value ⟦<NestedType<'static> as PartialEq>⟧.eq }
+    ensures methods { TellsApartBy method_value ⟦<MethodType<'static> as PartialEq>⟧.eq }
+    ensures overloaded_methods { TellsApartBy overloaded_method_value ⟦<OverloadedMethodType<'static> as PartialEq>⟧.eq }
+    ensures enumerates { TellsApartBy enumerate_value ⟦<EnumerateType<'static> as PartialEq>⟧.eq }
+{}
+
+/// Ids that hold no list are equal just where all fields are, the names by their bytes.
+pub fn ids()
+    ensures functions { TellsApartBy function_value ⟦<FunctionId<'static> as PartialEq>⟧.eq }
+    ensures member_functions { TellsApartBy member_function_value ⟦<MemberFunctionId<'static> as PartialEq>⟧.eq }
+    ensures texts { TellsApartBy string_value ⟦<StringId<'static> as PartialEq>⟧.eq }
+    ensures sources { TellsApart ⟦<UserDefinedTypeSourceId as PartialEq>⟧.eq }
+    ensures files { TellsApart ⟦<UserDefinedTypeSourceFileRef as PartialEq>⟧.eq }
+{}
