@@ -9,3 +9,4 @@ pub mod SpellingLaws
 pub mod NumericLemmas
 pub mod NumericLaws
 pub mod AlignmentLaws
+pub mod FrontLaws
