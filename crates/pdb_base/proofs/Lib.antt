@@ -13,3 +13,4 @@ pub mod CountLemmas
 pub mod HalvingLemmas
 pub mod RecordLemmas
 pub mod DerivedLemmas
+pub mod FrontLaws

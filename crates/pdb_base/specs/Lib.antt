@@ -1,6 +1,7 @@
 pub mod Refusal
 pub mod ErrorText
 pub mod Answer
+pub mod Memory
 pub mod Place
 pub mod BufferText
 pub mod Index
@@ -8,6 +9,7 @@ pub mod Count
 pub mod Halving
 pub mod Records
 pub mod Reading
+pub mod Repeated
 pub mod Text
 pub mod Numeric
 pub mod Spelling

@@ -8,7 +8,8 @@ ghost use Rattle.pdb_base.specs.Count.{after_calls};
 ghost use Rattle.pdb_base.specs.Halving.{binary_digits};
 ghost use Rattle.pdb_base.specs.Laws.{CollectsAll, RefusesAsFirst, ReadsSpelling, RefusesPrefixFirst, AlignsToNext, IsLeastToHold, AreReadInTurn};
 ghost use Rattle.pdb_base.specs.Place.{Place};
-ghost use Rattle.pdb_base.specs.Reading.{number_at, signed_at, text_at, counted_at};
+ghost use Rattle.pdb_base.specs.Reading.{front_at, number_at, signed_at, text_at, counted_at};
+ghost use Rattle.pdb_base.specs.Repeated.{repeated};
 ghost use Rattle.pdb_base.specs.Numeric.{unsigned_leaves, numeric_leaves, num_at, variant_at};
 ghost use Rattle.pdb_base.specs.Spelling.{ReadsWhatIsSpelled, SpellsNumber, SpellsSigned, SpellsText, SpellsCounted, SpellsNum, SpellsVariant};
 
@@ -39,6 +40,12 @@ pub fn spellings()
     ensures counted { ReadsWhatIsSpelled SpellsCounted counted_at }
     ensures nums { ReadsWhatIsSpelled SpellsNum num_at }
     ensures variants { ReadsWhatIsSpelled SpellsVariant variant_at }
+{}
+
+/// The first so many bytes are so many numbers of one byte, one after another.
+#[tactic(auto, using(crate::proofs::FrontLaws::front_is_bytes))]
+pub fn fronts()
+    ensures { (count : ℕ) (bytes : List ℕ) → front_at count bytes ≡ repeated (number_at 1) count bytes }
 {}
 
 /// A number of variable width is refused by its prefix where that is whole and announces no number,

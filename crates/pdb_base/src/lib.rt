@@ -11,6 +11,7 @@ mod index;
 mod item_index;
 pub mod laws;
 mod numeric;
+pub mod numeric_leaf;
 mod parse;
 mod parse_index;
 mod raw_string;

@@ -7,24 +7,10 @@ ghost use Rattle.pdb_base.specs.Numeric.{unsigned_leaves, numeric_leaves, numera
 
 use crate::buffer::ParseBuffer;
 use crate::error::{Error, Result};
+use crate::numeric_leaf::{
+    LF_CHAR, LF_LONG, LF_NUMERIC, LF_QUADWORD, LF_SHORT, LF_ULONG, LF_UQUADWORD, LF_USHORT,
+};
 use crate::variant::Variant;
-
-/// The least number that does not stand for itself.
-const LF_NUMERIC: u16 = 0x8000;
-
-const LF_CHAR: u16 = 0x8000;
-
-const LF_SHORT: u16 = 0x8001;
-
-const LF_USHORT: u16 = 0x8002;
-
-const LF_LONG: u16 = 0x8003;
-
-const LF_ULONG: u16 = 0x8004;
-
-const LF_QUADWORD: u16 = 0x8009;
-
-const LF_UQUADWORD: u16 = 0x800a;
 
 impl<'b> ParseBuffer<'b> {
     /// Reads a number without a sign that has as many bytes as it needs: two where it is below 0x8000,

@@ -115,6 +115,7 @@ pub use pdb_values::UserDefinedTypeSourceFileRef;
 pub use pdb_values::UserDefinedTypeSourceId;
 pub use pdb_values::VirtualBaseClassType;
 pub use pdb_values::VirtualFunctionTablePointerType;
+pub use pdb_values::VirtualTableShapeType;
 pub use pdb_values::type_data_for_primitive;
 pub use query::Query;
 pub use query::Reply;

@@ -8,12 +8,12 @@ use Rattle.pdb_flags.specs.declared.pointer_mode.PointerMode.TheVariants.{LValue
 use Rattle.pdb_flags.specs.PointerNumbers.{kind_number, mode_number}
 
 -- the number of the kind, 5 bits
-abbrev pub kind_of : ℕ → ℕ
-kind_of word = bits word 0 5
+abbrev pub kind_in : ℕ → ℕ
+kind_in word = bits word 0 5
 
 -- the number of the mode, 3 bits
-abbrev pub mode_of : ℕ → ℕ
-mode_of word = bits word 5 3
+abbrev pub mode_in : ℕ → ℕ
+mode_in word = bits word 5 3
 
 -- it is of the flat model of 32 bits
 abbrev pub is_flat_32 : ℕ → Bool
@@ -53,7 +53,7 @@ last_mode = 4
 
 -- the word has a kind and a mode
 abbrev pub is_pointer_word : ℕ → Bool
-is_pointer_word word = nat_le (kind_of word) last_kind && nat_le (mode_of word) last_mode
+is_pointer_word word = nat_le (kind_in word) last_kind && nat_le (mode_in word) last_mode
 
 -- the word, where it has a kind and a mode
 abbrev pub pointer_word : ℕ → Option ℕ
@@ -65,12 +65,12 @@ usual_size kind = if kind == kind_number Near32 || kind == kind_number Far32 the
 
 -- the bytes that the pointer takes
 abbrev pub pointer_size : ℕ → ℕ
-pointer_size word = if stated_size word == 0 then usual_size (kind_of word) else stated_size word
+pointer_size word = if stated_size word == 0 then usual_size (kind_in word) else stated_size word
 
 -- it points to a data member or a method of a class
 abbrev pub pointer_to_member : ℕ → Bool
-pointer_to_member word = mode_of word == mode_number Member || mode_of word == mode_number MemberFunction
+pointer_to_member word = mode_in word == mode_number Member || mode_in word == mode_number MemberFunction
 
 -- it is a reference, of either kind
 abbrev pub is_reference : ℕ → Bool
-is_reference word = mode_of word == mode_number LValueReference || mode_of word == mode_number RValueReference
+is_reference word = mode_in word == mode_number LValueReference || mode_in word == mode_number RValueReference

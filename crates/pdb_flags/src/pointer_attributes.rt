@@ -1,7 +1,7 @@
 //! Attributes of a pointer.
 
 ghost use Rattle.std.specs.Prelude.{◌≡◌, IsTrue};
-ghost use Rattle.pdb_flags.specs.PointerAttributes.{kind_of, mode_of, is_pointer_word, pointer_word, is_flat_32, is_volatile, is_const, is_unaligned, is_restrict, pointer_size, is_mocom, pointer_to_member, is_reference};
+ghost use Rattle.pdb_flags.specs.PointerAttributes.{kind_in, mode_in, is_pointer_word, pointer_word, is_flat_32, is_volatile, is_const, is_unaligned, is_restrict, pointer_size, is_mocom, pointer_to_member, is_reference};
 ghost use Rattle.pdb_flags.specs.PointerNumbers.{kind_number, mode_number};
 
 use crate::pointer_kind::PointerKind;
@@ -53,7 +53,7 @@ impl PointerAttributes {
 
     /// The kind of the pointer. Bits 0 to 4.
     pub fn pointer_kind(self) -> PointerKind
-        ensures { kind_number result ≡ kind_of self }
+        ensures { kind_number result ≡ kind_in self }
     {
         match PointerKind::from_number(part(self.0, 0, 5)) {
             Some(kind) => kind,
@@ -63,7 +63,7 @@ impl PointerAttributes {
 
     /// The mode of the pointer. Bits 5 to 7.
     pub fn pointer_mode(self) -> PointerMode
-        ensures { mode_number result ≡ mode_of self }
+        ensures { mode_number result ≡ mode_in self }
     {
         match PointerMode::from_number(part(self.0, 5, 3)) {
             Some(mode) => mode,

@@ -2,7 +2,7 @@
 use Rattle.std.specs.Prelude.{◌*◌, ◌%◌, ◌^◌, false, Some, None}
 use Rattle.pdb_bits.specs.Bits.{bits}
 use Rattle.pdb_bits.specs.Parts.{is_set}
-use Rattle.pdb_frames.specs.FrameNumbers.{kind_of}
+use Rattle.pdb_frames.specs.FrameNumbers.{frame_type_of}
 use Rattle.pdb_frames.specs.declared.frame_type.FrameType.TheVariants as kinds
 use Rattle.pdb_frames.specs.declared.frame_data.FrameData.{FrameData}
 use Rattle.pdb_frames.specs.declared.old_frame_data.OldFrameData.{OldFrameData}
@@ -11,7 +11,7 @@ use Rattle.pdb_frames.specs.declared.new_frame_data.NewFrameData.{NewFrameData}
 -- the frame that an old record says; it counts locals, parameters and registers in units of 4 bytes
 unfoldable pub of_old : OldFrameData → FrameData
 of_old frame = record {
-  ty = kind_of (bits frame.flags 14 2);
+  ty = frame_type_of (bits frame.flags 14 2);
   code_start = frame.code_start;
   code_size = frame.code_size;
   locals_size = frame.locals_size * 4 % 2 ^ 32;

@@ -5,7 +5,7 @@ ghost use Rattle.std.proofs.Common.{lit<};
 ghost use Rattle.pdb_bits.specs.Bits.{bits};
 ghost use Rattle.pdb_bits.specs.Parts.{is_set};
 ghost use Rattle.pdb_base.specs.Reading.{front_at, read_as};
-ghost use Rattle.pdb_frames.specs.FrameNumbers.{kind_of};
+ghost use Rattle.pdb_frames.specs.FrameNumbers.{frame_type_of};
 ghost use Rattle.pdb_frames.specs.Stored.{old_frame, old_span};
 
 use crate::addr_range::AddrRange;
@@ -66,7 +66,7 @@ impl OldFrameData {
 
     /// What kind of frame it is. Bits 14 and 15.
     pub fn frame_type(&self) -> FrameType
-        ensures { result ≡ kind_of (bits self.now.flags 14 2) }
+        ensures { result ≡ frame_type_of (bits self.now.flags 14 2) }
     {
         match part(self.flags as u32, 14, 2) {
             0 => FrameType::FPO,

@@ -4,7 +4,7 @@ use Rattle.pdb_base.specs.Refusal.{Refusal, unexpected_eof}
 use Rattle.pdb_base.specs.Answer.{Answer, ◌>>=◌}
 use Rattle.pdb_base.specs.Spelling.{Begins, ReadsWhatIsSpelled}
 use Rattle.pdb_base.proofs.Collected.{ok, err, ok_is, err_is, ok_is_no_err, bind_ok}
-use Rattle.pdb_grammar.specs.Agreement.{Agrees}
+use Rattle.pdb_grammar.specs.Agreement.{Agrees, NoTwoValues}
 use Rattle.pdb_grammar.specs.Fault.{BeginsNone}
 
 -- an answer is a value or a refusal
@@ -150,3 +150,9 @@ with_none {A} Spells read Fails agrees = record {
   );
   fails = λ bytes e none. agrees.fails bytes e none.1;
 }
+
+-- Where a reader agrees with a grammar, no bytes have two values.
+pub one_value : {A : Type 0} (read : List ℕ → Answer (A × List ℕ)) (Is : List ℕ → A → List ℕ → Type 0) (Fails : List ℕ → Refusal → Type 0) → Agrees read Is Fails → NoTwoValues Is
+one_value {A} read Is Fails agrees bytes one other rest end is too =
+    let same : ◌≡◌ {A = A × List ℕ} (one, rest) (other, end) = ok_is (one, rest) (other, end) (sym (agrees.only bytes one rest is) ∙ agrees.only bytes other end too) in
+    (ap (λ (p : A × List ℕ). p.0) same, ap (λ (p : A × List ℕ). p.1) same)

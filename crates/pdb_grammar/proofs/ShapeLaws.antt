@@ -13,7 +13,7 @@ use Rattle.pdb_base.proofs.SpellingLaws.{numbers, texts, counted_texts}
 use Rattle.pdb_base.proofs.NumericLaws.{nums, variants, num_refusals, variant_refusals}
 use Rattle.pdb_flags.specs.PointerAttributes.{is_pointer_word}
 use Rattle.pdb_grammar.specs.Agreement.{Agrees}
-use Rattle.pdb_grammar.specs.Repeated.{repeated}
+use Rattle.pdb_base.specs.Repeated.{repeated}
 use Rattle.pdb_grammar.specs.Shape.{Shape, u8, u16, u32, num, variant, type_index, id_index, some_type, some_id, pointer_word, text, when, times, Spells, SpellsTextBy, SpellsIndex, SpellsPointer, SpellsWhen, SpellsTimes, as_type, as_id, type_named, id_named, ends_texts, pointer_leaf, index_at, pointer_word_at, text_by, when_at, read_shape}
 use Rattle.pdb_grammar.specs.Fault.{BeginsNone, Judged, BeginsBadPointer, FirstOf, Fault, Refuses}
 use Rattle.pdb_grammar.proofs.Agreeing.{answer_cases, bind_at, bind_no, mapped_err, reworded, given, mapped, chained, by_fault, by_end, with_none}

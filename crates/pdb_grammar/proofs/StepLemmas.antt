@@ -9,7 +9,7 @@ use Rattle.pdb_base.specs.Reading.{number_at}
 use Rattle.pdb_base.proofs.Collected.{ok}
 use Rattle.pdb_base.proofs.ReadingLemmas.{number_cut, number_whole}
 use Rattle.pdb_grammar.specs.Agreement.{Agrees}
-use Rattle.pdb_grammar.specs.Repeated.{repeated}
+use Rattle.pdb_base.specs.Repeated.{repeated}
 use Rattle.pdb_grammar.specs.Shape.{index_at}
 use Rattle.pdb_grammar.specs.ToEnd.{TakesBytes, read_upto, to_end}
 use Rattle.pdb_grammar.proofs.Agreeing.{answer_cases, bind_at, bind_no}

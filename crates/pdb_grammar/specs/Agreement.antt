@@ -11,3 +11,7 @@ pub record Agrees {A : Type 0} (read : List ℕ → Answer (A × List ℕ)) (Is 
   pub only : (bytes : List ℕ) (value : A) (rest : List ℕ) → Is bytes value rest → read bytes ≡ Ok (value, rest)
   pub failed : (bytes : List ℕ) (refusal : Refusal) → read bytes ≡ Err refusal → Fails bytes refusal
   pub fails : (bytes : List ℕ) (refusal : Refusal) → Fails bytes refusal → read bytes ≡ Err refusal
+
+-- No bytes have two values, with whatever is left behind them.
+abbrev pub NoTwoValues : {A : Type 0} → (List ℕ → A → List ℕ → Type 0) → Type 0
+NoTwoValues {A} Is = (bytes : List ℕ) (one other : A) (rest end : List ℕ) → Is bytes one rest → Is bytes other end → (one ≡ other) × (rest ≡ end)

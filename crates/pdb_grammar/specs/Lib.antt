@@ -1,5 +1,4 @@
 pub mod Agreement
-pub mod Repeated
 pub mod Shape
 pub mod Fault
 pub mod Row

@@ -10,7 +10,7 @@ use Rattle.pdb_base.specs.Reading.{number_at, text_at, counted_at}
 use Rattle.pdb_base.specs.Numeric.{num_at, variant_at}
 use Rattle.pdb_base.specs.Spelling.{SpellsNumber, SpellsNum, SpellsVariant, SpellsText, SpellsCounted}
 use Rattle.pdb_flags.specs.PointerAttributes.{is_pointer_word}
-use Rattle.pdb_grammar.specs.Repeated.{SpellsEach, repeated}
+use Rattle.pdb_base.specs.Repeated.{SpellsEach, repeated}
 
 -- what can stand in a record
 pub data Shape : Type 0 where

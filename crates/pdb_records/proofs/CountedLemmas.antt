@@ -1,46 +1,104 @@
--- Lists of indexes behind their count.
+-- Lists of indexes behind their count, of types and of ids alike.
 use Rattle.std.specs.Prelude.{IsOkAnd}
-use Rattle.std.proofs.Common.{◌≡◌, ◌≢◌, ℕ, List, refl, ap, ◌∙◌, sym, Result, Ok, Err, IsErrAnd}
+use Rattle.std.proofs.Common.{◌≡◌, ◌≢◌, inl, inr, ℕ, ◌*◌, ◌<◌, ◌≤◌, List, [], ◌∷◌, length, sym, ap, ◌∙◌, arith, length-append, Ok, Err}
 use Rattle.pdb_base.specs.declared.error.Error.{Error}
 use Rattle.pdb_base.specs.declared.error.Error.TheVariants.{OutOfMemory}
+use Rattle.pdb_base.specs.declared.index.IdIndex.{IdIndex}
+use Rattle.pdb_base.specs.declared.index.TypeIndex.{TypeIndex}
 use Rattle.pdb_base.specs.Refusal.{Refusal, refusal_of, unexpected_eof, out_of_memory}
 use Rattle.pdb_base.specs.Answer.{Answer, ◌>>=◌}
+use Rattle.pdb_base.specs.Memory.{HasItem}
 use Rattle.pdb_base.specs.Reading.{number_at}
+use Rattle.pdb_base.specs.Repeated.{SpellsEach, repeated}
+use Rattle.pdb_base.specs.Spelling.{SpellsNumber, Begins}
 use Rattle.pdb_base.proofs.Collected.{ok}
-use Rattle.pdb_grammar.specs.Repeated.{repeated}
-use Rattle.pdb_grammar.specs.Shape.{index_at}
-use Rattle.pdb_grammar.proofs.Agreeing.{bind_at, bind_no}
+use Rattle.pdb_base.proofs.SpellingLaws.{numbers}
+use Rattle.pdb_grammar.specs.Agreement.{Agrees}
+use Rattle.pdb_grammar.specs.Row.{Row, Assigns, Stops, row}
+use Rattle.pdb_grammar.specs.Shape.{SpellsIndex, SpellsTimes, as_id, as_type, index_at, id_index, type_index}
+use Rattle.pdb_grammar.proofs.Agreeing.{answer_cases, bind_at, bind_no}
+use Rattle.pdb_grammar.proofs.RowLaws.{rows}
 use Rattle.pdb_grammar.proofs.ShapeLaws.{number_ends}
-use Rattle.pdb_base.proofs.Refused.{passed_on}
-use Rattle.pdb_records.specs.Memory.{HasItem}
-use Rattle.pdb_records.proofs.ListLemmas.{refused, cause_is}
+use Rattle.pdb_grammar.proofs.StepLemmas.{indexes_short}
+use Rattle.pdb_grammar.proofs.TakesLemmas.{begins_length}
+use Rattle.pdb_records.specs.declared.parse.counted.CountWidth.{CountWidth}
+use Rattle.pdb_records.specs.declared.parse.counted.CountWidth.TheVariants.{Bits16, Bits32}
+use Rattle.pdb_records.specs.Counted.{count_bytes, counted_at}
+use Rattle.pdb_records.specs.Lists.{counted_row}
+use Rattle.pdb_records.specs.Memory.{HoldsIndexes}
 
--- what so many indexes make, behind their count
-abbrev pub counted : {A B : Type 0} → (List A → B) → (ℕ → A) → ℕ × List ℕ → Answer (B × List ℕ)
-counted made said n = repeated (index_at said) n.0 n.1 >>= λ xs. ok (made xs.0, xs.1)
+-- ---- they are read as their row assigns them
 
-pub counted_read : {A B : Type 0} (made : List A → B) (said : ℕ → A) (width : ℕ) (bytes : List ℕ) (n : ℕ) (rest : List ℕ) (xs : List A) (end : List ℕ)
-    → number_at width bytes ≡ Ok (n, rest) → repeated (index_at said) n rest ≡ Ok (xs, end) → (number_at width bytes >>= counted made said) ≡ Ok (made xs, end)
-counted_read made said width bytes n rest xs end is all =
-    bind_at (number_at width bytes) (counted made said) (n, rest) is ∙ bind_at (repeated (index_at said) n rest) (λ ys. ok (made ys.0, ys.1)) (xs, end) all
+pub types_agree : (width : CountWidth) → Agrees (counted_at width as_type) (Assigns (counted_row width type_index)) (Stops (counted_row width type_index))
+unfolding row counted_row
+types_agree Bits16 = rows (counted_row Bits16 type_index)
+types_agree Bits32 = rows (counted_row Bits32 type_index)
 
-pub counted_refused : {A B : Type 0} (made : List A → B) (said : ℕ → A) (width : ℕ) (bytes : List ℕ) (n : ℕ) (rest : List ℕ) (e : Refusal)
-    → number_at width bytes ≡ Ok (n, rest) → repeated (index_at said) n rest ≡ Err e → (number_at width bytes >>= counted made said) ≡ Err e
-counted_refused made said width bytes n rest e is refused =
-    bind_at (number_at width bytes) (counted made said) (n, rest) is ∙ bind_no (repeated (index_at said) n rest) (λ ys. ok (made ys.0, ys.1)) e refused
+pub ids_agree_in_list : (width : CountWidth) → Agrees (counted_at width as_id) (Assigns (counted_row width id_index)) (Stops (counted_row width id_index))
+unfolding row counted_row
+ids_agree_in_list Bits16 = rows (counted_row Bits16 id_index)
+ids_agree_in_list Bits32 = rows (counted_row Bits32 id_index)
 
-pub counted_cut : {A B : Type 0} (made : List A → B) (said : ℕ → A) (width : ℕ) (bytes : List ℕ) (e : Refusal)
-    → number_at width bytes ≡ Err e → (number_at width bytes >>= counted made said) ≡ Err e
-counted_cut made said width bytes e is = bind_no (number_at width bytes) (counted made said) e is
+-- ---- the count, and the indexes behind it
 
--- where indexes are there, their list is what is read
-pub indexes_meant : {A : Type 0} (answer : Answer (List A × List ℕ)) → IsOkAnd answer (λ read. HasItem read.0) → (xs : List A) × (end : List ℕ) × (answer ≡ Ok (xs, end)) × HasItem xs
-indexes_meant (Ok xs) meant = (xs.0, xs.1, refl, meant)
-indexes_meant (Err e) meant = absurd meant
+-- the indexes behind a count
+abbrev pub behind_count : {A : Type 0} → (ℕ → A) → ℕ × List ℕ → Answer (List A × List ℕ)
+behind_count said count = repeated (index_at said) count.0 count.1 >>= λ items. ok (items.0, items.1)
 
--- what a refused call answers is passed on
-pub wants_too : {X Y : Type 0} (result : Result Y Error) (cause : Error) → IsErrAnd result (λ e. e ≡ cause) → result ≡ Err OutOfMemory → refused {X = X} cause ≡ Err OutOfMemory
-wants_too {X} result cause passed want = ap (λ (e : Error). refused {X = X} e) (cause_is cause OutOfMemory (sym (passed_on result cause passed) ∙ want))
+pub counted_is : {A : Type 0} (width : CountWidth) (said : ℕ → A) (bytes : List ℕ) (count : ℕ) (rest : List ℕ) (answer : Answer (List A × List ℕ))
+    → number_at (count_bytes width) bytes ≡ Ok (count, rest) → repeated (index_at said) count rest ≡ answer → counted_at width said bytes ≡ answer
+counted_is {A} width said bytes count rest (Ok items) is all =
+    bind_at (number_at (count_bytes width) bytes) (behind_count said) (count, rest) is ∙ bind_at (repeated (index_at said) count rest) (λ xs. ok (xs.0, xs.1)) items all
+counted_is {A} width said bytes count rest (Err e) is all =
+    bind_at (number_at (count_bytes width) bytes) (behind_count said) (count, rest) is ∙ bind_no (repeated (index_at said) count rest) (λ xs. ok (xs.0, xs.1)) e all
+
+pub counted_cut : {A : Type 0} (width : CountWidth) (said : ℕ → A) (bytes : List ℕ) (e : Refusal) → number_at (count_bytes width) bytes ≡ Err e → counted_at width said bytes ≡ Err e
+counted_cut width said bytes e is = bind_no (number_at (count_bytes width) bytes) (behind_count said) e is
+
+-- a count that the bytes don't hold is refused
+pub counted_short : {A : Type 0} (width : CountWidth) (said : ℕ → A) (bytes : List ℕ) (count : ℕ) (rest : List ℕ)
+    → Begins (SpellsNumber (count_bytes width)) bytes count rest → length rest < 4 * count → counted_at width said bytes ≡ Err unexpected_eof
+counted_short width said bytes count rest begins short =
+    counted_is width said bytes count rest (Err unexpected_eof) ((numbers (count_bytes width)).only bytes count rest begins) (indexes_short said count rest short)
+
+-- ---- a list with an index
+
+-- where a list with an index is read, it is there
+pub indexes_there : {A : Type 0} (read : List ℕ → Answer (List A × List ℕ)) (r : Row (List A)) → Agrees read (Assigns r) (Stops r)
+    → (bytes : List ℕ) → IsOkAnd (read bytes) (λ x. HasItem x.0) → HoldsIndexes r bytes
+indexes_there read r agrees bytes whole = elim (answer_cases (read bytes)) [
+  | inl there ↦ (there.0.0, there.0.1, agrees.found bytes there.0.0 there.0.1 there.1, rw there.1 at whole)
+  | inr none ↦ absurd (rw none.1 at whole)
+]
+
+-- ---- how long such a list can be
+
+each_length : {A : Type 0} (said : ℕ → A) (xs : List A) (front : List ℕ) → SpellsEach (SpellsIndex said) xs front → length front ≡ 4 * length xs
+each_length said [] front is = ap length is
+each_length said (x ∷ xs) front is =
+    let four : length is.0 ≡ 4 = is.2.spelled.len in
+    omega (arith, four, each_length said xs is.1 is.3, length-append is.0 is.1, ap length is.4)
+
+times_length : {A : Type 0} (said : ℕ → A) (count : ℕ) (bytes : List ℕ) (xs : List A) (rest : List ℕ) → Begins (SpellsTimes (SpellsIndex said) count) bytes xs rest → 4 * length xs ≤ length bytes
+times_length said count bytes xs rest begins =
+    omega (arith, each_length said xs begins.front begins.spelled.each, begins_length (SpellsTimes (SpellsIndex said) count) bytes xs rest begins)
+
+-- no list has more indexes than a fourth of the bytes behind its count
+pub types_few : (width : CountWidth) (bytes : List ℕ) (list : List TypeIndex) (rest : List ℕ) → Assigns (counted_row width type_index) bytes list rest → 4 * length list ≤ length bytes
+unfolding counted_row
+types_few Bits16 bytes list rest is =
+    omega (arith, ap length is.3.3.0, begins_length (SpellsNumber 2) bytes is.0 is.1 is.2, times_length as_type is.0 is.1 is.3.0 is.3.1 is.3.2)
+types_few Bits32 bytes list rest is =
+    omega (arith, ap length is.3.3.0, begins_length (SpellsNumber 4) bytes is.0 is.1 is.2, times_length as_type is.0 is.1 is.3.0 is.3.1 is.3.2)
+
+pub ids_few : (width : CountWidth) (bytes : List ℕ) (list : List IdIndex) (rest : List ℕ) → Assigns (counted_row width id_index) bytes list rest → 4 * length list ≤ length bytes
+unfolding counted_row
+ids_few Bits16 bytes list rest is =
+    omega (arith, ap length is.3.3.0, begins_length (SpellsNumber 2) bytes is.0 is.1 is.2, times_length as_id is.0 is.1 is.3.0 is.3.1 is.3.2)
+ids_few Bits32 bytes list rest is =
+    omega (arith, ap length is.3.3.0, begins_length (SpellsNumber 4) bytes is.0 is.1 is.2, times_length as_id is.0 is.1 is.3.0 is.3.1 is.3.2)
+
+-- ---- refusals
 
 -- bytes that end too soon are not want of memory
 pub number_is_no_want : (width : ℕ) (bytes : List ℕ) (cause : Error) → number_at width bytes ≡ Err (refusal_of cause) → cause ≢ OutOfMemory

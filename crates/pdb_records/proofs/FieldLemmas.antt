@@ -1,5 +1,6 @@
 -- Lists of fields: what the code's values say, and what its loop keeps.
 use Rattle.std.proofs.Common.{◌≡◌, ◌≢◌, ℕ, ◌<◌, List, [], ◌∷◌, ◌++◌, length, refl, sym, ap, ◌∙◌, Option, Some, Ok, Err}
+use Rattle.std.specs.Option.{option_or}
 use Rattle.pdb_base.specs.declared.index.TypeIndex.{TypeIndex}
 use Rattle.pdb_base.specs.Refusal.{Refusal}
 use Rattle.pdb_base.proofs.Collected.{ok}
@@ -10,7 +11,7 @@ use Rattle.pdb_values.specs.declared.type_data.TypeData.{TypeData}
 use Rattle.pdb_values.specs.TypeValue.{TypeValue, Fields}
 use Rattle.pdb_values.specs.TypeView.{type_value, fields_value}
 use Rattle.pdb_values.specs.TypeValue as values
-use Rattle.pdb_records.specs.Fields.{Entry, field, continues, fields_of, continuation_of, or_before, field_list_of, field_at}
+use Rattle.pdb_records.specs.Fields.{Entry, field, continues, fields_among, continuation_of, field_list_of, field_at}
 use Rattle.pdb_records.specs.Entries.{gathered}
 use Rattle.pdb_records.specs.Grammar.{IsEntry, NoEntry}
 use Rattle.pdb_records.proofs.GrammarLaws.{field_agrees, field_takes}
@@ -22,7 +23,7 @@ pushed : Fields → TypeValue → Fields
 pushed values.no_field value = values.first_field value values.no_field
 pushed (values.first_field first more) value = values.first_field first (pushed more value)
 
-fields_push : (entries : List Entry) (value : TypeValue) → fields_of (entries ++ field value ∷ []) ≡ pushed (fields_of entries) value
+fields_push : (entries : List Entry) (value : TypeValue) → fields_among (entries ++ field value ∷ []) ≡ pushed (fields_among entries) value
 unfolding pushed
 fields_push [] value = refl
 fields_push (field first ∷ entries) value = ap (λ (more : Fields). values.first_field first more) (fields_push entries value)
@@ -33,10 +34,10 @@ unfolding pushed
 values_push [] t = refl
 values_push (x ∷ xs) t = ap (λ (more : Fields). values.first_field (type_value x) more) (values_push xs t)
 
-pub fields_more : (entries : List Entry) (xs : List TypeData) (t : TypeData) → fields_of entries ≡ fields_value xs → fields_of (entries ++ field (type_value t) ∷ []) ≡ fields_value (xs ++ t ∷ [])
+pub fields_more : (entries : List Entry) (xs : List TypeData) (t : TypeData) → fields_among entries ≡ fields_value xs → fields_among (entries ++ field (type_value t) ∷ []) ≡ fields_value (xs ++ t ∷ [])
 fields_more entries xs t same = fields_push entries (type_value t) ∙ ap (λ (v : Fields). pushed v (type_value t)) same ∙ sym (values_push xs t)
 
-pub fields_same : (entries : List Entry) (index : TypeIndex) → fields_of (entries ++ continues index ∷ []) ≡ fields_of entries
+pub fields_same : (entries : List Entry) (index : TypeIndex) → fields_among (entries ++ continues index ∷ []) ≡ fields_among entries
 fields_same [] index = refl
 fields_same (field first ∷ entries) index = ap (λ (more : Fields). values.first_field first more) (fields_same entries index)
 fields_same (continues other ∷ entries) index = fields_same entries index
@@ -44,12 +45,12 @@ fields_same (continues other ∷ entries) index = fields_same entries index
 pub continuation_same : (entries : List Entry) (value : TypeValue) → continuation_of (entries ++ field value ∷ []) ≡ continuation_of entries
 continuation_same [] value = refl
 continuation_same (field first ∷ entries) value = continuation_same entries value
-continuation_same (continues other ∷ entries) value = ap (λ (o : Option TypeIndex). or_before o (Some other)) (continuation_same entries value)
+continuation_same (continues other ∷ entries) value = ap (λ (o : Option TypeIndex). option_or o (Some other)) (continuation_same entries value)
 
 pub continuation_last : (entries : List Entry) (index : TypeIndex) → continuation_of (entries ++ continues index ∷ []) ≡ Some index
 continuation_last [] index = refl
 continuation_last (field first ∷ entries) index = continuation_last entries index
-continuation_last (continues other ∷ entries) index = ap (λ (o : Option TypeIndex). or_before o (Some other)) (continuation_last entries index)
+continuation_last (continues other ∷ entries) index = ap (λ (o : Option TypeIndex). option_or o (Some other)) (continuation_last entries index)
 
 -- ---- the loop
 
@@ -76,7 +77,7 @@ gathered_stops bytes entries left e all some refused =
 
 -- the list that was made says what the entries make
 pub says_as_much : (entries : List Entry) (xs : List TypeData) (continuation : Option TypeIndex) (t : TypeData) (left : List ℕ)
-    → fields_of entries ≡ fields_value xs → continuation_of entries ≡ continuation → type_value t ≡ values.field_list (fields_value xs) continuation → ok {A = TypeValue × List ℕ} (field_list_of entries, left) ≡ ok (type_value t, left)
+    → fields_among entries ≡ fields_value xs → continuation_of entries ≡ continuation → type_value t ≡ values.field_list (fields_value xs) continuation → ok {A = TypeValue × List ℕ} (field_list_of entries, left) ≡ ok (type_value t, left)
 says_as_much entries xs continuation t left same goes says =
     ap (λ (v : TypeValue). ok {A = TypeValue × List ℕ} (v, left))
     (ap (λ (v : Fields). values.field_list v (continuation_of entries)) same ∙ ap (λ (o : Option TypeIndex). values.field_list (fields_value xs) o) goes ∙ sym says)

@@ -1,18 +1,18 @@
 -- Records are read as the grammar assigns them.
 use Rattle.std.proofs.Common.{◌≡◌, ◌≢◌, inl, inr, ℕ, ◌==◌, ◌≤◌, Bool, true, false, List, [], ◌∷◌, length, refl, sym, ap, subst, arith, length-append, Option, Some, None, Ok, Err}
-use Rattle.pdb_base.specs.Refusal.{Refusal, unexpected_eof, unimplemented_type_kind}
+use Rattle.pdb_base.specs.Refusal.{Refusal, unexpected_eof}
 use Rattle.pdb_base.specs.Answer.{◌>>=◌}
 use Rattle.pdb_base.specs.Spelling.{SpellsNumber, Begins}
 use Rattle.pdb_base.specs.Reading.{number_at}
 use Rattle.pdb_base.proofs.Collected.{ok, err, ok_is, err_is, ok_is_no_err}
-use Rattle.pdb_grammar.specs.Agreement.{Agrees}
-use Rattle.pdb_grammar.specs.Shape.{u16, type_index, Spells, SpellsIndex, as_type, index_at}
+use Rattle.pdb_grammar.specs.Agreement.{Agrees, NoTwoValues}
+use Rattle.pdb_grammar.specs.Shape.{u16, Spells, as_type}
 use Rattle.pdb_grammar.specs.Fault.{Refuses}
 use Rattle.pdb_grammar.specs.Row.{Assigns, Stops, row}
 use Rattle.pdb_grammar.specs.ToEnd.{TakesBytes, Sequence, Fills, FailsBehind, to_end}
 use Rattle.pdb_grammar.specs.Padding.{BeginsPad, IsPadded, IsPaddedShort, padding_at}
 use Rattle.pdb_grammar.specs.Dimensions.{AreDimensions, NoDimensions, dimensions_at}
-use Rattle.pdb_grammar.proofs.Agreeing.{reworded, mapped, chained}
+use Rattle.pdb_grammar.proofs.Agreeing.{reworded, mapped, chained, one_value}
 use Rattle.pdb_grammar.proofs.ShapeLaws.{shapes}
 use Rattle.pdb_grammar.proofs.RowLaws.{rows}
 use Rattle.pdb_grammar.proofs.ToEndLaws.{to_end_agrees}
@@ -23,14 +23,19 @@ use Rattle.pdb_records.specs.declared.leaf.Leaf.{Leaf}
 use Rattle.pdb_records.specs.declared.leaf.Leaf.TheVariants.{Plain, ArgumentList, MethodList, Array}
 use Rattle.pdb_values.specs.TypeValue.{TypeValue}
 use Rattle.pdb_values.specs.TypeValue as values
-use Rattle.pdb_records.specs.Rows.{entry_row}
+use Rattle.pdb_records.specs.Rows.{listed_method_row, continuation_row}
 use Rattle.pdb_records.specs.Lists.{arguments_row, array_row}
 use Rattle.pdb_records.specs.Arrays.{array_of, ended, dimensions_to_end, array_at}
 use Rattle.pdb_records.specs.Leaves.{leaf_of, row_of}
-use Rattle.pdb_records.specs.Records.{data_at, data_of, behind_leaf}
+use Rattle.pdb_records.specs.Counted.{counted_at}
+use Rattle.pdb_records.specs.Known.{IsKnown}
+use Rattle.pdb_records.specs.Records.{data_at, behind_leaf}
 use Rattle.pdb_records.specs.Fields.{Entry, field, continues, field_list_of, entry_of, field_at, record_of, record_at, continuation_leaf, field_list_leaf}
-use Rattle.pdb_records.specs.Grammar.{AreLastDimensions, NoLastDimensions, IsArray, NoArray, IsData, NoData, IsDataOf, NoDataOf, IsBehind, NoBehind, IsEntryOf, NoEntryOf, IsEntry, NoEntry, IsRecordOf, NoRecordOf, IsRecord, NoRecord}
-use Rattle.pdb_records.proofs.ListLemmas.{entries_agree, entry_takes}
+use Rattle.pdb_records.specs.Grammar.{AreLastDimensions, NoLastDimensions, IsArray, NoArray, IsData, NoData, IsBehind, NoBehind, IsEntryOf, NoEntryOf, IsEntry, NoEntry, IsRecordOf, NoRecordOf, IsRecord, NoRecord}
+use Rattle.pdb_records.specs.declared.parse.counted.CountWidth.TheVariants.{Bits32}
+use Rattle.pdb_records.proofs.CountedLemmas.{types_agree}
+use Rattle.pdb_records.proofs.KnownLaws.{known_agrees}
+use Rattle.pdb_records.proofs.ListLemmas.{methods_agree, method_takes}
 
 -- ---- arrays
 
@@ -89,30 +94,21 @@ array_agrees strided =
 -- ---- what stands behind a leaf
 
 data_agrees : (number : ℕ) (leaf : Leaf) → Agrees (data_at number leaf) (IsData number leaf) (NoData number leaf)
-data_agrees number (Plain leaf) = rows (row_of number leaf)
-data_agrees number ArgumentList = mapped values.argument_list (row arguments_row) (Assigns arguments_row) (Stops arguments_row) (rows arguments_row)
+data_agrees number (Plain leaf) = mapped values.plain (row (row_of number leaf)) (Assigns (row_of number leaf)) (Stops (row_of number leaf)) (rows (row_of number leaf))
+data_agrees number ArgumentList = mapped values.argument_list (counted_at Bits32 as_type) (Assigns arguments_row) (Stops arguments_row) (types_agree Bits32)
 data_agrees number MethodList =
-    mapped values.method_list (to_end (row entry_row)) (Fills (Assigns entry_row)) (FailsBehind (Assigns entry_row) (Stops entry_row))
-    (to_end_agrees (row entry_row) (Assigns entry_row) (Stops entry_row) entries_agree entry_takes)
+    mapped values.method_list (to_end (row listed_method_row)) (Fills (Assigns listed_method_row)) (FailsBehind (Assigns listed_method_row) (Stops listed_method_row))
+    (to_end_agrees (row listed_method_row) (Assigns listed_method_row) (Stops listed_method_row) methods_agree method_takes)
 data_agrees number (Array strided) = mapped values.array (array_at strided) (IsArray strided) (NoArray strided) (array_agrees strided)
-
-data_of_agrees : (number : ℕ) (leaf : Option Leaf) → Agrees (data_of number leaf) (IsDataOf number leaf) (NoDataOf number leaf)
-data_of_agrees number None = record {
-  found = λ bytes x rest is. ok_is_no_err (x, rest) (unimplemented_type_kind number) (sym is);
-  only = λ bytes x rest no. absurd no;
-  failed = λ bytes e is. err_is {A = TypeValue × List ℕ} (unimplemented_type_kind number) e is;
-  fails = λ bytes e is. ap (λ (d : Refusal). err d) is;
-}
-data_of_agrees number (Some leaf) = data_agrees number leaf
 
 pub behind_agrees : (number : ℕ) → Agrees (behind_leaf number) (IsBehind number) (NoBehind number)
 unfolding behind_leaf
-behind_agrees number = data_of_agrees number (leaf_of number)
+behind_agrees number = known_agrees number (data_at number) (IsData number) (NoData number) (data_agrees number) (leaf_of number)
 
 -- ---- entries
 
 entry_of_agrees : (test : Bool) (number : ℕ) → Agrees (entry_of test number) (IsEntryOf test number) (NoEntryOf test number)
-entry_of_agrees true number = mapped (λ index. continues index) (index_at as_type) (Begins (Spells type_index)) (Refuses type_index) (shapes type_index)
+entry_of_agrees true number = mapped (λ index. continues index) (row continuation_row) (Assigns continuation_row) (Stops continuation_row) (rows continuation_row)
 entry_of_agrees false number = mapped (λ value. field value) (behind_leaf number) (IsBehind number) (NoBehind number) (behind_agrees number)
 
 pub field_agrees : Agrees field_at IsEntry NoEntry
@@ -125,17 +121,17 @@ field_agrees =
 -- ---- what is assigned takes bytes
 
 data_leaves : (number : ℕ) (leaf : Leaf) (bytes : List ℕ) (x : TypeValue) (rest : List ℕ) → IsData number leaf bytes x rest → length rest ≤ length bytes
-data_leaves number (Plain leaf) bytes x rest is = row_leaves (row_of number leaf) bytes x rest is
+data_leaves number (Plain leaf) bytes x rest is = row_leaves (row_of number leaf) bytes is.0 rest is.1
 data_leaves number ArgumentList bytes x rest is = row_leaves arguments_row bytes is.0 rest is.1
 data_leaves number MethodList bytes x rest is = omega (arith, ap length is.1.1)
 data_leaves number (Array strided) bytes x rest is = omega (arith, ap length is.1.3.1.5)
 
-data_of_leaves : (number : ℕ) (leaf : Option Leaf) (bytes : List ℕ) (x : TypeValue) (rest : List ℕ) → IsDataOf number leaf bytes x rest → length rest ≤ length bytes
+data_of_leaves : (number : ℕ) (leaf : Option Leaf) (bytes : List ℕ) (x : TypeValue) (rest : List ℕ) → IsKnown (IsData number) leaf bytes x rest → length rest ≤ length bytes
 data_of_leaves number None bytes x rest is = absurd is
 data_of_leaves number (Some leaf) bytes x rest is = data_leaves number leaf bytes x rest is
 
 entry_of_leaves : (test : Bool) (number : ℕ) (bytes : List ℕ) (x : Entry) (rest : List ℕ) → IsEntryOf test number bytes x rest → length rest ≤ length bytes
-entry_of_leaves true number bytes x rest is = omega (arith, begins_length (SpellsIndex as_type) bytes is.0 rest is.1)
+entry_of_leaves true number bytes x rest is = row_leaves continuation_row bytes is.0 rest is.1
 entry_of_leaves false number bytes x rest is = data_of_leaves number (leaf_of number) bytes is.0 rest is.1
 
 pads_leave : (pads : List (List ℕ)) (bytes rest : List ℕ) → Sequence BeginsPad bytes pads rest → length rest ≤ length bytes
@@ -168,3 +164,6 @@ unfolding record_at
 record_agrees =
     chained (number_at 2) (Begins (Spells u16)) (Refuses u16) (λ number. record_of (number == field_list_leaf) number) _ _ (shapes u16)
     (λ number. record_of_agrees (number == field_list_leaf) number)
+
+pub one_record : NoTwoValues IsRecord
+one_record = one_value record_at IsRecord NoRecord record_agrees

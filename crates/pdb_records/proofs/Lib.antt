@@ -1,4 +1,5 @@
 pub mod ListLemmas
+pub mod KnownLaws
 pub mod GrammarLaws
 pub mod FieldLemmas
 pub mod WholeLemmas

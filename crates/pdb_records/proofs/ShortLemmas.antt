@@ -1,10 +1,7 @@
 -- Every list that the grammar assigns has at most half as many items as its record has bytes.
-use Rattle.std.proofs.Common.{◌≡◌, ℕ, ◌*◌, ◌≤◌, ◌==◌, Bool, true, false, List, [], ◌∷◌, length, ap, subst, arith, length-append, Option, Some, None}
-use Rattle.pdb_base.specs.declared.index.TypeIndex.{TypeIndex}
+use Rattle.std.proofs.Common.{ℕ, ◌≤◌, ◌==◌, Bool, true, false, List, [], ◌∷◌, length, subst, arith, Option, Some, None}
 use Rattle.pdb_base.specs.Spelling.{SpellsNumber}
-use Rattle.pdb_grammar.specs.Repeated.{SpellsEach}
-use Rattle.pdb_grammar.specs.Shape.{Value, SpellsIndex, SpellsTimes, as_type}
-use Rattle.pdb_grammar.specs.Row.{Row, gives, field, Assigns}
+use Rattle.pdb_grammar.specs.Row.{Assigns}
 use Rattle.pdb_grammar.specs.ToEnd.{Sequence}
 use Rattle.pdb_grammar.specs.Dimensions.{AreDimensions}
 use Rattle.pdb_grammar.proofs.DimensionLaws.{num_long}
@@ -13,74 +10,24 @@ use Rattle.pdb_values.specs.TypeValue.{TypeValue, Fields, values_in}
 use Rattle.pdb_values.specs.TypeValue as values
 use Rattle.pdb_records.specs.declared.leaf.Leaf.{Leaf}
 use Rattle.pdb_records.specs.declared.leaf.Leaf.TheVariants.{Plain, ArgumentList, MethodList, Array}
-use Rattle.pdb_records.specs.declared.leaf.PlainLeaf.{PlainLeaf}
-use Rattle.pdb_records.specs.declared.leaf.PlainLeaf.TheVariants.{Class, WideStruct, Member, Nested, MemberFunction, OverloadedMethod, Method, BaseClass, TablePointer, StaticMember, Pointer, Procedure, Modifier, Enumeration, Enumerate, Union, Bitfield, VirtualBaseClass}
-use Rattle.pdb_records.specs.Rows.{class_row, wide_class_row, member_row, nested_row, member_function_row, overloaded_method_row, method_row, base_row, table_pointer_row, static_member_row, pointer_row, procedure_row, modifier_row, enumeration_row, enumerate_row, union_row, bitfield_row, virtual_base_row, entry_row}
-use Rattle.pdb_records.specs.Lists.{arguments_row, array_row}
+use Rattle.pdb_records.specs.Rows.{listed_method_row}
+use Rattle.pdb_records.specs.Lists.{array_row}
 use Rattle.pdb_records.specs.Arrays.{array_of}
-use Rattle.pdb_records.specs.Leaves.{leaf_of, row_of}
-use Rattle.pdb_records.specs.Fields.{Entry, field, continues, fields_of, field_list_of, continuation_leaf, field_list_leaf}
-use Rattle.pdb_records.specs.Grammar.{IsData, IsDataOf, IsEntryOf, IsEntry, IsRecordOf, IsRecord}
+use Rattle.pdb_records.specs.Leaves.{leaf_of}
+use Rattle.pdb_records.specs.Fields.{Entry, field, continues, fields_among, field_list_of, continuation_leaf, field_list_leaf}
+use Rattle.pdb_records.specs.Grammar.{IsData, IsEntryOf, IsEntry, IsRecordOf, IsRecord}
+use Rattle.pdb_records.specs.declared.parse.counted.CountWidth.TheVariants.{Bits32}
+use Rattle.pdb_records.specs.Known.{IsKnown}
 use Rattle.pdb_records.specs.Short.{HalfAsMany, IsShort, AreShort}
-use Rattle.pdb_records.proofs.ListLemmas.{entry_long}
+use Rattle.pdb_records.proofs.CountedLemmas.{types_few}
+use Rattle.pdb_records.proofs.ListLemmas.{method_long}
 use Rattle.pdb_records.proofs.GrammarLaws.{field_long}
-
--- ---- values that rows give
-
--- whatever stands in a row, its value is so
-AlwaysGives : {A : Type 0} → (A → Type 0) → Row A → Type 0
-AlwaysGives {A} Is (gives a) = Is a
-AlwaysGives {A} Is (field shape next) = (v : Value shape) → AlwaysGives Is (next v)
-
-given_so : {A : Type 0} (Is : A → Type 0) (r : Row A) (bytes : List ℕ) (x : A) (rest : List ℕ) → AlwaysGives Is r → Assigns r bytes x rest → Is x
-unfolding AlwaysGives
-given_so Is (gives a) bytes x rest all is = subst Is is.0 all
-given_so Is (field shape next) bytes x rest all is = given_so Is (next is.0) is.1 x rest (all is.0) is.3
-
--- no list stands in a plain record
-plain_short : (size number : ℕ) (leaf : PlainLeaf) → AlwaysGives (IsShort size) (row_of number leaf)
-unfolding AlwaysGives class_row wide_class_row member_row nested_row member_function_row overloaded_method_row method_row base_row table_pointer_row static_member_row pointer_row procedure_row modifier_row enumeration_row enumerate_row union_row bitfield_row virtual_base_row
-plain_short size number (Class kind) = λ count properties fields derived_from vtable_shape bytes name unique_name. tt
-plain_short size number WideStruct = λ word fields derived_from vtable_shape count bytes name unique_name. tt
-plain_short size number Member = λ attributes field_type offset name. tt
-plain_short size number (Nested has_attributes) = λ word nested_type name. tt
-plain_short size number MemberFunction = λ return_type class_type this_pointer_type attributes count arguments adjustment. tt
-plain_short size number OverloadedMethod = λ count method_list name. tt
-plain_short size number Method = λ attributes method_type vtable_offset name. tt
-plain_short size number (BaseClass kind) = λ attributes base_class place. tt
-plain_short size number TablePointer = λ word table. tt
-plain_short size number StaticMember = λ attributes field_type name. tt
-plain_short size number Pointer = λ underlying_type attributes containing_class. tt
-plain_short size number Procedure = λ return_type attributes count arguments. tt
-plain_short size number Modifier = λ underlying_type word. tt
-plain_short size number Enumeration = λ count properties underlying_type fields name unique_name. tt
-plain_short size number Enumerate = λ attributes value name. tt
-plain_short size number Union = λ count properties fields bytes name unique_name. tt
-plain_short size number Bitfield = λ underlying_type len position. tt
-plain_short size number (VirtualBaseClass direct) = λ attributes base_class base_pointer place entry. tt
 
 -- ---- lists of items, each of which takes two bytes at least
 
 sequence_short : {A : Type 0} (Is : List ℕ → A → List ℕ → Type 0) → TakesTwo Is → (xs : List A) (bytes rest : List ℕ) → Sequence Is bytes xs rest → HalfAsMany xs (length bytes)
 sequence_short Is two [] bytes rest seq = omega arith
 sequence_short Is two (x ∷ xs) bytes rest seq = omega (arith, two bytes x seq.0 seq.1, sequence_short Is two xs seq.0 rest seq.2)
-
-each_index : {A : Type 0} (said : ℕ → A) (xs : List A) (front : List ℕ) → SpellsEach (SpellsIndex said) xs front → 4 * length xs ≡ length front
-each_index said [] front each = omega (arith, ap length each)
-each_index said (x ∷ xs) front each = omega (arith, each.2.spelled.len, each_index said xs each.1 each.3, length-append each.0 each.1, ap length each.4)
-
-arguments_short : (bytes : List ℕ) (list : List TypeIndex) (rest : List ℕ) → Assigns arguments_row bytes list rest → HalfAsMany list (length bytes)
-unfolding arguments_row
-arguments_short bytes list rest is =
-    let begins = is.3.2 in
-    let four : 4 * length is.3.0 ≡ length begins.front = each_index as_type is.3.0 begins.front begins.spelled.each in
-    omega (
-      arith,
-      four,
-      ap length is.3.3.0,
-      begins_length (SpellsNumber 4) bytes is.0 is.1 is.2,
-      begins_length (SpellsTimes (SpellsIndex as_type) is.0) is.1 is.3.0 is.3.1 begins,
-    )
 
 dimensions_short : (ns bytes rest : List ℕ) → AreDimensions bytes ns rest → HalfAsMany ns (length bytes)
 dimensions_short [] bytes rest are = absurd are
@@ -90,12 +37,12 @@ dimensions_short (n ∷ m ∷ ns) bytes rest are = omega (arith, num_long bytes 
 -- ---- records
 
 data_short : (size number : ℕ) (leaf : Leaf) (bytes : List ℕ) (value : TypeValue) (rest : List ℕ) → length bytes ≤ size → IsData number leaf bytes value rest → IsShort size value
-data_short size number (Plain leaf) bytes value rest fits is = given_so (IsShort size) (row_of number leaf) bytes value rest (plain_short size number leaf) is
+data_short size number (Plain leaf) bytes value rest fits is = subst (λ (v : TypeValue). IsShort size v) is.2 tt
 data_short size number ArgumentList bytes value rest fits is =
-    let short : HalfAsMany is.0 size = omega (arith, fits, arguments_short bytes is.0 rest is.1) in
+    let short : HalfAsMany is.0 size = omega (arith, fits, types_few Bits32 bytes is.0 rest is.1) in
     subst (λ (v : TypeValue). IsShort size v) is.2 short
 data_short size number MethodList bytes value rest fits is =
-    let short : HalfAsMany is.0 size = omega (arith, fits, sequence_short (Assigns entry_row) entry_long is.0 bytes rest is.1.0) in
+    let short : HalfAsMany is.0 size = omega (arith, fits, sequence_short (Assigns listed_method_row) method_long is.0 bytes rest is.1.0) in
     subst (λ (v : TypeValue). IsShort size v) is.2 short
 data_short size number (Array strided) bytes value rest fits is =
     let dimensions = is.1.3 in
@@ -103,7 +50,7 @@ data_short size number (Array strided) bytes value rest fits is =
     let made : IsShort size (values.array (array_of is.1.0 dimensions.0)) = short in
     subst (λ (v : TypeValue). IsShort size v) is.2 (subst (λ (a : _). IsShort size (values.array a)) dimensions.2 made)
 
-behind_short : (size number : ℕ) (leaf : Option Leaf) (bytes : List ℕ) (value : TypeValue) (rest : List ℕ) → length bytes ≤ size → IsDataOf number leaf bytes value rest → IsShort size value
+behind_short : (size number : ℕ) (leaf : Option Leaf) (bytes : List ℕ) (value : TypeValue) (rest : List ℕ) → length bytes ≤ size → IsKnown (IsData number) leaf bytes value rest → IsShort size value
 behind_short size number None bytes value rest fits is = absurd is
 behind_short size number (Some leaf) bytes value rest fits is = data_short size number leaf bytes value rest fits is
 
@@ -124,7 +71,7 @@ entry_short size bytes entry rest fits is =
     let less : length is.1 ≤ size = omega (arith, fits, begins_length (SpellsNumber 2) bytes is.0 is.1 is.2) in
     subst (λ (e : Entry). EntryIsShort size e) is.3.3.2 (entry_of_short size (is.0 == continuation_leaf) is.0 is.1 is.3.0 is.3.1 less is.3.2)
 
-fields_short : (size : ℕ) (entries : List Entry) (bytes rest : List ℕ) → length bytes ≤ size → Sequence IsEntry bytes entries rest → AreShort size (fields_of entries)
+fields_short : (size : ℕ) (entries : List Entry) (bytes rest : List ℕ) → length bytes ≤ size → Sequence IsEntry bytes entries rest → AreShort size (fields_among entries)
 unfolding EntryIsShort
 fields_short size [] bytes rest fits seq = tt
 fields_short size (field value ∷ entries) bytes rest fits seq =
@@ -132,14 +79,14 @@ fields_short size (field value ∷ entries) bytes rest fits seq =
 fields_short size (continues index ∷ entries) bytes rest fits seq =
     fields_short size entries seq.0 rest (omega (arith, fits, field_long bytes (continues index) seq.0 seq.1)) seq.2
 
-fewer_fields : (entries : List Entry) → length (values_in (fields_of entries)) ≤ length entries
+fewer_fields : (entries : List Entry) → length (values_in (fields_among entries)) ≤ length entries
 fewer_fields [] = omega arith
 fewer_fields (field value ∷ entries) = omega (arith, fewer_fields entries)
 fewer_fields (continues index ∷ entries) = omega (arith, fewer_fields entries)
 
 record_of_short : (size : ℕ) (test : Bool) (number : ℕ) (bytes : List ℕ) (value : TypeValue) (rest : List ℕ) → length bytes ≤ size → IsRecordOf test number bytes value rest → IsShort size value
 record_of_short size true number bytes value rest fits is =
-    let few : HalfAsMany (values_in (fields_of is.0)) size = omega (arith, fits, fewer_fields is.0, sequence_short IsEntry field_long is.0 bytes rest is.1.0) in
+    let few : HalfAsMany (values_in (fields_among is.0)) size = omega (arith, fits, fewer_fields is.0, sequence_short IsEntry field_long is.0 bytes rest is.1.0) in
     let short : IsShort size (field_list_of is.0) = (few, fields_short size is.0 bytes rest fits is.1.0) in
     subst (λ (v : TypeValue). IsShort size v) is.2 short
 record_of_short size false number bytes value rest fits is = behind_short size number (leaf_of number) bytes value rest fits is

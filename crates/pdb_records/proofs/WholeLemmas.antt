@@ -4,12 +4,13 @@ use Rattle.pdb_base.specs.declared.error.Error.{Error}
 use Rattle.pdb_base.specs.declared.error.Error.TheVariants.{UnexpectedEof}
 use Rattle.pdb_base.specs.Refusal.{refusal_of, unexpected_eof}
 use Rattle.pdb_base.specs.Answer.{Answers}
+use Rattle.pdb_base.specs.Memory.{LacksOnlyIf}
 use Rattle.pdb_base.proofs.Collected.{err_is, ok_is_no_err}
 use Rattle.pdb_values.specs.declared.type_data.TypeData.{TypeData}
 use Rattle.pdb_values.specs.TypeValue.{TypeValue}
 use Rattle.pdb_values.specs.TypeView.{type_value}
 use Rattle.pdb_records.specs.Fields.{record_at, type_record}
-use Rattle.pdb_records.specs.Memory.{LacksOnlyIf, NeedsMemory, IsFalseCount}
+use Rattle.pdb_records.specs.Memory.{NeedsMemory, IsFalseCount}
 use Rattle.pdb_records.specs.Short.{IsShort}
 use Rattle.pdb_records.proofs.ListLemmas.{refused}
 use Rattle.pdb_records.proofs.AssignedLemmas.{says_front, end_is}

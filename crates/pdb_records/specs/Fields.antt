@@ -1,13 +1,15 @@
 -- Lists of fields, and whole records.
 use Rattle.std.specs.Prelude.{ℕ, Bool, true, false, ◌==◌, List, [], ◌∷◌, Option, Some, None, Ok}
+use Rattle.std.specs.Option.{option_or}
 use Rattle.pdb_base.specs.declared.index.TypeIndex.{TypeIndex}
 use Rattle.pdb_base.specs.Answer.{Answer, ◌>>=◌}
 use Rattle.pdb_base.specs.Reading.{number_at}
-use Rattle.pdb_grammar.specs.Shape.{as_type, index_at}
+use Rattle.pdb_grammar.specs.Row.{row}
 use Rattle.pdb_grammar.specs.ToEnd.{to_end}
 use Rattle.pdb_grammar.specs.Padding.{padding_at}
 use Rattle.pdb_values.specs.TypeValue.{TypeValue, Fields}
 use Rattle.pdb_values.specs.TypeValue as values
+use Rattle.pdb_records.specs.Rows.{continuation_row}
 use Rattle.pdb_records.specs.Records.{behind_leaf}
 
 -- LF_INDEX: behind it stands the list that goes on where this one ends
@@ -24,29 +26,24 @@ pub data Entry : Type 0 where
   continues : TypeIndex → Entry
 
 -- the fields among entries
-abbrev pub fields_of : List Entry → Fields
-fields_of [] = values.no_field
-fields_of (field value ∷ entries) = values.first_field value (fields_of entries)
-fields_of (continues index ∷ entries) = fields_of entries
-
--- the one, or else the other
-abbrev pub or_before : Option TypeIndex → Option TypeIndex → Option TypeIndex
-or_before (Some last) before = Some last
-or_before None before = before
+abbrev pub fields_among : List Entry → Fields
+fields_among [] = values.no_field
+fields_among (field value ∷ entries) = values.first_field value (fields_among entries)
+fields_among (continues index ∷ entries) = fields_among entries
 
 -- the last list that an entry says goes on
 abbrev pub continuation_of : List Entry → Option TypeIndex
 continuation_of [] = None
 continuation_of (field value ∷ entries) = continuation_of entries
-continuation_of (continues index ∷ entries) = or_before (continuation_of entries) (Some index)
+continuation_of (continues index ∷ entries) = option_or (continuation_of entries) (Some index)
 
 -- the list of fields that entries make
 abbrev pub field_list_of : List Entry → TypeValue
-field_list_of entries = values.field_list (fields_of entries) (continuation_of entries)
+field_list_of entries = values.field_list (fields_among entries) (continuation_of entries)
 
 -- what stands behind the leaf of an entry
 abbrev pub entry_of : Bool → ℕ → List ℕ → Answer (Entry × List ℕ)
-entry_of true number bytes = index_at as_type bytes >>= λ index. Ok (continues index.0, index.1)
+entry_of true number bytes = row continuation_row bytes >>= λ index. Ok (continues index.0, index.1)
 entry_of false number bytes = behind_leaf number bytes >>= λ value. Ok (field value.0, value.1)
 
 -- an entry, with padding behind it

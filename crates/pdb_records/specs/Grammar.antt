@@ -1,9 +1,9 @@
 -- What the grammar of type records assigns to bytes, and why it refuses those that it assigns nothing.
-use Rattle.std.specs.Prelude.{◌≡◌, ◌≢◌, ◌⊎◌, ℕ, Bool, true, false, ◌==◌, List, [], Option, Some, None}
+use Rattle.std.specs.Prelude.{◌≡◌, ◌≢◌, ◌⊎◌, ℕ, Bool, true, false, ◌==◌, List, []}
 use Rattle.pdb_base.specs.declared.index.TypeIndex.{TypeIndex}
-use Rattle.pdb_base.specs.Refusal.{Refusal, unexpected_eof, unimplemented_type_kind}
+use Rattle.pdb_base.specs.Refusal.{Refusal, unexpected_eof}
 use Rattle.pdb_base.specs.Spelling.{Begins}
-use Rattle.pdb_grammar.specs.Shape.{u16, type_index, Spells}
+use Rattle.pdb_grammar.specs.Shape.{u16, Spells}
 use Rattle.pdb_grammar.specs.Fault.{Refuses}
 use Rattle.pdb_grammar.specs.Row.{Assigns, Stops}
 use Rattle.pdb_grammar.specs.ToEnd.{Fills, FailsBehind}
@@ -11,12 +11,13 @@ use Rattle.pdb_grammar.specs.Padding.{IsPadded, IsPaddedShort}
 use Rattle.pdb_grammar.specs.Dimensions.{AreDimensions, NoDimensions}
 use Rattle.pdb_records.specs.declared.leaf.Leaf.{Leaf}
 use Rattle.pdb_records.specs.declared.leaf.Leaf.TheVariants.{Plain, ArgumentList, MethodList, Array}
-use Rattle.pdb_values.specs.TypeValue.{TypeValue}
+use Rattle.pdb_values.specs.TypeValue.{PlainValue, TypeValue}
 use Rattle.pdb_values.specs.Array.{ArrayValue}
 use Rattle.pdb_values.specs.TypeValue as values
-use Rattle.pdb_records.specs.Rows.{entry_row}
+use Rattle.pdb_records.specs.Rows.{listed_method_row, continuation_row}
 use Rattle.pdb_records.specs.Lists.{arguments_row, array_row}
 use Rattle.pdb_records.specs.Arrays.{array_of}
+use Rattle.pdb_records.specs.Known.{IsKnown, NoKnown}
 use Rattle.pdb_records.specs.Leaves.{leaf_of, row_of}
 use Rattle.pdb_records.specs.Fields.{Entry, field, continues, field_list_of, continuation_leaf, field_list_leaf}
 
@@ -36,6 +37,7 @@ NoLastDimensions bytes refusal =
 abbrev pub IsArray : Bool → List ℕ → ArrayValue → List ℕ → Type 0
 IsArray strided bytes array rest = (head : _) × (mid : List ℕ) × Assigns (array_row strided) bytes head mid × ((ns : List ℕ) × AreLastDimensions mid ns rest × (array_of head ns ≡ array))
 
+-- an array is refused as its row, or as its dimensions
 abbrev pub NoArray : Bool → List ℕ → Refusal → Type 0
 NoArray strided bytes refusal =
     Stops (array_row strided) bytes refusal
@@ -45,42 +47,36 @@ NoArray strided bytes refusal =
 
 -- the record of a leaf, of this number
 abbrev pub IsData : ℕ → Leaf → List ℕ → TypeValue → List ℕ → Type 0
-IsData number (Plain leaf) bytes value rest = Assigns (row_of number leaf) bytes value rest
+IsData number (Plain leaf) bytes value rest = (plain : PlainValue) × Assigns (row_of number leaf) bytes plain rest × (values.plain plain ≡ value)
 IsData number ArgumentList bytes value rest = (list : List TypeIndex) × Assigns arguments_row bytes list rest × (values.argument_list list ≡ value)
-IsData number MethodList bytes value rest = (list : _) × Fills (Assigns entry_row) bytes list rest × (values.method_list list ≡ value)
+IsData number MethodList bytes value rest = (list : _) × Fills (Assigns listed_method_row) bytes list rest × (values.method_list list ≡ value)
 IsData number (Array strided) bytes value rest = (array : ArrayValue) × IsArray strided bytes array rest × (values.array array ≡ value)
 
+-- why it is refused
 abbrev pub NoData : ℕ → Leaf → List ℕ → Refusal → Type 0
 NoData number (Plain leaf) bytes refusal = Stops (row_of number leaf) bytes refusal
 NoData number ArgumentList bytes refusal = Stops arguments_row bytes refusal
-NoData number MethodList bytes refusal = FailsBehind (Assigns entry_row) (Stops entry_row) bytes refusal
+NoData number MethodList bytes refusal = FailsBehind (Assigns listed_method_row) (Stops listed_method_row) bytes refusal
 NoData number (Array strided) bytes refusal = NoArray strided bytes refusal
-
-abbrev pub IsDataOf : ℕ → Option Leaf → List ℕ → TypeValue → List ℕ → Type 0
-IsDataOf number None bytes value rest = ⊥
-IsDataOf number (Some leaf) bytes value rest = IsData number leaf bytes value rest
-
-abbrev pub NoDataOf : ℕ → Option Leaf → List ℕ → Refusal → Type 0
-NoDataOf number None bytes refusal = unimplemented_type_kind number ≡ refusal
-NoDataOf number (Some leaf) bytes refusal = NoData number leaf bytes refusal
 
 -- the record behind a leaf, but for a list of fields
 abbrev pub IsBehind : ℕ → List ℕ → TypeValue → List ℕ → Type 0
-IsBehind number = IsDataOf number (leaf_of number)
+IsBehind number = IsKnown (IsData number) (leaf_of number)
 
 -- a leaf without a record is refused by its number, and a record by its first fault
 abbrev pub NoBehind : ℕ → List ℕ → Refusal → Type 0
-NoBehind number = NoDataOf number (leaf_of number)
+NoBehind number = NoKnown number (NoData number) (leaf_of number)
 
 -- ---- lists of fields
 
--- an index of the list that goes on, or a field
+-- the list that goes on, or a field
 abbrev pub IsEntryOf : Bool → ℕ → List ℕ → Entry → List ℕ → Type 0
-IsEntryOf true number bytes entry rest = (index : TypeIndex) × Begins (Spells type_index) bytes index rest × (continues index ≡ entry)
+IsEntryOf true number bytes entry rest = (index : TypeIndex) × Assigns continuation_row bytes index rest × (continues index ≡ entry)
 IsEntryOf false number bytes entry rest = (value : TypeValue) × IsBehind number bytes value rest × (field value ≡ entry)
 
+-- why what stands behind the leaf of an entry is refused
 abbrev pub NoEntryOf : Bool → ℕ → List ℕ → Refusal → Type 0
-NoEntryOf true number bytes refusal = Refuses type_index bytes refusal
+NoEntryOf true number bytes refusal = Stops continuation_row bytes refusal
 NoEntryOf false number bytes refusal = NoBehind number bytes refusal
 
 -- an entry: a leaf, what stands behind it, and padding
@@ -89,6 +85,7 @@ IsEntry bytes entry rest =
     (number : ℕ) × (mid : List ℕ) × Begins (Spells u16) bytes number mid
     × ((behind : Entry) × (end : List ℕ) × IsEntryOf (number == continuation_leaf) number mid behind end × ((nothing : Unit {0}) × IsPadded end nothing rest × (behind ≡ entry)))
 
+-- an entry is refused as its leaf, as what stands behind it, or as the padding
 abbrev pub NoEntry : List ℕ → Refusal → Type 0
 NoEntry bytes refusal =
     Refuses u16 bytes refusal
@@ -103,6 +100,7 @@ abbrev pub IsRecordOf : Bool → ℕ → List ℕ → TypeValue → List ℕ →
 IsRecordOf true number bytes value rest = (entries : List Entry) × Fills IsEntry bytes entries rest × (field_list_of entries ≡ value)
 IsRecordOf false number bytes value rest = IsBehind number bytes value rest
 
+-- why what stands behind the leaf of a record is refused
 abbrev pub NoRecordOf : Bool → ℕ → List ℕ → Refusal → Type 0
 NoRecordOf true number bytes refusal = FailsBehind IsEntry NoEntry bytes refusal
 NoRecordOf false number bytes refusal = NoBehind number bytes refusal
@@ -111,6 +109,7 @@ NoRecordOf false number bytes refusal = NoBehind number bytes refusal
 abbrev pub IsRecord : List ℕ → TypeValue → List ℕ → Type 0
 IsRecord bytes value rest = (number : ℕ) × (mid : List ℕ) × Begins (Spells u16) bytes number mid × IsRecordOf (number == field_list_leaf) number mid value rest
 
+-- a type record is refused as its leaf, or as what stands behind it
 abbrev pub NoRecord : List ℕ → Refusal → Type 0
 NoRecord bytes refusal =
     Refuses u16 bytes refusal

@@ -2,31 +2,33 @@
 -- can be.
 use Rattle.std.specs.Prelude.{◌⊎◌, ℕ, List, length, IsOkAnd}
 use Rattle.pdb_base.specs.Answer.{Answer}
-use Rattle.pdb_values.specs.IdValue.{IdValue, build_info, string_list}
+use Rattle.pdb_values.specs.IdValue.{IdValue, build_info, string_list, plain}
+use Rattle.pdb_values.specs.Items.{HasIdListItem}
 use Rattle.pdb_records.specs.Ids.{IsId}
 use Rattle.pdb_records.specs.Claims.{ClaimsMore}
-use Rattle.pdb_records.specs.Memory.{HasItem}
 
--- a list with an entry: of what a module was built with, or of the parts of a text
-abbrev pub HasEntry : IdValue → Type 0
-HasEntry (build_info ids) = HasItem ids
-HasEntry (string_list types) = HasItem types
-HasEntry other = ⊥
+-- how many items a list has; what is no list has none
+abbrev pub item_count : IdValue → ℕ
+item_count (build_info ids) = length ids
+item_count (string_list types) = length types
+item_count (plain value) = 0
 
--- how many entries a list has; what is no list has none
-abbrev pub entry_count : IdValue → ℕ
-entry_count (build_info ids) = length ids
-entry_count (string_list types) = length types
-entry_count other = 0
+-- the grammar assigns a list with an item to bytes
+abbrev pub HoldsIdItem : List ℕ → Type 0
+HoldsIdItem bytes = (value : IdValue) × (rest : List ℕ) × IsId bytes value rest × HasIdListItem value
 
--- the grammar assigns a list with an entry to bytes
-abbrev pub HoldsIdEntry : List ℕ → Type 0
-HoldsIdEntry bytes = (value : IdValue) × (rest : List ℕ) × IsId bytes value rest × HasEntry value
+-- LF_BUILDINFO
+abbrev pub build_info_leaf : ℕ
+build_info_leaf = 0x1603
 
--- a list whose count its bytes don't hold: LF_BUILDINFO, or LF_SUBSTR_LIST
+-- LF_SUBSTR_LIST
+abbrev pub string_list_leaf : ℕ
+string_list_leaf = 0x1604
+
+-- a list whose count its bytes don't hold
 abbrev pub IsCutIdList : List ℕ → Type 0
-IsCutIdList bytes = ClaimsMore 0x1603 2 bytes ⊎ ClaimsMore 0x1604 4 bytes
+IsCutIdList bytes = ClaimsMore build_info_leaf 2 bytes ⊎ ClaimsMore string_list_leaf 4 bytes
 
--- a list with an entry is read
-abbrev pub SaysIdEntry : Answer (IdValue × List ℕ) → Type 0
-SaysIdEntry answer = IsOkAnd answer (λ read. HasEntry read.0)
+-- a list with an item is read
+abbrev pub SaysIdItem : Answer (IdValue × List ℕ) → Type 0
+SaysIdItem answer = IsOkAnd answer (λ read. HasIdListItem read.0)

@@ -1,78 +1,114 @@
 -- The leaves of id records, as Microsoft's cvinfo.h numbers them, the row behind each, and what the
 -- grammar of id records assigns to bytes.
-use Rattle.std.specs.Prelude.{◌≡◌, ◌⊎◌, ℕ, ◌==◌, List, [], ◌∷◌, Option, Some, None, Ok, Err}
+use Rattle.std.specs.Prelude.{◌≡◌, ◌⊎◌, ℕ, ◌==◌, List, [], ◌∷◌, Option, Ok}
 use Rattle.std.specs.Map.{lookup}
-use Rattle.pdb_base.specs.Refusal.{Refusal, unimplemented_type_kind}
+use Rattle.std.specs.Option.{option_map, option_or}
+use Rattle.pdb_base.specs.declared.index.TypeIndex.{TypeIndex}
+use Rattle.pdb_base.specs.declared.index.IdIndex.{IdIndex}
+use Rattle.pdb_base.specs.Refusal.{Refusal}
 use Rattle.pdb_base.specs.Answer.{Answer, ◌>>=◌}
 use Rattle.pdb_base.specs.Reading.{number_at}
 use Rattle.pdb_base.specs.Spelling.{Begins}
-use Rattle.pdb_grammar.specs.Shape.{u16, Spells}
+use Rattle.pdb_grammar.specs.Shape.{u16, Spells, as_id, as_type}
 use Rattle.pdb_grammar.specs.Fault.{Refuses}
 use Rattle.pdb_grammar.specs.Row.{Row, Assigns, Stops, row}
-use Rattle.pdb_values.specs.IdValue.{IdValue}
+use Rattle.pdb_values.specs.IdValue.{PlainIdValue, IdValue}
+use Rattle.pdb_values.specs.IdValue as values
 use Rattle.pdb_records.specs.declared.id_leaf.IdLeaf.{IdLeaf}
-use Rattle.pdb_records.specs.declared.id_leaf.IdLeaf.TheVariants.{Function, MemberFunction, BuildInfo, StringList, String, Source, RemoteSource}
-use Rattle.pdb_records.specs.IdRows.{function_row, member_function_row, build_info_row, string_list_row, string_row, source_row, remote_source_row}
+use Rattle.pdb_records.specs.declared.id_leaf.IdLeaf.TheVariants.{Plain, BuildInfo, StringList}
+use Rattle.pdb_records.specs.declared.parse.id_plain.PlainIdLeaf.{PlainIdLeaf}
+use Rattle.pdb_records.specs.declared.parse.id_plain.PlainIdLeaf.TheVariants.{Function, MemberFunction, String, Source, RemoteSource}
+use Rattle.pdb_records.specs.declared.parse.counted.CountWidth.TheVariants.{Bits16, Bits32}
+use Rattle.pdb_records.specs.Counted.{counted_at}
+use Rattle.pdb_records.specs.Known.{IsKnown, NoKnown, known_at}
+use Rattle.pdb_records.specs.IdRows.{function_id_row, member_function_id_row, build_info_row, string_list_row, string_id_row, source_row, remote_source_row}
 
--- the leaves of id records
-abbrev pub id_leaves : List (ℕ × IdLeaf)
-id_leaves =
+-- the leaves of id records without a list
+abbrev pub plain_id_leaves : List (ℕ × PlainIdLeaf)
+plain_id_leaves =
     (0x1601, Function)  -- LF_FUNC_ID
     ∷ (0x1602, MemberFunction)  -- LF_MFUNC_ID
-    ∷ (0x1603, BuildInfo)  -- LF_BUILDINFO
-    ∷ (0x1604, StringList)  -- LF_SUBSTR_LIST
     ∷ (0x1605, String)  -- LF_STRING_ID
     ∷ (0x1606, Source)  -- LF_UDT_SRC_LINE
     ∷ (0x1607, RemoteSource)  -- LF_UDT_MOD_SRC_LINE
     ∷ []
 
--- the record that stands behind a leaf
-abbrev pub id_leaf_of : ℕ → Option IdLeaf
-id_leaf_of number = lookup (λ leaf. leaf == number) id_leaves
+-- the id record without a list that stands behind a leaf
+abbrev pub plain_id_leaf : ℕ → Option PlainIdLeaf
+plain_id_leaf number = lookup (λ leaf. leaf == number) plain_id_leaves
 
--- the row behind the leaf of this number
-abbrev pub id_row_of : ℕ → IdLeaf → Row IdValue
-id_row_of number Function = function_row number
-id_row_of number MemberFunction = member_function_row number
-id_row_of number BuildInfo = build_info_row
-id_row_of number StringList = string_list_row
-id_row_of number String = string_row number
+-- the leaves of id records that are lists
+abbrev pub id_list_leaves : List (ℕ × IdLeaf)
+id_list_leaves =
+    (0x1603, BuildInfo)  -- LF_BUILDINFO
+    ∷ (0x1604, StringList)  -- LF_SUBSTR_LIST
+    ∷ []
+
+-- the id record that stands behind a leaf
+abbrev pub id_leaf_of : ℕ → Option IdLeaf
+id_leaf_of number = option_or (lookup (λ leaf. leaf == number) id_list_leaves) (option_map Plain (plain_id_leaf number))
+
+-- the row of an id record without a list, behind the leaf of this number
+abbrev pub id_row_of : ℕ → PlainIdLeaf → Row PlainIdValue
+id_row_of number Function = function_id_row number
+id_row_of number MemberFunction = member_function_id_row number
+id_row_of number String = string_id_row number
 id_row_of number Source = source_row
 id_row_of number RemoteSource = remote_source_row
 
 -- ---- what the grammar assigns
 
+-- the id record of a leaf, of this number
+abbrev pub IsIdData : ℕ → IdLeaf → List ℕ → IdValue → List ℕ → Type 0
+IsIdData number (Plain leaf) bytes value rest = (plain : PlainIdValue) × Assigns (id_row_of number leaf) bytes plain rest × (values.plain plain ≡ value)
+IsIdData number BuildInfo bytes value rest = (list : List IdIndex) × Assigns build_info_row bytes list rest × (values.build_info list ≡ value)
+IsIdData number StringList bytes value rest = (list : List TypeIndex) × Assigns string_list_row bytes list rest × (values.string_list list ≡ value)
+
+-- why it is refused
+abbrev pub NoIdData : ℕ → IdLeaf → List ℕ → Refusal → Type 0
+NoIdData number (Plain leaf) bytes refusal = Stops (id_row_of number leaf) bytes refusal
+NoIdData number BuildInfo bytes refusal = Stops build_info_row bytes refusal
+NoIdData number StringList bytes refusal = Stops string_list_row bytes refusal
+
 -- what stands behind a leaf
-abbrev pub IsBehindId : ℕ → Option IdLeaf → List ℕ → IdValue → List ℕ → Type 0
-IsBehindId number None bytes value rest = ⊥
-IsBehindId number (Some leaf) bytes value rest = Assigns (id_row_of number leaf) bytes value rest
+abbrev pub IsBehindId : ℕ → List ℕ → IdValue → List ℕ → Type 0
+IsBehindId number = IsKnown (IsIdData number) (id_leaf_of number)
 
 -- a leaf without a record is refused by its number, and a record by its first fault
-abbrev pub NoBehindId : ℕ → Option IdLeaf → List ℕ → Refusal → Type 0
-NoBehindId number None bytes refusal = unimplemented_type_kind number ≡ refusal
-NoBehindId number (Some leaf) bytes refusal = Stops (id_row_of number leaf) bytes refusal
+abbrev pub NoBehindId : ℕ → List ℕ → Refusal → Type 0
+NoBehindId number = NoKnown number (NoIdData number) (id_leaf_of number)
 
 -- an id record: its leaf, and what stands behind it
 abbrev pub IsId : List ℕ → IdValue → List ℕ → Type 0
-IsId bytes value rest = (number : ℕ) × (mid : List ℕ) × Begins (Spells u16) bytes number mid × IsBehindId number (id_leaf_of number) mid value rest
+IsId bytes value rest = (number : ℕ) × (mid : List ℕ) × Begins (Spells u16) bytes number mid × IsBehindId number mid value rest
 
+-- an id record is refused as its leaf, or as what stands behind it
 abbrev pub NoId : List ℕ → Refusal → Type 0
 NoId bytes refusal =
     Refuses u16 bytes refusal
-    ⊎ ((number : ℕ) × (mid : List ℕ) × Begins (Spells u16) bytes number mid × NoBehindId number (id_leaf_of number) mid refusal)
+    ⊎ ((number : ℕ) × (mid : List ℕ) × Begins (Spells u16) bytes number mid × NoBehindId number mid refusal)
 
 -- ---- what is read
 
--- the record of the leaf that a number is, if it is one
-abbrev pub id_behind : ℕ → Option IdLeaf → List ℕ → Answer (IdValue × List ℕ)
-id_behind number None bytes = Err (unimplemented_type_kind number)
-id_behind number (Some leaf) bytes = row (id_row_of number leaf) bytes
+-- the id that a row makes
+abbrev pub plain_id_at : Row PlainIdValue → List ℕ → Answer (IdValue × List ℕ)
+plain_id_at r bytes = row r bytes >>= λ value. Ok (values.plain value.0, value.1)
+
+-- the id record of a leaf, of this number
+abbrev pub id_data_at : ℕ → IdLeaf → List ℕ → Answer (IdValue × List ℕ)
+id_data_at number (Plain leaf) bytes = plain_id_at (id_row_of number leaf) bytes
+id_data_at number BuildInfo bytes = counted_at Bits16 as_id bytes >>= λ list. Ok (values.build_info list.0, list.1)
+id_data_at number StringList bytes = counted_at Bits32 as_type bytes >>= λ list. Ok (values.string_list list.0, list.1)
+
+-- the id record behind a leaf; a leaf that has none is refused by its number
+unfoldable pub behind_id_leaf : ℕ → List ℕ → Answer (IdValue × List ℕ)
+behind_id_leaf number bytes = known_at number (id_data_at number) (id_leaf_of number) bytes
 
 -- an id record
 unfoldable pub id_at : List ℕ → Answer (IdValue × List ℕ)
 id_at bytes = do
   number ← number_at 2 bytes
-  id_behind number.0 (id_leaf_of number.0) number.1
+  behind_id_leaf number.0 number.1
 
 -- what an id record says, whatever is left behind it
 unfoldable pub id_record : List ℕ → Answer IdValue

@@ -1,15 +1,15 @@
 -- The leaves of type records, as Microsoft's cvinfo.h numbers them, and the row behind each.
-use Rattle.std.specs.Prelude.{ℕ, true, false, ◌==◌, List, [], ◌∷◌, Option, Some, None}
+use Rattle.std.specs.Prelude.{ℕ, true, false, ◌==◌, List, [], ◌∷◌, Option}
 use Rattle.std.specs.Map.{lookup}
-use Rattle.std.specs.Option.{option_map}
+use Rattle.std.specs.Option.{option_map, option_or}
 use Rattle.pdb_grammar.specs.Row.{Row}
 use Rattle.pdb_values.specs.declared.class.ClassKind.TheVariants as kinds
 use Rattle.pdb_records.specs.declared.leaf.Leaf.{Leaf}
 use Rattle.pdb_records.specs.declared.leaf.Leaf.TheVariants.{Plain, ArgumentList, MethodList, Array}
-use Rattle.pdb_records.specs.declared.leaf.PlainLeaf.{PlainLeaf}
-use Rattle.pdb_records.specs.declared.leaf.PlainLeaf.TheVariants.{Class, WideStruct, Member, Nested, MemberFunction, OverloadedMethod, Method, BaseClass, TablePointer, StaticMember, Pointer, Procedure, Modifier, Enumeration, Enumerate, Union, Bitfield, VirtualBaseClass}
-use Rattle.pdb_values.specs.TypeValue.{TypeValue}
-use Rattle.pdb_records.specs.Rows.{class_row, wide_class_row, member_row, nested_row, member_function_row, overloaded_method_row, method_row, base_row, table_pointer_row, static_member_row, pointer_row, procedure_row, modifier_row, enumeration_row, enumerate_row, union_row, bitfield_row, virtual_base_row}
+use Rattle.pdb_records.specs.declared.parse.plain.PlainLeaf.{PlainLeaf}
+use Rattle.pdb_records.specs.declared.parse.plain.PlainLeaf.TheVariants.{Class, WideStruct, Member, Nested, MemberFunction, OverloadedMethod, Method, BaseClass, TablePointer, StaticMember, Pointer, Procedure, Modifier, Enumeration, Enumerate, Union, Bitfield, VirtualBaseClass, TableShape}
+use Rattle.pdb_values.specs.TypeValue.{PlainValue}
+use Rattle.pdb_records.specs.Rows.{class_row, wide_class_row, member_row, nested_row, member_function_row, overloaded_method_row, method_row, base_row, table_pointer_row, static_member_row, pointer_row, procedure_row, modifier_row, enumeration_row, enumerate_row, union_row, bitfield_row, virtual_base_row, table_shape_row}
 
 -- the leaves of records without a list
 abbrev pub plain_leaves : List (ℕ × PlainLeaf)
@@ -48,6 +48,7 @@ plain_leaves =
     ∷ (0x1205, Bitfield)  -- LF_BITFIELD
     ∷ (0x1401, VirtualBaseClass true)  -- LF_VBCLASS
     ∷ (0x1402, VirtualBaseClass false)  -- LF_IVBCLASS
+    ∷ (0x000a, TableShape)  -- LF_VTSHAPE
     ∷ []
 
 -- the record without a list that stands behind a leaf
@@ -64,17 +65,12 @@ list_leaves =
     ∷ (0x1516, Array true)  -- LF_STRIDED_ARRAY
     ∷ []
 
--- the one, or else the other
-abbrev pub or_plain : Option Leaf → Option PlainLeaf → Option Leaf
-or_plain (Some leaf) plain = Some leaf
-or_plain None plain = option_map Plain plain
-
 -- the record that stands behind a leaf, but for a list of fields
 abbrev pub leaf_of : ℕ → Option Leaf
-leaf_of number = or_plain (lookup (λ leaf. leaf == number) list_leaves) (plain_leaf number)
+leaf_of number = option_or (lookup (λ leaf. leaf == number) list_leaves) (option_map Plain (plain_leaf number))
 
 -- the row of a record without a list, behind the leaf of this number
-abbrev pub row_of : ℕ → PlainLeaf → Row TypeValue
+abbrev pub row_of : ℕ → PlainLeaf → Row PlainValue
 row_of number (Class kind) = class_row number kind
 row_of number WideStruct = wide_class_row number kinds.Struct
 row_of number Member = member_row number
@@ -93,3 +89,4 @@ row_of number Enumerate = enumerate_row number
 row_of number Union = union_row number
 row_of number Bitfield = bitfield_row
 row_of number (VirtualBaseClass direct) = virtual_base_row direct
+row_of number TableShape = table_shape_row

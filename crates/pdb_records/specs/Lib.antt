@@ -1,5 +1,8 @@
+pub mod LeafNumbers
 pub mod Rows
 pub mod Lists
+pub mod Counted
+pub mod Known
 pub mod Arrays
 pub mod Leaves
 pub mod Records

@@ -1,16 +1,26 @@
 -- The records that are lists, or hold one.
 use Rattle.std.specs.Prelude.{ℕ, Bool, List, Option}
 use Rattle.pdb_base.specs.declared.index.TypeIndex.{TypeIndex}
-use Rattle.pdb_grammar.specs.Shape.{u32, type_index, when, times}
+use Rattle.pdb_grammar.specs.Shape.{Shape, Value, u16, u32, type_index, when, times}
 use Rattle.pdb_grammar.specs.Row.{Row, gives}
 use Rattle.pdb_grammar.specs.InOrder.{◌>>=◌}
+use Rattle.pdb_records.specs.declared.parse.counted.CountWidth.{CountWidth}
+use Rattle.pdb_records.specs.declared.parse.counted.CountWidth.TheVariants.{Bits16, Bits32}
 
--- lfArgList: a count, and so many indexes
-unfoldable pub arguments_row : Row (List TypeIndex)
-arguments_row = do
+-- a count, and so many of a shape behind it
+unfoldable pub counted_row : CountWidth → (shape : Shape) → Row (List (Value shape))
+counted_row Bits16 shape = do
+  count ← u16
+  items ← times count shape
+  gives items
+counted_row Bits32 shape = do
   count ← u32
-  arguments ← times count type_index
-  gives arguments
+  items ← times count shape
+  gives items
+
+-- lfArgList: the types of arguments
+abbrev pub arguments_row : Row (List TypeIndex)
+arguments_row = counted_row Bits32 type_index
 
 -- what an array says before its dimensions
 pub record ArrayHead : Type 0 where

@@ -1,41 +1,33 @@
--- Where memory is asked for: a list takes it for its items, and only once an item is there. A count that
--- its record doesn't hold takes none.
-use Rattle.std.specs.Prelude.{◌≡◌, ◌⊎◌, ⊤, ℕ, Bool, true, false, ◌==◌, List, [], ◌∷◌, Option, Some, None, Result, Err}
-use Rattle.pdb_base.specs.declared.error.Error.{Error}
-use Rattle.pdb_base.specs.declared.error.Error.TheVariants.{OutOfMemory}
+-- Where parsing asks for memory: a list takes it for its items, and only once an item is there. A count
+-- that its record doesn't hold takes none.
+use Rattle.std.specs.Prelude.{◌⊎◌, ℕ, Bool, true, false, ◌==◌, List, Option, Some, None}
 use Rattle.pdb_base.specs.declared.index.TypeIndex.{TypeIndex}
+use Rattle.pdb_base.specs.Memory.{HasItem}
 use Rattle.pdb_base.specs.Spelling.{Begins}
 use Rattle.pdb_grammar.specs.Shape.{u16, Spells}
-use Rattle.pdb_grammar.specs.Row.{Assigns}
+use Rattle.pdb_grammar.specs.Row.{Row, Assigns}
+use Rattle.pdb_grammar.specs.ToEnd.{Sequence}
 use Rattle.pdb_grammar.specs.Dimensions.{IsDimension}
 use Rattle.pdb_values.specs.declared.method.MethodListEntry.{MethodListEntry}
 use Rattle.pdb_records.specs.declared.leaf.Leaf.{Leaf}
 use Rattle.pdb_records.specs.declared.leaf.Leaf.TheVariants.{Plain, ArgumentList, MethodList, Array}
-use Rattle.pdb_records.specs.Rows.{entry_row}
+use Rattle.pdb_values.specs.TypeValue.{TypeValue}
+use Rattle.pdb_records.specs.Rows.{listed_method_row}
 use Rattle.pdb_records.specs.Lists.{ArrayHead, arguments_row, array_row}
 use Rattle.pdb_records.specs.Leaves.{leaf_of}
-use Rattle.pdb_records.specs.Fields.{Entry, field_list_leaf}
+use Rattle.pdb_records.specs.Fields.{field, continues, field_list_leaf}
 use Rattle.pdb_records.specs.Grammar.{IsEntry}
 use Rattle.pdb_records.specs.Claims.{ClaimsMore}
 
--- a call lacks memory only where memory is needed
-abbrev pub LacksOnlyIf : {X : Type 0} → Result X Error → Type 0 → Type 0
-LacksOnlyIf result needed = result ≡ Err OutOfMemory → needed
-
 -- ---- lists with an item
 
--- an item at least
-abbrev pub HasItem : {A : Type 0} → List A → Type 0
-HasItem [] = ⊥
-HasItem (x ∷ xs) = ⊤
-
--- arguments, as many as their count says
-abbrev pub HoldsArguments : List ℕ → Type 0
-HoldsArguments bytes = (list : List TypeIndex) × (rest : List ℕ) × Assigns arguments_row bytes list rest × HasItem list
+-- indexes, as many as their count says, and one at least
+abbrev pub HoldsIndexes : {A : Type 0} → Row (List A) → List ℕ → Type 0
+HoldsIndexes {A} r bytes = (list : List A) × (rest : List ℕ) × Assigns r bytes list rest × HasItem list
 
 -- the first method of a list
 abbrev pub HoldsMethod : List ℕ → Type 0
-HoldsMethod bytes = (method : MethodListEntry) × (rest : List ℕ) × Assigns entry_row bytes method rest
+HoldsMethod bytes = (method : MethodListEntry) × (rest : List ℕ) × Assigns listed_method_row bytes method rest
 
 -- the first of dimensions
 abbrev pub HoldsDimension : List ℕ → Type 0
@@ -48,15 +40,16 @@ HoldsArray strided bytes = (head : ArrayHead) × (mid : List ℕ) × Assigns (ar
 -- an item of the list that stands behind a leaf; most leaves have none
 abbrev pub HoldsItem : Leaf → List ℕ → Type 0
 HoldsItem (Plain leaf) bytes = ⊥
-HoldsItem ArgumentList bytes = HoldsArguments bytes
+HoldsItem ArgumentList bytes = HoldsIndexes arguments_row bytes
 HoldsItem MethodList bytes = HoldsMethod bytes
 HoldsItem (Array strided) bytes = HoldsArray strided bytes
 
+-- the same of the leaf that a number is, if it is one
 abbrev pub HoldsItemOf : Option Leaf → List ℕ → Type 0
 HoldsItemOf None bytes = ⊥
 HoldsItemOf (Some leaf) bytes = HoldsItem leaf bytes
 
--- the same behind the leaf of this number, but for a list of fields
+-- the same behind the leaf of this number, which is none of a list of fields
 abbrev pub HoldsItemBehind : ℕ → List ℕ → Type 0
 HoldsItemBehind number = HoldsItemOf (leaf_of number)
 
@@ -64,13 +57,18 @@ HoldsItemBehind number = HoldsItemOf (leaf_of number)
 abbrev pub RecordHoldsItem : List ℕ → Type 0
 RecordHoldsItem bytes = (number : ℕ) × (mid : List ℕ) × Begins (Spells u16) bytes number mid × HoldsItemBehind number mid
 
--- the first entry of a list of fields
-abbrev pub HoldsEntry : List ℕ → Type 0
-HoldsEntry bytes = (entry : Entry) × (rest : List ℕ) × IsEntry bytes entry rest
+-- an entry of a list of fields that is a field
+abbrev pub BeginsField : List ℕ → Type 0
+BeginsField bytes = (value : TypeValue) × (rest : List ℕ) × IsEntry bytes (field value) rest
 
--- a list of fields: its first entry, or an item of the list that this entry's record is
+-- an entry that says which list goes on
+abbrev pub IsContinuation : List ℕ → TypeIndex → List ℕ → Type 0
+IsContinuation bytes index rest = IsEntry bytes (continues index) rest
+
+-- a list of fields: behind no entries, or some that only say which list goes on, its first field, or an
+-- item of the list that this field's record is
 abbrev pub HoldsField : List ℕ → Type 0
-HoldsField bytes = HoldsEntry bytes ⊎ RecordHoldsItem bytes
+HoldsField bytes = (indexes : List TypeIndex) × (mid : List ℕ) × Sequence IsContinuation bytes indexes mid × (BeginsField mid ⊎ RecordHoldsItem mid)
 
 -- what stands behind a leaf: entries, or another record
 abbrev pub NeedsMemoryOf : Bool → ℕ → List ℕ → Type 0

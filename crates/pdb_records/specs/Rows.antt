@@ -1,17 +1,18 @@
 -- The rows of type records: what stands in a record behind its leaf, field by field, as the structs of
 -- Microsoft's cvinfo.h have it. A text in a record hangs on the leaf, by which it ends with a NUL or has
 -- its length before it.
-use Rattle.std.specs.Prelude.{ℕ, ◌%◌, ◌^◌, Bool, if◌then◌else◌}
+use Rattle.std.specs.Prelude.{ℕ, ◌+◌, ◌/◌, ◌%◌, ◌^◌, Bool, if◌then◌else◌}
+use Rattle.pdb_base.specs.declared.index.TypeIndex.{TypeIndex}
 use Rattle.pdb_bits.specs.Parts.{is_set}
 use Rattle.pdb_flags.specs.TypeProperties.{has_unique_name}
 use Rattle.pdb_flags.specs.FieldAttributes.{is_intro_virtual}
 use Rattle.pdb_flags.specs.PointerAttributes.{pointer_to_member}
-use Rattle.pdb_grammar.specs.Shape.{u8, u16, u32, num, variant, type_index, some_type, pointer_word, text, when}
+use Rattle.pdb_grammar.specs.Shape.{u8, u16, u32, num, variant, type_index, some_type, pointer_word, text, when, times}
 use Rattle.pdb_grammar.specs.Row.{Row, gives}
 use Rattle.pdb_grammar.specs.InOrder.{◌>>=◌}
 use Rattle.pdb_values.specs.declared.class.ClassKind.{ClassKind}
 use Rattle.pdb_values.specs.declared.method.MethodListEntry.{MethodListEntry}
-use Rattle.pdb_values.specs.TypeValue.{TypeValue}
+use Rattle.pdb_values.specs.TypeValue.{PlainValue}
 use Rattle.pdb_values.specs.TypeValue as values
 
 -- the low 16 bits of a number
@@ -23,7 +24,7 @@ abbrev pub low_32 : ℕ → ℕ
 low_32 n = n % 2 ^ 32
 
 -- lfClass: a class, a struct or an interface
-unfoldable pub class_row : ℕ → ClassKind → Row TypeValue
+unfoldable pub class_row : ℕ → ClassKind → Row PlainValue
 class_row leaf kind = do
   count ← u16
   properties ← u16
@@ -47,7 +48,7 @@ class_row leaf kind = do
 
 -- the same with more room for properties, in an order of fields that this library chose; the low 16 bits of
 -- the properties count
-unfoldable pub wide_class_row : ℕ → ClassKind → Row TypeValue
+unfoldable pub wide_class_row : ℕ → ClassKind → Row PlainValue
 wide_class_row leaf kind = do
   word ← u32
   fields ← some_type
@@ -70,7 +71,7 @@ wide_class_row leaf kind = do
   }))
 
 -- lfUnion
-unfoldable pub union_row : ℕ → Row TypeValue
+unfoldable pub union_row : ℕ → Row PlainValue
 union_row leaf = do
   count ← u16
   properties ← u16
@@ -88,7 +89,7 @@ union_row leaf = do
   }))
 
 -- lfEnum
-unfoldable pub enumeration_row : ℕ → Row TypeValue
+unfoldable pub enumeration_row : ℕ → Row PlainValue
 enumeration_row leaf = do
   count ← u16
   properties ← u16
@@ -106,7 +107,7 @@ enumeration_row leaf = do
   }))
 
 -- lfEnumerate: a value of an enumeration
-unfoldable pub enumerate_row : ℕ → Row TypeValue
+unfoldable pub enumerate_row : ℕ → Row PlainValue
 enumerate_row leaf = do
   attributes ← u16
   value ← variant
@@ -114,7 +115,7 @@ enumerate_row leaf = do
   gives (values.enumerate (record { attributes = attributes; value = value; name = name }))
 
 -- lfMember
-unfoldable pub member_row : ℕ → Row TypeValue
+unfoldable pub member_row : ℕ → Row PlainValue
 member_row leaf = do
   attributes ← u16
   field_type ← type_index
@@ -123,7 +124,7 @@ member_row leaf = do
   gives (values.member (record { attributes = attributes; field_type = field_type; offset = offset; name = name }))
 
 -- lfSTMember
-unfoldable pub static_member_row : ℕ → Row TypeValue
+unfoldable pub static_member_row : ℕ → Row PlainValue
 static_member_row leaf = do
   attributes ← u16
   field_type ← type_index
@@ -131,7 +132,7 @@ static_member_row leaf = do
   gives (values.static_member (record { attributes = attributes; field_type = field_type; name = name }))
 
 -- lfNestType, whose first word says nothing, and lfNestTypeEx, in which it is the attributes
-unfoldable pub nested_row : ℕ → Bool → Row TypeValue
+unfoldable pub nested_row : ℕ → Bool → Row PlainValue
 nested_row leaf has_attributes = do
   word ← u16
   nested_type ← type_index
@@ -143,7 +144,7 @@ nested_row leaf has_attributes = do
   }))
 
 -- lfBClass; the low 32 bits of the offset count
-unfoldable pub base_row : ClassKind → Row TypeValue
+unfoldable pub base_row : ClassKind → Row PlainValue
 base_row kind = do
   attributes ← u16
   base_class ← type_index
@@ -156,7 +157,7 @@ base_row kind = do
   }))
 
 -- lfVBClass; the low 32 bits of both offsets count
-unfoldable pub virtual_base_row : Bool → Row TypeValue
+unfoldable pub virtual_base_row : Bool → Row PlainValue
 virtual_base_row direct = do
   attributes ← u16
   base_class ← type_index
@@ -173,14 +174,14 @@ virtual_base_row direct = do
   }))
 
 -- lfVFuncTab, whose first word says nothing
-unfoldable pub table_pointer_row : Row TypeValue
+unfoldable pub table_pointer_row : Row PlainValue
 table_pointer_row = do
   word ← u16
   table ← type_index
   gives (values.virtual_function_table_pointer (record { table = table }))
 
 -- lfProc
-unfoldable pub procedure_row : Row TypeValue
+unfoldable pub procedure_row : Row PlainValue
 procedure_row = do
   return_type ← some_type
   attributes ← u16
@@ -194,7 +195,7 @@ procedure_row = do
   }))
 
 -- lfMFunc
-unfoldable pub member_function_row : Row TypeValue
+unfoldable pub member_function_row : Row PlainValue
 member_function_row = do
   return_type ← type_index
   class_type ← type_index
@@ -214,7 +215,7 @@ member_function_row = do
   }))
 
 -- lfMethod: all methods of one name
-unfoldable pub overloaded_method_row : ℕ → Row TypeValue
+unfoldable pub overloaded_method_row : ℕ → Row PlainValue
 overloaded_method_row leaf = do
   count ← u16
   method_list ← type_index
@@ -222,7 +223,7 @@ overloaded_method_row leaf = do
   gives (values.overloaded_method (record { count = count; method_list = method_list; name = name }))
 
 -- lfOneMethod; the place in the table of virtual functions stands there where the method introduces one
-unfoldable pub method_row : ℕ → Row TypeValue
+unfoldable pub method_row : ℕ → Row PlainValue
 method_row leaf = do
   attributes ← u16
   method_type ← type_index
@@ -236,8 +237,8 @@ method_row leaf = do
   }))
 
 -- mlMethod: a method in a list of methods, whose second word says nothing
-unfoldable pub entry_row : Row MethodListEntry
-entry_row = do
+unfoldable pub listed_method_row : Row MethodListEntry
+listed_method_row = do
   attributes ← u16
   word ← u16
   method_type ← type_index
@@ -249,7 +250,7 @@ entry_row = do
   })
 
 -- lfPointer; the class that it points into stands there where it points to a member or a method
-unfoldable pub pointer_row : Row TypeValue
+unfoldable pub pointer_row : Row PlainValue
 pointer_row = do
   underlying_type ← type_index
   attributes ← pointer_word
@@ -261,7 +262,7 @@ pointer_row = do
   }))
 
 -- lfModifier; its word has a bit for each qualifier
-unfoldable pub modifier_row : Row TypeValue
+unfoldable pub modifier_row : Row PlainValue
 modifier_row = do
   underlying_type ← type_index
   word ← u16
@@ -273,9 +274,24 @@ modifier_row = do
   }))
 
 -- lfBitfield
-unfoldable pub bitfield_row : Row TypeValue
+unfoldable pub bitfield_row : Row PlainValue
 bitfield_row = do
   underlying_type ← type_index
   length ← u8
   position ← u8
   gives (values.bitfield (record { underlying_type = underlying_type; length = length; position = position }))
+
+-- lfVTShape: a count, and half a byte for each, in as many bytes as hold them
+unfoldable pub table_shape_row : Row PlainValue
+table_shape_row = do
+  count ← u16
+  descriptors ← times ((count + 1) / 2) u8
+  gives (values.virtual_table_shape (record { count = count; descriptors = descriptors }))
+
+-- lfIndex, behind LF_INDEX in a list of fields: two bytes of padding, whatever they are, and the list that
+-- goes on where this one ends
+unfoldable pub continuation_row : Row TypeIndex
+continuation_row = do
+  padding ← u16
+  index ← type_index
+  gives index

@@ -1,4 +1,5 @@
--- Lists are short beside their record: no item takes less than two bytes.
+-- Lists are short beside their record: no item takes less than two bytes. The descriptors of a table's
+-- shape are no list: they are bytes of the record, lent as they stand.
 use Rattle.std.specs.Prelude.{ℕ, ◌*◌, ◌≤◌, List, length}
 use Rattle.pdb_values.specs.TypeValue.{TypeValue, Fields, values_in}
 use Rattle.pdb_values.specs.TypeValue as values
@@ -15,8 +16,9 @@ abbrev mutual
   IsShort bytes (values.argument_list list) = HalfAsMany list bytes
   IsShort bytes (values.method_list list) = HalfAsMany list bytes
   IsShort bytes (values.field_list fields continuation) = HalfAsMany (values_in fields) bytes × AreShort bytes fields
-  IsShort bytes other = Unit {0}
+  IsShort bytes (values.plain value) = Unit {0}
 
+  -- the same of each field
   pub AreShort : ℕ → Fields → Type 0
   AreShort bytes values.no_field = Unit {0}
   AreShort bytes (values.first_field value fields) = IsShort bytes value × AreShort bytes fields

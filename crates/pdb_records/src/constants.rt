@@ -3,6 +3,13 @@
 //! `_16t` belongs to records whose indexes have 16 bits, one in `_ST` to records whose names stand
 //! behind a byte that says their length.
 
+pub use pdb_base::numeric_leaf::{
+    LF_CHAR, LF_COMPLEX32, LF_COMPLEX64, LF_COMPLEX80, LF_COMPLEX128, LF_DATE, LF_DECIMAL, LF_LONG,
+    LF_NUMERIC, LF_OCTWORD, LF_QUADWORD, LF_REAL16, LF_REAL32, LF_REAL48, LF_REAL64, LF_REAL80,
+    LF_REAL128, LF_SHORT, LF_ULONG, LF_UOCTWORD, LF_UQUADWORD, LF_USHORT, LF_UTF8STRING,
+    LF_VARSTRING,
+};
+
 // Leaves of the types that symbols refer to, as they first were.
 pub const LF_MODIFIER_16t: u16 = 0x0001;
 
@@ -285,56 +292,6 @@ pub const LF_ID_MAX: u16 = 0x1607;
 pub const LF_ID_LAST: u16 = 0x1608;
 
 pub const LF_STRUCTURE19: u16 = 0x1609;
-
-// Prefixes of numbers.
-pub const LF_NUMERIC: u16 = 0x8000;
-
-pub const LF_CHAR: u16 = 0x8000;
-
-pub const LF_SHORT: u16 = 0x8001;
-
-pub const LF_USHORT: u16 = 0x8002;
-
-pub const LF_LONG: u16 = 0x8003;
-
-pub const LF_ULONG: u16 = 0x8004;
-
-pub const LF_REAL32: u16 = 0x8005;
-
-pub const LF_REAL64: u16 = 0x8006;
-
-pub const LF_REAL80: u16 = 0x8007;
-
-pub const LF_REAL128: u16 = 0x8008;
-
-pub const LF_QUADWORD: u16 = 0x8009;
-
-pub const LF_UQUADWORD: u16 = 0x800a;
-
-pub const LF_REAL48: u16 = 0x800b;
-
-pub const LF_COMPLEX32: u16 = 0x800c;
-
-pub const LF_COMPLEX64: u16 = 0x800d;
-
-pub const LF_COMPLEX80: u16 = 0x800e;
-
-pub const LF_COMPLEX128: u16 = 0x800f;
-
-pub const LF_VARSTRING: u16 = 0x8010;
-
-// Prefixes of numbers that were added later.
-pub const LF_OCTWORD: u16 = 0x8017;
-
-pub const LF_UOCTWORD: u16 = 0x8018;
-
-pub const LF_DECIMAL: u16 = 0x8019;
-
-pub const LF_DATE: u16 = 0x801a;
-
-pub const LF_UTF8STRING: u16 = 0x801b;
-
-pub const LF_REAL16: u16 = 0x801c;
 
 // Padding: the low four bits say how many bytes it takes from here on.
 pub const LF_PAD0: u16 = 0x00f0;

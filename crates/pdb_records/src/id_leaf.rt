@@ -1,32 +1,24 @@
 //! The leaves of id records.
 
+ghost use Rattle.std.specs.Prelude.{◌≡◌};
+
+use crate::constants::{LF_BUILDINFO, LF_SUBSTR_LIST};
+use crate::parse::id_plain::PlainIdLeaf;
+
 /// What record stands behind a leaf in the table of ids.
 #[derive(Clone, Copy, Debug, PartialEq, Eq)]
 pub enum IdLeaf {
-    /// A function.
-    Function,
-
-    /// A method.
-    MemberFunction,
+    /// A record without a list.
+    Plain(PlainIdLeaf),
 
     /// What a module was built with.
     BuildInfo,
 
     /// The parts of a text.
     StringList,
-
-    /// A text.
-    String,
-
-    /// Where a type is declared.
-    Source,
-
-    /// Where a type is declared, and in which module.
-    RemoteSource,
 }
 
 impl IdLeaf {
-    ghost use Rattle.std.specs.Prelude.{◌≡◌};
     ghost use Rattle.pdb_records.specs.Ids.{id_leaf_of};
 
     /// The record that stands behind the leaf of this number.
@@ -34,14 +26,12 @@ impl IdLeaf {
         ensures { result ≡ id_leaf_of number }
     {
         match number {
-            0x1601 => Some(IdLeaf::Function),
-            0x1602 => Some(IdLeaf::MemberFunction),
-            0x1603 => Some(IdLeaf::BuildInfo),
-            0x1604 => Some(IdLeaf::StringList),
-            0x1605 => Some(IdLeaf::String),
-            0x1606 => Some(IdLeaf::Source),
-            0x1607 => Some(IdLeaf::RemoteSource),
-            _ => None,
+            LF_BUILDINFO => Some(IdLeaf::BuildInfo),
+            LF_SUBSTR_LIST => Some(IdLeaf::StringList),
+            _ => match PlainIdLeaf::from_number(number) {
+                Some(leaf) => Some(IdLeaf::Plain(leaf)),
+                None => None,
+            },
         }
     }
 }

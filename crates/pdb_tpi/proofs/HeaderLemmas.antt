@@ -6,7 +6,7 @@ use Rattle.std.proofs.lemmas.List.{drop-drop, length-drop}
 use Rattle.pdb_base.specs.Reading.{front_at, number_at, signed_at}
 use Rattle.pdb_base.proofs.Collected.{ok}
 use Rattle.pdb_tpi.specs.declared.header.Slice.{Slice}
-use Rattle.pdb_tpi.specs.Header.{slice_of, fields_of}
+use Rattle.pdb_tpi.specs.Header.{slice_of, header_fields}
 use Rattle.pdb_tpi.specs.Laws.{number_in, StandAtOffsets}
 
 number_is : (width offset : ℕ) (bytes : List ℕ) → offset + width ≤ length bytes → number_at width (drop offset bytes) ≡ Ok (number_in width offset bytes, drop (offset + width) bytes)
@@ -26,7 +26,7 @@ slice_is offset bytes long =
     rw (low, high) (ap (λ (n : ℕ). ok (slice, drop n bytes)) behind)
 
 pub fields_stand : (bytes : List ℕ) → StandAtOffsets bytes
-unfolding fields_of
+unfolding header_fields
 fields_stand bytes long =
     let version = number_is 4 0 bytes (omega arith) in
     let header_size = number_is 4 4 bytes (omega arith) in

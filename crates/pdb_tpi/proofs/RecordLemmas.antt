@@ -14,14 +14,14 @@ use Rattle.pdb_values.proofs.PrimitiveLemmas.{is_refused_by_index}
 use Rattle.pdb_records.specs.Short.{IsShort}
 
 as_value : Answer PrimitiveType → Answer TypeValue
-as_value read = read >>= λ type. Ok (values.primitive type)
+as_value read = read >>= λ type. Ok (values.plain (values.primitive type))
 
 other_refusal : (index : ℕ) → out_of_memory ≢ type_not_found index
 other_refusal index is = cc
 
 named_no_want : (index : ℕ) (read : Answer PrimitiveType) → ((e : Refusal) → read ≡ Err e → e ≡ type_not_found index) → as_value read ≢ Err out_of_memory
 unfolding as_value
-named_no_want index (Ok type) named is = ok_is_no_err (values.primitive type) out_of_memory is
+named_no_want index (Ok type) named is = ok_is_no_err (values.plain (values.primitive type)) out_of_memory is
 named_no_want index (Err e) named is = other_refusal index (sym (err_is {A = TypeValue} e out_of_memory is) ∙ named e refl)
 
 pub primitive_no_want : (index : ℕ) → primitive_of index ≢ Err out_of_memory
@@ -30,7 +30,7 @@ primitive_no_want index is = named_no_want index (primitive_type index) (is_refu
 
 value_short : (size : ℕ) (read : Answer PrimitiveType) (value : TypeValue) → as_value read ≡ Ok value → IsShort size value
 unfolding as_value
-value_short size (Ok type) value is = subst (λ (v : TypeValue). IsShort size v) (ok_is (values.primitive type) value is) tt
+value_short size (Ok type) value is = subst (λ (v : TypeValue). IsShort size v) (ok_is (values.plain (values.primitive type)) value is) tt
 value_short size (Err e) value is = absurd (ok_is_no_err value e (sym is))
 
 pub primitive_short : (size index : ℕ) (result : Result TypeData Error) → Gives type_value result (primitive_of index) → IfOk result (λ value. IsShort size (type_value value))

@@ -5,7 +5,7 @@ use Rattle.pdb_base.specs.Refusal.{Refusal}
 use Rattle.pdb_base.specs.Answer.{Answer, ◌>>=◌, required}
 use Rattle.pdb_base.proofs.Collected.{ok_is, bind_ok}
 use Rattle.pdb_tpi.specs.declared.header.Header.{Header}
-use Rattle.pdb_tpi.specs.Header.{empty_header, fields_of, checked, read_header_of, header_of}
+use Rattle.pdb_tpi.specs.Header.{empty_header, header_fields, checked, read_header_of, header_of}
 use Rattle.pdb_tpi.specs.Table.{Table, IsTable}
 use Rattle.pdb_tpi.specs.Walk.{items, rest}
 use Rattle.pdb_tpi.specs.Steps.{room, body, walk, walk_rest}
@@ -41,7 +41,7 @@ checked_is header len x e =
 read_is : (bytes : List ℕ) (header : Header) → read_header_of bytes ≡ Ok header → IsChecked header (length bytes)
 unfolding read_header_of
 read_is bytes header e =
-    let fields = bind_ok (fields_of bytes) (λ fields. checked fields.0 (length bytes) >>= λ _. Ok fields.0) header e in
+    let fields = bind_ok (header_fields bytes) (λ fields. checked fields.0 (length bytes) >>= λ _. Ok fields.0) header e in
     let good = bind_ok (checked fields.0.0 (length bytes)) (λ _. Ok fields.0.0) header fields.2 in
     subst (λ (h : Header). IsChecked h (length bytes)) (ok_is fields.0.0 header good.2) (checked_is fields.0.0 (length bytes) good.0 good.1)
 

@@ -36,8 +36,8 @@ slice_of bytes = do
   Ok (record { offset = offset.0; size = size.0 }, size.1)
 
 -- the fields in their order, and the bytes behind them
-unfoldable pub fields_of : List ℕ → Answer (Header × List ℕ)
-fields_of bytes = do
+unfoldable pub header_fields : List ℕ → Answer (Header × List ℕ)
+header_fields bytes = do
   version ← number_at 4 bytes
   header_size ← number_at 4 version.1
   minimum_index ← number_at 4 header_size.1
@@ -81,7 +81,7 @@ checked header len = do
 -- the header that stands at the front of a table's bytes
 unfoldable pub read_header_of : List ℕ → Answer Header
 read_header_of bytes = do
-  fields ← fields_of bytes
+  fields ← header_fields bytes
   good ← checked fields.0 (length bytes)
   Ok fields.0
 

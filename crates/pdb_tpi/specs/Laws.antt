@@ -4,7 +4,7 @@ use Rattle.std.specs.Int.{w32, cast_signed}
 use Rattle.std.specs.List.{AllByRecursion}
 use Rattle.pdb_base.specs.Endian.{little_number}
 use Rattle.pdb_base.specs.Refusal.{unexpected_eof, type_too_short, type_not_found}
-use Rattle.pdb_tpi.specs.Header.{fields_of}
+use Rattle.pdb_tpi.specs.Header.{header_fields}
 use Rattle.pdb_tpi.specs.Table.{Table}
 use Rattle.pdb_tpi.specs.Walk.{framed, IsItem, IsWalk, items, rest, fault_of}
 use Rattle.pdb_tpi.specs.Steps.{walk}
@@ -22,7 +22,7 @@ number_in width offset bytes = little_number width (take width (drop offset byte
 abbrev pub StandAtOffsets : List ℕ → Type 0
 StandAtOffsets bytes =
     56 ≤ length bytes
-    → fields_of bytes
+    → header_fields bytes
     ≡ Ok (
       record {
         version = number_in 4 0 bytes;

@@ -3,7 +3,7 @@
 ghost use Rattle.std.specs.Prelude.{◌<◌, ◌^◌, length, IfOk};
 ghost use Rattle.pdb_base.specs.Answer.{Gives};
 ghost use Rattle.pdb_base.specs.Place.{left};
-ghost use Rattle.pdb_tpi.specs.Header.{slice_of, fields_of, checked, header_of};
+ghost use Rattle.pdb_tpi.specs.Header.{slice_of, header_fields, checked, header_of};
 
 use pdb_base::{Error, ParseBuffer, Result};
 
@@ -65,9 +65,9 @@ fn read_slice(buffer: &mut ParseBuffer<'_>) -> Result<Slice>
 }
 
 /// Reads the fields of a header.
-#[tactic(auto, unfolding(crate::specs::Header::fields_of))]
+#[tactic(auto, unfolding(crate::specs::Header::header_fields))]
 fn read_fields(buffer: &mut ParseBuffer<'_>) -> Result<Header>
-    ensures { Gives (λ header. (header, left buffer.new)) result (fields_of (left buffer.old)) }
+    ensures { Gives (λ header. (header, left buffer.new)) result (header_fields (left buffer.old)) }
 {
     let version = buffer.parse_u32()?;
     let header_size = buffer.parse_u32()?;

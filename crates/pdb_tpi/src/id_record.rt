@@ -4,10 +4,10 @@ ghost use Rattle.std.specs.Prelude.{◌≡◌, ◌*◌, ◌≤◌, ℕ, List, le
 ghost use Rattle.pdb_base.specs.declared.error.Error.TheVariants.{UnexpectedEof};
 ghost use Rattle.pdb_base.specs.Refusal.{Refusal};
 ghost use Rattle.pdb_base.specs.Answer.{Answers};
+ghost use Rattle.pdb_base.specs.Memory.{LacksOnlyIf};
 ghost use Rattle.pdb_values.specs.IdValue.{IdValue, id_value};
 ghost use Rattle.pdb_records.specs.Ids.{IsId, NoId};
-ghost use Rattle.pdb_records.specs.IdLists.{entry_count, HoldsIdEntry, IsCutIdList};
-ghost use Rattle.pdb_records.specs.Memory.{LacksOnlyIf};
+ghost use Rattle.pdb_records.specs.IdLists.{item_count, HoldsIdItem, IsCutIdList};
 ghost use Rattle.pdb_records.specs.Assigned.{SaysAssigned, ShowsOrLacks, RefusesOrLacks};
 ghost use Rattle.pdb_tpi.specs.Record.{id_of};
 
@@ -23,7 +23,7 @@ impl<'t> Item<'t, IdIndex> {
     ///
     /// # Errors
     /// The first fault of the record: `UnexpectedEof` where its bytes end before a field does, or hold
-    /// fewer entries than a list's count says; `UnimplementedTypeKind` by its number for a leaf that has
+    /// fewer items than a list's count says; `UnimplementedTypeKind` by its number for a leaf that has
     /// no record here; and `OutOfMemory` where memory for a list that the bytes hold is refused.
     #[tactic(auto, unfolding(crate::specs::Record::id_of))]
     pub fn parse(&self, alloc: Global) -> Result<IdData<'t>>
@@ -31,9 +31,9 @@ impl<'t> Item<'t, IdIndex> {
         ensures answers { SaysAssigned id_value (IsId self.now.bytes.now) (NoId self.now.bytes.now) result }
         ensures answered { (value : IdValue) (rest : List ℕ) → IsId self.now.bytes.now value rest → ShowsOrLacks id_value value result }
         ensures refused { (refusal : Refusal) → NoId self.now.bytes.now refusal → RefusesOrLacks refusal result }
-        ensures want { LacksOnlyIf result (HoldsIdEntry self.now.bytes.now) }
+        ensures want { LacksOnlyIf result (HoldsIdItem self.now.bytes.now) }
         ensures cut { IsCutIdList self.now.bytes.now → result ≡ Err UnexpectedEof }
-        ensures short { IfOk result (λ id. 2 * entry_count (id_value id) ≤ length self.now.bytes.now) }
+        ensures short { IfOk result (λ id. 2 * item_count (id_value id) ≤ length self.now.bytes.now) }
     {
         parse_id_data(alloc, self.bytes)
     }

@@ -4,11 +4,12 @@ ghost use Rattle.std.specs.Prelude.{◌≡◌, ℕ, ◌<◌, ◌≤◌, List, le
 ghost use Rattle.pdb_base.specs.declared.error.Error.TheVariants.{UnexpectedEof};
 ghost use Rattle.pdb_base.specs.Refusal.{Refusal};
 ghost use Rattle.pdb_base.specs.Answer.{Answers, Gives};
+ghost use Rattle.pdb_base.specs.Memory.{LacksOnlyIf};
 ghost use Rattle.pdb_values.specs.Primitive.{first_record};
 ghost use Rattle.pdb_values.specs.TypeValue.{TypeValue};
 ghost use Rattle.pdb_values.specs.TypeView.{primitive_of, type_value};
 ghost use Rattle.pdb_records.specs.Grammar.{IsRecord, NoRecord};
-ghost use Rattle.pdb_records.specs.Memory.{LacksOnlyIf, NeedsMemory, IsFalseCount};
+ghost use Rattle.pdb_records.specs.Memory.{NeedsMemory, IsFalseCount};
 ghost use Rattle.pdb_records.specs.Short.{IsShort};
 ghost use Rattle.pdb_records.specs.Assigned.{SaysAssigned, ShowsOrLacks, RefusesOrLacks};
 ghost use Rattle.pdb_tpi.specs.Record.{type_of};

@@ -12,7 +12,7 @@ use Rattle.pdb_values.specs.declared.primitive.Indirection.TheVariants as pointe
 use Rattle.pdb_values.specs.declared.primitive.PrimitiveKind.{PrimitiveKind}
 use Rattle.pdb_values.specs.declared.primitive.PrimitiveKind.TheVariants as kinds
 use Rattle.pdb_values.specs.declared.primitive.PrimitiveType.{PrimitiveType}
-use Rattle.pdb_values.specs.Primitive.{first_record, primitive_kinds, indirections, found, row_of, kind_of, indirection_of, primitive_type}
+use Rattle.pdb_values.specs.Primitive.{first_record, primitive_kinds, indirections, found, numbered, primitive_kind, primitive_indirection, primitive_type}
 use Rattle.pdb_values.specs.Laws.{HasOneIndex, IsRefusedByIndex}
 
 -- the number of a kind
@@ -71,7 +71,7 @@ pointer_number (Some pointers.Far32) = 5
 pointer_number (Some pointers.Near64) = 6
 pointer_number (Some pointers.Near128) = 7
 
-kind_row : (kind : PrimitiveKind) → row_of primitive_kinds (kind_number kind) ≡ Some kind
+kind_row : (kind : PrimitiveKind) → numbered primitive_kinds (kind_number kind) ≡ Some kind
 unfolding kind_number
 kind_row kinds.NoType = refl
 kind_row kind = refl
@@ -81,7 +81,7 @@ unfolding kind_number
 kind_number-lt kinds.NoType = lit< tt
 kind_number-lt kind = lit< tt
 
-pointer_row : (pointer : Option Indirection) → row_of indirections (pointer_number pointer) ≡ Some pointer
+pointer_row : (pointer : Option Indirection) → numbered indirections (pointer_number pointer) ≡ Some pointer
 unfolding pointer_number
 pointer_row None = refl
 pointer_row (Some pointers.Near16) = refl
@@ -94,7 +94,7 @@ pointer_number-lt (Some pointers.Near16) = lit< tt
 pointer_number-lt (Some pointer) = lit< tt
 
 -- what a table says under a number, where each row has the number of what it says
-found_number : {A : Type 0} (number : A → ℕ) (rows : List (ℕ × A)) (n : ℕ) (x : A) → list_all (λ (row : ℕ × A). row.0 == number row.1) rows ≡ true → row_of rows n ≡ Some x → n ≡ number x
+found_number : {A : Type 0} (number : A → ℕ) (rows : List (ℕ × A)) (n : ℕ) (x : A) → list_all (λ (row : ℕ × A). row.0 == number row.1) rows ≡ true → numbered rows n ≡ Some x → n ≡ number x
 found_number number [] n x all is = absurd cc
 found_number {A} number (row ∷ rows) n x all is =
     let rest = found_number number rows n x in
@@ -127,26 +127,26 @@ unfolding bits
 high kind pointer small few = omega arith
 
 -- both tables were read
-both : (index : ℕ) (type : PrimitiveType) → primitive_type index ≡ Ok type → (kind_of index ≡ Ok type.kind) × (indirection_of index ≡ Ok type.indirection)
+both : (index : ℕ) (type : PrimitiveType) → primitive_type index ≡ Ok type → (primitive_kind index ≡ Ok type.kind) × (primitive_indirection index ≡ Ok type.indirection)
 unfolding primitive_type
 both index type is =
-    let kind = bind_ok (kind_of index) (λ k. indirection_of index >>= λ i. Ok (record { kind = k; indirection = i })) type is in
-    let pointer = bind_ok (indirection_of index) (λ i. Ok (record { kind = kind.0; indirection = i })) type kind.2 in
+    let kind = bind_ok (primitive_kind index) (λ k. primitive_indirection index >>= λ i. Ok (record { kind = k; indirection = i })) type is in
+    let pointer = bind_ok (primitive_indirection index) (λ i. Ok (record { kind = kind.0; indirection = i })) type kind.2 in
     let same = ok_is (record { kind = kind.0; indirection = pointer.0 }) type pointer.2 in
     (kind.1 ∙ ap (λ (t : PrimitiveType). Ok t.kind) same, pointer.1 ∙ ap (λ (t : PrimitiveType). Ok t.indirection) same)
 
 -- so an index is made of the numbers of what it stands for
 index_is : (index : ℕ) (type : PrimitiveType) → index < first_record → primitive_type index ≡ Ok type → index ≡ kind_number type.kind + 256 * pointer_number type.indirection
-unfolding kind_of indirection_of
+unfolding primitive_kind primitive_indirection
 index_is index type small is =
     let read = both index type is in
-    let kind = found_number kind_number primitive_kinds (bits index 0 8) type.kind kinds_numbered (found_there index (row_of primitive_kinds (bits index 0 8)) type.kind read.0) in
-    let pointer = found_number pointer_number indirections (bits index 8 4) type.indirection pointers_numbered (found_there index (row_of indirections (bits index 8 4)) type.indirection read.1) in
+    let kind = found_number kind_number primitive_kinds (bits index 0 8) type.kind kinds_numbered (found_there index (numbered primitive_kinds (bits index 0 8)) type.kind read.0) in
+    let pointer = found_number pointer_number indirections (bits index 8 4) type.indirection pointers_numbered (found_there index (numbered indirections (bits index 8 4)) type.indirection read.1) in
     omega (arith, split index small, kind, pointer)
 
 -- and the index that is made of them stands for it
 stands : (type : PrimitiveType) → primitive_type (kind_number type.kind + 256 * pointer_number type.indirection) ≡ Ok type
-unfolding primitive_type kind_of indirection_of
+unfolding primitive_type primitive_kind primitive_indirection
 stands type =
     rw (low (kind_number type.kind) (pointer_number type.indirection) (kind_number-lt type.kind), kind_row type.kind, high (kind_number type.kind) (pointer_number type.indirection) (kind_number-lt type.kind) (pointer_number-lt type.indirection), pointer_row type.indirection) refl
 
@@ -169,9 +169,9 @@ refused_step (Ok x) more e d first second is = second x is
 refused_step {A} {B} (Err c) more e d first second is = sym (err_is {A = B} c e is) ∙ first c refl
 
 pub is_refused_by_index : (index : ℕ) → IsRefusedByIndex index
-unfolding primitive_type kind_of indirection_of
+unfolding primitive_type primitive_kind primitive_indirection
 is_refused_by_index index = λ e is.
-    refused_step (kind_of index) (λ k. indirection_of index >>= λ i. Ok (record { kind = k; indirection = i })) e (type_not_found index)
-    (not_found index (row_of primitive_kinds (bits index 0 8)))
-    (λ k. refused_step (indirection_of index) (λ i. Ok (record { kind = k; indirection = i })) e (type_not_found index) (not_found index (row_of indirections (bits index 8 4))) (λ i no. absurd (ok_is_no_err _ e no)))
+    refused_step (primitive_kind index) (λ k. primitive_indirection index >>= λ i. Ok (record { kind = k; indirection = i })) e (type_not_found index)
+    (not_found index (numbered primitive_kinds (bits index 0 8)))
+    (λ k. refused_step (primitive_indirection index) (λ i. Ok (record { kind = k; indirection = i })) e (type_not_found index) (not_found index (numbered indirections (bits index 8 4))) (λ i no. absurd (ok_is_no_err _ e no)))
     is

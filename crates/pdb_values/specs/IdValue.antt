@@ -30,13 +30,18 @@ pub record StringValue : Type 0 where
   pub substrings : Option IdIndex
   pub name : List ℕ
 
+-- what an id that is no list says
+pub data PlainIdValue : Type 0 where
+  function : FunctionValue → PlainIdValue
+  member_function : MemberFunctionValue → PlainIdValue
+  string : StringValue → PlainIdValue
+  user_defined_type_source : UserDefinedTypeSourceId → PlainIdValue
+
+-- what an id says: what is no list, or the list that it is
 pub data IdValue : Type 0 where
-  function : FunctionValue → IdValue
-  member_function : MemberFunctionValue → IdValue
+  plain : PlainIdValue → IdValue
   build_info : List IdIndex → IdValue
   string_list : List TypeIndex → IdValue
-  string : StringValue → IdValue
-  user_defined_type_source : UserDefinedTypeSourceId → IdValue
 
 -- what a function says
 abbrev pub function_value : FunctionId → FunctionValue
@@ -60,16 +65,21 @@ text_parts id = id.substrings.items
 
 -- what an id says
 abbrev pub id_value : IdData → IdValue
-id_value (ids.Function id) = function (function_value id)
-id_value (ids.MemberFunction id) = member_function (member_function_value id)
+id_value (ids.Function id) = plain (function (function_value id))
+id_value (ids.MemberFunction id) = plain (member_function (member_function_value id))
 id_value (ids.BuildInfo list) = build_info (build_arguments list)
 id_value (ids.StringList list) = string_list (text_parts list)
-id_value (ids.String id) = string (string_value id)
-id_value (ids.UserDefinedTypeSource id) = user_defined_type_source id
+id_value (ids.String id) = plain (string (string_value id))
+id_value (ids.UserDefinedTypeSource id) = plain (user_defined_type_source id)
 
 -- the name of a function, a method or a text
+abbrev pub plain_id_name : PlainIdValue → Option (List ℕ)
+plain_id_name (function value) = Some value.name
+plain_id_name (member_function value) = Some value.name
+plain_id_name (string value) = Some value.name
+plain_id_name value = None
+
+-- the same of any id; a list has none
 abbrev pub id_name : IdValue → Option (List ℕ)
-id_name (function value) = Some value.name
-id_name (member_function value) = Some value.name
-id_name (string value) = Some value.name
+id_name (plain value) = plain_id_name value
 id_name value = None

@@ -6,11 +6,14 @@ pub mod Function
 pub mod Enumeration
 pub mod Array
 pub mod Union
+pub mod TableShape
 pub mod TypeValue
 pub mod Primitive
 pub mod TypeView
 pub mod IdValue
+pub mod Items
 pub mod Laws
 -- the words of the libraries below that the contracts of this one speak in
 pub use Rattle.pdb_base.specs.Answer
 pub mod Derived
+pub use Rattle.pdb_base.specs.Memory

@@ -33,6 +33,6 @@ method_value type = record {
   name = text_bytes type.name;
 }
 
--- the methods of one name
-abbrev pub method_entries : MethodList → List MethodListEntry
-method_entries list = list.methods.items
+-- the methods in a list of methods
+abbrev pub listed_methods : MethodList → List MethodListEntry
+listed_methods list = list.methods.items

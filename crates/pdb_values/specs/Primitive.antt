@@ -82,20 +82,20 @@ found index (Some x) = Ok x
 found index None = Err (type_not_found index)
 
 -- the row of a table that has this number
-abbrev pub row_of : {A : Type 0} → List (ℕ × A) → ℕ → Option A
-row_of rows number = lookup (λ row. row == number) rows
+abbrev pub numbered : {A : Type 0} → List (ℕ × A) → ℕ → Option A
+numbered rows number = lookup (λ row. row == number) rows
 
 -- the type that an index says in its low byte
-unfoldable pub kind_of : ℕ → Answer PrimitiveKind
-kind_of index = found index (row_of primitive_kinds (bits index 0 8))
+unfoldable pub primitive_kind : ℕ → Answer PrimitiveKind
+primitive_kind index = found index (numbered primitive_kinds (bits index 0 8))
 
 -- the pointer, if any, that an index says in its bits 8 to 11
-unfoldable pub indirection_of : ℕ → Answer (Option Indirection)
-indirection_of index = found index (row_of indirections (bits index 8 4))
+unfoldable pub primitive_indirection : ℕ → Answer (Option Indirection)
+primitive_indirection index = found index (numbered indirections (bits index 8 4))
 
 -- the primitive type that an index stands for
 unfoldable pub primitive_type : ℕ → Answer PrimitiveType
 primitive_type index = do
-  kind ← kind_of index
-  indirection ← indirection_of index
+  kind ← primitive_kind index
+  indirection ← primitive_indirection index
   Ok (record { kind = kind; indirection = indirection })

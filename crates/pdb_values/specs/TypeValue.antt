@@ -18,28 +18,35 @@ use Rattle.pdb_values.specs.Method.{OverloadedMethodValue, MethodValue}
 use Rattle.pdb_values.specs.Enumeration.{EnumerationValue, EnumerateValue}
 use Rattle.pdb_values.specs.Array.{ArrayValue}
 use Rattle.pdb_values.specs.Union.{UnionValue}
+use Rattle.pdb_values.specs.TableShape.{VirtualTableShapeValue}
+
+-- what a record without a list says, or a primitive type
+pub data PlainValue : Type 0 where
+  primitive : PrimitiveType → PlainValue
+  class : ClassValue → PlainValue
+  member : MemberValue → PlainValue
+  member_function : MemberFunctionType → PlainValue
+  overloaded_method : OverloadedMethodValue → PlainValue
+  method : MethodValue → PlainValue
+  static_member : StaticMemberValue → PlainValue
+  nested : NestedValue → PlainValue
+  base_class : BaseClassType → PlainValue
+  virtual_base_class : VirtualBaseClassType → PlainValue
+  virtual_function_table_pointer : VirtualFunctionTablePointerType → PlainValue
+  procedure : ProcedureType → PlainValue
+  pointer : PointerType → PlainValue
+  modifier : ModifierType → PlainValue
+  enumeration : EnumerationValue → PlainValue
+  enumerate : EnumerateValue → PlainValue
+  union : UnionValue → PlainValue
+  bitfield : BitfieldType → PlainValue
+  virtual_table_shape : VirtualTableShapeValue → PlainValue
 
 mutual
+  -- what a type says: what has no list, or the list that it is or holds
   pub data TypeValue : Type 0 where
-    primitive : PrimitiveType → TypeValue
-    class : ClassValue → TypeValue
-    member : MemberValue → TypeValue
-    member_function : MemberFunctionType → TypeValue
-    overloaded_method : OverloadedMethodValue → TypeValue
-    method : MethodValue → TypeValue
-    static_member : StaticMemberValue → TypeValue
-    nested : NestedValue → TypeValue
-    base_class : BaseClassType → TypeValue
-    virtual_base_class : VirtualBaseClassType → TypeValue
-    virtual_function_table_pointer : VirtualFunctionTablePointerType → TypeValue
-    procedure : ProcedureType → TypeValue
-    pointer : PointerType → TypeValue
-    modifier : ModifierType → TypeValue
-    enumeration : EnumerationValue → TypeValue
-    enumerate : EnumerateValue → TypeValue
+    plain : PlainValue → TypeValue
     array : ArrayValue → TypeValue
-    union : UnionValue → TypeValue
-    bitfield : BitfieldType → TypeValue
     field_list : Fields → Option TypeIndex → TypeValue
     argument_list : List TypeIndex → TypeValue
     method_list : List MethodListEntry → TypeValue
@@ -50,9 +57,9 @@ mutual
     first_field : TypeValue → Fields → Fields
 
 -- a list of values as that of a field list
-abbrev pub fields_of : List TypeValue → Fields
-fields_of [] = no_field
-fields_of (value ∷ values) = first_field value (fields_of values)
+abbrev pub as_fields : List TypeValue → Fields
+as_fields [] = no_field
+as_fields (value ∷ values) = first_field value (as_fields values)
 
 -- the values of a field list as a list
 abbrev pub values_in : Fields → List TypeValue
@@ -60,13 +67,18 @@ values_in no_field = []
 values_in (first_field value fields) = value ∷ values_in fields
 
 -- the name of a type or of a member, where its record has one that is asked for
+abbrev pub plain_name : PlainValue → Option (List ℕ)
+plain_name (class value) = Some value.name
+plain_name (member value) = Some value.name
+plain_name (overloaded_method value) = Some value.name
+plain_name (static_member value) = Some value.name
+plain_name (nested value) = Some value.name
+plain_name (enumeration value) = Some value.name
+plain_name (enumerate value) = Some value.name
+plain_name (union value) = Some value.name
+plain_name value = None
+
+-- the same of any type; a list has none
 abbrev pub name_of : TypeValue → Option (List ℕ)
-name_of (class value) = Some value.name
-name_of (member value) = Some value.name
-name_of (overloaded_method value) = Some value.name
-name_of (static_member value) = Some value.name
-name_of (nested value) = Some value.name
-name_of (enumeration value) = Some value.name
-name_of (enumerate value) = Some value.name
-name_of (union value) = Some value.name
+name_of (plain value) = plain_name value
 name_of value = None

@@ -2,8 +2,10 @@
 
 ghost use Rattle.std.specs.Prelude.{Ok};
 ghost use Rattle.pdb_base.specs.Answer.{Answers};
+ghost use Rattle.pdb_base.specs.Memory.{LacksOnlyIf, HasItem};
 ghost use Rattle.pdb_values.specs.Array.{array_value};
 
+use crate::copy_items::copy_items;
 use pdb_base::{Result, TypeIndex};
 use std::alloc::Global;
 
@@ -27,11 +29,12 @@ impl ArrayType {
     /// An equal array, in memory of its own.
     ///
     /// # Errors
-    /// `OutOfMemory` where memory is refused.
+    /// `OutOfMemory` where memory is refused, which is asked for only where there is a dimension.
     pub fn clone(&self, alloc: Global) -> Result<Self>
-        ensures { Answers array_value result (Ok (array_value self.now)) }
+        ensures copied { Answers array_value result (Ok (array_value self.now)) }
+        ensures want { LacksOnlyIf result (HasItem (array_value self.now).dimensions) }
     {
-        let dimensions = self.dimensions.as_slice().to_vec(alloc)?;
+        let dimensions = copy_items(alloc, self.dimensions.as_slice())?;
         Ok(ArrayType {
             element_type: self.element_type,
             indexing_type: self.indexing_type,

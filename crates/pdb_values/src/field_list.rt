@@ -2,10 +2,11 @@
 
 ghost use Rattle.std.specs.Prelude.{Ok};
 ghost use Rattle.pdb_base.specs.Answer.{Answers};
+ghost use Rattle.pdb_base.specs.Memory.{LacksOnlyIf};
+ghost use Rattle.pdb_values.specs.Items.{HasListItem};
 ghost use Rattle.pdb_values.specs.TypeView.{field_list_value};
 
-use crate::copy::copy_list;
-use crate::type_data::TypeData;
+use crate::type_data::{TypeData, copy_list};
 use pdb_base::{Result, TypeIndex};
 use std::alloc::Global;
 
@@ -25,9 +26,10 @@ impl<'t> FieldList<'t> {
     /// An equal list, with memory of its own for its fields and for their lists.
     ///
     /// # Errors
-    /// `OutOfMemory` where memory is refused.
+    /// `OutOfMemory` where memory is refused, which is asked for only where there is a field.
     pub fn clone(&self, alloc: Global) -> Result<Self>
-        ensures { Answers field_list_value result (Ok (field_list_value self.now)) }
+        ensures copied { Answers field_list_value result (Ok (field_list_value self.now)) }
+        ensures want { LacksOnlyIf result (HasListItem (field_list_value self.now)) }
     {
         copy_list(alloc, self)
     }

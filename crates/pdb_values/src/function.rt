@@ -2,8 +2,10 @@
 
 ghost use Rattle.std.specs.Prelude.{Ok};
 ghost use Rattle.pdb_base.specs.Answer.{Answers};
+ghost use Rattle.pdb_base.specs.Memory.{LacksOnlyIf, HasItem};
 ghost use Rattle.pdb_values.specs.Function.{argument_types};
 
+use crate::copy_items::copy_items;
 use pdb_base::{Result, TypeIndex};
 use pdb_flags::FunctionAttributes;
 use std::alloc::Global;
@@ -60,11 +62,12 @@ impl ArgumentList {
     /// An equal list, in memory of its own.
     ///
     /// # Errors
-    /// `OutOfMemory` where memory is refused.
+    /// `OutOfMemory` where memory is refused, which is asked for only where the list has an item.
     pub fn clone(&self, alloc: Global) -> Result<Self>
-        ensures { Answers argument_types result (Ok (argument_types self.now)) }
+        ensures copied { Answers argument_types result (Ok (argument_types self.now)) }
+        ensures want { LacksOnlyIf result (HasItem (argument_types self.now)) }
     {
-        let arguments = self.arguments.as_slice().to_vec(alloc)?;
+        let arguments = copy_items(alloc, self.arguments.as_slice())?;
         Ok(ArgumentList { arguments })
     }
 }

@@ -2,7 +2,9 @@
 
 ghost use Rattle.std.specs.Prelude.{Ok};
 ghost use Rattle.pdb_base.specs.Answer.{Answers};
+ghost use Rattle.pdb_base.specs.Memory.{LacksOnlyIf};
 ghost use Rattle.pdb_values.specs.IdValue.{id_value};
+ghost use Rattle.pdb_values.specs.Items.{HasIdListItem};
 
 use crate::function_id::{FunctionId, MemberFunctionId};
 use crate::list_id::{BuildInfoId, StringId, StringListId};
@@ -36,9 +38,10 @@ impl<'t> IdData<'t> {
     /// An equal value, with memory of its own for a list.
     ///
     /// # Errors
-    /// `OutOfMemory` where memory is refused.
+    /// `OutOfMemory` where memory is refused, which is asked for only where a list has an item.
     pub fn clone(&self, alloc: Global) -> Result<Self>
-        ensures { Answers id_value result (Ok (id_value self.now)) }
+        ensures copied { Answers id_value result (Ok (id_value self.now)) }
+        ensures want { LacksOnlyIf result (HasIdListItem (id_value self.now)) }
     {
         match self {
             IdData::Function(id) => Ok(IdData::Function(FunctionId { ..*id })),
@@ -46,7 +49,9 @@ impl<'t> IdData<'t> {
             IdData::BuildInfo(list) => Ok(IdData::BuildInfo(list.clone(alloc)?)),
             IdData::StringList(list) => Ok(IdData::StringList(list.clone(alloc)?)),
             IdData::String(id) => Ok(IdData::String(StringId { ..*id })),
-            IdData::UserDefinedTypeSource(id) => Ok(IdData::UserDefinedTypeSource(*id)),
+            IdData::UserDefinedTypeSource(id) => Ok(IdData::UserDefinedTypeSource(
+                UserDefinedTypeSourceId { ..*id },
+            )),
         }
     }
 }

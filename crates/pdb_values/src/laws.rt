@@ -4,7 +4,7 @@
 ghost use Rattle.std.specs.Prelude.{◌≡◌, ℕ, List};
 ghost use Rattle.pdb_values.specs.declared.primitive.PrimitiveType.{PrimitiveType};
 ghost use Rattle.pdb_values.specs.Laws.{HasOneIndex, IsRefusedByIndex};
-ghost use Rattle.pdb_values.specs.TypeValue.{TypeValue, Fields, fields_of, values_in};
+ghost use Rattle.pdb_values.specs.TypeValue.{TypeValue, Fields, as_fields, values_in};
 
 pub mod derived;
 
@@ -18,6 +18,6 @@ pub fn primitives()
 /// The values of a field list are a list, and nothing beside.
 #[tactic(auto, using(crate::proofs::FieldLemmas::listed, crate::proofs::FieldLemmas::unlisted))]
 pub fn field_lists()
-    ensures listed { (values : List TypeValue) → values_in (fields_of values) ≡ values }
-    ensures unlisted { (fields : Fields) → fields_of (values_in fields) ≡ fields }
+    ensures listed { (values : List TypeValue) → values_in (as_fields values) ≡ values }
+    ensures unlisted { (fields : Fields) → as_fields (values_in fields) ≡ fields }
 {}

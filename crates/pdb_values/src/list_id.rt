@@ -2,8 +2,10 @@
 
 ghost use Rattle.std.specs.Prelude.{Ok};
 ghost use Rattle.pdb_base.specs.Answer.{Answers};
+ghost use Rattle.pdb_base.specs.Memory.{LacksOnlyIf, HasItem};
 ghost use Rattle.pdb_values.specs.IdValue.{build_arguments, text_parts};
 
+use crate::copy_items::copy_items;
 use pdb_base::{IdIndex, RawString, Result, TypeIndex};
 use std::alloc::Global;
 
@@ -36,11 +38,12 @@ impl BuildInfoId {
     /// An equal list, in memory of its own.
     ///
     /// # Errors
-    /// `OutOfMemory` where memory is refused.
+    /// `OutOfMemory` where memory is refused, which is asked for only where the list has an item.
     pub fn clone(&self, alloc: Global) -> Result<Self>
-        ensures { Answers build_arguments result (Ok (build_arguments self.now)) }
+        ensures copied { Answers build_arguments result (Ok (build_arguments self.now)) }
+        ensures want { LacksOnlyIf result (HasItem (build_arguments self.now)) }
     {
-        let arguments = self.arguments.as_slice().to_vec(alloc)?;
+        let arguments = copy_items(alloc, self.arguments.as_slice())?;
         Ok(BuildInfoId { arguments })
     }
 }
@@ -49,11 +52,12 @@ impl StringListId {
     /// An equal list, in memory of its own.
     ///
     /// # Errors
-    /// `OutOfMemory` where memory is refused.
+    /// `OutOfMemory` where memory is refused, which is asked for only where the list has an item.
     pub fn clone(&self, alloc: Global) -> Result<Self>
-        ensures { Answers text_parts result (Ok (text_parts self.now)) }
+        ensures copied { Answers text_parts result (Ok (text_parts self.now)) }
+        ensures want { LacksOnlyIf result (HasItem (text_parts self.now)) }
     {
-        let substrings = self.substrings.as_slice().to_vec(alloc)?;
+        let substrings = copy_items(alloc, self.substrings.as_slice())?;
         Ok(StringListId { substrings })
     }
 }

@@ -2,8 +2,10 @@
 
 ghost use Rattle.std.specs.Prelude.{Ok};
 ghost use Rattle.pdb_base.specs.Answer.{Answers};
-ghost use Rattle.pdb_values.specs.Method.{method_entries};
+ghost use Rattle.pdb_base.specs.Memory.{LacksOnlyIf, HasItem};
+ghost use Rattle.pdb_values.specs.Method.{listed_methods};
 
+use crate::copy_items::copy_items;
 use pdb_base::{RawString, Result, TypeIndex};
 use pdb_flags::FieldAttributes;
 use std::alloc::Global;
@@ -61,11 +63,12 @@ impl MethodList {
     /// An equal list, in memory of its own.
     ///
     /// # Errors
-    /// `OutOfMemory` where memory is refused.
+    /// `OutOfMemory` where memory is refused, which is asked for only where the list has an item.
     pub fn clone(&self, alloc: Global) -> Result<Self>
-        ensures { Answers method_entries result (Ok (method_entries self.now)) }
+        ensures copied { Answers listed_methods result (Ok (listed_methods self.now)) }
+        ensures want { LacksOnlyIf result (HasItem (listed_methods self.now)) }
     {
-        let methods = self.methods.as_slice().to_vec(alloc)?;
+        let methods = copy_items(alloc, self.methods.as_slice())?;
         Ok(MethodList { methods })
     }
 }

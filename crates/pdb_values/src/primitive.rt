@@ -3,7 +3,7 @@
 ghost use Rattle.std.specs.Prelude.{◌≡◌, ◌<◌};
 ghost use Rattle.pdb_base.specs.Answer.{Gives};
 ghost use Rattle.pdb_bits.specs.Bits.{bits};
-ghost use Rattle.pdb_values.specs.Primitive.{primitive_kinds, indirections, row_of, first_record};
+ghost use Rattle.pdb_values.specs.Primitive.{primitive_kinds, indirections, numbered, first_record};
 ghost use Rattle.pdb_values.specs.TypeView.{type_value, primitive_of};
 
 use crate::type_data::TypeData;
@@ -48,7 +48,7 @@ impl Indirection {
     /// The pointer of this number, `Some(None)` where it is the number of no pointer, or None where it is
     /// no number at all.
     fn numbered(number: u32) -> Option<Option<Self>>
-        ensures { result ≡ row_of indirections number }
+        ensures { result ≡ numbered indirections number }
     {
         match number {
             0 => Some(None),
@@ -197,7 +197,7 @@ pub enum PrimitiveKind {
 impl PrimitiveKind {
     /// The type of this number, or None where it is the number of none.
     fn numbered(number: u32) -> Option<Self>
-        ensures { result ≡ row_of primitive_kinds number }
+        ensures { result ≡ numbered primitive_kinds number }
     {
         match number {
             0x00 => Some(PrimitiveKind::NoType),
@@ -267,7 +267,7 @@ fn indirection_number(index: TypeIndex) -> u32
 ///
 /// # Errors
 /// `TypeNotFound` where the byte or the bits are no number of cvinfo.h.
-#[tactic(auto, unfolding(crate::specs::Primitive::kind_of, crate::specs::Primitive::indirection_of, crate::specs::Primitive::primitive_type, crate::specs::TypeView::primitive_of))]
+#[tactic(auto, unfolding(crate::specs::Primitive::primitive_kind, crate::specs::Primitive::primitive_indirection, crate::specs::Primitive::primitive_type, crate::specs::TypeView::primitive_of))]
 pub fn type_data_for_primitive<'t>(index: TypeIndex) -> Result<TypeData<'t>>
     requires { index.0 < first_record }
     ensures { Gives type_value result (primitive_of index.0) }

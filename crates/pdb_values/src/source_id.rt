@@ -1,13 +1,13 @@
 //! Where a type is declared.
 
-use pdb_base::{IdIndex, Local, TypeIndex};
+use pdb_base::{IdIndex, TypeIndex};
 use pdb_space::StringRef;
 
 /// The file that a type is declared in.
 #[derive(Clone, Copy, Debug, PartialEq, Eq)]
 pub enum UserDefinedTypeSourceFileRef {
     /// The id of the file's name.
-    Local(Local<IdIndex>),
+    Local(IdIndex),
 
     /// The number of the module, and the place of the file's name in the string table.
     Remote(u16, StringRef),
@@ -15,7 +15,7 @@ pub enum UserDefinedTypeSourceFileRef {
 
 /// Where a type is declared: `lfUdtSrcLine` of Microsoft's cvinfo.h, or `lfUdtModSrcLine`, which says the
 /// module too.
-#[derive(Clone, Copy, Debug, PartialEq, Eq)]
+#[derive(Clone, Debug, PartialEq, Eq, Drop)]
 pub struct UserDefinedTypeSourceId {
     /// The type.
     pub udt: TypeIndex,

@@ -3,15 +3,16 @@
 ghost use Rattle.std.specs.Prelude.{◌≡◌, Ok};
 ghost use Rattle.std.specs.Option.{option_map};
 ghost use Rattle.pdb_base.specs.Answer.{Answers};
+ghost use Rattle.pdb_base.specs.Memory.{LacksOnlyIf};
 ghost use Rattle.pdb_values.specs.Text.{text_bytes};
+ghost use Rattle.pdb_values.specs.Items.{HasListItem, HasField};
 ghost use Rattle.pdb_values.specs.TypeValue.{name_of};
-ghost use Rattle.pdb_values.specs.TypeView.{type_value};
+ghost use Rattle.pdb_values.specs.TypeView.{type_value, fields_value, field_list_value};
 
 use crate::array::ArrayType;
 use crate::base_class::{BaseClassType, VirtualBaseClassType, VirtualFunctionTablePointerType};
 use crate::bitfield::BitfieldType;
 use crate::class::ClassType;
-use crate::copy::copy_type;
 use crate::enumeration::{EnumerateType, EnumerationType};
 use crate::field_list::FieldList;
 use crate::function::{ArgumentList, MemberFunctionType, ProcedureType};
@@ -20,6 +21,7 @@ use crate::method::{MethodList, MethodType, OverloadedMethodType};
 use crate::modifier::ModifierType;
 use crate::pointer::PointerType;
 use crate::primitive::PrimitiveType;
+use crate::table_shape::VirtualTableShapeType;
 use crate::union_type::UnionType;
 use pdb_base::{RawString, Result};
 use std::alloc::Global;
@@ -93,6 +95,9 @@ pub enum TypeData<'t> {
 
     /// The methods of one name.
     MethodList(MethodList),
+
+    /// The shape of a table of virtual functions.
+    VirtualTableShape(VirtualTableShapeType<'t>),
 }
 
 impl<'t> TypeData<'t> {
@@ -113,13 +118,86 @@ impl<'t> TypeData<'t> {
             _ => None,
         }
     }
+
     /// An equal value, with memory of its own for each list.
     ///
     /// # Errors
-    /// `OutOfMemory` where memory is refused.
+    /// `OutOfMemory` where memory is refused, which is asked for only where a list has an item.
     pub fn clone(&self, alloc: Global) -> Result<Self>
-        ensures { Answers type_value result (Ok (type_value self.now)) }
+        ensures copied { Answers type_value result (Ok (type_value self.now)) }
+        ensures want { LacksOnlyIf result (HasListItem (type_value self.now)) }
     {
         copy_type(alloc, self)
     }
+}
+
+/// An equal type.
+#[cycle(copy)]
+pub(crate) fn copy_type<'t>(alloc: Global, original: &TypeData<'t>) -> Result<TypeData<'t>>
+    ensures copied { Answers type_value result (Ok (type_value original.now)) }
+    ensures want { LacksOnlyIf result (HasListItem (type_value original.now)) }
+{
+    match original {
+        TypeData::Primitive(primitive) => Ok(TypeData::Primitive(*primitive)),
+        TypeData::Class(class) => Ok(TypeData::Class(ClassType { ..*class })),
+        TypeData::Member(member) => Ok(TypeData::Member(MemberType { ..*member })),
+        TypeData::MemberFunction(function) => Ok(TypeData::MemberFunction(*function)),
+        TypeData::OverloadedMethod(methods) => Ok(TypeData::OverloadedMethod(OverloadedMethodType {
+            ..*methods
+        })),
+        TypeData::Method(method) => Ok(TypeData::Method(MethodType { ..*method })),
+        TypeData::StaticMember(member) => Ok(TypeData::StaticMember(StaticMemberType {
+            ..*member
+        })),
+        TypeData::Nested(nested) => Ok(TypeData::Nested(NestedType { ..*nested })),
+        TypeData::BaseClass(base) => Ok(TypeData::BaseClass(*base)),
+        TypeData::VirtualBaseClass(base) => Ok(TypeData::VirtualBaseClass(*base)),
+        TypeData::VirtualFunctionTablePointer(pointer) => Ok(TypeData::VirtualFunctionTablePointer(
+            *pointer,
+        )),
+        TypeData::Procedure(procedure) => Ok(TypeData::Procedure(*procedure)),
+        TypeData::Pointer(pointer) => Ok(TypeData::Pointer(*pointer)),
+        TypeData::Modifier(modifier) => Ok(TypeData::Modifier(*modifier)),
+        TypeData::Enumeration(enumeration) => Ok(TypeData::Enumeration(EnumerationType {
+            ..*enumeration
+        })),
+        TypeData::Enumerate(value) => Ok(TypeData::Enumerate(EnumerateType { ..*value })),
+        TypeData::Array(array) => Ok(TypeData::Array(array.clone(alloc)?)),
+        TypeData::Union(union_type) => Ok(TypeData::Union(UnionType { ..*union_type })),
+        TypeData::Bitfield(bitfield) => Ok(TypeData::Bitfield(*bitfield)),
+        TypeData::FieldList(list) => Ok(TypeData::FieldList(copy_list(alloc, list)?)),
+        TypeData::ArgumentList(list) => Ok(TypeData::ArgumentList(list.clone(alloc)?)),
+        TypeData::MethodList(list) => Ok(TypeData::MethodList(list.clone(alloc)?)),
+        TypeData::VirtualTableShape(shape) => Ok(TypeData::VirtualTableShape(*shape)),
+    }
+}
+
+/// An equal field list.
+#[cycle(copy)]
+pub(crate) fn copy_list<'t>(alloc: Global, list: &FieldList<'t>) -> Result<FieldList<'t>>
+    ensures copied { Answers field_list_value result (Ok (field_list_value list.now)) }
+    ensures want { LacksOnlyIf result (HasListItem (field_list_value list.now)) }
+{
+    let fields = copy_fields(alloc, list.fields.as_slice())?;
+    Ok(FieldList {
+        fields,
+        continuation: list.continuation,
+    })
+}
+
+/// Equal fields; where there are none, no memory is asked for.
+#[cycle(copy)]
+fn copy_fields<'t>(alloc: Global, fields: &[TypeData<'t>]) -> Result<Vec<TypeData<'t>>>
+    ensures copied { Answers (λ copies. fields_value copies.items) result (Ok (fields_value fields.now)) }
+    ensures want { LacksOnlyIf result (HasField (fields_value fields.now)) }
+{
+    if fields.is_empty() {
+        return Ok(Vec::new(alloc));
+    }
+    let mut copies = Vec::with_capacity(alloc, fields.len())?;
+    for field in fields {
+        let copied = copy_type(alloc, field)?;
+        copies.push(copied)?;
+    }
+    Ok(copies)
 }

@@ -1,7 +1,7 @@
 //! Records of ids. Each field has a value of its own, so that one read in the place of another shows.
 
 use super::read::{said_of, table_of, text_of};
-use pdb_base::{Error, IdIndex, Local, RawString, Result, TypeIndex};
+use pdb_base::{Error, IdIndex, RawString, Result, TypeIndex};
 use pdb_records::parse_id_data;
 use pdb_space::StringRef;
 use pdb_tpi::{Id, IdInformation};
@@ -43,7 +43,7 @@ fn source(source_file: UserDefinedTypeSourceFileRef, line: u32) -> IdData<'stati
 
 /// Ids without a list.
 fn plain_ids() -> [Row; 10] {
-    let local = UserDefinedTypeSourceFileRef::Local(Local(IdIndex(0x1005)));
+    let local = UserDefinedTypeSourceFileRef::Local(IdIndex(0x1005));
     let remote = UserDefinedTypeSourceFileRef::Remote(3, StringRef(0x1005));
     let method = IdData::MemberFunction(MemberFunctionId {
         parent: TypeIndex(0x1006),

@@ -1,6 +1,8 @@
 //! Types by their index: those below 0x1000 have no record.
 
-use super::read::said_at;
+use super::read::{is_value_copied, said_at};
+use pdb_base::TypeIndex;
+use pdb_values::type_data_for_primitive;
 use std::test::Fail;
 
 /// An index, and what its type is, or the text of its refusal.
@@ -28,5 +30,7 @@ fn types_by_index(rt: HostRuntime) -> Result<(), Fail> {
         let text = said_at(alloc, b"\x05\x12\x75\x00\x00\x00\x03\x02", *index)?;
         assert_eq!(rt; text.as_str(), *want, "{index:x}");
     }
+    let primitive = type_data_for_primitive(TypeIndex(0x674))?;
+    assert!(rt; is_value_copied(alloc, &primitive)?);
     Ok(())
 }

@@ -1,6 +1,6 @@
 //! Records with a list: arrays, arguments, methods and fields.
 
-use super::read::{ends_soon, said, said_with, text_of};
+use super::read::{ends_soon, is_value_copied, said, said_with, text_of};
 use pdb_base::{Result, TypeIndex};
 use pdb_flags::FieldAttributes;
 use pdb_records::parse_type_data;
@@ -48,8 +48,7 @@ fn is_list_copied(alloc: Global, data: &TypeData<'_>) -> Result<bool> {
 
 /// Whether a copy is equal, of the whole and of its list.
 fn is_copied(alloc: Global, data: &TypeData<'_>) -> Result<bool> {
-    let is_whole_copied = data.clone(alloc)? == *data;
-    Ok(is_list_copied(alloc, data)? && is_whole_copied)
+    Ok(is_list_copied(alloc, data)? && is_value_copied(alloc, data)?)
 }
 
 /// Whether what a record says is copied.
@@ -263,8 +262,19 @@ const MEMBER_TEXTS: &str =
 const FIELD_LISTS: &[(&[u8], &str, Option<TypeIndex>)] = &[
     (b"\x03\x12", "", None),
     (
-        b"\x03\x12\x04\x14\x34\x12\x00\x00",
+        b"\x03\x12\x04\x14\x00\x00\x34\x12\x00\x00",
         "",
+        Some(TypeIndex(0x1234)),
+    ),
+    (
+        b"\x03\x12\x04\x14\xcd\xab\x34\x12\x00\x00",
+        "",
+        Some(TypeIndex(0x1234)),
+    ),
+    (
+        b"\x03\x12\x0a\x00\x03\x00\x55\x05\xf2\xf1\x04\x14\x00\x00\x34\x12\x00\x00\x0a\x00\x00\x00",
+        "VirtualTableShape(VirtualTableShapeType { count: 3, descriptors: [85, 5] }), \
+         VirtualTableShape(VirtualTableShapeType { count: 0, descriptors: [] })",
         Some(TypeIndex(0x1234)),
     ),
     (MEMBERS, MEMBER_TEXTS, None),
@@ -275,7 +285,7 @@ const FIELD_LISTS: &[(&[u8], &str, Option<TypeIndex>)] = &[
         None,
     ),
     (
-        b"\x03\x12\x04\x14\x35\x12\x00\x00\xf1\x02\x15\x03\x00\x05\x00A\x00\x04\x14\x34\x12\x00\x00\xf2\xf1",
+        b"\x03\x12\x04\x14\xff\xff\x35\x12\x00\x00\xf1\x02\x15\x03\x00\x05\x00A\x00\x04\x14\x00\x00\x34\x12\x00\x00\xf2\xf1",
         "Enumerate(EnumerateType { attributes: FieldAttributes(3), value: U16(5), name: RawString([65]) })",
         Some(TypeIndex(0x1234)),
     ),

@@ -1,14 +1,14 @@
 //! Records without a list: the fields of each leaf. Each field has a value of its own, so that one
 //! read in the place of another shows.
 
-use super::read::{ends_soon, record_of, said, said_with, text_of};
+use super::read::{ends_soon, is_value_copied, record_of, said, said_with, text_of};
 use pdb_base::{RawString, TypeIndex, Variant};
 use pdb_flags::{FieldAttributes, FunctionAttributes, PointerAttributes, TypeProperties};
 use pdb_values::{
     BaseClassType, BitfieldType, ClassKind, ClassType, EnumerateType, EnumerationType,
     MemberFunctionType, MemberType, MethodType, ModifierType, NestedType, OverloadedMethodType,
     PointerType, ProcedureType, StaticMemberType, TypeData, UnionType, VirtualBaseClassType,
-    VirtualFunctionTablePointerType,
+    VirtualFunctionTablePointerType, VirtualTableShapeType,
 };
 use std::alloc::Global;
 use std::test::Fail;
@@ -515,6 +515,21 @@ fn modifiers_and_bitfields() -> [Row; 7] {
     ]
 }
 
+/// The shape of a table of so many virtual functions.
+fn table_shape(count: u16, descriptors: &'static [u8]) -> TypeData<'static> {
+    TypeData::VirtualTableShape(VirtualTableShapeType { count, descriptors })
+}
+
+/// Shapes of tables of virtual functions.
+fn table_shapes() -> [Row; 4] {
+    [
+        (0x000a, b"\x00\x00", table_shape(0, b"")),
+        (0x000a, b"\x01\x00\xf5", table_shape(1, b"\xf5")),
+        (0x000a, b"\x02\x00\x55", table_shape(2, b"\x55")),
+        (0x000a, b"\x03\x00\x55\x05", table_shape(3, b"\x55\x05")),
+    ]
+}
+
 /// A record says this with a byte behind it too, and no front of it says anything.
 fn judge_text(alloc: Global, leaf: u16, fields: &[u8], want: &str) -> Result<(), Fail> {
     let record = record_of(alloc, leaf, fields)?;
@@ -528,11 +543,14 @@ fn judge_text(alloc: Global, leaf: u16, fields: &[u8], want: &str) -> Result<(),
     }
 }
 
-/// Each record says what it says.
+/// Each record says what it says, and a copy of that is equal.
 fn judge(alloc: Global, rows: &[Row]) -> Result<(), Fail> {
     for (leaf, fields, want) in rows {
-        let want = text_of(alloc, want)?;
-        judge_text(alloc, *leaf, fields, want.as_str())?;
+        let text = text_of(alloc, want)?;
+        judge_text(alloc, *leaf, fields, text.as_str())?;
+        if !is_value_copied(alloc, want)? {
+            return Err(format!(in alloc; "{leaf:x}: the copy of {want:?}")?.into());
+        }
     }
     Ok(())
 }
@@ -572,7 +590,17 @@ fn modifier_and_bitfield_records(rt: HostRuntime) -> Result<(), Fail> {
     judge(rt.alloc(), &modifiers_and_bitfields())
 }
 
-/// The text of a pointer.
+#[test]
+fn table_shape_records(rt: HostRuntime) -> Result<(), Fail> {
+    let alloc = rt.alloc();
+    judge(alloc, &table_shapes())?;
+    let padded = said(alloc, b"\x0a\x00\x03\x00\x55\x05\xf2\xf1")?;
+    let want = text_of(alloc, &table_shape(3, b"\x55\x05"))?;
+    assert_eq!(rt; padded.as_str(), want.as_str());
+    Ok(())
+}
+
+/// The text of a pointer, of which a copy is equal.
 fn pointer_text(
     alloc: Global,
     underlying: u32,
@@ -584,7 +612,11 @@ fn pointer_text(
         attributes: PointerAttributes::new(word).ok_or("a pointer")?,
         containing_class,
     });
-    Ok(text_of(alloc, &pointer)?)
+    if is_value_copied(alloc, &pointer)? {
+        Ok(text_of(alloc, &pointer)?)
+    } else {
+        Err("the copy of a pointer".into())
+    }
 }
 
 #[test]

@@ -4,6 +4,7 @@ use pdb_base::{Error, TypeIndex};
 use pdb_msf::Stream;
 use pdb_records::parse_type_data;
 use pdb_tpi::{Type, TypeInformation};
+use pdb_values::TypeData;
 use pdb_vectors::item_table;
 use std::alloc::Global;
 use std::fmt::Debug;
@@ -84,4 +85,9 @@ pub(crate) fn ends_soon(alloc: Global, record: &[u8]) -> bool {
         }
     }
     true
+}
+
+/// Whether a copy of a value is equal.
+pub(crate) fn is_value_copied(alloc: Global, data: &TypeData<'_>) -> pdb_base::Result<bool> {
+    Ok(data.clone(alloc)? == *data)
 }

@@ -132,8 +132,8 @@ const REFUSED: &[(&str, &[u8], &str)] = &[
     ),
     (
         "a field without a record",
-        b"\x03\x12\x0a\x00\x00\x00",
-        "Support for types of kind 0x000a is not implemented",
+        b"\x03\x12\x0e\x00\x00\x00",
+        "Support for types of kind 0x000e is not implemented",
     ),
     (
         "a cut name of a field",
@@ -170,11 +170,15 @@ const REFUSED: &[(&str, &[u8], &str)] = &[
         b"\x03\x12\x03\x15\x77\x13\x00\x00\x23\x00\x00\x00\x40\x00\x00\xf1\x41",
         END,
     ),
-    ("a cut continuation", b"\x03\x12\x04\x14\x34\x12\x00", END),
     (
-        "a continuation behind two bytes",
-        b"\x03\x12\x04\x14\x00\x00\x34\x12\x00\x00",
-        "Support for types of kind 0x0000 is not implemented",
+        "a cut continuation",
+        b"\x03\x12\x04\x14\x00\x00\x34\x12\x00",
+        END,
+    ),
+    (
+        "a continuation without its two bytes of padding",
+        b"\x03\x12\x04\x14\x34\x12\x00\x00",
+        END,
     ),
     (
         "a continuation outside a list",
@@ -197,9 +201,19 @@ const REFUSED: &[(&str, &[u8], &str)] = &[
         PREFIX,
     ),
     (
-        "the shape of a table of virtual functions",
-        b"\x0a\x00\x00\x00",
-        "Support for types of kind 0x000a is not implemented",
+        "a shape of three functions in one byte",
+        b"\x0a\x00\x03\x00\x55",
+        END,
+    ),
+    (
+        "a shape of three functions in one byte, as a field",
+        b"\x03\x12\x0a\x00\x03\x00\x55",
+        END,
+    ),
+    (
+        "a label",
+        b"\x0e\x00\x00\x00",
+        "Support for types of kind 0x000e is not implemented",
     ),
     (
         "a table of virtual functions",

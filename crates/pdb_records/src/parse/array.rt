@@ -2,20 +2,19 @@
 
 ghost use Rattle.std.specs.Prelude.{◌≡◌, ◌+◌};
 ghost use Rattle.pdb_base.specs.Answer.{Answers, Gives};
+ghost use Rattle.pdb_base.specs.Memory.{LacksOnlyIf};
 ghost use Rattle.pdb_base.specs.Place.{left};
 ghost use Rattle.pdb_grammar.specs.Dimensions.{dimension_at, dimensions_at, end_at};
 ghost use Rattle.pdb_grammar.specs.Padding.{behind_pad, padding_at};
 ghost use Rattle.pdb_values.specs.Array.{array_value};
 ghost use Rattle.pdb_records.specs.Arrays.{array_at, dimensions_to_end};
-ghost use Rattle.pdb_records.specs.Memory.{LacksOnlyIf, HoldsDimension, HoldsArray};
+ghost use Rattle.pdb_records.specs.Memory.{HoldsDimension, HoldsArray};
 
+use crate::constants::LF_PAD0;
 use crate::parse::shape::parse_type_index;
 use pdb_base::{Error, ParseBuffer, Result};
 use pdb_values::ArrayType;
 use std::alloc::Global;
-
-/// The least byte that is a pad.
-const LF_PAD0: u8 = 0xf0;
 
 /// How many bytes a pad has that begins with a byte.
 fn pad_length(byte: u8) -> usize
@@ -33,7 +32,7 @@ pub(crate) fn skip_padding(buffer: &mut ParseBuffer<'_>) -> Result<()>
 {
     while !buffer.is_empty() {
         let byte = buffer.peek_u8()?;
-        if byte < LF_PAD0 {
+        if (byte as u16) < LF_PAD0 {
             return Ok(());
         }
         buffer.take(pad_length(byte))?;
@@ -70,7 +69,7 @@ fn ends_dimensions(buffer: &mut ParseBuffer<'_>) -> Result<bool>
 /// The dimensions of an array.
 fn parse_dimensions(alloc: Global, buffer: &mut ParseBuffer<'_>) -> Result<Vec<u32>>
     ensures read { Answers (λ list. (list.items, left buffer.new)) result (dimensions_at (left buffer.old)) }
-    ensures held { LacksOnlyIf result (HoldsDimension (left buffer.old)) }
+    ensures want { LacksOnlyIf result (HoldsDimension (left buffer.old)) }
 {
     let mut dimensions = Vec::new(alloc);
     'all: loop {
@@ -85,7 +84,7 @@ fn parse_dimensions(alloc: Global, buffer: &mut ParseBuffer<'_>) -> Result<Vec<u
 #[tactic(auto, unfolding(crate::specs::Arrays::dimensions_to_end))]
 fn parse_last_dimensions(alloc: Global, buffer: &mut ParseBuffer<'_>) -> Result<Vec<u32>>
     ensures read { Answers (λ list. (list.items, left buffer.new)) result (dimensions_to_end (left buffer.old)) }
-    ensures held { LacksOnlyIf result (HoldsDimension (left buffer.old)) }
+    ensures want { LacksOnlyIf result (HoldsDimension (left buffer.old)) }
 {
     let dimensions = parse_dimensions(alloc, buffer)?;
     skip_padding(buffer)?;
@@ -104,7 +103,7 @@ pub(crate) fn parse_array(
     strided: bool,
 ) -> Result<ArrayType>
     ensures read { Answers (λ t. (array_value t, left buffer.new)) result (array_at strided (left buffer.old)) }
-    ensures held { LacksOnlyIf result (HoldsArray strided (left buffer.old)) }
+    ensures want { LacksOnlyIf result (HoldsArray strided (left buffer.old)) }
 {
     Ok(ArrayType {
         element_type: parse_type_index(buffer)?,

@@ -2,8 +2,8 @@
 
 ghost use Rattle.pdb_base.specs.Answer.{Gives};
 ghost use Rattle.pdb_base.specs.Place.{left};
-ghost use Rattle.pdb_grammar.specs.Row.{row};
 ghost use Rattle.pdb_values.specs.TypeView.{type_value};
+ghost use Rattle.pdb_records.specs.Records.{plain_at};
 ghost use Rattle.pdb_records.specs.Rows.{class_row, wide_class_row, union_row};
 
 use crate::parse::shape::{
@@ -20,7 +20,7 @@ pub(crate) fn parse_class<'t>(
     leaf: u16,
     kind: ClassKind,
 ) -> Result<TypeData<'t>>
-    ensures { Gives (λ t. (type_value t, left buffer.new)) result (row (class_row leaf kind) (left buffer.old)) }
+    ensures { Gives (λ t. (type_value t, left buffer.new)) result (plain_at (class_row leaf kind) (left buffer.old)) }
 {
     let count = buffer.parse_u16()?;
     let properties = TypeProperties::new(buffer.parse_u16()?);
@@ -44,7 +44,7 @@ pub(crate) fn parse_wide_class<'t>(
     leaf: u16,
     kind: ClassKind,
 ) -> Result<TypeData<'t>>
-    ensures { Gives (λ t. (type_value t, left buffer.new)) result (row (wide_class_row leaf kind) (left buffer.old)) }
+    ensures { Gives (λ t. (type_value t, left buffer.new)) result (plain_at (wide_class_row leaf kind) (left buffer.old)) }
 {
     let properties = TypeProperties::new(low_16_bits(buffer.parse_u32()?));
     let fields = parse_some_type(buffer)?;
@@ -66,7 +66,7 @@ pub(crate) fn parse_wide_class<'t>(
 /// A union.
 #[tactic(auto, unfolding(pdb_grammar::specs::Row::row, crate::specs::Rows::union_row))]
 pub(crate) fn parse_union<'t>(buffer: &mut ParseBuffer<'t>, leaf: u16) -> Result<TypeData<'t>>
-    ensures { Gives (λ t. (type_value t, left buffer.new)) result (row (union_row leaf) (left buffer.old)) }
+    ensures { Gives (λ t. (type_value t, left buffer.new)) result (plain_at (union_row leaf) (left buffer.old)) }
 {
     let count = buffer.parse_u16()?;
     let properties = TypeProperties::new(buffer.parse_u16()?);

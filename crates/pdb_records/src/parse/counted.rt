@@ -1,15 +1,37 @@
 //! Lists of indexes that stand behind their count.
 
 ghost use Rattle.std.specs.Prelude.{◌*◌, ◌<◌, ◌≤◌, length, IsOkAnd};
-ghost use Rattle.pdb_base.specs.Answer.{Answers};
+ghost use Rattle.pdb_base.specs.Answer.{Answers, Gives};
+ghost use Rattle.pdb_base.specs.Memory.{LacksOnlyIf, HasItem};
 ghost use Rattle.pdb_base.specs.Place.{left};
-ghost use Rattle.pdb_grammar.specs.Repeated.{repeated};
+ghost use Rattle.pdb_base.specs.Reading.{number_at};
+ghost use Rattle.pdb_base.specs.Repeated.{repeated};
 ghost use Rattle.pdb_grammar.specs.Shape.{index_at};
-ghost use Rattle.pdb_records.specs.Memory.{LacksOnlyIf, HasItem};
+ghost use Rattle.pdb_records.specs.Counted.{count_bytes, counted_at};
 
 use crate::parse::index::{Index, parse_index};
 use pdb_base::{Error, ParseBuffer, Result};
 use std::alloc::Global;
+
+/// How many bits a count has.
+#[derive(Clone, Copy, Debug, PartialEq, Eq)]
+pub enum CountWidth {
+    /// 16 bits.
+    Bits16,
+
+    /// 32 bits.
+    Bits32,
+}
+
+/// A count.
+fn parse_count(buffer: &mut ParseBuffer<'_>, width: CountWidth) -> Result<usize>
+    ensures { Gives (λ count. (count, left buffer.new)) result (number_at (count_bytes width) (left buffer.old)) }
+{
+    match width {
+        CountWidth::Bits16 => Ok(buffer.parse_u16()? as usize),
+        CountWidth::Bits32 => Ok(buffer.parse_u32()? as usize),
+    }
+}
 
 /// So many indexes, which are known to be there.
 fn parse_held_indexes<I: Index>(
@@ -19,7 +41,7 @@ fn parse_held_indexes<I: Index>(
 ) -> Result<Vec<I>>
     requires { 4 * count ≤ length (left buffer.old) }
     ensures read { Answers (λ list. (list.items, left buffer.new)) result (repeated (index_at I.said) count (left buffer.old)) }
-    ensures held { LacksOnlyIf result (0 < count) }
+    ensures want { LacksOnlyIf result (0 < count) }
 {
     let mut indexes = Vec::new(alloc);
     while indexes.len() < count {
@@ -32,16 +54,32 @@ fn parse_held_indexes<I: Index>(
 ///
 /// # Errors
 /// `UnexpectedEof` where the bytes don't hold so many, before memory is asked for.
-pub(crate) fn parse_indexes<I: Index>(
+fn parse_indexes<I: Index>(
     alloc: Global,
     buffer: &mut ParseBuffer<'_>,
     count: usize,
 ) -> Result<Vec<I>>
     ensures read { Answers (λ list. (list.items, left buffer.new)) result (repeated (index_at I.said) count (left buffer.old)) }
-    ensures held { LacksOnlyIf result (IsOkAnd (repeated (index_at I.said) count (left buffer.old)) (λ read. HasItem read.0)) }
+    ensures want { LacksOnlyIf result (IsOkAnd (repeated (index_at I.said) count (left buffer.old)) (λ read. HasItem read.0)) }
 {
     if buffer.len() / 4 < count {
         return Err(Error::UnexpectedEof);
     }
     parse_held_indexes(alloc, buffer, count)
+}
+
+/// Indexes behind their count.
+///
+/// # Errors
+/// `UnexpectedEof` where the bytes don't hold as many as the count says, before memory is asked for.
+pub(crate) fn parse_counted<I: Index>(
+    alloc: Global,
+    buffer: &mut ParseBuffer<'_>,
+    width: CountWidth,
+) -> Result<Vec<I>>
+    ensures read { Answers (λ list. (list.items, left buffer.new)) result (counted_at width I.said (left buffer.old)) }
+    ensures want { LacksOnlyIf result (IsOkAnd (counted_at width I.said (left buffer.old)) (λ read. HasItem read.0)) }
+{
+    let count = parse_count(buffer, width)?;
+    parse_indexes(alloc, buffer, count)
 }

@@ -2,22 +2,21 @@
 
 ghost use Rattle.pdb_base.specs.Answer.{Gives};
 ghost use Rattle.pdb_base.specs.Place.{left};
-ghost use Rattle.pdb_grammar.specs.Row.{row};
 ghost use Rattle.pdb_values.specs.TypeView.{type_value};
+ghost use Rattle.pdb_records.specs.Records.{plain_at};
 ghost use Rattle.pdb_records.specs.Rows.{pointer_row, modifier_row, bitfield_row};
 
+use crate::constants::LF_POINTER;
 use crate::parse::shape::parse_type_index;
 use pdb_base::{Error, ParseBuffer, Result};
 use pdb_bits::is_set;
 use pdb_flags::PointerAttributes;
 use pdb_values::{BitfieldType, ModifierType, PointerType, TypeData};
 
-const LF_POINTER: u16 = 0x1002;
-
 /// A pointer.
 #[tactic(auto, unfolding(pdb_grammar::specs::Row::row, crate::specs::Rows::pointer_row))]
 pub(crate) fn parse_pointer<'t>(buffer: &mut ParseBuffer<'t>) -> Result<TypeData<'t>>
-    ensures { Gives (λ t. (type_value t, left buffer.new)) result (row pointer_row (left buffer.old)) }
+    ensures { Gives (λ t. (type_value t, left buffer.new)) result (plain_at pointer_row (left buffer.old)) }
 {
     let underlying_type = parse_type_index(buffer)?;
     let Some(attributes) = PointerAttributes::new(buffer.parse_u32()?) else {
@@ -38,7 +37,7 @@ pub(crate) fn parse_pointer<'t>(buffer: &mut ParseBuffer<'t>) -> Result<TypeData
 /// A type with qualifiers.
 #[tactic(auto, unfolding(pdb_grammar::specs::Row::row, crate::specs::Rows::modifier_row))]
 pub(crate) fn parse_modifier<'t>(buffer: &mut ParseBuffer<'t>) -> Result<TypeData<'t>>
-    ensures { Gives (λ t. (type_value t, left buffer.new)) result (row modifier_row (left buffer.old)) }
+    ensures { Gives (λ t. (type_value t, left buffer.new)) result (plain_at modifier_row (left buffer.old)) }
 {
     let underlying_type = parse_type_index(buffer)?;
     let word = buffer.parse_u16()?;
@@ -53,7 +52,7 @@ pub(crate) fn parse_modifier<'t>(buffer: &mut ParseBuffer<'t>) -> Result<TypeDat
 /// Some bits of a member.
 #[tactic(auto, unfolding(pdb_grammar::specs::Row::row, crate::specs::Rows::bitfield_row))]
 pub(crate) fn parse_bitfield<'t>(buffer: &mut ParseBuffer<'t>) -> Result<TypeData<'t>>
-    ensures { Gives (λ t. (type_value t, left buffer.new)) result (row bitfield_row (left buffer.old)) }
+    ensures { Gives (λ t. (type_value t, left buffer.new)) result (plain_at bitfield_row (left buffer.old)) }
 {
     Ok(TypeData::Bitfield(BitfieldType {
         underlying_type: parse_type_index(buffer)?,

@@ -2,8 +2,8 @@
 
 ghost use Rattle.pdb_base.specs.Answer.{Gives};
 ghost use Rattle.pdb_base.specs.Place.{left};
-ghost use Rattle.pdb_grammar.specs.Row.{row};
 ghost use Rattle.pdb_values.specs.TypeView.{type_value};
+ghost use Rattle.pdb_records.specs.Records.{plain_at};
 ghost use Rattle.pdb_records.specs.Rows.{enumeration_row, enumerate_row};
 
 use crate::parse::shape::{parse_some_text, parse_text, parse_type_index};
@@ -14,7 +14,7 @@ use pdb_values::{EnumerateType, EnumerationType, TypeData};
 /// An enumeration.
 #[tactic(auto, unfolding(pdb_grammar::specs::Row::row, crate::specs::Rows::enumeration_row))]
 pub(crate) fn parse_enumeration<'t>(buffer: &mut ParseBuffer<'t>, leaf: u16) -> Result<TypeData<'t>>
-    ensures { Gives (λ t. (type_value t, left buffer.new)) result (row (enumeration_row leaf) (left buffer.old)) }
+    ensures { Gives (λ t. (type_value t, left buffer.new)) result (plain_at (enumeration_row leaf) (left buffer.old)) }
 {
     let count = buffer.parse_u16()?;
     let properties = TypeProperties::new(buffer.parse_u16()?);
@@ -31,7 +31,7 @@ pub(crate) fn parse_enumeration<'t>(buffer: &mut ParseBuffer<'t>, leaf: u16) -> 
 /// A value of an enumeration.
 #[tactic(auto, unfolding(pdb_grammar::specs::Row::row, crate::specs::Rows::enumerate_row))]
 pub(crate) fn parse_enumerate<'t>(buffer: &mut ParseBuffer<'t>, leaf: u16) -> Result<TypeData<'t>>
-    ensures { Gives (λ t. (type_value t, left buffer.new)) result (row (enumerate_row leaf) (left buffer.old)) }
+    ensures { Gives (λ t. (type_value t, left buffer.new)) result (plain_at (enumerate_row leaf) (left buffer.old)) }
 {
     Ok(TypeData::Enumerate(EnumerateType {
         attributes: FieldAttributes::new(buffer.parse_u16()?),

@@ -1,14 +1,18 @@
 //! Lists of fields.
 
 ghost use Rattle.std.specs.Prelude.{◌≡◌, ◌==◌};
-ghost use Rattle.pdb_base.specs.Answer.{Answers};
+ghost use Rattle.pdb_base.specs.Answer.{Answers, Gives};
+ghost use Rattle.pdb_base.specs.Memory.{LacksOnlyIf};
 ghost use Rattle.pdb_base.specs.Place.{left};
+ghost use Rattle.pdb_grammar.specs.Row.{row};
 ghost use Rattle.pdb_values.specs.TypeView.{fields_value, type_value};
 ghost use Rattle.pdb_values.specs.TypeValue as values;
 ghost use Rattle.pdb_records.specs.Fields.{entry_of, field_at, continuation_leaf};
 ghost use Rattle.pdb_records.specs.Entries.{entry_value, gathered};
-ghost use Rattle.pdb_records.specs.Memory.{LacksOnlyIf, HoldsItemBehind, RecordHoldsItem, HoldsField};
+ghost use Rattle.pdb_records.specs.Rows.{continuation_row};
+ghost use Rattle.pdb_records.specs.Memory.{HoldsItemBehind, RecordHoldsItem, HoldsField};
 
+use crate::constants::LF_INDEX;
 use crate::parse::array::skip_padding;
 use crate::parse::entry::FieldEntry;
 use crate::parse::record::parse_behind_leaf;
@@ -17,8 +21,14 @@ use pdb_base::{ParseBuffer, Result, TypeIndex};
 use pdb_values::{FieldList, TypeData};
 use std::alloc::Global;
 
-/// The leaf behind which stands the list that goes on.
-const LF_INDEX: u16 = 0x1404;
+/// The list that goes on, behind two bytes of padding, whatever they are.
+#[tactic(auto, unfolding(pdb_grammar::specs::Row::row, crate::specs::Rows::continuation_row))]
+fn parse_continuation(buffer: &mut ParseBuffer<'_>) -> Result<TypeIndex>
+    ensures { Gives (λ index. (index, left buffer.new)) result (row continuation_row (left buffer.old)) }
+{
+    buffer.parse_u16()?;
+    parse_type_index(buffer)
+}
 
 /// What stands behind the leaf of an entry.
 fn parse_behind_entry<'t>(
@@ -27,10 +37,10 @@ fn parse_behind_entry<'t>(
     number: u16,
 ) -> Result<FieldEntry<'t>>
     ensures read { Answers (λ e. (entry_value e, left buffer.new)) result (entry_of (number == continuation_leaf) number (left buffer.old)) }
-    ensures held { LacksOnlyIf result (HoldsItemBehind number (left buffer.old)) }
+    ensures want { LacksOnlyIf result (HoldsItemBehind number (left buffer.old)) }
 {
     if number == LF_INDEX {
-        return Ok(FieldEntry::Continues(parse_type_index(buffer)?));
+        return Ok(FieldEntry::Continues(parse_continuation(buffer)?));
     }
     match parse_behind_leaf(alloc, buffer, number) {
         Ok(data) => Ok(FieldEntry::Field(data)),
@@ -42,7 +52,7 @@ fn parse_behind_entry<'t>(
 #[tactic(auto, unfolding(crate::specs::Fields::field_at))]
 fn parse_field<'t>(alloc: Global, buffer: &mut ParseBuffer<'t>) -> Result<FieldEntry<'t>>
     ensures read { Answers (λ e. (entry_value e, left buffer.new)) result (field_at (left buffer.old)) }
-    ensures held { LacksOnlyIf result (RecordHoldsItem (left buffer.old)) }
+    ensures want { LacksOnlyIf result (RecordHoldsItem (left buffer.old)) }
 {
     let number = buffer.parse_u16()?;
     match parse_behind_entry(alloc, buffer, number) {
@@ -70,7 +80,7 @@ pub(crate) fn parse_field_list<'t>(
     buffer: &mut ParseBuffer<'t>,
 ) -> Result<TypeData<'t>>
     ensures read { Answers (λ t. (type_value t, left buffer.new)) result (gathered (left buffer.old)) }
-    ensures held { LacksOnlyIf result (HoldsField (left buffer.old)) }
+    ensures want { LacksOnlyIf result (HoldsField (left buffer.old)) }
 {
     let mut fields = Vec::new(alloc);
     let mut continuation = None;

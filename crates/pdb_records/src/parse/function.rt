@@ -4,7 +4,8 @@ ghost use Rattle.pdb_base.specs.Answer.{Gives};
 ghost use Rattle.pdb_base.specs.Place.{left};
 ghost use Rattle.pdb_grammar.specs.Row.{row};
 ghost use Rattle.pdb_values.specs.TypeView.{type_value};
-ghost use Rattle.pdb_records.specs.Rows.{procedure_row, member_function_row, overloaded_method_row, method_row, entry_row};
+ghost use Rattle.pdb_records.specs.Records.{plain_at};
+ghost use Rattle.pdb_records.specs.Rows.{procedure_row, member_function_row, overloaded_method_row, method_row, listed_method_row};
 
 use crate::parse::shape::{parse_some_type, parse_text, parse_type_index};
 use pdb_base::{ParseBuffer, Result};
@@ -16,7 +17,7 @@ use pdb_values::{
 /// A function.
 #[tactic(auto, unfolding(pdb_grammar::specs::Row::row, crate::specs::Rows::procedure_row))]
 pub(crate) fn parse_procedure<'t>(buffer: &mut ParseBuffer<'t>) -> Result<TypeData<'t>>
-    ensures { Gives (λ t. (type_value t, left buffer.new)) result (row procedure_row (left buffer.old)) }
+    ensures { Gives (λ t. (type_value t, left buffer.new)) result (plain_at procedure_row (left buffer.old)) }
 {
     Ok(TypeData::Procedure(ProcedureType {
         return_type: parse_some_type(buffer)?,
@@ -29,7 +30,7 @@ pub(crate) fn parse_procedure<'t>(buffer: &mut ParseBuffer<'t>) -> Result<TypeDa
 /// A method.
 #[tactic(auto, unfolding(pdb_grammar::specs::Row::row, crate::specs::Rows::member_function_row))]
 pub(crate) fn parse_member_function<'t>(buffer: &mut ParseBuffer<'t>) -> Result<TypeData<'t>>
-    ensures { Gives (λ t. (type_value t, left buffer.new)) result (row member_function_row (left buffer.old)) }
+    ensures { Gives (λ t. (type_value t, left buffer.new)) result (plain_at member_function_row (left buffer.old)) }
 {
     Ok(TypeData::MemberFunction(MemberFunctionType {
         return_type: parse_type_index(buffer)?,
@@ -48,7 +49,7 @@ pub(crate) fn parse_overloaded_method<'t>(
     buffer: &mut ParseBuffer<'t>,
     leaf: u16,
 ) -> Result<TypeData<'t>>
-    ensures { Gives (λ t. (type_value t, left buffer.new)) result (row (overloaded_method_row leaf) (left buffer.old)) }
+    ensures { Gives (λ t. (type_value t, left buffer.new)) result (plain_at (overloaded_method_row leaf) (left buffer.old)) }
 {
     Ok(TypeData::OverloadedMethod(OverloadedMethodType {
         count: buffer.parse_u16()?,
@@ -60,7 +61,7 @@ pub(crate) fn parse_overloaded_method<'t>(
 /// The one method of a name.
 #[tactic(auto, unfolding(pdb_grammar::specs::Row::row, crate::specs::Rows::method_row))]
 pub(crate) fn parse_method<'t>(buffer: &mut ParseBuffer<'t>, leaf: u16) -> Result<TypeData<'t>>
-    ensures { Gives (λ t. (type_value t, left buffer.new)) result (row (method_row leaf) (left buffer.old)) }
+    ensures { Gives (λ t. (type_value t, left buffer.new)) result (plain_at (method_row leaf) (left buffer.old)) }
 {
     let attributes = FieldAttributes::new(buffer.parse_u16()?);
     Ok(TypeData::Method(MethodType {
@@ -76,9 +77,9 @@ pub(crate) fn parse_method<'t>(buffer: &mut ParseBuffer<'t>, leaf: u16) -> Resul
 }
 
 /// A method in a list of methods.
-#[tactic(auto, unfolding(pdb_grammar::specs::Row::row, crate::specs::Rows::entry_row))]
-pub(crate) fn parse_entry(buffer: &mut ParseBuffer<'_>) -> Result<MethodListEntry>
-    ensures { Gives (λ t. (t, left buffer.new)) result (row entry_row (left buffer.old)) }
+#[tactic(auto, unfolding(pdb_grammar::specs::Row::row, crate::specs::Rows::listed_method_row))]
+pub(crate) fn parse_listed_method(buffer: &mut ParseBuffer<'_>) -> Result<MethodListEntry>
+    ensures { Gives (λ t. (t, left buffer.new)) result (row listed_method_row (left buffer.old)) }
 {
     let attributes = FieldAttributes::new(buffer.parse_u16()?);
     buffer.parse_u16()?;

@@ -4,55 +4,55 @@ ghost use Rattle.std.specs.Prelude.{◌≡◌, ◌*◌, ◌≤◌, ℕ, List, le
 ghost use Rattle.pdb_base.specs.declared.error.Error.TheVariants.{UnexpectedEof};
 ghost use Rattle.pdb_base.specs.Refusal.{Refusal};
 ghost use Rattle.pdb_base.specs.Answer.{Answers};
+ghost use Rattle.pdb_base.specs.Memory.{LacksOnlyIf};
 ghost use Rattle.pdb_base.specs.Place.{left};
-ghost use Rattle.pdb_grammar.specs.Row.{row};
 ghost use Rattle.pdb_values.specs.IdValue.{IdValue, id_value};
-ghost use Rattle.pdb_records.specs.Ids.{id_row_of, id_behind, id_at, id_record, id_leaf_of, IsId, NoId};
-ghost use Rattle.pdb_records.specs.IdLists.{entry_count, HoldsIdEntry, IsCutIdList, SaysIdEntry};
-ghost use Rattle.pdb_records.specs.Memory.{LacksOnlyIf};
+ghost use Rattle.pdb_records.specs.Ids.{id_data_at, behind_id_leaf, id_at, id_record, IsId, NoId};
+ghost use Rattle.pdb_records.specs.IdLists.{item_count, HoldsIdItem, IsCutIdList, SaysIdItem};
 ghost use Rattle.pdb_records.specs.Assigned.{SaysAssigned, ShowsOrLacks, RefusesOrLacks};
 
 use crate::id_leaf::IdLeaf;
-use crate::parse::id_list::{parse_build_info, parse_string_list};
-use crate::parse::id_plain::{
-    parse_function_id, parse_member_function_id, parse_remote_source, parse_source, parse_string_id,
-};
+use crate::parse::counted::{CountWidth, parse_counted};
+use crate::parse::id_plain::parse_plain_id;
 use pdb_base::{Error, ParseBuffer, Result};
-use pdb_values::IdData;
+use pdb_values::{BuildInfoId, IdData, StringListId};
 use std::alloc::Global;
 
-/// The record of a leaf, of this number.
+/// The id record of a leaf, of this number.
 fn parse_id_leaf<'t>(
     alloc: Global,
     buffer: &mut ParseBuffer<'t>,
     number: u16,
     leaf: IdLeaf,
 ) -> Result<IdData<'t>>
-    ensures read { Answers (λ id. (id_value id, left buffer.new)) result (row (id_row_of number leaf) (left buffer.old)) }
-    ensures want { LacksOnlyIf result (SaysIdEntry (row (id_row_of number leaf) (left buffer.old))) }
+    ensures read { Answers (λ id. (id_value id, left buffer.new)) result (id_data_at number leaf (left buffer.old)) }
+    ensures want { LacksOnlyIf result (SaysIdItem (id_data_at number leaf (left buffer.old))) }
 {
     match leaf {
-        IdLeaf::Function => parse_function_id(buffer, number),
-        IdLeaf::MemberFunction => parse_member_function_id(buffer, number),
-        IdLeaf::BuildInfo => Ok(IdData::BuildInfo(parse_build_info(alloc, buffer)?)),
-        IdLeaf::StringList => Ok(IdData::StringList(parse_string_list(alloc, buffer)?)),
-        IdLeaf::String => parse_string_id(buffer, number),
-        IdLeaf::Source => parse_source(buffer),
-        IdLeaf::RemoteSource => parse_remote_source(buffer),
+        IdLeaf::Plain(leaf) => parse_plain_id(buffer, number, leaf),
+        IdLeaf::BuildInfo => match parse_counted(alloc, buffer, CountWidth::Bits16) {
+            Ok(arguments) => Ok(IdData::BuildInfo(BuildInfoId { arguments })),
+            Err(error) => Err(error),
+        },
+        IdLeaf::StringList => match parse_counted(alloc, buffer, CountWidth::Bits32) {
+            Ok(substrings) => Ok(IdData::StringList(StringListId { substrings })),
+            Err(error) => Err(error),
+        },
     }
 }
 
-/// The record behind a leaf.
+/// The id record behind a leaf.
 ///
 /// # Errors
 /// `UnimplementedTypeKind` for a leaf that has none.
+#[tactic(auto, unfolding(crate::specs::Ids::behind_id_leaf))]
 fn parse_behind_id_leaf<'t>(
     alloc: Global,
     buffer: &mut ParseBuffer<'t>,
     number: u16,
 ) -> Result<IdData<'t>>
-    ensures read { Answers (λ id. (id_value id, left buffer.new)) result (id_behind number (id_leaf_of number) (left buffer.old)) }
-    ensures want { LacksOnlyIf result (SaysIdEntry (id_behind number (id_leaf_of number) (left buffer.old))) }
+    ensures read { Answers (λ id. (id_value id, left buffer.new)) result (behind_id_leaf number (left buffer.old)) }
+    ensures want { LacksOnlyIf result (SaysIdItem (behind_id_leaf number (left buffer.old))) }
 {
     match IdLeaf::from_number(number) {
         Some(leaf) => parse_id_leaf(alloc, buffer, number, leaf),
@@ -64,7 +64,7 @@ fn parse_behind_id_leaf<'t>(
 #[tactic(auto, unfolding(crate::specs::Ids::id_at))]
 fn parse_id_record<'t>(alloc: Global, buffer: &mut ParseBuffer<'t>) -> Result<IdData<'t>>
     ensures read { Answers (λ id. (id_value id, left buffer.new)) result (id_at (left buffer.old)) }
-    ensures want { LacksOnlyIf result (SaysIdEntry (id_at (left buffer.old))) }
+    ensures want { LacksOnlyIf result (SaysIdItem (id_at (left buffer.old))) }
 {
     let number = buffer.parse_u16()?;
     parse_behind_id_leaf(alloc, buffer, number)
@@ -78,7 +78,7 @@ fn parse_id_record<'t>(alloc: Global, buffer: &mut ParseBuffer<'t>) -> Result<Id
 /// field of a record are ignored.
 ///
 /// # Errors
-/// The first fault: `UnexpectedEof` where the bytes end before a field does, or hold fewer entries than
+/// The first fault: `UnexpectedEof` where the bytes end before a field does, or hold fewer items than
 /// a list's count says; `UnimplementedTypeKind` by its number for a leaf that has no record here; and
 /// `OutOfMemory` where memory for a list that the bytes hold is refused.
 pub fn parse_id_data<'t>(alloc: Global, bytes: &'t [u8]) -> Result<IdData<'t>>
@@ -86,9 +86,9 @@ pub fn parse_id_data<'t>(alloc: Global, bytes: &'t [u8]) -> Result<IdData<'t>>
     ensures answers { SaysAssigned id_value (IsId bytes.now) (NoId bytes.now) result }
     ensures answered { (value : IdValue) (rest : List ℕ) → IsId bytes.now value rest → ShowsOrLacks id_value value result }
     ensures refused { (refusal : Refusal) → NoId bytes.now refusal → RefusesOrLacks refusal result }
-    ensures want { LacksOnlyIf result (HoldsIdEntry bytes.now) }
+    ensures want { LacksOnlyIf result (HoldsIdItem bytes.now) }
     ensures cut { IsCutIdList bytes.now → result ≡ Err UnexpectedEof }
-    ensures short { IfOk result (λ id. 2 * entry_count (id_value id) ≤ length bytes.now) }
+    ensures short { IfOk result (λ id. 2 * item_count (id_value id) ≤ length bytes.now) }
 {
     let mut buffer = ParseBuffer::from(bytes);
     parse_id_record(alloc, &mut buffer)

@@ -2,8 +2,8 @@
 
 ghost use Rattle.pdb_base.specs.Answer.{Gives};
 ghost use Rattle.pdb_base.specs.Place.{left};
-ghost use Rattle.pdb_grammar.specs.Row.{row};
 ghost use Rattle.pdb_values.specs.TypeView.{type_value};
+ghost use Rattle.pdb_records.specs.Records.{plain_at};
 ghost use Rattle.pdb_records.specs.Rows.{member_row, static_member_row, nested_row, base_row, virtual_base_row, table_pointer_row};
 
 use crate::parse::shape::{low_32_bits, parse_text, parse_type_index};
@@ -17,7 +17,7 @@ use pdb_values::{
 /// A data member of each object.
 #[tactic(auto, unfolding(pdb_grammar::specs::Row::row, crate::specs::Rows::member_row))]
 pub(crate) fn parse_member<'t>(buffer: &mut ParseBuffer<'t>, leaf: u16) -> Result<TypeData<'t>>
-    ensures { Gives (λ t. (type_value t, left buffer.new)) result (row (member_row leaf) (left buffer.old)) }
+    ensures { Gives (λ t. (type_value t, left buffer.new)) result (plain_at (member_row leaf) (left buffer.old)) }
 {
     Ok(TypeData::Member(MemberType {
         attributes: FieldAttributes::new(buffer.parse_u16()?),
@@ -33,7 +33,7 @@ pub(crate) fn parse_static_member<'t>(
     buffer: &mut ParseBuffer<'t>,
     leaf: u16,
 ) -> Result<TypeData<'t>>
-    ensures { Gives (λ t. (type_value t, left buffer.new)) result (row (static_member_row leaf) (left buffer.old)) }
+    ensures { Gives (λ t. (type_value t, left buffer.new)) result (plain_at (static_member_row leaf) (left buffer.old)) }
 {
     Ok(TypeData::StaticMember(StaticMemberType {
         attributes: FieldAttributes::new(buffer.parse_u16()?),
@@ -49,7 +49,7 @@ pub(crate) fn parse_nested<'t>(
     leaf: u16,
     has_attributes: bool,
 ) -> Result<TypeData<'t>>
-    ensures { Gives (λ t. (type_value t, left buffer.new)) result (row (nested_row leaf has_attributes) (left buffer.old)) }
+    ensures { Gives (λ t. (type_value t, left buffer.new)) result (plain_at (nested_row leaf has_attributes) (left buffer.old)) }
 {
     let word = buffer.parse_u16()?;
     Ok(TypeData::Nested(NestedType {
@@ -65,7 +65,7 @@ pub(crate) fn parse_base_class<'t>(
     buffer: &mut ParseBuffer<'t>,
     kind: ClassKind,
 ) -> Result<TypeData<'t>>
-    ensures { Gives (λ t. (type_value t, left buffer.new)) result (row (base_row kind) (left buffer.old)) }
+    ensures { Gives (λ t. (type_value t, left buffer.new)) result (plain_at (base_row kind) (left buffer.old)) }
 {
     Ok(TypeData::BaseClass(BaseClassType {
         kind,
@@ -81,7 +81,7 @@ pub(crate) fn parse_virtual_base_class<'t>(
     buffer: &mut ParseBuffer<'t>,
     direct: bool,
 ) -> Result<TypeData<'t>>
-    ensures { Gives (λ t. (type_value t, left buffer.new)) result (row (virtual_base_row direct) (left buffer.old)) }
+    ensures { Gives (λ t. (type_value t, left buffer.new)) result (plain_at (virtual_base_row direct) (left buffer.old)) }
 {
     Ok(TypeData::VirtualBaseClass(VirtualBaseClassType {
         direct,
@@ -96,7 +96,7 @@ pub(crate) fn parse_virtual_base_class<'t>(
 /// A pointer to a table of virtual functions.
 #[tactic(auto, unfolding(pdb_grammar::specs::Row::row, crate::specs::Rows::table_pointer_row))]
 pub(crate) fn parse_table_pointer<'t>(buffer: &mut ParseBuffer<'t>) -> Result<TypeData<'t>>
-    ensures { Gives (λ t. (type_value t, left buffer.new)) result (row table_pointer_row (left buffer.old)) }
+    ensures { Gives (λ t. (type_value t, left buffer.new)) result (plain_at table_pointer_row (left buffer.old)) }
 {
     buffer.parse_u16()?;
     Ok(TypeData::VirtualFunctionTablePointer(VirtualFunctionTablePointerType {

@@ -1,12 +1,20 @@
 //! Records without a list.
 
+ghost use Rattle.std.specs.Prelude.{◌≡◌};
 ghost use Rattle.pdb_base.specs.Answer.{Gives};
 ghost use Rattle.pdb_base.specs.Place.{left};
-ghost use Rattle.pdb_grammar.specs.Row.{row};
 ghost use Rattle.pdb_values.specs.TypeView.{type_value};
-ghost use Rattle.pdb_records.specs.Leaves.{row_of};
+ghost use Rattle.pdb_records.specs.Leaves.{plain_leaf, row_of};
+ghost use Rattle.pdb_records.specs.Records.{plain_at};
 
-use crate::leaf::PlainLeaf;
+use crate::constants::{
+    LF_BCLASS, LF_BINTERFACE, LF_BITFIELD, LF_CLASS, LF_CLASS_ST, LF_ENUM, LF_ENUM_ST,
+    LF_ENUMERATE, LF_ENUMERATE_ST, LF_INTERFACE, LF_IVBCLASS, LF_MEMBER, LF_MEMBER_ST, LF_METHOD,
+    LF_METHOD_ST, LF_MFUNCTION, LF_MODIFIER, LF_NESTTYPE, LF_NESTTYPE_ST, LF_NESTTYPEEX,
+    LF_NESTTYPEEX_ST, LF_ONEMETHOD, LF_ONEMETHOD_ST, LF_POINTER, LF_PROCEDURE, LF_STMEMBER,
+    LF_STMEMBER_ST, LF_STRUCTURE, LF_STRUCTURE_ST, LF_STRUCTURE19, LF_UNION, LF_UNION_ST,
+    LF_VBCLASS, LF_VFUNCTAB, LF_VTSHAPE,
+};
 use crate::parse::class::{parse_class, parse_union, parse_wide_class};
 use crate::parse::derived::{parse_bitfield, parse_modifier, parse_pointer};
 use crate::parse::enumeration::{parse_enumerate, parse_enumeration};
@@ -17,8 +25,105 @@ use crate::parse::member::{
     parse_base_class, parse_member, parse_nested, parse_static_member, parse_table_pointer,
     parse_virtual_base_class,
 };
+use crate::parse::table_shape::parse_table_shape;
 use pdb_base::{ParseBuffer, Result};
 use pdb_values::{ClassKind, TypeData};
+
+/// What record without a list stands behind a leaf.
+#[derive(Clone, Copy, Debug, PartialEq, Eq)]
+pub enum PlainLeaf {
+    /// A class, a struct or an interface.
+    Class(ClassKind),
+
+    /// A struct with more room for properties.
+    WideStruct,
+
+    /// A data member.
+    Member,
+
+    /// A type that is defined in a class, with its attributes or without.
+    Nested(bool),
+
+    /// The type of a method.
+    MemberFunction,
+
+    /// All methods of one name.
+    OverloadedMethod,
+
+    /// The one method of a name.
+    Method,
+
+    /// A base class or a base interface.
+    BaseClass(ClassKind),
+
+    /// A pointer to a table of virtual functions.
+    TablePointer,
+
+    /// A data member of the class itself.
+    StaticMember,
+
+    /// A pointer or a reference.
+    Pointer,
+
+    /// The type of a function.
+    Procedure,
+
+    /// A type with qualifiers.
+    Modifier,
+
+    /// An enumeration.
+    Enumeration,
+
+    /// A value of an enumeration.
+    Enumerate,
+
+    /// A union.
+    Union,
+
+    /// Some bits of a member.
+    Bitfield,
+
+    /// A virtual base class, direct or not.
+    VirtualBaseClass(bool),
+
+    /// The shape of a table of virtual functions.
+    TableShape,
+}
+
+impl PlainLeaf {
+    /// The record without a list that stands behind the leaf of this number.
+    pub(crate) fn from_number(number: u16) -> Option<Self>
+        ensures { result ≡ plain_leaf number }
+    {
+        match number {
+            LF_CLASS | LF_CLASS_ST => Some(PlainLeaf::Class(ClassKind::Class)),
+            LF_STRUCTURE | LF_STRUCTURE_ST => Some(PlainLeaf::Class(ClassKind::Struct)),
+            LF_INTERFACE => Some(PlainLeaf::Class(ClassKind::Interface)),
+            LF_STRUCTURE19 => Some(PlainLeaf::WideStruct),
+            LF_MEMBER | LF_MEMBER_ST => Some(PlainLeaf::Member),
+            LF_NESTTYPE | LF_NESTTYPE_ST => Some(PlainLeaf::Nested(false)),
+            LF_NESTTYPEEX | LF_NESTTYPEEX_ST => Some(PlainLeaf::Nested(true)),
+            LF_MFUNCTION => Some(PlainLeaf::MemberFunction),
+            LF_METHOD | LF_METHOD_ST => Some(PlainLeaf::OverloadedMethod),
+            LF_ONEMETHOD | LF_ONEMETHOD_ST => Some(PlainLeaf::Method),
+            LF_BCLASS => Some(PlainLeaf::BaseClass(ClassKind::Class)),
+            LF_BINTERFACE => Some(PlainLeaf::BaseClass(ClassKind::Interface)),
+            LF_VFUNCTAB => Some(PlainLeaf::TablePointer),
+            LF_STMEMBER | LF_STMEMBER_ST => Some(PlainLeaf::StaticMember),
+            LF_POINTER => Some(PlainLeaf::Pointer),
+            LF_PROCEDURE => Some(PlainLeaf::Procedure),
+            LF_MODIFIER => Some(PlainLeaf::Modifier),
+            LF_ENUM | LF_ENUM_ST => Some(PlainLeaf::Enumeration),
+            LF_ENUMERATE | LF_ENUMERATE_ST => Some(PlainLeaf::Enumerate),
+            LF_UNION | LF_UNION_ST => Some(PlainLeaf::Union),
+            LF_BITFIELD => Some(PlainLeaf::Bitfield),
+            LF_VBCLASS => Some(PlainLeaf::VirtualBaseClass(true)),
+            LF_IVBCLASS => Some(PlainLeaf::VirtualBaseClass(false)),
+            LF_VTSHAPE => Some(PlainLeaf::TableShape),
+            _ => None,
+        }
+    }
+}
 
 /// A record without a list, behind its leaf.
 pub(crate) fn parse_plain<'t>(
@@ -26,7 +131,7 @@ pub(crate) fn parse_plain<'t>(
     number: u16,
     leaf: PlainLeaf,
 ) -> Result<TypeData<'t>>
-    ensures { Gives (λ t. (type_value t, left buffer.new)) result (row (row_of number leaf) (left buffer.old)) }
+    ensures { Gives (λ t. (type_value t, left buffer.new)) result (plain_at (row_of number leaf) (left buffer.old)) }
 {
     match leaf {
         PlainLeaf::Class(kind) => parse_class(buffer, number, kind),
@@ -47,5 +152,6 @@ pub(crate) fn parse_plain<'t>(
         PlainLeaf::Union => parse_union(buffer, number),
         PlainLeaf::Bitfield => parse_bitfield(buffer),
         PlainLeaf::VirtualBaseClass(direct) => parse_virtual_base_class(buffer, direct),
+        PlainLeaf::TableShape => parse_table_shape(buffer),
     }
 }

@@ -1,17 +1,19 @@
 //! What stands behind a leaf.
 
 ghost use Rattle.pdb_base.specs.Answer.{Answers};
+ghost use Rattle.pdb_base.specs.Memory.{LacksOnlyIf};
 ghost use Rattle.pdb_base.specs.Place.{left};
 ghost use Rattle.pdb_values.specs.TypeView.{type_value};
 ghost use Rattle.pdb_records.specs.Records.{behind_leaf, data_at};
-ghost use Rattle.pdb_records.specs.Memory.{LacksOnlyIf, HoldsItem, HoldsItemBehind};
+ghost use Rattle.pdb_records.specs.Memory.{HoldsItem, HoldsItemBehind};
 
 use crate::leaf::Leaf;
 use crate::parse::array::parse_array;
-use crate::parse::list::{parse_argument_list, parse_method_list};
+use crate::parse::counted::{CountWidth, parse_counted};
+use crate::parse::list::parse_method_list;
 use crate::parse::plain::parse_plain;
 use pdb_base::{Error, ParseBuffer, Result};
-use pdb_values::TypeData;
+use pdb_values::{ArgumentList, TypeData};
 use std::alloc::Global;
 
 /// The record of a leaf, of this number.
@@ -22,11 +24,14 @@ fn parse_leaf<'t>(
     leaf: Leaf,
 ) -> Result<TypeData<'t>>
     ensures read { Answers (λ t. (type_value t, left buffer.new)) result (data_at number leaf (left buffer.old)) }
-    ensures held { LacksOnlyIf result (HoldsItem leaf (left buffer.old)) }
+    ensures want { LacksOnlyIf result (HoldsItem leaf (left buffer.old)) }
 {
     match leaf {
         Leaf::Plain(leaf) => parse_plain(buffer, number, leaf),
-        Leaf::ArgumentList => Ok(TypeData::ArgumentList(parse_argument_list(alloc, buffer)?)),
+        Leaf::ArgumentList => match parse_counted(alloc, buffer, CountWidth::Bits32) {
+            Ok(arguments) => Ok(TypeData::ArgumentList(ArgumentList { arguments })),
+            Err(error) => Err(error),
+        },
         Leaf::MethodList => match parse_method_list(alloc, buffer) {
             Ok(list) => Ok(TypeData::MethodList(list)),
             Err(error) => Err(error),
@@ -46,7 +51,7 @@ pub(crate) fn parse_behind_leaf<'t>(
     number: u16,
 ) -> Result<TypeData<'t>>
     ensures read { Answers (λ t. (type_value t, left buffer.new)) result (behind_leaf number (left buffer.old)) }
-    ensures held { LacksOnlyIf result (HoldsItemBehind number (left buffer.old)) }
+    ensures want { LacksOnlyIf result (HoldsItemBehind number (left buffer.old)) }
 {
     match Leaf::from_number(number) {
         Some(leaf) => parse_leaf(alloc, buffer, number, leaf),

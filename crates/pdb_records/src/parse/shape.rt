@@ -7,11 +7,9 @@ ghost use Rattle.pdb_base.specs.Place.{left};
 ghost use Rattle.pdb_grammar.specs.Shape.{read_shape, type_index, id_index, some_type, some_id, text, when};
 ghost use Rattle.pdb_records.specs.Rows.{low_16, low_32};
 
+use crate::constants::LF_ST_MAX;
 use crate::parse::index::parse_index;
 use pdb_base::{IdIndex, ParseBuffer, RawString, Result, TypeIndex};
-
-/// The last leaf whose texts have their length before them.
-const LF_ST_MAX: u16 = 0x1500;
 
 /// The index of a type.
 pub(crate) fn parse_type_index(buffer: &mut ParseBuffer<'_>) -> Result<TypeIndex>

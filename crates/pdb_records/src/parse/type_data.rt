@@ -4,29 +4,28 @@ ghost use Rattle.std.specs.Prelude.{◌≡◌, ℕ, List, length, Err, IfOk};
 ghost use Rattle.pdb_base.specs.declared.error.Error.TheVariants.{UnexpectedEof};
 ghost use Rattle.pdb_base.specs.Refusal.{Refusal};
 ghost use Rattle.pdb_base.specs.Answer.{Answers};
+ghost use Rattle.pdb_base.specs.Memory.{LacksOnlyIf};
 ghost use Rattle.pdb_base.specs.Place.{left};
 ghost use Rattle.pdb_values.specs.TypeValue.{TypeValue};
 ghost use Rattle.pdb_values.specs.TypeView.{type_value};
 ghost use Rattle.pdb_records.specs.Fields.{record_at, type_record};
 ghost use Rattle.pdb_records.specs.Grammar.{IsRecord, NoRecord};
-ghost use Rattle.pdb_records.specs.Memory.{LacksOnlyIf, NeedsMemory, IsFalseCount};
+ghost use Rattle.pdb_records.specs.Memory.{NeedsMemory, IsFalseCount};
 ghost use Rattle.pdb_records.specs.Short.{IsShort};
 ghost use Rattle.pdb_records.specs.Assigned.{SaysAssigned, ShowsOrLacks, RefusesOrLacks};
 
+use crate::constants::LF_FIELDLIST;
 use crate::parse::fields::parse_field_list;
 use crate::parse::record::parse_behind_leaf;
 use pdb_base::{ParseBuffer, Result};
 use pdb_values::TypeData;
 use std::alloc::Global;
 
-/// The leaf of a list of fields.
-const LF_FIELDLIST: u16 = 0x1203;
-
 /// The record at the front of a buffer.
 #[tactic(auto, unfolding(crate::specs::Fields::record_at, crate::specs::Entries::gathered))]
 fn parse_record<'t>(alloc: Global, buffer: &mut ParseBuffer<'t>) -> Result<TypeData<'t>>
     ensures read { Answers (λ t. (type_value t, left buffer.new)) result (record_at (left buffer.old)) }
-    ensures held { LacksOnlyIf result (NeedsMemory (left buffer.old)) }
+    ensures want { LacksOnlyIf result (NeedsMemory (left buffer.old)) }
 {
     let number = buffer.parse_u16()?;
     if number == LF_FIELDLIST {

@@ -4,8 +4,7 @@ use Rattle.pdb_base.specs.Place.{left}
 use Rattle.pdb_values.specs.TypeView.{type_value}
 use Rattle.pdb_records.specs.Fields.{field, continues}
 use Rattle.pdb_records.proofs.FieldLemmas.{fields_more, fields_same, continuation_same, continuation_last, entries_step, entry_shorter, gathered_all, gathered_stops, says_as_much}
-use Rattle.pdb_records.specs.Memory.{HoldsEntry}
-use Rattle.pdb_records.proofs.MemoryLemmas.{held_as, holds_now, entry_there, field_holds}
+use Rattle.pdb_records.proofs.MemoryLemmas.{wants_as, continuation_behind, field_there, field_holds}
 use Rattle.pdb_records.proofs.parse.fields.parse_field_list.Goals as goal
 
 pub entries-smaller-in-Continue-1 : goal.entries-smaller-in-Continue-1
@@ -20,7 +19,7 @@ entries-preserved-in-Continue-1 c =
       all = so_far.all ∙ entries_step so_far.entries (left c.entries.buffer) (field (type_value c.in-Ok-Field.field)) (left c.parse_field.new.buffer) read;
       fields = fields_more so_far.entries c.entries.fields.items c.in-Ok-Field.field so_far.fields;
       continuation = continuation_same so_far.entries (type_value c.in-Ok-Field.field) ∙ so_far.continuation;
-      begun = inr (holds_now HoldsEntry (left c.entries.buffer) (left c.args.buffer.now) so_far.begun (entry_there (left c.entries.buffer) _ _ read));
+      begun = inr (field_there (left c.args.buffer.now) (left c.entries.buffer) _ _ so_far.begun read);
     })
 
 pub entries-smaller : goal.entries-smaller
@@ -35,12 +34,13 @@ entries-preserved c =
       all = so_far.all ∙ entries_step so_far.entries (left c.entries.buffer) (continues c.in-Ok-Continues.index) (left c.parse_field.new.buffer) read;
       fields = fields_same so_far.entries c.in-Ok-Continues.index ∙ so_far.fields;
       continuation = continuation_last so_far.entries c.in-Ok-Continues.index;
-      begun = inr (holds_now HoldsEntry (left c.entries.buffer) (left c.args.buffer.now) so_far.begun (entry_there (left c.entries.buffer) _ _ read));
+      begun = continuation_behind (left c.args.buffer.now) (left c.entries.buffer) _ _ so_far.begun read;
     }
 
-pub returns-in_err-push-in-Ok-Field-clause-held : goal.returns-in_err-push-in-Ok-Field-clause-held
-returns-in_err-push-in-Ok-Field-clause-held c = λ want.
-    inl (holds_now HoldsEntry (left c.entries.buffer) (left c.args.buffer.now) c.entries.invariant.begun (entry_there (left c.entries.buffer) _ _ c.in-Ok-Field.ensures.read))
+pub returns-in_err-push-in-Ok-Field-clause-want : goal.returns-in_err-push-in-Ok-Field-clause-want
+returns-in_err-push-in-Ok-Field-clause-want c = λ want.
+    let read = rw c.in-Ok-Field.field-0-is at c.in-Ok-Field.ensures.read in
+    field_there (left c.args.buffer.now) (left c.entries.buffer) _ _ c.entries.invariant.begun read
 
 pub returns-in-Err-clause-read : goal.returns-in-Err-clause-read
 returns-in-Err-clause-read c =
@@ -50,9 +50,9 @@ returns-in-Err-clause-read c =
       | inr want ↦ inr want
     ]
 
-pub returns-in-Err-clause-held : goal.returns-in-Err-clause-held
-returns-in-Err-clause-held c = λ want.
-    field_holds (left c.entries.buffer) (left c.args.buffer.now) c.entries.invariant.begun (held_as c.in-Err.error _ c.in-Err.ensures.held want)
+pub returns-in-Err-clause-want : goal.returns-in-Err-clause-want
+returns-in-Err-clause-want c = λ want.
+    field_holds (left c.args.buffer.now) (left c.entries.buffer) c.entries.invariant.begun (wants_as c.in-Err.error _ c.in-Err.ensures.want want)
 
 pub returns-clause-read : goal.returns-clause-read
 returns-clause-read c =

@@ -1,27 +1,23 @@
 use Rattle.pdb_base.specs.Place.{left}
-use Rattle.pdb_values.specs.IdValue.{id_value}
-use Rattle.pdb_records.specs.IdRows.{function_row, member_function_row, string_row, source_row, remote_source_row}
-use Rattle.pdb_grammar.specs.Row.{row}
-use Rattle.pdb_grammar.proofs.NoWant.{row_no_want}
-use Rattle.pdb_records.proofs.MemoryLemmas.{gives_no_want}
+use Rattle.pdb_grammar.specs.Shape.{as_id, as_type}
+use Rattle.pdb_values.specs.IdValue as values
+use Rattle.pdb_records.specs.declared.parse.counted.CountWidth.TheVariants.{Bits16, Bits32}
+use Rattle.pdb_records.specs.Counted.{counted_at}
+use Rattle.pdb_records.specs.Ids.{id_row_of, plain_id_at}
+use Rattle.pdb_records.proofs.IdLemmas.{list_said}
+use Rattle.pdb_records.proofs.MemoryLemmas.{gives_no_want, wants_as, plain_id_no_want}
 use Rattle.pdb_records.proofs.parse.id_data.parse_id_leaf.Goals as goal
 
-pub returns-in-Function-clause-want : goal.returns-in-Function-clause-want
-returns-in-Function-clause-want c =
-    gives_no_want (λ id. (id_value id, left c.parse_function_id.new.buffer)) c.parse_function_id.result (row (function_row c.args.number) (left c.args.buffer.now)) _ (row_no_want (function_row c.args.number) (left c.args.buffer.now)) c.parse_function_id.ensures
+pub returns-in-Plain-clause-want : goal.returns-in-Plain-clause-want
+returns-in-Plain-clause-want c =
+    gives_no_want _ c.parse_plain_id.result (plain_id_at (id_row_of c.args.number c.in-Plain.leaf) (left c.args.buffer.now)) _ (plain_id_no_want (id_row_of c.args.number c.in-Plain.leaf) (left c.args.buffer.now)) c.parse_plain_id.ensures
 
-pub returns-in-MemberFunction-clause-want : goal.returns-in-MemberFunction-clause-want
-returns-in-MemberFunction-clause-want c =
-    gives_no_want (λ id. (id_value id, left c.parse_member_function_id.new.buffer)) c.parse_member_function_id.result (row (member_function_row c.args.number) (left c.args.buffer.now)) _ (row_no_want (member_function_row c.args.number) (left c.args.buffer.now)) c.parse_member_function_id.ensures
+pub returns-in-Err-clause-want : goal.returns-in-Err-clause-want
+returns-in-Err-clause-want c = λ want.
+    rw c.in-BuildInfo.is
+    (list_said values.build_info (counted_at Bits16 as_id (left c.args.buffer.now)) (λ xs item. item) (wants_as c.in-Err.error _ c.in-Err.ensures.want want))
 
-pub returns-in-String-clause-want : goal.returns-in-String-clause-want
-returns-in-String-clause-want c =
-    gives_no_want (λ id. (id_value id, left c.parse_string_id.new.buffer)) c.parse_string_id.result (row (string_row c.args.number) (left c.args.buffer.now)) _ (row_no_want (string_row c.args.number) (left c.args.buffer.now)) c.parse_string_id.ensures
-
-pub returns-in-Source-clause-want : goal.returns-in-Source-clause-want
-returns-in-Source-clause-want c =
-    gives_no_want (λ id. (id_value id, left c.parse_source.new.buffer)) c.parse_source.result (row source_row (left c.args.buffer.now)) _ (row_no_want source_row (left c.args.buffer.now)) c.parse_source.ensures
-
-pub returns-in-RemoteSource-clause-want : goal.returns-in-RemoteSource-clause-want
-returns-in-RemoteSource-clause-want c =
-    gives_no_want (λ id. (id_value id, left c.parse_remote_source.new.buffer)) c.parse_remote_source.result (row remote_source_row (left c.args.buffer.now)) _ (row_no_want remote_source_row (left c.args.buffer.now)) c.parse_remote_source.ensures
+pub returns-in-Err-parse_counted-clause-want : goal.returns-in-Err-parse_counted-clause-want
+returns-in-Err-parse_counted-clause-want c = λ want.
+    rw c.in-StringList.is
+    (list_said values.string_list (counted_at Bits32 as_type (left c.args.buffer.now)) (λ xs item. item) (wants_as c.in-Err-parse_counted.error _ c.in-Err-parse_counted.ensures.want want))

@@ -5,13 +5,13 @@ use Rattle.pdb_base.specs.Place.{left}
 use Rattle.pdb_grammar.specs.Row.{row}
 use Rattle.pdb_grammar.specs.ToEnd.{to_end}
 use Rattle.pdb_grammar.proofs.StepLemmas.{behind}
-use Rattle.pdb_records.specs.Rows.{entry_row}
+use Rattle.pdb_records.specs.Rows.{listed_method_row}
 use Rattle.pdb_records.specs.Memory.{HoldsMethod}
 use Rattle.pdb_records.proofs.parse.list.parse_method_list.Given as goal
 
 abbrev pub invariant-loop-buffer : goal.invariant-loop-buffer
 invariant-loop-buffer l = record {
-  all : to_end (row entry_row) (left l.fn.buffer) ≡ behind l.methods.items (to_end (row entry_row) (left l.buffer));
+  all : to_end (row listed_method_row) (left l.fn.buffer) ≡ behind l.methods.items (to_end (row listed_method_row) (left l.buffer));
   begun : (left l.buffer ≡ left l.fn.buffer) ⊎ HoldsMethod (left l.fn.buffer);
 }
 

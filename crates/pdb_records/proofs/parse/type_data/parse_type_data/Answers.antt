@@ -1,5 +1,6 @@
 use Rattle.pdb_base.specs.Place.{left}
-use Rattle.pdb_records.specs.Memory.{LacksOnlyIf, NeedsMemory}
+use Rattle.pdb_base.specs.Memory.{LacksOnlyIf}
+use Rattle.pdb_records.specs.Memory.{NeedsMemory}
 use Rattle.pdb_values.specs.TypeView.{type_value}
 use Rattle.pdb_records.specs.Fields.{record_at}
 use Rattle.pdb_records.specs.Grammar.{IsRecord, NoRecord}
@@ -25,13 +26,13 @@ returns-clause-refused c =
 
 pub returns-clause-want : goal.returns-clause-want
 returns-clause-want c =
-    let held : LacksOnlyIf c.parse_record.result (NeedsMemory c.args.bytes.now) = rw c.from-buffer.ensures at c.parse_record.ensures.held in
+    let held : LacksOnlyIf c.parse_record.result (NeedsMemory c.args.bytes.now) = rw c.from-buffer.ensures at c.parse_record.ensures.want in
     held
 
 pub returns-clause-cut : goal.returns-clause-cut
 returns-clause-cut c =
     says_cut c.args.bytes.now (left c.parse_record.new.buffer) c.parse_record.result (rw c.from-buffer.ensures at c.parse_record.ensures.read)
-    (rw c.from-buffer.ensures at c.parse_record.ensures.held)
+    (rw c.from-buffer.ensures at c.parse_record.ensures.want)
 
 pub returns-clause-short : goal.returns-clause-short
 returns-clause-short c = says_short c.args.bytes.now (left c.parse_record.new.buffer) c.parse_record.result (rw c.from-buffer.ensures at c.parse_record.ensures.read)

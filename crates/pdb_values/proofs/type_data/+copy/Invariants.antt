@@ -1,6 +1,6 @@
 use Rattle.std.proofs.Common.{◌≡◌, take, map}
 use Rattle.pdb_values.specs.TypeView.{type_value}
-use Rattle.pdb_values.proofs.copy.+copy.Given as goal
+use Rattle.pdb_values.proofs.type_data.+copy.Given as goal
 
 -- the fields so far are copied
 abbrev pub invariant-copy_fields-loop-field : goal.invariant-copy_fields-loop-field

@@ -1,0 +1,8 @@
+use Rattle.pdb_values.proofs.FieldLemmas.{field_there}
+use Rattle.pdb_values.proofs.type_data.+copy.Goals as goal
+
+pub copy_fields-returns-in_err-copies-clause-want : goal.copy_fields-returns-in_err-copies-clause-want
+copy_fields-returns-in_err-copies-clause-want t c = λ want. field_there c.args.fields.now c.if-is_empty.ensures
+
+pub copy_fields-returns-in_err-push-clause-want : goal.copy_fields-returns-in_err-push-clause-want
+copy_fields-returns-in_err-push-clause-want t c = λ want. field_there c.args.fields.now c.if-is_empty.ensures

@@ -1,0 +1,23 @@
+//! Copies of lists.
+
+ghost use Rattle.std.specs.Prelude.{Ok};
+ghost use Rattle.pdb_base.specs.Answer.{Answers};
+ghost use Rattle.pdb_base.specs.Memory.{LacksOnlyIf, HasItem};
+
+use pdb_base::Result;
+use std::alloc::Global;
+
+/// Equal items, in memory of their own; where there are none, no memory is asked for.
+pub(crate) fn copy_items<T: Copy>(alloc: Global, items: &[T]) -> Result<Vec<T>>
+    ensures copied { Answers (λ copies. copies.items) result (Ok items.now) }
+    ensures want { LacksOnlyIf result (HasItem items.now) }
+{
+    if items.is_empty() {
+        return Ok(Vec::new(alloc));
+    }
+    let mut copies = Vec::with_capacity(alloc, items.len())?;
+    for item in items {
+        copies.push(*item)?;
+    }
+    Ok(copies)
+}
