@@ -262,7 +262,7 @@ parts_until_sorted (mapping ∷ table) asked sorted =
 
 -- ---- the parts over any table
 
-length-cons_option : (range : Option (Range ℕ)) (ranges : List (Range ℕ)) → length (cons_option range ranges) ≤ suc (length ranges)
+pub length-cons_option : (range : Option (Range ℕ)) (ranges : List (Range ℕ)) → length (cons_option range ranges) ≤ suc (length ranges)
 length-cons_option None ranges = omega arith
 length-cons_option (Some range) ranges = omega arith
 
@@ -276,7 +276,7 @@ parts_until_few (mapping ∷ table) asked =
       | false ↦ omega (arith, rest, one)
     ]
 
-part-not_empty : (mapping : Mapping) (next : ℕ) (asked : Range ℕ) → IfSome (part mapping next asked) IsNotEmpty
+pub part-not_empty : (mapping : Mapping) (next : ℕ) (asked : Range ℕ) → IfSome (part mapping next asked) IsNotEmpty
 unfolding part unless_empty
 part-not_empty mapping next asked =
     let start = mapping.target + (max mapping.source asked.start - mapping.source) in
@@ -289,7 +289,7 @@ part-not_empty mapping next asked =
       ]
     ]
 
-All-cons_option : (range : Option (Range ℕ)) (ranges : List (Range ℕ)) → IfSome range IsNotEmpty → All IsNotEmpty ranges → All IsNotEmpty (cons_option range ranges)
+pub All-cons_option : (range : Option (Range ℕ)) (ranges : List (Range ℕ)) → IfSome range IsNotEmpty → All IsNotEmpty ranges → All IsNotEmpty (cons_option range ranges)
 All-cons_option None ranges first rest k d within = rest k d within
 All-cons_option (Some range) ranges first rest zero d within = first
 All-cons_option (Some range) ranges first rest (suc k) d within = rest k d (omega arith)

@@ -129,14 +129,21 @@ impl OMAPTable {
     ///
     /// Laid end to end, the ranges are what `lookup` makes of the addresses one by one, but for those
     /// that it moves to 0xffffffff. Over a table that isn't sorted they are at most one for each record.
-    #[tactic(auto, using(crate::proofs::SearchLemmas::dropped_few, crate::proofs::RangeLemmas::parts_until_not_empty, pdb_base::proofs::RecordLemmas::spelled_length))]
+    #[tactic(auto, using(crate::proofs::RangeLemmas::parts_until_sorted, crate::proofs::RangeLemmas::parts_until_laid, crate::proofs::RangeLemmas::parts_until_few, crate::proofs::RangeLemmas::parts_until_not_empty, pdb_base::proofs::RecordLemmas::spelled_length))]
     pub fn lookup_range(&self, range: Range<u32>) -> RangeIter<'_>
         ensures parts { IsSortedBySource self.now → result ≡ parts self.now range }
         ensures laid { IsSortedBySource self.now → end_to_end result ≡ pointwise (shift self.now) range }
         ensures few { length result ≤ length self.now }
         ensures not_empty { All IsNotEmpty result }
     {
-        let found = search(self.bytes(), range.start, &mut Count::new());
-        RangeIter::translated(self.records_from(found.place.saturating_sub(1)), range)
+        let bytes = self.bytes();
+        let found = search(bytes, range.start, &mut Count::new());
+        let Some(last) = found.place.checked_sub(1) else {
+            return RangeIter::translated(None, self.records(), range);
+        };
+        let rest = self.records_from(found.place);
+        let record = OMAPRecord::new(found.source, target_at(bytes, last));
+        let first = record.part(rest.next_source(range.end), &range);
+        RangeIter::translated(first, rest, range)
     }
 }

@@ -13,8 +13,8 @@ use std::ops::Range;
 /// Ranges of addresses, one after another.
 #[derive(Debug, Drop)]
 pub struct RangeIter<'t> {
-    /// A range that comes as it is, before all others.
-    untouched: Option<Range<u32>>,
+    /// A range that comes before all others.
+    first: Option<Range<u32>>,
     /// The records by which others are moved.
     records: OMAPRecords<'t>,
     /// What they move.
@@ -29,7 +29,7 @@ impl<'t> Model for RangeIter<'t> {
 
     ghost Value = { List (Range ℕ) };
 
-    ghost view = { λ i. cons_option i.untouched (parts_until i.records i.asked) };
+    ghost view = { λ i. cons_option i.first (parts_until i.records i.asked) };
 }
 
 impl<'t> RangeIter<'t> {
@@ -38,7 +38,7 @@ impl<'t> RangeIter<'t> {
         ensures { result ≡ [] }
     {
         RangeIter {
-            untouched: None,
+            first: None,
             records: OMAPRecords::empty(),
             asked: 0..0,
         }
@@ -53,17 +53,22 @@ impl<'t> RangeIter<'t> {
             return RangeIter::empty();
         }
         RangeIter {
-            untouched: Some(range),
+            first: Some(range),
             ..RangeIter::empty()
         }
     }
 
-    /// The parts of a range that records move, as far as the first record at or past its end.
-    pub(crate) fn translated(records: OMAPRecords<'t>, asked: Range<u32>) -> Self
-        ensures { result ≡ parts_until records.entry asked }
+    /// The first part of a range, if there is one, and behind it those that records move, as far as the
+    /// first record at or past its end.
+    pub(crate) fn translated(
+        first: Option<Range<u32>>,
+        records: OMAPRecords<'t>,
+        asked: Range<u32>,
+    ) -> Self
+        ensures { result ≡ cons_option first (parts_until records.entry asked) }
     {
         RangeIter {
-            untouched: None,
+            first,
             records,
             asked,
         }
@@ -86,7 +91,7 @@ impl<'t> Iterator for RangeIter<'t> {
     ghost remaining = { item_count (λ ranges. ranges) };
 
     fn next(&mut self) -> Option<Range<u32>> {
-        if let Some(range) = self.untouched.take() {
+        if let Some(range) = self.first.take() {
             return Some(range);
         }
         while let Some((record, rest)) = self.records.split_first() {

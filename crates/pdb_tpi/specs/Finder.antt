@@ -1,6 +1,6 @@
 -- A finder knows where some blocks of eight items begin, and looks an item up by a walk within its
 -- block.
-use Rattle.std.specs.Prelude.{◌≡◌, ℕ, zero, suc, ◌+◌, ◌-◌, ◌*◌, ◌/◌, ◌<◌, ◌≤◌, ◌==◌, Bool, ◌&&◌, nat_lt, nat_le, min, if◌then◌else◌, List, [], ◌∷◌, ◌++◌, length, map, Ok, Err}
+use Rattle.std.specs.Prelude.{◌≡◌, ℕ, ◌+◌, ◌-◌, ◌*◌, ◌/◌, ◌<◌, ◌≤◌, ◌==◌, Bool, ◌&&◌, nat_lt, nat_le, min, if◌then◌else◌, List, [], ◌∷◌, ◌++◌, length, map, Ok, Err}
 use Rattle.std.specs.Int.{div_ceil}
 use Rattle.std.specs.List.{fold, range_with_len}
 use Rattle.pdb_base.specs.Refusal.{type_not_found, type_not_indexed}

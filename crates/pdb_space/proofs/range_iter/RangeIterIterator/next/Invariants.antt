@@ -4,7 +4,7 @@ use Rattle.pdb_space.proofs.range_iter.RangeIterIterator.next.Given as goal
 
 abbrev pub invariant-loop-record : goal.invariant-loop-record
 invariant-loop-record l = record {
-  moved_only : l.self-inside.untouched ≡ None;
+  moved_only : l.self-inside.first ≡ None;
   parts : parts_until l.self-inside.records l.self-inside.asked ≡ l.fn.self;
 }
 
