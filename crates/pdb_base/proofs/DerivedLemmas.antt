@@ -1,5 +1,5 @@
 -- Tests that decide whether two values are one, and what is made of them.
-use Rattle.std.proofs.Common.{◌≡◌, ◌↔◌, ℕ, Bool, true, false, ◌&&◌, Option, Some, None, IsTrue, refl, ap}
+use Rattle.std.proofs.Common.{◌↔◌, Bool, true, false, ◌&&◌, Some, None, IsTrue, refl, ap}
 use Rattle.std.specs.Option.{option_eq}
 use Rattle.pdb_base.specs.Derived.{TellsApart}
 

@@ -39,16 +39,24 @@ impl<'b> RawString<'b> {
     }
 
     /// The text, with U+FFFD for each run of bytes that is no character. It borrows where the bytes
-    /// are UTF-8.
+    /// are UTF-8, and owns its text where they are not.
     ///
     /// # Errors
     /// `OutOfMemory` where the bytes are not UTF-8 and memory is refused.
     pub fn to_string(&self, alloc: Global) -> Result<CowStr<'b>>
         ensures text { IfOk result (λ text. cow_str_bytes text ≡ lossy self.now.0.now) }
         ensures borrowed { IsUtf8 self.now.0.now → IfOk result (λ text. ¬ IsOwnedStr text) }
+        ensures owned { ¬ IsUtf8 self.now.0.now → IfOk result IsOwnedStr }
         ensures want { IfErr result (λ e. (e ≡ OutOfMemory) × ¬ IsUtf8 self.now.0.now) }
     {
-        Ok(self.0.to_str_lossy(alloc)?)
+        match self.0.to_str() {
+            Ok(text) => Ok(CowStr::Borrowed(text)),
+            Err(_) => {
+                let mut text = String::with_capacity(alloc, self.0.len())?;
+                self.0.to_str_lossy_into(&mut text)?;
+                Ok(CowStr::Owned(text))
+            }
+        }
     }
 }
 

@@ -252,3 +252,19 @@ fn names_and_ranges(rt: HostRuntime) -> Result<()> {
     }
     Ok(())
 }
+
+/// Where the page number of the last stream of S1 stands.
+const LAST_PAGE: usize = 1052;
+
+#[test]
+fn cut_file(rt: HostRuntime) -> Result<()> {
+    let mut file = s1(rt.alloc())?;
+    if let Some(page) = file.get_mut(LAST_PAGE) {
+        *page = 8;
+    }
+    let outcome = act(rt.alloc(), &["stream", "3"], file)?;
+    assert!(rt; outcome.status == 1 && outcome.out.is_empty());
+    assert!(rt; outcome.err.starts_with(b"IO error while reading PDB: "));
+    assert!(rt; outcome.err.ends_with(b"\n"));
+    Ok(())
+}

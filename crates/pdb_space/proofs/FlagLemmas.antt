@@ -1,7 +1,6 @@
 -- A bit and its mask.
-use Rattle.std.proofs.Common.{◌≡◌, ◌≢◌, ◌↔◌, ℕ, ◌^◌, ◌==◌, ◌∙◌, bit_and, IsTrue, arith}
+use Rattle.std.proofs.Common.{ℕ, ◌^◌, arith}
 use Rattle.std.proofs.lemmas.Bool.Decides.{nat_tests}
-use Rattle.pdb_bits.specs.Bits.{bits}
 use Rattle.pdb_bits.specs.Parts.{is_set}
 use Rattle.pdb_bits.proofs.BitLaws.{one_bit}
 use Rattle.pdb_space.specs.SectionFlags.{HasMask}

@@ -1,6 +1,7 @@
 -- What the sums, comparisons and conversions of addresses come to, and what is said of tables, ranges and
 -- sections in other words.
-use Rattle.std.specs.Prelude.{◌≡◌, ◌≢◌, ◌↔◌, ◌⊎◌, ◌+◌, ◌-◌, ◌<◌, ◌≤◌, ℕ, Bool, IsTrue, List, slice_get, Option, Some, None}
+use Rattle.std.specs.Prelude.{◌≡◌, ◌≢◌, ◌↔◌, ◌⊎◌, ◌+◌, ◌-◌, ◌<◌, ◌≤◌, ℕ, List, slice_get, Option, Some, None}
+pub use Rattle.pdb_base.specs.Derived.{TellsApart}
 use Rattle.pdb_space.specs.declared.section_header.ImageSectionHeader.{ImageSectionHeader}
 use Rattle.pdb_space.specs.Omap.{Mapping}
 use Rattle.pdb_space.specs.Conversions.{Arrangement, rva_to_internal_rva, internal_rva_to_rva}
@@ -19,10 +20,6 @@ pub record IsCutToFit (number : ℕ) : Type 0 where
 pub record IsReached (start number : ℕ) : Type 0 where
   pub straight : (far : ℕ) → distance_from start number ≡ Some far → start + far ≡ number
   pub wrapping : Fits start → Fits number → wrapped (start + wrapped_distance_from start number) ≡ number
-
--- `==` holds of a value and itself alone
-abbrev pub TellsApart : {A : Type 0} → (A → A → Bool) → Type 0
-TellsApart {A} eq = (a b : A) → IsTrue (eq a b) ↔ (a ≡ b)
 
 -- numbers compare as less, equal or greater just as they are
 abbrev pub OrdersByNumber : (ℕ → ℕ → Ordering) → Type 0

@@ -8,7 +8,7 @@ use Rattle.pdb_base.specs.Refusal.{unexpected_eof}
 use Rattle.pdb_base.specs.Answer.{Answer, ◌>>=◌}
 use Rattle.pdb_base.specs.Reading.{number_at, signed_at}
 use Rattle.pdb_base.proofs.ReadingLemmas.{number_whole, number_cut}
-use Rattle.pdb_tpi.specs.Header.{slice_of, fields_of, read_header_of, header_of}
+use Rattle.pdb_tpi.specs.Header.{slice_of, header_fields, read_header_of, header_of}
 
 -- a read that takes so many bytes, or is refused where there are fewer
 data Takes {A : Type 0} (count : ℕ) (bytes : List ℕ) (read : Answer (A × List ℕ)) : Type 0 where
@@ -43,8 +43,8 @@ takes_slice bytes =
     takes_then 4 4 bytes (signed_at w32 4 bytes) _ (takes_signed bytes) (λ offset behind_offset.
     takes_then 4 0 behind_offset (number_at 4 behind_offset) _ (takes_number 4 behind_offset) (λ size rest. takes_nothing _ rest))
 
-takes_fields : (bytes : List ℕ) → Takes 56 bytes (fields_of bytes)
-unfolding fields_of
+takes_fields : (bytes : List ℕ) → Takes 56 bytes (header_fields bytes)
+unfolding header_fields
 takes_fields bytes =
     takes_then 4 52 bytes (number_at 4 bytes) _ (takes_number 4 bytes) (λ version from_4.
     takes_then 4 48 from_4 (number_at 4 from_4) _ (takes_number 4 from_4) (λ header_size from_8.

@@ -32,16 +32,16 @@ pub fn section_characteristics()
 /// Every field of a section's header is 0 by default. Headers are equal just where all fields are.
 pub fn section_headers()
     ensures default { DefaultsTo ⟦<ImageSectionHeader as Default>⟧.is_default (record {
-        name = replicate 8 0;
-        virtual_size = 0;
-        virtual_address = 0;
-        size_of_raw_data = 0;
-        pointer_to_raw_data = 0;
-        pointer_to_relocations = 0;
-        pointer_to_line_numbers = 0;
-        number_of_relocations = 0;
-        number_of_line_numbers = 0;
-        characteristics = record { 0 = 0 };
+      name = replicate 8 0;
+      virtual_size = 0;
+      virtual_address = 0;
+      size_of_raw_data = 0;
+      pointer_to_raw_data = 0;
+      pointer_to_relocations = 0;
+      pointer_to_line_numbers = 0;
+      number_of_relocations = 0;
+      number_of_line_numbers = 0;
+      characteristics = record { 0 = 0 };
     }) }
     ensures equal { TellsApart ⟦<ImageSectionHeader as PartialEq>⟧.eq }
 {}

@@ -5,7 +5,8 @@ ghost use Rattle.std.specs.Prelude.{◌≡◌, ◌<◌, length, IfOk};
 use pdb_base::{Count, Error, FallibleIterator, IdIndex, TypeIndex};
 use pdb_msf::Stream;
 use pdb_tpi::{
-    Header, IdFinder, IdInformation, Slice, Type, TypeFinder, TypeInformation, TypeIter, constants,
+    Header, IdFinder, IdInformation, IdIter, Slice, Type, TypeFinder, TypeInformation, TypeIter,
+    constants,
 };
 use pdb_vectors::item_table;
 use std::alloc::Global;
@@ -536,6 +537,8 @@ fn no_ids(rt: HostRuntime) -> Result<(), Fail> {
         nothing_found(rt.alloc(), &empty)?,
         (IdIndex(0), true, true)
     );
+    let mut ids: IdIter<'_> = empty.iter();
+    assert!(rt; ids.next()?.is_none());
     Ok(())
 }
 

@@ -1,4 +1,4 @@
-use Rattle.std.proofs.Common.{◌≡◌, ◌↔◌, Option, Some, None, List, ℕ, IsTrue, refl, ap}
+use Rattle.std.proofs.Common.{Some, None, refl, ap}
 use Rattle.std.specs.Prelude.{nat_eq}
 use Rattle.std.specs.Option.{option_eq, option_map}
 use Rattle.std.specs.Cmp.{unsigned_Decides}
