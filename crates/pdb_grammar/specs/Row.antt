@@ -7,6 +7,7 @@ use Rattle.pdb_base.specs.Spelling.{Begins}
 use Rattle.pdb_grammar.specs.Shape.{Shape, Value, Spells, read_shape}
 use Rattle.pdb_grammar.specs.Fault.{Refuses}
 
+-- shapes one after another, and the value that theirs make
 pub data Row (A : Type 0) : Type 0 where
   gives : A → Row A  -- the value, with nothing more in the row
   field : (shape : Shape) → (Value shape → Row A) → Row A  -- a shape, and what stands behind its value

@@ -3,6 +3,7 @@ use Rattle.std.specs.Prelude.{ℕ, List, Option}
 use Rattle.pdb_base.specs.declared.index.TypeIndex.{TypeIndex}
 use Rattle.pdb_values.specs.declared.array.ArrayType.{ArrayType}
 
+-- an array
 pub record ArrayValue : Type 0 where
   pub element_type : TypeIndex
   pub indexing_type : TypeIndex

@@ -6,6 +6,7 @@ use Rattle.pdb_values.specs.declared.class.ClassKind.{ClassKind}
 use Rattle.pdb_values.specs.declared.class.ClassType.{ClassType}
 use Rattle.pdb_values.specs.Text.{text_bytes}
 
+-- a class, a structure or an interface
 pub record ClassValue : Type 0 where
   pub kind : ClassKind
   pub count : ℕ

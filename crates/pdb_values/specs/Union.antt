@@ -5,6 +5,7 @@ use Rattle.pdb_base.specs.declared.index.TypeIndex.{TypeIndex}
 use Rattle.pdb_values.specs.declared.union_type.UnionType.{UnionType}
 use Rattle.pdb_values.specs.Text.{text_bytes}
 
+-- a union
 pub record UnionValue : Type 0 where
   pub count : ℕ
   pub properties : ℕ

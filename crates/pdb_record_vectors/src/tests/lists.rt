@@ -258,6 +258,9 @@ const MEMBER_TEXTS: &str =
      Nested(NestedType { attributes: FieldAttributes(0), nested_type: TypeIndex(0x102b), name: RawString([78]) }), \
      Enumerate(EnumerateType { attributes: FieldAttributes(3), value: U8(5), name: RawString([65]) })";
 
+/// A list of one field that goes on in another, as LLVM writes it.
+const CONTINUED: &[u8] = b"\x03\x12\x02\x15\x03\x00\x00\x00A\x00\x04\x14\x00\x00\x00\x10\x00\x00";
+
 /// The bytes of a list of fields, the fields, and the list that it goes on in.
 const FIELD_LISTS: &[(&[u8], &str, Option<TypeIndex>)] = &[
     (b"\x03\x12", "", None),
@@ -276,6 +279,11 @@ const FIELD_LISTS: &[(&[u8], &str, Option<TypeIndex>)] = &[
         "VirtualTableShape(VirtualTableShapeType { count: 3, descriptors: [85, 5] }), \
          VirtualTableShape(VirtualTableShapeType { count: 0, descriptors: [] })",
         Some(TypeIndex(0x1234)),
+    ),
+    (
+        CONTINUED,
+        "Enumerate(EnumerateType { attributes: FieldAttributes(3), value: U16(0), name: RawString([65]) })",
+        Some(TypeIndex(0x1000)),
     ),
     (MEMBERS, MEMBER_TEXTS, None),
     (

@@ -520,13 +520,14 @@ fn table_shape(count: u16, descriptors: &'static [u8]) -> TypeData<'static> {
     TypeData::VirtualTableShape(VirtualTableShapeType { count, descriptors })
 }
 
-/// Shapes of tables of virtual functions.
-fn table_shapes() -> [Row; 4] {
+/// Shapes of tables of virtual functions, the last as Clang writes it.
+fn table_shapes() -> [Row; 5] {
     [
         (0x000a, b"\x00\x00", table_shape(0, b"")),
         (0x000a, b"\x01\x00\xf5", table_shape(1, b"\xf5")),
         (0x000a, b"\x02\x00\x55", table_shape(2, b"\x55")),
         (0x000a, b"\x03\x00\x55\x05", table_shape(3, b"\x55\x05")),
+        (0x000a, b"\x03\x00\x55\x00", table_shape(3, b"\x55\x00")),
     ]
 }
 

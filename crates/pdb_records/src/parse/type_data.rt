@@ -35,8 +35,9 @@ fn parse_record<'t>(alloc: Global, buffer: &mut ParseBuffer<'t>) -> Result<TypeD
     }
 }
 
-/// Reads a type record: the bytes of an item of the table of types, from its leaf on. Names and
-/// records within it borrow from the bytes; memory is taken for lists alone.
+/// Reads a type record: the bytes of an item of the table of types, from its leaf on. Names, the
+/// descriptors of a table's shape and records within it borrow from the bytes; memory is taken for lists
+/// alone.
 ///
 /// The layouts are those of Microsoft's cvinfo.h, behind the leaves that it names `LF_CLASS` and so on.
 /// An inner record of a list of fields is read one level deep. Bytes behind the last field of a record

@@ -6,7 +6,6 @@ use pdb_base::{Count, Error, FallibleIterator, IdIndex, TypeIndex};
 use pdb_msf::Stream;
 use pdb_tpi::{
     Header, IdFinder, IdInformation, IdIter, Slice, Type, TypeFinder, TypeInformation, TypeIter,
-    constants,
 };
 use pdb_vectors::item_table;
 use std::alloc::Global;
@@ -559,63 +558,4 @@ fn many_finders(rt: HostRuntime) -> Result<(), Fail> {
     let finders = finders_of(rt.alloc(), &table)?;
     assert_eq!(rt; finders.len(), 100_000);
     Ok(())
-}
-
-/// Leaves, and their numbers.
-const LEAVES: &[(u16, u16)] = &[
-    (constants::LF_MODIFIER_16t, 0x0001),
-    (constants::LF_VTSHAPE, 0x000a),
-    (constants::LF_TYPESERVER_ST, 0x0016),
-    (constants::LF_SKIP_16t, 0x0200),
-    (constants::LF_FIELDLIST_16t, 0x0204),
-    (constants::LF_REFSYM, 0x020c),
-    (constants::LF_BCLASS_16t, 0x0400),
-    (constants::LF_ENUMERATE_ST, 0x0403),
-    (constants::LF_VFUNCOFF_16t, 0x040d),
-    (constants::LF_TI16_MAX, 0x1000),
-    (constants::LF_MODIFIER, 0x1001),
-    (constants::LF_POINTER, 0x1002),
-    (constants::LF_PROCEDURE, 0x1008),
-    (constants::LF_MFUNCTION, 0x1009),
-    (constants::LF_OEM2, 0x1011),
-    (constants::LF_SKIP, 0x1200),
-    (constants::LF_ARGLIST, 0x1201),
-    (constants::LF_FIELDLIST, 0x1203),
-    (constants::LF_BITFIELD, 0x1205),
-    (constants::LF_METHODLIST, 0x1206),
-    (constants::LF_DIMVARLU, 0x120a),
-    (constants::LF_BCLASS, 0x1400),
-    (constants::LF_INDEX, 0x1404),
-    (constants::LF_MANAGED_ST, 0x140f),
-    (constants::LF_ST_MAX, 0x1500),
-    (constants::LF_ENUMERATE, 0x1502),
-    (constants::LF_CLASS, 0x1504),
-    (constants::LF_NESTTYPE, 0x1510),
-    (constants::LF_STRIDED_ARRAY, 0x1516),
-    (constants::LF_INTERFACE, 0x1519),
-    (constants::LF_VFTABLE, 0x151d),
-    (constants::LF_ENDOFLEAFRECORD, 0x151d),
-    (constants::LF_TYPE_MAX, 0x151d),
-    (constants::LF_TYPE_LAST, 0x151e),
-    (constants::LF_FUNC_ID, 0x1601),
-    (constants::LF_STRING_ID, 0x1605),
-    (constants::LF_UDT_MOD_SRC_LINE, 0x1607),
-    (constants::LF_ID_MAX, 0x1607),
-    (constants::LF_ID_LAST, 0x1608),
-    (constants::LF_STRUCTURE19, 0x1609),
-    (constants::LF_NUMERIC, 0x8000),
-    (constants::LF_CHAR, 0x8000),
-    (constants::LF_QUADWORD, 0x8009),
-    (constants::LF_VARSTRING, 0x8010),
-    (constants::LF_OCTWORD, 0x8017),
-    (constants::LF_REAL16, 0x801c),
-    (constants::LF_PAD0, 0x00f0),
-    (constants::LF_PAD15, 0x00ff),
-];
-
-#[test]
-fn leaves(rt: HostRuntime) {
-    for (leaf, want) in LEAVES {
-        assert_eq!(rt; *leaf, *want);
-    }
 }
