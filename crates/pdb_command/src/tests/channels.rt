@@ -173,6 +173,19 @@ fn outputs(rt: HostRuntime) -> Result<(), Fail> {
     Ok(())
 }
 
+#[test]
+fn nothing_read(rt: HostRuntime) -> Result<(), Fail> {
+    let alloc = rt.alloc();
+    let mut input = Sevens::new(100, 10, None);
+    let mut out = Slow::new(alloc, 1000, 10_000);
+    let mut err = Slow::new(alloc, 1000, 10_000);
+    let words = call(alloc, &[])?.into_iter();
+    let ended = serve(alloc, Ok(words), &mut input, &mut out, &mut err);
+    assert!(rt; ended.status == 0 && input.left == 100);
+    assert!(rt; out.taken.starts_with(b"6161") && err.taken.is_empty());
+    Ok(())
+}
+
 /// What the system hands over in place of words; and the status, and how begins what is told.
 const NO_WORDS: &[(ErrorKind, u8, &[u8])] = &[
     (ErrorKind::InvalidData, 2, b"usage: pdbq "),
