@@ -41,9 +41,15 @@ impl Failing {
         Failing::of_kind(bytes, n, ErrorKind::Other)
     }
 
-    /// A source of these bytes of which view number `n` fails with this kind, which is neither
-    /// `UnexpectedEof` nor `OutOfMemory`.
-    pub fn of_kind(bytes: Vec<u8>, n: u64, kind: ErrorKind) -> Self
+    /// The same source, but its view fails with kind `PermissionDenied`.
+    pub fn denied(bytes: Vec<u8>, n: u64) -> Self
+        ensures { result ≡ record { bytes = bytes.items; until = n; kind = ErrorKind.PermissionDenied; faults = 0 } }
+    {
+        Failing::of_kind(bytes, n, ErrorKind::PermissionDenied)
+    }
+
+    /// The same source with a kind that is neither `UnexpectedEof` nor `OutOfMemory`.
+    fn of_kind(bytes: Vec<u8>, n: u64, kind: ErrorKind) -> Self
         requires { IsOther kind }
         ensures { result ≡ record { bytes = bytes.items; until = n; kind = kind; faults = 0 } }
     {

@@ -193,6 +193,7 @@ fn other_formats(rt: HostRuntime) -> Result<(), Fail> {
     assert!(rt; opens(alloc, elf, "UnrecognizedFileFormat"));
 
     let mut short = s1(alloc)?;
+    assert!(rt; short.starts_with(pdb_msf::big::MAGIC));
     short.truncate(4095);
     assert!(rt; opens(alloc, short, "UnrecognizedFileFormat"));
 

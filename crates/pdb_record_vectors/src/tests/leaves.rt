@@ -2,6 +2,7 @@
 
 use pdb_base::Error;
 use pdb_records::{parse_id_data, parse_type_data};
+use pdb_tpi::constants::{LF_LABEL, LF_VFTABLE, LF_VTSHAPE};
 use std::alloc::Global;
 
 /// The leaves of types that have a record.
@@ -33,6 +34,10 @@ fn is_refused_id(alloc: Global, number: u16) -> bool {
 #[test]
 fn leaves(rt: HostRuntime) {
     let alloc = rt.alloc();
+    assert_eq!(rt;
+        [LF_VTSHAPE, LF_LABEL, LF_VFTABLE],
+        [0x000a, 0x000e, 0x151d]
+    );
     for number in 0..=0xffffu16 {
         let is_leaf = TYPE_LEAVES.contains(&number);
         assert_eq!(rt; is_refused_type(alloc, number), !is_leaf, "{number:x}");

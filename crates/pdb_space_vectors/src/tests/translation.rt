@@ -3,8 +3,9 @@
 use pdb_base::{Error, ParseBuffer};
 use pdb_msf::Stream;
 use pdb_space::{
-    AddressMap, ImageSectionHeader, OMAPRecord, OMAPTable, PdbInternalRva,
-    PdbInternalSectionOffset, RangeIter, Rva, SectionCharacteristics, SectionOffset,
+    AddressMap, ImageSectionHeader, OMAPRecord, OMAPRecords, OMAPTable, PdbInternalRva,
+    PdbInternalRvaRangeIter, PdbInternalSectionOffset, RangeIter, Rva, RvaRangeIter,
+    SectionCharacteristics, SectionOffset,
 };
 use std::alloc::Global;
 use std::ops::Range;
@@ -94,7 +95,8 @@ fn ranges(rt: HostRuntime) -> Result<(), Fail> {
 /// Whether a table is sorted, and its records.
 fn records_of(alloc: Global, records: &[(u32, u32)]) -> Result<(bool, Vec<OMAPRecord>), Fail> {
     let table = table(alloc, records)?;
-    Ok((table.is_sorted(), table.records().collect(alloc)?))
+    let stored: OMAPRecords<'_> = table.records();
+    Ok((table.is_sorted(), stored.collect(alloc)?))
 }
 
 #[test]
@@ -204,6 +206,65 @@ fn characteristics(rt: HostRuntime) {
     }
 }
 
+/// What each test of a word answers, from the lowest bit on.
+fn flags_of(word: SectionCharacteristics) -> [bool; 20] {
+    [
+        word.executable(),
+        word.initialized_data(),
+        word.uninitialized_data(),
+        word.other(),
+        word.info(),
+        word.remove(),
+        word.comdat(),
+        word.defer_speculative_exceptions(),
+        word.global_pointer_relative(),
+        word.purgeable(),
+        word.locked(),
+        word.preload(),
+        word.lnk_nreloc_ovfl(),
+        word.discardable(),
+        word.not_cached(),
+        word.not_paged(),
+        word.shared(),
+        word.execute(),
+        word.read(),
+        word.write(),
+    ]
+}
+
+/// The mask of each flag, from the lowest bit on.
+const MASKS: [u32; 20] = [
+    0x20,
+    0x40,
+    0x80,
+    0x100,
+    0x200,
+    0x800,
+    0x1000,
+    0x4000,
+    0x8000,
+    0x2_0000,
+    0x4_0000,
+    0x8_0000,
+    0x100_0000,
+    0x200_0000,
+    0x400_0000,
+    0x800_0000,
+    0x1000_0000,
+    0x2000_0000,
+    0x4000_0000,
+    0x8000_0000,
+];
+
+#[test]
+fn masks(rt: HostRuntime) {
+    for (place, mask) in MASKS.iter().enumerate() {
+        for (other, set) in flags_of(SectionCharacteristics(*mask)).iter().enumerate() {
+            assert!(rt; *set == (other == place), "{mask:x}");
+        }
+    }
+}
+
 /// A map of one section, without OMAP tables.
 fn map_of(alloc: Global, section: ImageSectionHeader) -> Result<AddressMap, Fail> {
     let sections = Vec::from_slice(alloc, &[section])?;
@@ -260,7 +321,7 @@ fn no_sections(rt: HostRuntime) {
 
 /// The first two ranges that a map answers of a start and an end of internal addresses.
 fn two_ranges(map: &AddressMap, start: u32, end: u32) -> [Option<Range<Rva>>; 2] {
-    let mut ranges = map.rva_ranges(PdbInternalRva(start)..PdbInternalRva(end));
+    let mut ranges: RvaRangeIter<'_> = map.rva_ranges(PdbInternalRva(start)..PdbInternalRva(end));
     [ranges.next(), ranges.next()]
 }
 
@@ -270,7 +331,7 @@ fn two_internal_ranges(
     start: u32,
     end: u32,
 ) -> [Option<Range<PdbInternalRva>>; 2] {
-    let mut ranges = map.internal_rva_ranges(Rva(start)..Rva(end));
+    let mut ranges: PdbInternalRvaRangeIter<'_> = map.internal_rva_ranges(Rva(start)..Rva(end));
     [ranges.next(), ranges.next()]
 }
 

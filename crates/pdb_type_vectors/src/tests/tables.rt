@@ -5,7 +5,8 @@ ghost use Rattle.std.specs.Prelude.{◌≡◌, ◌<◌, length, IfOk};
 use pdb_base::{Count, Error, FallibleIterator, IdIndex, TypeIndex};
 use pdb_msf::Stream;
 use pdb_tpi::{
-    Header, IdFinder, IdInformation, IdIter, Slice, Type, TypeFinder, TypeInformation, TypeIter,
+    Header, IdFinder, IdInformation, IdIter, ItemFinder, ItemInformation, ItemIter, Slice, Type,
+    TypeFinder, TypeInformation, TypeIter,
 };
 use pdb_vectors::item_table;
 use std::alloc::Global;
@@ -516,16 +517,17 @@ fn is_refused(ids: &IdFinder<'_>, index: u32) -> bool {
 
 #[test]
 fn no_bytes(rt: HostRuntime) -> Result<(), Fail> {
-    let empty = id_table(rt.alloc(), b"")?;
+    let empty: ItemInformation<IdIndex> = id_table(rt.alloc(), b"")?;
     assert_eq!(rt; (empty.len(), empty.is_empty()), (0, true));
-    assert!(rt; matches!(empty.iter().next(), Ok(None)));
+    let mut items: ItemIter<'_, IdIndex> = empty.iter();
+    assert!(rt; matches!(items.next(), Ok(None)));
     Ok(())
 }
 
 /// The last index that the finder of a table without items covers, and whether look-ups of 0 and
 /// 4097 are refused with their indexes.
 fn nothing_found(alloc: Global, empty: &IdInformation) -> Result<(IdIndex, bool, bool), Fail> {
-    let ids = empty.finder(alloc)?;
+    let ids: ItemFinder<'_, IdIndex> = empty.finder(alloc)?;
     Ok((ids.max_index(), is_refused(&ids, 0), is_refused(&ids, 4097)))
 }
 

@@ -263,7 +263,7 @@ fn failing_views(rt: HostRuntime) -> Result<(), Fail> {
             recovers(alloc, other, ErrorKind::Other, n == 4)?,
             "view {n}"
         );
-        let denied = Failing::of_kind(s1(alloc)?, n, ErrorKind::PermissionDenied);
+        let denied = Failing::denied(s1(alloc)?, n);
         assert!(rt;
             recovers(alloc, denied, ErrorKind::PermissionDenied, n == 4)?,
             "view {n}"
