@@ -1,5 +1,7 @@
 -- What a finder knows that was shown the walk of its table.
-use Rattle.std.specs.Prelude.{◌≡◌, ℕ, ◌*◌, ◌<◌, ◌≤◌}
+use Rattle.std.specs.Prelude.{◌≡◌, ℕ, ◌*◌, ◌<◌, ◌≤◌, Result, Ok, Err}
+use Rattle.pdb_base.specs.declared.error.Error.{Error}
+use Rattle.pdb_base.specs.declared.error.Error.TheVariants.{TypeNotIndexed}
 use Rattle.pdb_tpi.specs.Table.{Table}
 use Rattle.pdb_tpi.specs.Finder.{Indexed, first_of}
 
@@ -8,3 +10,8 @@ use Rattle.pdb_tpi.specs.Finder.{Indexed, first_of}
 pub record KnowsWalked (table : Table) (walked : ℕ) (finder : Indexed) : Type 0 where
   pub same : finder.table ≡ table
   pub blocks : (block : ℕ) → first_of table block < table.header.maximum_index → 8 * block ≤ walked → block < finder.known
+
+-- what a finder answers, with a fault in place of saying that an index is not known to it
+abbrev pub settled_of : {X : Type 0} → Result X Error → Error → Result X Error
+settled_of (Err (TypeNotIndexed index covered)) fault = Err fault
+settled_of answer fault = answer

@@ -1,12 +1,11 @@
 -- What a file replies to a query, and what a run over many queries answers.
-use Rattle.std.specs.Prelude.{◌≡◌, ◌≤◌, ◌⊎◌, List, [], ◌∷◌, length, ⊤, ℕ, All, Option, None, Result, Ok, Err}
+use Rattle.std.specs.Prelude.{◌≡◌, ◌≤◌, ◌⊎◌, List, [], ◌∷◌, length, map, ⊤, ℕ, All, Option, None, Result, Ok, Err}
 use Rattle.std.specs.Global.{Vec}
 use Rattle.std.specs.Option.{option_map}
 use Rattle.std.specs.declared.ops.Range.{Range}
 use Rattle.pdb_base.specs.declared.error.Error.{Error}
 use Rattle.pdb_base.specs.declared.error.Error.TheVariants as errors
 use Rattle.pdb_base.specs.Refusal.{refusal_of}
-use Rattle.pdb_base.specs.Endian.{little_number}
 use Rattle.pdb_base.specs.Answer.{Answer, ◌>>=◌, RefusesUnless}
 use Rattle.pdb_msf.specs.Header.{Head, opened}
 use Rattle.pdb_msf.specs.File.{stream_of}
@@ -18,7 +17,8 @@ use Rattle.pdb_values.specs.TypeValue as types
 use Rattle.pdb_values.specs.IdValue.{id_name}
 use Rattle.pdb_tpi.specs.Table.{Table, table_of}
 use Rattle.pdb_tpi.specs.Finder.{item_of}
-use Rattle.pdb_tpi.specs.Record.{type_of, id_of}
+use Rattle.pdb_tpi.specs.Record.{kind_of, type_of, id_of}
+use Rattle.pdb_tpi.specs.Chain.{fields_of}
 use Rattle.pdb_container.specs.declared.query.Query.{Query}
 use Rattle.pdb_container.specs.declared.query.Query.TheVariants as queries
 use Rattle.pdb_container.specs.declared.query.Reply.{Reply}
@@ -28,14 +28,11 @@ use Rattle.pdb_container.specs.declared.query.Reply.TheVariants as replies
 pub data Said : Type 0 where
   bytes : List ℕ → Said  -- the bytes of a stream
   entry : ℕ → ℕ → Option (List ℕ) → Said  -- a record: its index, its kind, and its name if it has one
+  fields : List (Option (List ℕ)) → Said  -- fields: the name of each, if it has one
   name : List ℕ → Said  -- a name
   moved : List Mapping → Range ℕ → Said  -- where a table moves the addresses of a range
 
 -- ---- what is meant
-
--- the kind of a record: its first two bytes, the lowest first
-abbrev pub kind_of : List ℕ → ℕ
-kind_of item = little_number 2 item
 
 -- a type of a table, by its index: the item of that index in the whole walk, and what it says
 unfoldable pub type_in : ℕ → Table → Answer Said
@@ -51,6 +48,12 @@ id_in index table = do
   value ← id_of item
   Ok (entry index (kind_of item) (id_name value))
 
+-- the names of the fields of a list of a table, and of the lists in which it goes on
+unfoldable pub fields_in : ℕ → Table → Answer Said
+fields_in index table = do
+  all ← fields_of (item_of table) index
+  Ok (fields (map types.name_of all))
+
 -- a type of the table that a stream is
 unfoldable pub type_within : ℕ → List ℕ → Answer Said
 type_within index stream = table_of stream >>= type_in index
@@ -58,6 +61,10 @@ type_within index stream = table_of stream >>= type_in index
 -- an id of the table that a stream is
 unfoldable pub id_within : ℕ → List ℕ → Answer Said
 id_within index stream = table_of stream >>= id_in index
+
+-- the fields of a list of the table that a stream is
+unfoldable pub fields_within : ℕ → List ℕ → Answer Said
+fields_within index stream = table_of stream >>= fields_in index
 
 -- the name at an offset of the string table that a stream is
 unfoldable pub name_within : ℕ → List ℕ → Answer Said
@@ -72,14 +79,28 @@ moved_within asked stream = do
   table ← omap.table_of stream
   Ok (moved table asked)
 
+-- the stream that a query asks of, and how many of its bytes at most
+abbrev pub stream_asked : Query → ℕ × Option ℕ
+stream_asked (queries.Stream number limit) = (number, limit)
+stream_asked (queries.TypeRecord stream index) = (stream, None)
+stream_asked (queries.IdRecord stream index) = (stream, None)
+stream_asked (queries.Name stream offset) = (stream, None)
+stream_asked (queries.Ranges stream start end) = (stream, None)
+stream_asked (queries.Fields stream index) = (stream, None)
+
+-- what the bytes of that stream say to the query
+abbrev pub said_within : Query → List ℕ → Answer Said
+said_within (queries.Stream number limit) stream = Ok (bytes stream)
+said_within (queries.TypeRecord number index) stream = type_within index stream
+said_within (queries.IdRecord number index) stream = id_within index stream
+said_within (queries.Name number offset) stream = name_within offset stream
+said_within (queries.Ranges number start end) stream = moved_within (record { start = start; end = end }) stream
+said_within (queries.Fields number index) stream = fields_within index stream
+
 -- The reply to a query of an open file: what the stream that is asked for says. The first fault is that
 -- of the stream, of the table in it, of the look-up, of the record that was looked up, in this order.
 abbrev pub reply_of : List ℕ → Head → Query → Answer Said
-reply_of file head (queries.Stream number limit) = stream_of file head number limit >>= λ stream. Ok (bytes stream)
-reply_of file head (queries.TypeRecord stream index) = stream_of file head stream None >>= type_within index
-reply_of file head (queries.IdRecord stream index) = stream_of file head stream None >>= id_within index
-reply_of file head (queries.Name stream offset) = stream_of file head stream None >>= name_within offset
-reply_of file head (queries.Ranges stream start end) = stream_of file head stream None >>= moved_within (record { start = start; end = end })
+reply_of file head query = stream_of file head (stream_asked query).0 (stream_asked query).1 >>= said_within query
 
 -- ---- what is replied
 
@@ -97,6 +118,7 @@ pub record AreMoved (table : List Mapping) (asked : Range ℕ) (ranges : List (R
 abbrev pub IsReply : Type 0 → Reply → Answer Said → Type 0
 IsReply failed (replies.Bytes stream) meant = meant ≡ Ok (bytes stream.items)
 IsReply failed (replies.Record index kind text) meant = meant ≡ Ok (entry index kind (option_map (λ copy. copy.items) text))
+IsReply failed (replies.Fields names) meant = meant ≡ Ok (fields (map (λ name. option_map (λ copy. copy.items) name) names.items))
 IsReply failed (replies.Name text) meant = meant ≡ Ok (name text.items)
 IsReply failed (replies.Ranges ranges) meant = (table : List Mapping) × (asked : Range ℕ) × (meant ≡ Ok (moved table asked)) × AreMoved table asked ranges.items
 IsReply failed (replies.Refused e) meant = RefusesUnless failed e meant

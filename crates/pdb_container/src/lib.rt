@@ -2,6 +2,7 @@
 //! records, names, addresses and how they are translated, and frames.
 #![tactic(auto)]
 
+mod fields;
 mod lookup;
 mod name;
 mod query;

@@ -1,15 +1,19 @@
-//! The item of an index, as the walk of the whole table has it.
+//! What a finder that was shown the whole walk of its table finds: an item by its index, and the fields
+//! of a list.
 
-ghost use Rattle.std.specs.Prelude.{◌≡◌, length, IfOk};
+ghost use Rattle.std.specs.Prelude.{◌≡◌, length, map, IfOk};
 ghost use Rattle.pdb_base.specs.Refusal.{refusal_of};
 ghost use Rattle.pdb_base.specs.Answer.{Answers};
 ghost use Rattle.pdb_tpi.specs.Walk.{fault_of};
 ghost use Rattle.pdb_tpi.specs.Steps.{walk, walk_rest};
 ghost use Rattle.pdb_tpi.specs.Finder.{known_first, item_of};
-ghost use Rattle.pdb_container.specs.Lookup.{KnowsWalked};
+ghost use Rattle.pdb_tpi.specs.Chain.{fields_of};
+ghost use Rattle.pdb_values.specs.TypeView.{type_value};
+ghost use Rattle.pdb_container.specs.Lookup.{KnowsWalked, settled_of};
 
-use pdb_base::{Error, FallibleIterator, ItemIndex, Result};
-use pdb_tpi::{Item, ItemFinder, ItemInformation};
+use pdb_base::{Error, FallibleIterator, ItemIndex, Result, TypeIndex};
+use pdb_tpi::{Item, ItemFinder, ItemInformation, TypeInformation};
+use pdb_values::TypeData;
 use std::alloc::Global;
 
 /// Walks a whole table, shows each step to a new finder of it, and gives the fault at which the walk
@@ -29,6 +33,19 @@ fn learn<I: ItemIndex>(finder: &mut ItemFinder<'_, I>, table: &ItemInformation<I
     }
 }
 
+/// What a finder answers, with this fault in place of saying that an index is not known to it.
+fn settled<T>(answer: Result<T>, fault: Error) -> Result<T>
+    ensures { result ≡ settled_of answer.entry fault.entry }
+{
+    match answer {
+        Ok(found) => Ok(found),
+        Err(error) => match error {
+            Error::TypeNotIndexed(_, _) => Err(fault),
+            error => Err(error),
+        },
+    }
+}
+
 /// The item of an index, wherever in the table it stands.
 ///
 /// # Errors
@@ -45,11 +62,23 @@ pub fn look_up<'t, I: ItemIndex>(
 {
     let mut finder = table.finder(alloc)?;
     let fault = learn(&mut finder, table);
-    match finder.find(index) {
-        Ok(item) => Ok(item),
-        Err(error) => match error {
-            Error::TypeNotIndexed(_, _) => Err(fault),
-            error => Err(error),
-        },
-    }
+    settled(finder.find(index), fault)
+}
+
+/// The fields of a list and of the lists in which it goes on, wherever in the table they stand.
+///
+/// # Errors
+/// What comes first along the lists, in this order for each: what `look_up` refuses; that the item is
+/// no list of fields; what its record is refused for; and that it goes on in a list that is not below it.
+/// `OutOfMemory` where memory is refused.
+pub fn look_up_fields<'t>(
+    alloc: Global,
+    table: &'t TypeInformation,
+    index: TypeIndex,
+) -> Result<Vec<TypeData<'t>>>
+    ensures { Answers (λ fields. map type_value fields.items) result (fields_of (item_of table.now) index.0) }
+{
+    let mut finder = table.finder(alloc)?;
+    let fault = learn(&mut finder, table);
+    settled(finder.fields(alloc, index), fault)
 }

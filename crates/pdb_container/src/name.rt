@@ -1,12 +1,26 @@
-//! Names in a string table.
+//! Names: copies of them, and those in a string table.
 
+ghost use Rattle.std.specs.Prelude.{◌≡◌, IfOk, IfErr};
+ghost use Rattle.std.specs.Option.{option_map};
+ghost use Rattle.pdb_values.specs.Text.{text_bytes};
 ghost use Rattle.pdb_container.specs.Reply.{Replies, name_within};
 
 use crate::query::Reply;
-use pdb_base::Result;
+use pdb_base::{Error, RawString, Result};
 use pdb_msf::Stream;
 use pdb_space::{StringRef, StringTable};
 use std::alloc::Global;
+
+/// A copy of a name, if there is one.
+pub fn copied(alloc: Global, name: Option<RawString<'_>>) -> Result<Option<Vec<u8>>>
+    ensures ok { IfOk result (λ copy. option_map (λ bytes. bytes.items) copy ≡ option_map text_bytes name.entry) }
+    ensures want { IfErr result (λ e. e ≡ Error.OutOfMemory) }
+{
+    match name {
+        Some(name) => Ok(Some(Vec::from_slice(alloc, name.as_bytes())?)),
+        None => Ok(None),
+    }
+}
 
 /// The name at a place in the string table that a stream is.
 ///

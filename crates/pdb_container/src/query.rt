@@ -47,6 +47,14 @@ pub enum Query {
         /// The address behind the last.
         end: u32,
     },
+
+    /// The names of the fields of a class, a union or an enumeration.
+    Fields {
+        /// The number of the stream that holds the table of types.
+        stream: u32,
+        /// The index of the list of fields.
+        index: u32,
+    },
 }
 
 /// The reply to a query.
@@ -70,6 +78,9 @@ pub enum Reply {
 
     /// Where the addresses are moved, one range for each record that moves some of them.
     Ranges(Vec<Range<u32>>),
+
+    /// The name of each field of a list and of the lists in which it goes on, in order, where it has one.
+    Fields(Vec<Option<Vec<u8>>>),
 
     /// Why there is no answer: the first refusal of the stream, of the table in it, of the look-up and of
     /// the record, in this order; or memory was refused on the way.

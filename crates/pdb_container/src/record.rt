@@ -4,9 +4,11 @@ ghost use Rattle.std.specs.Prelude.{◌≡◌, Ok};
 ghost use Rattle.std.specs.Option.{option_map};
 ghost use Rattle.pdb_values.specs.Text.{text_bytes};
 ghost use Rattle.pdb_values.specs.IdValue.{id_name, id_value};
-ghost use Rattle.pdb_container.specs.Reply.{Replies, entry, id_within, kind_of, type_within};
+ghost use Rattle.pdb_tpi.specs.Record.{kind_of};
+ghost use Rattle.pdb_container.specs.Reply.{Replies, entry, id_within, type_within};
 
 use crate::lookup::look_up;
+use crate::name::copied;
 use crate::query::Reply;
 use pdb_base::{IdIndex, ItemIndex, RawString, Result, TypeIndex};
 use pdb_msf::Stream;
@@ -22,14 +24,10 @@ fn reply<I: ItemIndex>(
 ) -> Result<Reply>
     ensures { Replies result (Ok (entry (I.number item.now.index) (kind_of item.now.bytes.now) (option_map text_bytes name.entry))) }
 {
-    let name = match name {
-        Some(name) => Some(Vec::from_slice(alloc, name.as_bytes())?),
-        None => None,
-    };
     Ok(Reply::Record {
         index: item.index().into(),
         kind: item.raw_kind(),
-        name,
+        name: copied(alloc, name)?,
     })
 }
 

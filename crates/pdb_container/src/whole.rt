@@ -2,16 +2,45 @@
 
 ghost use Rattle.std.specs.Prelude.{◌≡◌, IsTrue, IfOk, IfErr, OnErr};
 ghost use Rattle.pdb_msf.specs.Source.{HasFailed, IsKept};
-ghost use Rattle.pdb_container.specs.Reply.{AreReplies, IsReply, IsRun, RepliesUnless, reply_of};
+ghost use Rattle.pdb_container.specs.Reply.{AreReplies, IsReply, IsRun, Replies, RepliesUnless, reply_of, said_within, stream_asked};
 
+use crate::fields::fields;
 use crate::name::name;
 use crate::query::{Query, Reply};
 use crate::ranges::ranges;
 use crate::record::{id_record, type_record};
 use pdb_base::{Error, IdIndex, Result, TypeIndex};
-use pdb_msf::{BigMSF, Msf, Source, open_msf};
+use pdb_msf::{BigMSF, Msf, Source, Stream, open_msf};
 use pdb_space::StringRef;
 use std::alloc::Global;
+
+/// The stream that a query asks of, and how many of its bytes at most.
+fn stream_asked(query: Query) -> (u32, Option<usize>)
+    ensures { result ≡ stream_asked query }
+{
+    match query {
+        Query::Stream { number, limit } => (number, limit),
+        Query::TypeRecord { stream, .. } => (stream, None),
+        Query::IdRecord { stream, .. } => (stream, None),
+        Query::Name { stream, .. } => (stream, None),
+        Query::Ranges { omap, .. } => (omap, None),
+        Query::Fields { stream, .. } => (stream, None),
+    }
+}
+
+/// What that stream says to the query.
+fn said_within(alloc: Global, stream: Stream, query: Query) -> Result<Reply>
+    ensures { Replies result (said_within query stream) }
+{
+    match query {
+        Query::Stream { .. } => Ok(Reply::Bytes(stream.into_bytes())),
+        Query::TypeRecord { index, .. } => type_record(alloc, stream, TypeIndex(index)),
+        Query::IdRecord { index, .. } => id_record(alloc, stream, IdIndex(index)),
+        Query::Name { offset, .. } => name(alloc, stream, StringRef(offset)),
+        Query::Ranges { start, end, .. } => ranges(alloc, stream, start..end),
+        Query::Fields { index, .. } => fields(alloc, stream, TypeIndex(index)),
+    }
+}
 
 /// What a file answers to one question.
 fn answer<S: Source>(alloc: Global, file: &mut BigMSF<S>, query: Query) -> Result<Reply>
@@ -20,28 +49,9 @@ fn answer<S: Source>(alloc: Global, file: &mut BigMSF<S>, query: Query) -> Resul
     ensures source { IsKept (S.state file.old.source) (S.state file.new.source) }
     ensures head { file.new.head ≡ file.old.head }
 {
-    match query {
-        Query::Stream { number, limit } => {
-            let stream = file.get(alloc, number, limit)?;
-            Ok(Reply::Bytes(stream.into_bytes()))
-        }
-        Query::TypeRecord { stream, index } => {
-            let stream = file.get(alloc, stream, None)?;
-            type_record(alloc, stream, TypeIndex(index))
-        }
-        Query::IdRecord { stream, index } => {
-            let stream = file.get(alloc, stream, None)?;
-            id_record(alloc, stream, IdIndex(index))
-        }
-        Query::Name { stream, offset } => {
-            let stream = file.get(alloc, stream, None)?;
-            name(alloc, stream, StringRef(offset))
-        }
-        Query::Ranges { omap, start, end } => {
-            let stream = file.get(alloc, omap, None)?;
-            ranges(alloc, stream, start..end)
-        }
-    }
+    let (number, limit) = stream_asked(query);
+    let stream = file.get(alloc, number, limit)?;
+    said_within(alloc, stream, query)
 }
 
 /// Asks a file one question.

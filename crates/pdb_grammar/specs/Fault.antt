@@ -1,11 +1,20 @@
 -- Why bytes that begin with no value of a shape are refused.
 use Rattle.std.specs.Prelude.{◌≡◌, ◌⊎◌, ℕ, zero, suc, false, List}
-use Rattle.pdb_base.specs.Refusal.{Refusal, unexpected_eof, unexpected_numeric_prefix, unimplemented_type_kind}
+use Rattle.pdb_base.specs.Refusal.{Refusal, unexpected_eof, unexpected_numeric_prefix, unimplemented_type_kind, unimplemented_feature}
 use Rattle.pdb_base.specs.Numeric.{numeric_leaves, unsigned_leaves}
 use Rattle.pdb_base.specs.Spelling.{SpellsNumber, Begins}
 use Rattle.pdb_base.specs.Laws.{BeginsBadly}
 use Rattle.pdb_flags.specs.PointerAttributes.{is_pointer_word}
 use Rattle.pdb_grammar.specs.Shape.{Shape, Spells, pointer_leaf, num, variant, pointer_word, when, times}
+
+-- The refusals that bytes can have: they end too soon, a number has an unknown prefix, a leaf has no
+-- record, or what they say is not read here.
+abbrev pub IsFaultOfBytes : Refusal → Type 0
+IsFaultOfBytes unexpected_eof = Unit {0}
+IsFaultOfBytes (unexpected_numeric_prefix prefix) = Unit {0}
+IsFaultOfBytes (unimplemented_type_kind kind) = Unit {0}
+IsFaultOfBytes (unimplemented_feature feature) = Unit {0}
+IsFaultOfBytes other = ⊥
 
 -- bytes begin with no value
 abbrev pub BeginsNone : {A : Type 0} → (A → List ℕ → Type 0) → List ℕ → Type 0

@@ -2,11 +2,11 @@
 //! contract is a law.
 
 ghost use Rattle.std.specs.Prelude.{ℕ, List};
-ghost use Rattle.pdb_base.specs.Refusal.{out_of_memory};
+ghost use Rattle.pdb_base.specs.Refusal.{Refusal, out_of_memory};
 ghost use Rattle.pdb_base.specs.Spelling.{Begins};
 ghost use Rattle.pdb_grammar.specs.Agreement.{Agrees};
 ghost use Rattle.pdb_grammar.specs.Shape.{Shape, Spells, read_shape};
-ghost use Rattle.pdb_grammar.specs.Fault.{Refuses};
+ghost use Rattle.pdb_grammar.specs.Fault.{IsFaultOfBytes, Refuses};
 ghost use Rattle.pdb_grammar.specs.Row.{Row, Assigns, Stops, row};
 ghost use Rattle.pdb_grammar.specs.Dimensions.{AreDimensions, NoDimensions, dimensions_at};
 ghost use Rattle.pdb_grammar.specs.ToEnd.{TakesBytes, Fills, FailsBehind, to_end};
@@ -24,9 +24,11 @@ pub fn rows<A>()
     ensures { (r : Row A) → Agrees (row r) (Assigns r) (Stops r) }
 {}
 
-/// No bytes are refused for want of memory.
+/// Bytes are refused for what they are, and so never for want of memory.
+#[tactic(auto, using(crate::proofs::NoWant::stops_fault))]
 pub fn refusals<A>()
-    ensures { (r : Row A) (bytes : List ℕ) → ¬ Stops r bytes out_of_memory }
+    ensures faults { (r : Row A) (bytes : List ℕ) (refusal : Refusal) → Stops r bytes refusal → IsFaultOfBytes refusal }
+    ensures want { (r : Row A) (bytes : List ℕ) → ¬ Stops r bytes out_of_memory }
 {}
 
 /// What is passed by as padding is pads, one after another, up to the end or to a byte that is none;

@@ -9,3 +9,4 @@ pub mod IdLemmas
 pub mod AssignedLemmas
 pub mod MemoryLemmas
 pub mod ShortLemmas
+pub mod FaultLemmas

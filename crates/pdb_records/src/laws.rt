@@ -2,7 +2,9 @@
 //! contract is a law.
 
 ghost use Rattle.std.specs.Prelude.{◌≡◌, ℕ, List, length};
+ghost use Rattle.pdb_base.specs.Refusal.{Refusal};
 ghost use Rattle.pdb_grammar.specs.Agreement.{Agrees, NoTwoValues};
+ghost use Rattle.pdb_grammar.specs.Fault.{IsFaultOfBytes};
 ghost use Rattle.pdb_records.specs.Fields.{record_at};
 ghost use Rattle.pdb_records.specs.Grammar.{IsRecord, NoRecord};
 ghost use Rattle.pdb_records.specs.Ids.{id_at, IsId, NoId};
@@ -25,6 +27,12 @@ pub fn records()
 pub fn ids()
     ensures agrees { Agrees id_at IsId NoId }
     ensures one { NoTwoValues IsId }
+{}
+
+/// Type records are refused for what their bytes are: these end too soon, a number has an unknown prefix,
+/// a leaf has no record here, or what they say is not read here.
+pub fn faults()
+    ensures { (bytes : List ℕ) (refusal : Refusal) → NoRecord bytes refusal → IsFaultOfBytes refusal }
 {}
 
 /// Lists are short beside their record: each has at most half as many items as the record has bytes.

@@ -11,3 +11,4 @@ pub mod RecordLemmas
 pub mod HeaderFaults
 pub mod WalkSteps
 pub mod DerivedLemmas
+pub mod ChainLemmas

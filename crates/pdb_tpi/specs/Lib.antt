@@ -5,5 +5,6 @@ pub mod Steps
 pub mod Place
 pub mod Finder
 pub mod Record
+pub mod Chain
 pub mod Laws
 pub mod StepLaws

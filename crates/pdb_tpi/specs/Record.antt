@@ -1,5 +1,6 @@
 -- What the items of a table say.
 use Rattle.std.specs.Prelude.{ℕ, nat_lt, if◌then◌else◌, List}
+use Rattle.pdb_base.specs.Endian.{little_number}
 use Rattle.pdb_base.specs.Answer.{Answer}
 use Rattle.pdb_values.specs.Primitive.{first_record}
 use Rattle.pdb_values.specs.TypeValue.{TypeValue}
@@ -7,6 +8,10 @@ use Rattle.pdb_values.specs.TypeView.{primitive_of}
 use Rattle.pdb_values.specs.IdValue.{IdValue}
 use Rattle.pdb_records.specs.Fields.{type_record}
 use Rattle.pdb_records.specs.Ids.{id_record}
+
+-- the kind of an item: its first two bytes, the lowest first
+abbrev pub kind_of : List ℕ → ℕ
+kind_of item = little_number 2 item
 
 -- the type that an item is: an index below 0x1000 names a primitive type, and any other item is a type
 -- record

@@ -1,7 +1,7 @@
 //! One item of a table.
 
 ghost use Rattle.std.specs.Prelude.{◌≡◌, ◌≤◌, ◌↔◌, [], length, IsTrue, ⊤};
-ghost use Rattle.pdb_base.specs.Endian.{little_number};
+ghost use Rattle.pdb_tpi.specs.Record.{kind_of};
 
 use byteorder::{ByteOrder, LittleEndian};
 use std::alloc::AllocError;
@@ -55,7 +55,7 @@ impl<'t, I: Copy> Item<'t, I> {
 
     /// The kind of the record: its first two bytes, the lowest first.
     pub fn raw_kind(&self) -> u16
-        ensures { result ≡ little_number 2 self.now.bytes.now }
+        ensures { result ≡ kind_of self.now.bytes.now }
     {
         LittleEndian::read_u16(self.bytes)
     }

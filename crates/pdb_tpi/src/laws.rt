@@ -6,6 +6,7 @@ ghost use Rattle.pdb_tpi.specs.Table.{Table};
 ghost use Rattle.pdb_tpi.specs.Walk.{IsWalk, items, rest};
 ghost use Rattle.pdb_tpi.specs.Steps.{room, body, walk, walk_rest};
 ghost use Rattle.pdb_tpi.specs.Finder.{IsKnown, known_of};
+ghost use Rattle.pdb_tpi.specs.Chain.{LookUp, IsChainAnswer};
 ghost use Rattle.pdb_tpi.specs.Laws.{AreBytes, StandAtOffsets, WalksOnce, HasFault, ReadsFew};
 
 pub mod derived;
@@ -42,4 +43,11 @@ pub fn known_blocks()
 #[tactic(auto, using(crate::proofs::LawLemmas::reads_few))]
 pub fn counts()
     ensures { (table : Table) (known i : ℕ) → ReadsFew table known i }
+{}
+
+/// Lists of fields form chains. From each index there is one, or one that breaks, and the fields of an
+/// index are those of the lists of its chain, joined in order, or the refusal with which it breaks.
+#[tactic(auto, using(crate::proofs::ChainLemmas::chain_answer))]
+pub fn chains()
+    ensures { (look : LookUp) (index : ℕ) → IsChainAnswer look index }
 {}

@@ -1,6 +1,8 @@
-//! The tables of types and of ids: their items one after another, and one item by its index.
+//! The tables of types and of ids: their items one after another, and one item by its index; and the
+//! fields of a type, through all lists in which they stand.
 #![tactic(auto)]
 
+mod fields;
 mod finder;
 mod header;
 mod id_record;

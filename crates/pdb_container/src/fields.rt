@@ -1,0 +1,42 @@
+//! The fields of a list, by their names.
+
+ghost use Rattle.std.specs.Prelude.{◌≡◌, map, IfOk, IfErr};
+ghost use Rattle.std.specs.Option.{option_map};
+ghost use Rattle.pdb_values.specs.TypeValue.{name_of};
+ghost use Rattle.pdb_values.specs.TypeView.{type_value};
+ghost use Rattle.pdb_container.specs.Reply.{Replies, fields_within};
+
+use crate::lookup::look_up_fields;
+use crate::name::copied;
+use crate::query::Reply;
+use pdb_base::{Error, Result, TypeIndex};
+use pdb_msf::Stream;
+use pdb_tpi::TypeInformation;
+use pdb_values::TypeData;
+use std::alloc::Global;
+
+/// Copies of the names of fields, for each of them that has one.
+fn names_of(alloc: Global, fields: &[TypeData<'_>]) -> Result<Vec<Option<Vec<u8>>>>
+    ensures ok { IfOk result (λ names. map (λ name. option_map (λ copy. copy.items) name) names.items ≡ map (λ field. name_of (type_value field)) fields.now) }
+    ensures want { IfErr result (λ e. e ≡ Error.OutOfMemory) }
+{
+    let mut names = Vec::with_capacity(alloc, fields.len())?;
+    for field in fields {
+        names.push_reserved(copied(alloc, field.name())?);
+    }
+    Ok(names)
+}
+
+/// The fields of a list of the table that a stream is, by the index of the list.
+///
+/// # Errors
+/// What the table refuses, and then what the lists do, one after another; `OutOfMemory` where memory is
+/// refused.
+#[tactic(auto, unfolding(crate::specs::Reply::fields_within, crate::specs::Reply::fields_in))]
+pub fn fields(alloc: Global, stream: Stream, index: TypeIndex) -> Result<Reply>
+    ensures { Replies result (fields_within index.0 stream) }
+{
+    let table = TypeInformation::parse(stream)?;
+    let fields = look_up_fields(alloc, &table, index)?;
+    Ok(Reply::Fields(names_of(alloc, &fields)?))
+}

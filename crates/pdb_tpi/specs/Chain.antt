@@ -1,0 +1,116 @@
+-- Lists of fields, and the chains in which they go on: LF_FIELDLIST of Microsoft's cvinfo.h, whose
+-- LF_INDEX names the list that goes on where this one ends.
+use Rattle.std.specs.Prelude.{◌≡◌, ◌⊎◌, ℕ, zero, suc, ◌<◌, ◌≤◌, ◌==◌, nat_lt, if◌then◌else◌, List, [], ◌∷◌, ◌++◌, map, codes, Option, Some, None, Ok, Err}
+use Rattle.std.specs.List.{flat_map}
+use Rattle.pdb_base.specs.declared.index.TypeIndex.{TypeIndex}
+use Rattle.pdb_base.specs.Refusal.{Refusal, unimplemented_type_kind, unimplemented_feature}
+use Rattle.pdb_base.specs.Answer.{Answer, ◌>>=◌, required}
+use Rattle.pdb_values.specs.declared.field_list.FieldList.{FieldList}
+use Rattle.pdb_values.specs.TypeValue.{TypeValue, field_list, values_in}
+use Rattle.pdb_values.specs.TypeView.{type_value}
+use Rattle.pdb_records.specs.Fields.{field_list_leaf}
+use Rattle.pdb_tpi.specs.Record.{kind_of, type_of}
+
+pub mod Step
+
+-- what a look-up answers of an index: the bytes of an item
+abbrev pub LookUp : Type 0
+LookUp = ℕ → Answer (List ℕ)
+
+-- a list of fields, and the index of the list in which it goes on
+pub record Listed : Type 0 where
+  pub fields : List TypeValue
+  pub continuation : Option TypeIndex
+
+-- what a list of fields says
+abbrev pub listed_value : FieldList → Listed
+listed_value list = record { fields = map type_value list.fields.items; continuation = list.continuation }
+
+-- the list that a type of this kind is
+abbrev pub listed : ℕ → TypeValue → Answer Listed
+listed kind (field_list fields continuation) = Ok (record { fields = values_in fields; continuation = continuation })
+listed kind other = Err (unimplemented_type_kind kind)
+
+-- The list of fields of an index. The first fault is that of the look-up, then that the item is of
+-- another kind, then that of the record.
+unfoldable pub list_of : LookUp → ℕ → Answer Listed
+list_of look index = do
+  item ← look index
+  is_list ← required (kind_of item == field_list_leaf) (unimplemented_type_kind (kind_of item))
+  value ← type_of index item
+  listed (kind_of item) value
+
+-- the refusal of a list that goes on in one that is not below it
+abbrev pub not_below : Refusal
+not_below = unimplemented_feature (codes "field list continuation not below its list")
+
+-- ---- chains
+
+-- Lists lead from one index to another: the first is the list of the one index, each goes on in the next,
+-- whose index is below its own, and the last goes on in the list of the other index.
+abbrev pub Lead : LookUp → ℕ → List Listed → ℕ → Type 0
+Lead look from [] to = from ≡ to
+Lead look from (list ∷ lists) to = (list_of look from ≡ Ok list) × ((next : TypeIndex) × (list.continuation ≡ Some next) × (next.0 < from) × Lead look next.0 lists to)
+
+-- Lists form the chain from an index on: they lead to a last one, which goes on in none.
+pub record IsChain (look : LookUp) (index : ℕ) (lists : List Listed) : Type 0 where
+  pub before : List Listed
+  pub at : ℕ
+  pub last : Listed
+  pub are : lists ≡ before ++ last ∷ []
+  pub lead : Lead look index before at
+  pub is_last : list_of look at ≡ Ok last
+  pub ends : last.continuation ≡ None
+
+-- a list goes on in one that is not below it
+pub record GoesUp (look : LookUp) (index : ℕ) : Type 0 where
+  pub list : Listed
+  pub next : TypeIndex
+  pub is : list_of look index ≡ Ok list
+  pub goes_on : list.continuation ≡ Some next
+  pub above : index ≤ next.0
+
+-- The chain from an index on breaks with a refusal: lists lead to an index whose list is refused so, or
+-- whose list goes on in one that is not below it.
+pub record Breaks (look : LookUp) (index : ℕ) (refusal : Refusal) : Type 0 where
+  pub before : List Listed
+  pub at : ℕ
+  pub lead : Lead look index before at
+  pub why : (list_of look at ≡ Err refusal) ⊎ (GoesUp look at × (refusal ≡ not_below))
+
+-- ---- the fields
+
+-- fields in front of others
+abbrev pub in_front : List TypeValue → Answer (List TypeValue) → Answer (List TypeValue)
+in_front fields others = others >>= λ more. Ok (fields ++ more)
+
+-- the fields of the lists in which the list of an index goes on, where `behind` says those of a list that
+-- is below it
+abbrev pub continued : (ℕ → Answer (List TypeValue)) → ℕ → Option TypeIndex → Answer (List TypeValue)
+continued behind index None = Ok []
+continued behind index (Some next) = if nat_lt next.0 index then behind next.0 else Err not_below
+
+-- the fields of a list with those of the lists in which it goes on
+abbrev pub joined : (ℕ → Answer (List TypeValue)) → ℕ → Listed → Answer (List TypeValue)
+joined behind index list = in_front list.fields (continued behind index list.continuation)
+
+-- the same from an index on, along so many lists at most
+abbrev along : ℕ → LookUp → ℕ → Answer (List TypeValue)
+along zero look index = Err not_below
+along (suc most) look index = list_of look index >>= joined (along most look) index
+
+-- The fields of the lists of the chain from an index on, joined in order, or the refusal with which the
+-- chain breaks. Since each list is below the one before, an index has a chain of no more lists than
+-- indexes up to it.
+unfoldable pub fields_of : LookUp → ℕ → Answer (List TypeValue)
+fields_of look index = along (suc index) look index
+
+-- What the answer is in words of chains: the joined fields of the one chain there is, or the refusal with
+-- which it breaks, and never both.
+pub record IsChainAnswer (look : LookUp) (index : ℕ) : Type 0 where
+  pub joined : (lists : List Listed) → IsChain look index lists → fields_of look index ≡ Ok (flat_map (λ list. list.fields) lists)
+  pub chained : (fields : List TypeValue) → fields_of look index ≡ Ok fields → (lists : List Listed) × IsChain look index lists × (fields ≡ flat_map (λ list. list.fields) lists)
+  pub one : (lists others : List Listed) → IsChain look index lists → IsChain look index others → lists ≡ others
+  pub refused : (refusal : Refusal) → Breaks look index refusal → fields_of look index ≡ Err refusal
+  pub broken : (refusal : Refusal) → fields_of look index ≡ Err refusal → Breaks look index refusal
+  pub never_both : (lists : List Listed) (refusal : Refusal) → IsChain look index lists → ¬ Breaks look index refusal
