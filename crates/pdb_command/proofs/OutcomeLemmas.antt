@@ -1,5 +1,5 @@
 -- One query to a vector of bytes, which is a sound source.
-use Rattle.std.proofs.Common.{◌≡◌, List, [], ◌∷◌, ◌++◌, ℕ, Ok, Option, Bor, refl, ap, ◌∙◌, subst, inl, inr}
+use Rattle.std.proofs.Common.{◌≡◌, List, [], ◌∷◌, ◌++◌, ℕ, Ok, map, refl, sym, subst, inl, inr}
 use Rattle.std.specs.Option.{option_map}
 use Rattle.std.specs.Prelude.{◌⊎◌, IsTrue, true}
 use Rattle.std.specs.Global.{Vec}
@@ -9,10 +9,10 @@ use Rattle.pdb_container.specs.declared.query.Reply.{Reply}
 use Rattle.pdb_container.specs.Refusal.{refusal_of, out_of_memory}
 use Rattle.pdb_container.specs.Answer.{Answer, RefusesUnless}
 use Rattle.pdb_container.specs.Header.{Head, opened}
-use Rattle.pdb_container.specs.Reply.{Said, entry, IsReply, AreReplies, IsRun, reply_of}
+use Rattle.pdb_container.specs.declared.query.Reply.TheVariants as replies
+use Rattle.pdb_container.specs.Reply.{Said, bytes, entry, fields, name, moved, IsReply, AreReplies, IsRun, reply_of}
 use Rattle.pdb_command.specs.declared.outcome.Outcome.{Outcome}
-use Rattle.pdb_command.specs.Lines.{record_line}
-use Rattle.pdb_command.specs.Printed.{IsPrinted, IsAnswered, IsRefused, IsOutcomeOf, answer_of}
+use Rattle.pdb_command.specs.Printed.{IsPrinted, IsAnsweredBy, IsRefused, IsOutcomeOf, ShowsReply, answer_of}
 
 -- never: a vector of bytes is sound
 abbrev pub Never : Type 0
@@ -46,10 +46,15 @@ refused_run e file query outcome (inl is) refused = inl (rw is refused)
 refused_run e file query outcome (inr (inl want)) refused = inr (subst (λ (d : Error). IsRefused (refusal_of d) outcome) want refused)
 refused_run e file query outcome (inr (inr fault)) refused = absurd (fault.1 refl)
 
-pub answered_outcome : (said : Said) (meant : Answer Said) (outcome : Outcome) → meant ≡ Ok said → IsAnswered said outcome → IsOutcomeOf meant outcome
-answered_outcome said meant outcome is answered = rw is answered
+-- what is shown of a reply is the outcome of the answer that it replies
+answered_by : (said : Said) (meant : Answer Said) (lines : List ℕ) (outcome : Outcome) → meant ≡ Ok said → IsPrinted said lines → IsAnsweredBy lines outcome → IsOutcomeOf meant outcome
+answered_by said meant lines outcome is printed by =
+    rw is (record { status = by.status; out = subst (IsPrinted said) (sym by.out) printed; err = by.err })
 
--- the name that a reply holds is the one that a record's line is made of
-pub same_name : (index kind : ℕ) (held : Option (Vec ℕ)) (shown : Option (Bor (List ℕ))) (out : List ℕ) → option_map (λ text. text.now) shown ≡ option_map (λ copy. copy.items) held
-    → out ≡ record_line index kind (option_map (λ text. text.now) shown) → IsPrinted (entry index kind (option_map (λ copy. copy.items) held)) out
-same_name index kind held shown out same printed = printed ∙ ap (record_line index kind) same
+pub shown_outcome : (reply : Reply) (meant : Answer Said) (outcome : Outcome) → IsReply Never reply meant → ShowsReply reply outcome → IsOutcomeOf meant outcome ⊎ IsRefused out_of_memory outcome
+shown_outcome (replies.Bytes stream) meant outcome is shown = inl (answered_by (bytes stream.items) meant _ outcome is refl shown)
+shown_outcome (replies.Record index kind name) meant outcome is shown = inl (answered_by (entry index kind (option_map (λ copy. copy.items) name)) meant _ outcome is refl shown)
+shown_outcome (replies.Fields names) meant outcome is shown = inl (answered_by (fields (map (λ name. option_map (λ copy. copy.items) name) names.items)) meant _ outcome is refl shown)
+shown_outcome (replies.Name text) meant outcome is shown = inl (answered_by (name text.items) meant _ outcome is refl shown)
+shown_outcome (replies.Ranges ranges) meant outcome (table, asked, is, moves) shown = inl (answered_by (moved table asked) meant _ outcome is (ranges.items, moves, refl) shown)
+shown_outcome (replies.Refused e) meant outcome is shown = refused_outcome e meant outcome is shown

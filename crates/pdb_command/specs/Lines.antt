@@ -1,10 +1,13 @@
 -- The lines that a reply is printed as.
-use Rattle.std.specs.Prelude.{ℕ, ◌*◌, List, [], ◌∷◌, ◌++◌, length, take, drop, codes, Option, Some, None}
+use Rattle.std.specs.Prelude.{ℕ, ◌*◌, List, [], ◌∷◌, ◌++◌, length, map, take, drop, codes, Option, Some, None}
 use Rattle.std.specs.Int.{div_ceil}
+use Rattle.std.specs.Option.{option_map}
 use Rattle.std.specs.List.{flat_map, range_with_len}
 use Rattle.std.specs.declared.ops.Range.{Range}
 use Rattle.hex.specs.Hex.{encode_lower}
 use Rattle.pdb_container.specs.ErrorText.{hexadecimal, hexadecimal_of_four}
+use Rattle.pdb_container.specs.declared.query.Reply.{Reply}
+use Rattle.pdb_container.specs.declared.query.Reply.TheVariants as replies
 use Rattle.pdb_base.specs.Text.{lossy}
 
 abbrev pub line_feed : ℕ
@@ -35,6 +38,10 @@ name_text None = codes "-"
 unfoldable pub record_line : ℕ → ℕ → Option (List ℕ) → List ℕ
 record_line index kind name = line (hexadecimal index ++ codes " " ++ hexadecimal_of_four kind ++ codes " " ++ name_text name)
 
+-- a line for each name
+unfoldable pub name_lines : List (Option (List ℕ)) → List ℕ
+name_lines names = flat_map (λ name. line (name_text name)) names
+
 -- a range: where it starts, two dots, and where it ends
 abbrev pub range_line : Range ℕ → List ℕ
 range_line range = line (hexadecimal range.start ++ codes ".." ++ hexadecimal range.end)
@@ -42,3 +49,12 @@ range_line range = line (hexadecimal range.start ++ codes ".." ++ hexadecimal ra
 -- a line for each range
 unfoldable pub range_lines : List (Range ℕ) → List ℕ
 range_lines ranges = flat_map range_line ranges
+
+-- the lines that a reply is printed as; a refusal has none
+abbrev pub reply_lines : Reply → List ℕ
+reply_lines (replies.Bytes stream) = hex_lines stream.items
+reply_lines (replies.Record index kind name) = record_line index kind (option_map (λ copy. copy.items) name)
+reply_lines (replies.Name name) = line (lossy name.items)
+reply_lines (replies.Ranges ranges) = range_lines ranges.items
+reply_lines (replies.Fields names) = name_lines (map (λ name. option_map (λ copy. copy.items) name) names.items)
+reply_lines (replies.Refused e) = []

@@ -4,23 +4,26 @@ use Rattle.std.specs.Option.{option_map}
 use Rattle.std.specs.declared.ops.Range.{Range}
 use Rattle.pdb_container.specs.declared.query.Query.{Query}
 use Rattle.pdb_container.specs.declared.query.Query.TheVariants as queries
+use Rattle.pdb_container.specs.declared.query.Reply.{Reply}
+use Rattle.pdb_container.specs.declared.query.Reply.TheVariants as replies
 use Rattle.std.specs.declared.io.ErrorKind.{ErrorKind}
-use Rattle.pdb_container.specs.Refusal.{Refusal, io_error, out_of_memory}
+use Rattle.pdb_container.specs.Refusal.{Refusal, refusal_of, io_error, out_of_memory}
 use Rattle.pdb_container.specs.ErrorText.{io_error_front, text_of}
 use Rattle.pdb_base.specs.Text.{lossy}
 use Rattle.pdb_container.specs.Answer.{Answer, ◌>>=◌}
 use Rattle.pdb_container.specs.Header.{opened}
-use Rattle.pdb_container.specs.Reply.{Said, bytes, entry, name, moved, AreMoved, reply_of}
+use Rattle.pdb_container.specs.Reply.{Said, bytes, entry, fields, name, moved, AreMoved, reply_of}
 use Rattle.pdb_vectors.specs.Example.{s1_bytes}
 use Rattle.pdb_command.specs.declared.outcome.Outcome.{Outcome}
-use Rattle.pdb_command.specs.Lines.{line, hex_lines, record_line, range_lines}
+use Rattle.pdb_command.specs.Lines.{line, hex_lines, record_line, name_lines, range_lines, reply_lines}
 use Rattle.pdb_command.specs.Words.{query_of}
 
--- What is printed of a reply: a stream's bytes in hexadecimal lines, a record on a line, a name's text
--- on a line, or a line for each range that the addresses are moved to.
+-- What is printed of a reply: a stream's bytes in hexadecimal lines, a record on a line, a line for each
+-- field with its name, a name's text on a line, or a line for each range that the addresses are moved to.
 abbrev pub IsPrinted : Said → List ℕ → Type 0
 IsPrinted (bytes stream) out = out ≡ hex_lines stream
 IsPrinted (entry index kind text) out = out ≡ record_line index kind text
+IsPrinted (fields names) out = out ≡ name_lines names
 IsPrinted (name text) out = out ≡ line (lossy text)
 IsPrinted (moved table asked) out = (ranges : List (Range ℕ)) × AreMoved table asked ranges × (out ≡ range_lines ranges)
 
@@ -28,6 +31,12 @@ IsPrinted (moved table asked) out = (ranges : List (Range ℕ)) × AreMoved tabl
 pub record IsAnswered (said : Said) (outcome : Outcome) : Type 0 where
   pub status : outcome.status ≡ 0
   pub out : IsPrinted said outcome.out.items
+  pub err : outcome.err.items ≡ []
+
+-- status 0: these lines on standard output, and nothing on standard error
+pub record IsAnsweredBy (lines : List ℕ) (outcome : Outcome) : Type 0 where
+  pub status : outcome.status ≡ 0
+  pub out : outcome.out.items ≡ lines
   pub err : outcome.err.items ≡ []
 
 -- The text of a refusal: the library's own, and of an `io::Error`, which has a text that is not the
@@ -48,11 +57,20 @@ pub record IsRefused (refusal : Refusal) (outcome : Outcome) : Type 0 where
   pub out : outcome.out.items ≡ []
   pub err : IsLineOf refusal outcome.err.items
 
+-- what is shown of a reply: its lines, or a refusal's text
+abbrev pub ShowsReply : Reply → Outcome → Type 0
+ShowsReply (replies.Refused e) outcome = IsRefused (refusal_of e) outcome
+ShowsReply reply outcome = IsAnsweredBy (reply_lines reply) outcome
+
+-- how the program is called
+abbrev pub usage_text : List ℕ
+usage_text = codes "usage: pdbq stream N [LIMIT] | type S I | id S I | name S O | ranges S A B | fields S I"
+
 -- status 2: the words that the program takes on a line of standard error
 pub record IsUsage (outcome : Outcome) : Type 0 where
   pub status : outcome.status ≡ 2
   pub out : outcome.out.items ≡ []
-  pub err : outcome.err.items ≡ line (codes "usage: pdbq stream N [LIMIT] | type S I | id S I | name S O | ranges S A B")
+  pub err : outcome.err.items ≡ line usage_text
 
 abbrev pub IsOutcomeOf : Answer Said → Outcome → Type 0
 IsOutcomeOf (Ok said) outcome = IsAnswered said outcome

@@ -41,13 +41,20 @@ ranges_asked [] = None
 abbrev pub same : List ℕ → List ℕ → Bool
 same word other = pointwise nat_eq word other
 
+-- what a command of two numbers asks: a record by its index, a name by its offset, or the fields of a list
+-- by its index
+abbrev pub pair_of : List ℕ → ℕ → ℕ → Option Query
+pair_of command stream number =
+    if same command (codes "type") then Some (queries.TypeRecord stream number)
+    else if same command (codes "id") then Some (queries.IdRecord stream number)
+    else if same command (codes "name") then Some (queries.Name stream number)
+    else if same command (codes "fields") then Some (queries.Fields stream number)
+    else None
+
 -- what each command asks with the words behind it
 unfoldable pub query_of : List (List ℕ) → Option Query
 query_of [] = None
 query_of (command ∷ words) =
     if same command (codes "stream") then stream_asked words
-    else if same command (codes "type") then option_map (λ two. queries.TypeRecord two.0 two.1) (two_numbers words)
-    else if same command (codes "id") then option_map (λ two. queries.IdRecord two.0 two.1) (two_numbers words)
-    else if same command (codes "name") then option_map (λ two. queries.Name two.0 two.1) (two_numbers words)
     else if same command (codes "ranges") then ranges_asked words
-    else None
+    else option_and_then (λ two. pair_of command two.0 two.1) (two_numbers words)

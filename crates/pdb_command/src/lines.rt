@@ -1,12 +1,12 @@
 //! The lines that a reply is printed as.
 
-ghost use Rattle.std.specs.Prelude.{◌≡◌, ◌≤◌, ◌++◌, length, IfOk, IfErr, OnOk, Some};
+ghost use Rattle.std.specs.Prelude.{◌≡◌, ◌≤◌, ◌++◌, length, map, IfOk, IfErr, OnOk, Some};
 ghost use Rattle.std.specs.Option.{option_map};
 ghost use Rattle.pdb_base.specs.Text.{lossy};
 ghost use Rattle.pdb_base.specs.ErrorText.{hexadecimal_of_four};
-ghost use Rattle.pdb_command.specs.Lines.{line, hex_line, hex_lines, record_line, range_lines};
+ghost use Rattle.pdb_command.specs.Lines.{line, hex_line, hex_lines, record_line, name_lines, range_lines, reply_lines};
 
-use pdb_container::{Error, RawString, Result};
+use pdb_container::{Error, RawString, Reply, Result};
 use std::alloc::Global;
 use std::fmt;
 use std::ops::Range;
@@ -30,7 +30,7 @@ fn push_line(out: &mut Vec<u8>, bytes: &[u8]) -> Result<()>
 
 /// Bytes as lines of hexadecimal digits.
 #[tactic(auto, unfolding(crate::specs::Lines::hex_lines))]
-pub fn hex_lines(alloc: Global, all: &[u8]) -> Result<Vec<u8>>
+fn hex_lines(alloc: Global, all: &[u8]) -> Result<Vec<u8>>
     ensures ok { IfOk result (λ out. out.items ≡ hex_lines all.now) }
     ensures want { IfErr result (λ e. e ≡ Error.OutOfMemory) }
 {
@@ -57,7 +57,7 @@ impl fmt::Display for Kind {
 
 /// A record as a line: its index, its kind and its name, or `-` where it has none.
 #[tactic(auto, unfolding(crate::specs::Lines::record_line))]
-pub fn record_line(alloc: Global, index: u32, kind: u16, name: Option<&[u8]>) -> Result<Vec<u8>>
+fn record_line(alloc: Global, index: u32, kind: u16, name: Option<&[u8]>) -> Result<Vec<u8>>
     ensures ok { IfOk result (λ out. out.items
         ≡ record_line index kind (option_map (λ text. text.now) name.entry)) }
     ensures want { IfErr result (λ e. e ≡ Error.OutOfMemory) }
@@ -73,7 +73,7 @@ pub fn record_line(alloc: Global, index: u32, kind: u16, name: Option<&[u8]>) ->
 }
 
 /// The text of a name as a line.
-pub fn name_line(alloc: Global, name: &[u8]) -> Result<Vec<u8>>
+fn name_line(alloc: Global, name: &[u8]) -> Result<Vec<u8>>
     ensures ok { IfOk result (λ out. out.items ≡ line (lossy name.now)) }
     ensures want { IfErr result (λ e. e ≡ Error.OutOfMemory) }
 {
@@ -81,9 +81,29 @@ pub fn name_line(alloc: Global, name: &[u8]) -> Result<Vec<u8>>
     Ok(format!(in alloc; "{name}\n")?.into_bytes())
 }
 
+/// The names of fields, a line each: the text of a name, or `-` if a field has none.
+#[tactic(auto, unfolding(crate::specs::Lines::name_lines))]
+fn name_lines(alloc: Global, names: &[Option<Vec<u8>>]) -> Result<Vec<u8>>
+    ensures ok { IfOk result (λ out. out.items
+        ≡ name_lines (map (λ name. option_map (λ copy. copy.items) name) names.now)) }
+    ensures want { IfErr result (λ e. e ≡ Error.OutOfMemory) }
+{
+    let mut out = String::new(alloc);
+    for name in names {
+        match name {
+            Some(name) => {
+                let name = RawString::from(name.as_slice());
+                writeln!(out, "{name}")?;
+            }
+            None => writeln!(out, "-")?,
+        }
+    }
+    Ok(out.into_bytes())
+}
+
 /// Ranges, a line each.
 #[tactic(auto, unfolding(crate::specs::Lines::range_lines))]
-pub fn range_lines(alloc: Global, ranges: &[Range<u32>]) -> Result<Vec<u8>>
+fn range_lines(alloc: Global, ranges: &[Range<u32>]) -> Result<Vec<u8>>
     ensures ok { IfOk result (λ out. out.items ≡ range_lines ranges.now) }
     ensures want { IfErr result (λ e. e ≡ Error.OutOfMemory) }
 {
@@ -94,4 +114,19 @@ pub fn range_lines(alloc: Global, ranges: &[Range<u32>]) -> Result<Vec<u8>>
         writeln!(out, "0x{start:x}..0x{end:x}")?;
     }
     Ok(out.into_bytes())
+}
+
+/// The lines that a reply is printed as. A refusal has none.
+pub fn reply_lines(alloc: Global, reply: &Reply) -> Result<Vec<u8>>
+    ensures ok { IfOk result (λ out. out.items ≡ reply_lines reply.now) }
+    ensures want { IfErr result (λ e. e ≡ Error.OutOfMemory) }
+{
+    match reply {
+        Reply::Bytes(stream) => hex_lines(alloc, stream),
+        Reply::Record { index, kind, name } => record_line(alloc, *index, *kind, name.as_deref()),
+        Reply::Name(name) => name_line(alloc, name),
+        Reply::Ranges(ranges) => range_lines(alloc, ranges),
+        Reply::Fields(names) => name_lines(alloc, names),
+        Reply::Refused(_) => Ok(Vec::new(alloc)),
+    }
 }

@@ -2,10 +2,9 @@
 
 ghost use Rattle.std.specs.Prelude.{◌≡◌, ◌⊎◌, map, IfOk, IfErr};
 ghost use Rattle.pdb_container.specs.Refusal.{refusal_of, out_of_memory};
-ghost use Rattle.pdb_container.specs.Reply.{Said};
-ghost use Rattle.pdb_command.specs.Printed.{IsPrinted, IsAnswered, IsRefused, IsUsage, IsOutcomeOf, answer_of, asked, Shows};
+ghost use Rattle.pdb_command.specs.Printed.{IsAnsweredBy, IsRefused, IsUsage, IsOutcomeOf, ShowsReply, answer_of, asked, Shows};
 
-use crate::lines::{hex_lines, name_line, range_lines, record_line};
+use crate::lines::reply_lines;
 use crate::refusal::error_line;
 use crate::words;
 use pdb_container::{Error, Query, Reply, Result, run};
@@ -25,7 +24,7 @@ pub struct Outcome {
 
 /// Status 0: lines on standard output.
 fn answered(alloc: Global, out: Vec<u8>) -> Outcome
-    ensures { (said : Said) → IsPrinted said out.items → IsAnswered said result }
+    ensures { IsAnsweredBy out.items result }
 {
     Outcome {
         status: 0,
@@ -54,13 +53,24 @@ pub fn usage(alloc: Global) -> Result<Outcome>
     ensures ok { IfOk result IsUsage }
     ensures want { IfErr result (λ e. e ≡ Error.OutOfMemory) }
 {
-    let usage =
-        b"usage: pdbq stream N [LIMIT] | type S I | id S I | name S O | ranges S A B\n".as_slice();
+    let usage = b"usage: pdbq stream N [LIMIT] | type S I | id S I | name S O | ranges S A B | fields S I\n"
+        .as_slice();
     Ok(Outcome {
         status: 2,
         out: Vec::new(alloc),
         err: Vec::from_slice(alloc, usage)?,
     })
+}
+
+/// What the program shows of a reply: status 0 with its lines on standard output, or status 1.
+fn shown(alloc: Global, reply: &Reply) -> Result<Outcome>
+    ensures ok { IfOk result (ShowsReply reply.now) }
+    ensures want { IfErr result (λ e. e ≡ Error.OutOfMemory) }
+{
+    match reply {
+        Reply::Refused(error) => refused(alloc, error),
+        reply => Ok(answered(alloc, reply_lines(alloc, reply)?)),
+    }
 }
 
 /// Status 0 with the reply on standard output, or status 1.
@@ -70,14 +80,7 @@ fn answer(alloc: Global, file: Vec<u8>, query: Query) -> Result<Outcome>
 {
     match run(alloc, file, &[query]) {
         Ok(mut replies) => match replies.pop() {
-            Some(Reply::Bytes(stream)) => Ok(answered(alloc, hex_lines(alloc, &stream)?)),
-            Some(Reply::Record { index, kind, name }) => {
-                let line = record_line(alloc, index, kind, name.as_deref())?;
-                Ok(answered(alloc, line))
-            }
-            Some(Reply::Name(name)) => Ok(answered(alloc, name_line(alloc, &name)?)),
-            Some(Reply::Ranges(ranges)) => Ok(answered(alloc, range_lines(alloc, &ranges)?)),
-            Some(Reply::Refused(error)) => refused(alloc, &error),
+            Some(reply) => shown(alloc, &reply),
             None => unreachable!(),
         },
         Err(error) => refused(alloc, &error),

@@ -1,7 +1,7 @@
 //! The words that the program takes.
 
 ghost use Rattle.std.specs.Prelude.{◌≡◌, ◌≤◌, map};
-ghost use Rattle.pdb_command.specs.Words.{spelled, number_of, two_numbers, stream_asked, ranges_asked, query_of};
+ghost use Rattle.pdb_command.specs.Words.{spelled, number_of, two_numbers, stream_asked, ranges_asked, pair_of, query_of};
 
 use pdb_container::Query;
 
@@ -82,6 +82,31 @@ fn ranges(words: &[&str]) -> Option<Query>
     Some(Query::Ranges { omap, start, end })
 }
 
+/// What a command of two numbers asks, if it is one: `type S I`, `id S I`, `name S O` or `fields S I`.
+fn pair(command: &str, stream: u32, number: u32) -> Option<Query>
+    ensures { result ≡ pair_of command.now stream number }
+{
+    match command {
+        "type" => Some(Query::TypeRecord {
+            stream,
+            index: number,
+        }),
+        "id" => Some(Query::IdRecord {
+            stream,
+            index: number,
+        }),
+        "name" => Some(Query::Name {
+            stream,
+            offset: number,
+        }),
+        "fields" => Some(Query::Fields {
+            stream,
+            index: number,
+        }),
+        _ => None,
+    }
+}
+
 /// The query that the words spell.
 #[tactic(auto, unfolding(crate::specs::Words::query_of))]
 pub fn query(words: &[&str]) -> Option<Query>
@@ -90,19 +115,10 @@ pub fn query(words: &[&str]) -> Option<Query>
     let (command, words) = words.split_first()?;
     match *command {
         "stream" => stream(words),
-        "type" => {
-            let (stream, index) = two_numbers(words)?;
-            Some(Query::TypeRecord { stream, index })
-        }
-        "id" => {
-            let (stream, index) = two_numbers(words)?;
-            Some(Query::IdRecord { stream, index })
-        }
-        "name" => {
-            let (stream, offset) = two_numbers(words)?;
-            Some(Query::Name { stream, offset })
-        }
         "ranges" => ranges(words),
-        _ => None,
+        command => {
+            let (stream, number) = two_numbers(words)?;
+            pair(command, stream, number)
+        }
     }
 }

@@ -1,14 +1,12 @@
 -- What a finder knows that was shown the whole walk, and what it finds.
-use Rattle.std.proofs.Common.{◌≡◌, ◌≢◌, inl, inr, ℕ, ◌+◌, ◌-◌, ◌*◌, ◌≤◌, ◌<◌, ◌⊎◌, List, [], ◌∷◌, length, refl, sym, ap, subst, ◌∙◌, arith, Bool, true, false, cond, ◌&&◌, ltb, leb, Ok, Err, Some}
+use Rattle.std.proofs.Common.{◌≡◌, inl, inr, ℕ, ◌+◌, ◌-◌, ◌*◌, ◌≤◌, ◌<◌, ◌⊎◌, List, [], ◌∷◌, length, refl, sym, ap, subst, ◌∙◌, arith, Bool, true, false, cond, ◌&&◌, ltb, leb, Ok, Err, Some}
 use Rattle.std.proofs.lemmas.Bool.{cases_lt}
 use Rattle.std.proofs.lemmas.Bool.Decides.{nat_tests}
 use Rattle.std.proofs.lemmas.Option.{slice_get_past}
-use Rattle.pdb_base.specs.declared.error.Error.{Error}
-use Rattle.pdb_base.specs.declared.error.Error.TheVariants as errors
-use Rattle.pdb_base.specs.Refusal.{Refusal, refusal_of, unexpected_eof, type_not_found, type_not_indexed}
+use Rattle.pdb_base.specs.Refusal.{Refusal, unexpected_eof, type_not_found, type_not_indexed}
 use Rattle.pdb_base.specs.Answer.{Answer}
 use Rattle.pdb_base.specs.Reading.{number_at, front_at}
-use Rattle.pdb_base.proofs.Collected.{err, ok_is_no_err, err_is}
+use Rattle.pdb_base.proofs.Collected.{err}
 use Rattle.pdb_tpi.specs.Table.{Table}
 use Rattle.pdb_tpi.specs.Walk.{first_item, fault_of}
 use Rattle.pdb_tpi.specs.Steps.{Stand, walk, walk_rest, place_of, nth_item, IsStep}
@@ -16,6 +14,7 @@ use Rattle.pdb_tpi.specs.Finder.{Indexed, first_of, block_of, known_first, known
 use Rattle.pdb_tpi.proofs.WalkLemmas.{nth_none}
 use Rattle.pdb_tpi.proofs.StepLemmas.{nth_err, step_some}
 use Rattle.pdb_container.specs.Lookup.{KnowsWalked}
+use Rattle.pdb_container.proofs.SettledLemmas.{AgreesBut}
 
 -- no byte is a cut length
 fault_of_none : fault_of [] ≡ unexpected_eof
@@ -162,16 +161,6 @@ find_cases table known i found e =
       | inr item ↦ inr item
     ]
 
--- what is found is the item
-found_in : (table : Table) (known i : ℕ) (item : List ℕ) → find_of table known i ≡ Ok item → item_of table i ≡ Ok item
-found_in table known i item e = elim (find_cases table known i (Ok item) e) [
-  | inl unknown ↦ absurd (ok_is_no_err item (type_not_indexed i (max_index_of table known)) unknown.2)
-  | inr is ↦ is
-]
-
-pub found_is : (table : Table) (finder : Indexed) (i : ℕ) (item : List ℕ) → finder.table ≡ table → find_of finder.table finder.known i ≡ Ok item → item_of table i ≡ Ok item
-found_is table finder i item same = subst (λ (t : Table). find_of finder.table finder.known i ≡ Ok item → item_of t i ≡ Ok item) same (found_in finder.table finder.known i item)
-
 -- an item of the walk, or the fault at which that stops
 nth_refuses : (table : Table) (n : ℕ) (fault : Refusal) → nth_item table n ≡ Err fault → nth_item table n ≡ Err (fault_of (walk_rest table))
 nth_refuses table n fault e = let is = nth_err table n fault e in e ∙ ap (λ (f : Refusal). err {A = List ℕ} f) (sym is.1)
@@ -190,30 +179,21 @@ never_indexed table i a b e =
     let is = item_by (ltb i table.header.minimum_index) (leb table.header.maximum_index i) i (nth_item table n) a b e in
     is.0 ∙ nth_refuses table n (type_not_indexed a b) is.1
 
--- Where a finder was shown the whole walk, an index that it doesn't know has the walk's fault.
-pub not_indexed_is : (table : Table) (finder : Indexed) (i a b : ℕ) (fault : Error) → KnowsWalked table (length (walk table)) finder → refusal_of fault ≡ fault_of (walk_rest table)
-    → find_of finder.table finder.known i ≡ Err (type_not_indexed a b) → item_of table i ≡ Err (refusal_of fault)
-not_indexed_is table finder i a b fault knows stops e =
-    let here : find_of table finder.known i ≡ Err (type_not_indexed a b) = ap (λ (t : Table). find_of t finder.known i) (sym knows.same) ∙ e in
-    let is : item_of table i ≡ Err (fault_of (walk_rest table)) = elim (find_cases table finder.known i (Err (type_not_indexed a b)) here) [
-      | inl unknown ↦ unknown_is table finder i knows unknown.0 unknown.1
-      | inr is ↦ never_indexed table i a b is
-    ] in
-    is ∙ ap (λ (f : Refusal). err {A = List ℕ} f) (sym stops)
-
--- an error that says that an index is not known
-which_not_indexed : (e : Error) (i covered : ℕ) → refusal_of e ≡ type_not_indexed i covered → e ≡ errors.TypeNotIndexed i covered
-which_not_indexed (errors.TypeNotIndexed a b) i covered is = cc
-which_not_indexed e i covered is = absurd cc
-
--- any other refusal of a look-up is that of the item
-refused_in : (table : Table) (known i : ℕ) (e : Error) → ((a b : ℕ) → e ≢ errors.TypeNotIndexed a b) → find_of table known i ≡ Err (refusal_of e) → item_of table i ≡ Err (refusal_of e)
-refused_in table known i e other h = elim (find_cases table known i (Err (refusal_of e)) h) [
-  | inl unknown ↦
-      let covered = max_index_of table known in
-      absurd (other i covered (which_not_indexed e i covered (err_is {A = List ℕ} (refusal_of e) (type_not_indexed i covered) unknown.2)))
-  | inr is ↦ is
-]
-
-pub refused_is : (table : Table) (finder : Indexed) (i : ℕ) (e : Error) → finder.table ≡ table → ((a b : ℕ) → e ≢ errors.TypeNotIndexed a b) → find_of finder.table finder.known i ≡ Err (refusal_of e) → item_of table i ≡ Err (refusal_of e)
-refused_is table finder i e same other = subst (λ (t : Table). find_of finder.table finder.known i ≡ Err (refusal_of e) → item_of t i ≡ Err (refusal_of e)) same (refused_in finder.table finder.known i e other)
+-- Where a finder was shown the whole walk, what it finds is the item, but for an index that it doesn't know:
+-- there stands the walk's fault.
+pub finds_items : (table : Table) (finder : Indexed) (fault : Refusal) → KnowsWalked table (length (walk table)) finder → fault ≡ fault_of (walk_rest table)
+    → (i : ℕ) → AgreesBut fault (find_of finder.table finder.known i) (item_of table i)
+finds_items table finder fault knows stops i =
+    subst (λ (t : Table). AgreesBut fault (find_of t finder.known i) (item_of table i)) (sym knows.same)
+    (record {
+      other = λ known. elim (find_cases table finder.known i (find_of table finder.known i) refl) [
+        | inl unknown ↦ absurd (known i (max_index_of table finder.known) unknown.2)
+        | inr is ↦ is
+      ];
+      unknown = λ a b is.
+          elim (find_cases table finder.known i (Err (type_not_indexed a b)) is) [
+            | inl unknown ↦ unknown_is table finder i knows unknown.0 unknown.1
+            | inr item ↦ never_indexed table i a b item
+          ]
+          ∙ ap (λ (f : Refusal). err {A = List ℕ} f) (sym stops);
+    })

@@ -20,6 +20,7 @@ pub IsReply-weaker : (failed unsound : Type 0) (reply : Reply) (meant : Answer S
 IsReply-weaker failed unsound (replies.Bytes stream) meant weaker is = is
 IsReply-weaker failed unsound (replies.Record index kind name) meant weaker is = is
 IsReply-weaker failed unsound (replies.Name name) meant weaker is = is
+IsReply-weaker failed unsound (replies.Fields names) meant weaker is = is
 IsReply-weaker failed unsound (replies.Ranges ranges) meant weaker is = is
 IsReply-weaker failed unsound (replies.Refused e) meant weaker (inl is) = inl is
 IsReply-weaker failed unsound (replies.Refused e) meant weaker (inr (inl want)) = inr (inl want)

@@ -1,5 +1,5 @@
 -- What a finder knows that was shown the walk of its table.
-use Rattle.std.specs.Prelude.{◌≡◌, ℕ, ◌*◌, ◌<◌, ◌≤◌, Result, Ok, Err}
+use Rattle.std.specs.Prelude.{◌≡◌, ℕ, ◌*◌, ◌<◌, ◌≤◌}
 use Rattle.pdb_base.specs.declared.error.Error.{Error}
 use Rattle.pdb_base.specs.declared.error.Error.TheVariants.{TypeNotIndexed}
 use Rattle.pdb_tpi.specs.Table.{Table}
@@ -11,7 +11,7 @@ pub record KnowsWalked (table : Table) (walked : ℕ) (finder : Indexed) : Type 
   pub same : finder.table ≡ table
   pub blocks : (block : ℕ) → first_of table block < table.header.maximum_index → 8 * block ≤ walked → block < finder.known
 
--- what a finder answers, with a fault in place of saying that an index is not known to it
-abbrev pub settled_of : {X : Type 0} → Result X Error → Error → Result X Error
-settled_of (Err (TypeNotIndexed index covered)) fault = Err fault
-settled_of answer fault = answer
+-- the refusal of a finder, with a fault in place of saying that an index is not known to it
+abbrev pub settled_of : Error → Error → Error
+settled_of (TypeNotIndexed index covered) fault = fault
+settled_of error fault = error

@@ -22,7 +22,7 @@ fn names_of(alloc: Global, fields: &[TypeData<'_>]) -> Result<Vec<Option<Vec<u8>
 {
     let mut names = Vec::with_capacity(alloc, fields.len())?;
     for field in fields {
-        names.push_reserved(copied(alloc, field.name())?);
+        names.push(copied(alloc, field.name())?)?;
     }
     Ok(names)
 }

@@ -33,16 +33,13 @@ fn learn<I: ItemIndex>(finder: &mut ItemFinder<'_, I>, table: &ItemInformation<I
     }
 }
 
-/// What a finder answers, with this fault in place of saying that an index is not known to it.
-fn settled<T>(answer: Result<T>, fault: Error) -> Result<T>
-    ensures { result ≡ settled_of answer.entry fault.entry }
+/// The refusal of a finder, with this fault in place of saying that an index is not known to it.
+fn settled(error: Error, fault: Error) -> Error
+    ensures { result ≡ settled_of error fault }
 {
-    match answer {
-        Ok(found) => Ok(found),
-        Err(error) => match error {
-            Error::TypeNotIndexed(_, _) => Err(fault),
-            error => Err(error),
-        },
+    match error {
+        Error::TypeNotIndexed(_, _) => fault,
+        error => error,
     }
 }
 
@@ -62,7 +59,10 @@ pub fn look_up<'t, I: ItemIndex>(
 {
     let mut finder = table.finder(alloc)?;
     let fault = learn(&mut finder, table);
-    settled(finder.find(index), fault)
+    match finder.find(index) {
+        Ok(item) => Ok(item),
+        Err(error) => Err(settled(error, fault)),
+    }
 }
 
 /// The fields of a list and of the lists in which it goes on, wherever in the table they stand.
@@ -80,5 +80,8 @@ pub fn look_up_fields<'t>(
 {
     let mut finder = table.finder(alloc)?;
     let fault = learn(&mut finder, table);
-    settled(finder.fields(alloc, index), fault)
+    match finder.fields(alloc, index) {
+        Ok(fields) => Ok(fields),
+        Err(error) => Err(settled(error, fault)),
+    }
 }
