@@ -7,6 +7,7 @@ use Rattle.hex.specs.Hex.{encode_lower}
 use Rattle.pdb_container.specs.ErrorText.{hexadecimal, hexadecimal_of_four}
 use Rattle.pdb_base.specs.Text.{lossy}
 
+-- the byte that ends a line
 abbrev pub line_feed : ℕ
 line_feed = 10
 

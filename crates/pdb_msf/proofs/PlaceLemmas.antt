@@ -1,10 +1,10 @@
 -- Where a stream stands in a directory, step by step, and the places that are kept.
-use Rattle.std.proofs.Common.{◌≡◌, ℕ, suc, ◌+◌, ◌*◌, ◌/◌, ◌<◌, ◌≤◌, ltb, leb, eqb, min, true, false, List, [], length, get_or, drop, take, map, refl, sym, ap, ◌∙◌, arith, Some, None, Ok, Err}
+use Rattle.std.proofs.Common.{◌≡◌, ℕ, suc, ◌+◌, ◌*◌, ◌/◌, ◌<◌, ◌≤◌, min, List, [], length, get_or, drop, map, refl, sym, ap, ◌∙◌, arith, Some, None, Ok, Err}
 use Rattle.std.proofs.lemmas.Bool.{lt-ltb, le-ltb, le-leb, lt-leb, ne_eqb, eq-eqb}
 use Rattle.std.proofs.lemmas.List.{drop-drop, drop_min, length-drop}
 use Rattle.std.proofs.lemmas.List.FromFn.{get_or-map-range_with_len, length-map-range_with_len}
 use Rattle.std.proofs.lemmas.Option.{slice_get_within, get_or_from_slice_get}
-use Rattle.std.specs.List.{range_with_len, slice_get, sum_by}
+use Rattle.std.specs.List.{range_with_len, slice_get}
 use Rattle.pdb_base.specs.Refusal.{Refusal, unexpected_eof, stream_not_found}
 use Rattle.pdb_base.specs.Place.{Place, left}
 use Rattle.pdb_base.specs.Reading.{number_at}

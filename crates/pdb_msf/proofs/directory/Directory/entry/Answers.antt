@@ -1,9 +1,5 @@
-use Rattle.std.proofs.Common.{◌≡◌, ◌<◌, ◌*◌, ◌^◌, ◌≤◌, min, length, drop, ap, sym, ◌∙◌, inl, inr, List, ℕ, arith, Ok}
-use Rattle.std.proofs.lemmas.List.{drop_min}
-use Rattle.pdb_base.specs.Place.{Place, left}
+use Rattle.std.proofs.Common.{inl, inr, arith}
 use Rattle.pdb_base.proofs.Refused.{passed_on}
-use Rattle.pdb_msf.specs.Pages.{pages, words, page_numbers}
-use Rattle.pdb_msf.specs.Directory.{absent, entry_of}
 use Rattle.pdb_msf.proofs.PlaceLemmas.{entry_found, entry_refused, numbers_read}
 use Rattle.pdb_msf.proofs.directory.Directory.entry.Goals as goal
 
