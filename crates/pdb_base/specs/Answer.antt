@@ -10,8 +10,8 @@ use Rattle.pdb_base.specs.Refusal.{Refusal, refusal_of}
 abbrev pub Answer : Type 0 → Type 0
 Answer A = Result A Refusal
 
--- one answer after another: the first refusal is that of both
 infixl 10 ◌>>=◌
+-- one answer after another: the first refusal is that of both
 abbrev pub ◌>>=◌ : {A B : Type 0} → Answer A → (A → Answer B) → Answer B
 (Ok x) >>= f = f x
 (Err e) >>= f = Err e

@@ -4,6 +4,7 @@ use Rattle.std.specs.Int.{div_ceil}
 use Rattle.pdb_base.specs.Refusal.{unexpected_eof}
 use Rattle.pdb_base.specs.Answer.{Answer}
 
+-- a slice, and a position in it, from which on it is still to be read
 pub record Place : Type 0 where
   pub slice : List ℕ
   pub pos : ℕ

@@ -6,6 +6,7 @@ use Rattle.std.specs.IoError.{error_kind}
 use Rattle.pdb_base.specs.declared.error.Error.{Error}
 use Rattle.pdb_base.specs.declared.error.Error.TheVariants as errors
 
+-- the refusals, one for each variant of `Error`, with the numbers that it names
 pub data Refusal : Type 0 where
   unrecognized_file_format stream_name_not_found unexpected_eof global_symbols_not_found : Refusal
   symbol_too_short type_too_short address_map_not_found lines_not_found : Refusal

@@ -10,6 +10,7 @@ use Rattle.pdb_container.specs.declared.query.Reply.{Reply}
 use Rattle.pdb_container.specs.declared.query.Reply.TheVariants as replies
 use Rattle.pdb_base.specs.Text.{lossy}
 
+-- the byte that ends a line
 abbrev pub line_feed : ℕ
 line_feed = 10
 

@@ -72,6 +72,7 @@ pub record IsUsage (outcome : Outcome) : Type 0 where
   pub out : outcome.out.items ≡ []
   pub err : outcome.err.items ≡ line usage_text
 
+-- what the program does about an answer: it prints what is said, or it tells the refusal
 abbrev pub IsOutcomeOf : Answer Said → Outcome → Type 0
 IsOutcomeOf (Ok said) outcome = IsAnswered said outcome
 IsOutcomeOf (Err refusal) outcome = IsRefused refusal outcome

@@ -30,16 +30,18 @@ new_frame bytes = record {
   flags = little_number 4 (drop 28 bytes);
 }
 
--- the addresses of a record's code
+-- the addresses of an old record's code
 abbrev pub old_span : OldFrameData → Span
 old_span frame = record { start = frame.code_start; size = frame.code_size }
 
+-- the addresses of a new record's code
 abbrev pub new_span : NewFrameData → Span
 new_span frame = record { start = frame.code_start; size = frame.code_size }
 
--- the old records, 16 bytes each, and the new ones, 32 bytes each
+-- the old records that bytes spell, 16 bytes each
 abbrev pub old_frames : List ℕ → List OldFrameData
 old_frames bytes = spelled 16 old_frame bytes
 
+-- the new records that bytes spell, 32 bytes each
 abbrev pub new_frames : List ℕ → List NewFrameData
 new_frames bytes = spelled 32 new_frame bytes

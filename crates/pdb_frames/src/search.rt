@@ -29,23 +29,25 @@ struct Found {
 
 /// Searches for the last record that starts at or below an address.
 ///
-/// The part of the stream that is left to search halves with each comparison, whichever way it falls,
-/// and the start is kept beside the place. So the step needs no branch.
+/// The part of the stream that is left to search halves with each comparison, whichever way it falls.
+/// How far the address is behind the start is kept beside the place, since one subtraction compares
+/// and says how far. So the step needs no branch.
 #[tactic(auto, using(pdb_base::proofs::HalvingLemmas::halving_begins, pdb_base::proofs::HalvingLemmas::halving_takes, pdb_base::proofs::HalvingLemmas::halving_passes, pdb_base::proofs::HalvingLemmas::halving_ends))]
 fn search<R: FrameRecord>(bytes: &[u8], address: u32) -> Found
     ensures { IsFound (start_at R.span (spelled R.SIZE R.value bytes.now)) (length bytes.now / R.SIZE) address result.place result.start }
 {
-    let (mut place, mut start) = (0, 0);
+    let (mut place, mut distance) = (0, address);
     let mut size = bytes.len() / R::SIZE;
     while size > 0 {
         let middle = place + size / 2;
         let next = start_at::<R>(bytes, middle);
         if next <= address {
             place = middle + size % 2;
-            start = next;
+            distance = address - next;
         }
         size /= 2;
     }
+    let start = address - distance;
     Found { place, start }
 }
 

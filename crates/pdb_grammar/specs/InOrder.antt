@@ -2,7 +2,7 @@
 use Rattle.pdb_grammar.specs.Shape.{Shape, Value}
 use Rattle.pdb_grammar.specs.Row.{Row, field}
 
--- a shape, and behind it what hangs on its value
 infixl 10 ◌>>=◌
+-- a shape, and behind it what hangs on its value
 abbrev pub ◌>>=◌ : {A : Type 0} → (shape : Shape) → (Value shape → Row A) → Row A
 shape >>= next = field shape next

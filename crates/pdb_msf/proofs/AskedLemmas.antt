@@ -1,7 +1,6 @@
 -- Sums of what is asked of a source.
-use Rattle.std.proofs.Common.{◌≡◌, ℕ, ◌+◌, ◌*◌, ◌^◌, ◌<◌, ◌≤◌, min, Bool, true, List, refl, ap, sym, ◌∙◌, arith, Option, Result, Ok, Err}
+use Rattle.std.proofs.Common.{◌≡◌, ℕ, ◌+◌, ◌^◌, ◌<◌, ◌≤◌, List, refl, ap, sym, ◌∙◌, arith, Option, Result, Ok, Err}
 use Rattle.pdb_base.specs.declared.error.Error.{Error}
-use Rattle.pdb_base.specs.Answer.{Answer, ◌>>=◌}
 use Rattle.pdb_msf.specs.Asked.{Asks, raised_by}
 use Rattle.pdb_msf.specs.Header.{Head}
 use Rattle.pdb_msf.specs.Directory.{Entry, directory_of, entry_of}

@@ -1,17 +1,15 @@
 -- What no definition of this crate refuses with: an error of the source, but for its end.
-use Rattle.std.proofs.Common.{◌≡◌, ◌⊎◌, ℕ, ◌*◌, Bool, true, false, ltb, leb, eqb, cond, ◌&&◌, List, length, drop, refl, sym, ap, ◌∙◌, inl, inr, subst, Option, Some, None, Result, Ok, Err}
+use Rattle.std.proofs.Common.{◌≡◌, ℕ, Bool, true, false, ltb, leb, eqb, ◌&&◌, List, length, drop, ap, inl, inr, subst, Option, Some, None, Ok, Err}
 use Rattle.std.proofs.lemmas.Bool.{cases_Bool}
 use Rattle.std.specs.List.{slice_get}
 use Rattle.std.specs.Prelude.{not}
-use Rattle.std.specs.declared.io.ErrorKind.TheVariants.{UnexpectedEof}
 use Rattle.pdb_base.specs.declared.error.Error.{Error}
-use Rattle.pdb_base.specs.declared.error.Error.TheVariants as errors
 use Rattle.pdb_base.specs.Refusal.{Refusal, refusal_of, unexpected_eof, page_reference_out_of_range, stream_not_found}
 use Rattle.pdb_base.specs.Answer.{Answer, ◌>>=◌, Answers, required}
 use Rattle.pdb_msf.specs.declared.header.Geometry.{Geometry}
 use Rattle.pdb_msf.specs.declared.directory.StreamPlace.{StreamPlace}
-use Rattle.pdb_msf.specs.Source.{State, KeepsKind, TellsKind}
-use Rattle.pdb_msf.specs.Pages.{pages, present, judged, page_number, page_numbers, words}
+use Rattle.pdb_msf.specs.Source.{State, TellsKind}
+use Rattle.pdb_msf.specs.Pages.{pages, present, judged, page_numbers, words}
 use Rattle.pdb_msf.specs.Directory.{Entry, absent, entry_of, place_in, sizes_of, start_of}
 use Rattle.pdb_msf.proofs.LawLemmas.{first_fault}
 

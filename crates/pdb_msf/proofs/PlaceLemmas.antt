@@ -1,13 +1,14 @@
 -- Where a stream stands in a directory, step by step, and the places that are kept.
-use Rattle.std.proofs.Common.{◌≡◌, ℕ, suc, ◌+◌, ◌*◌, ◌/◌, ◌<◌, ◌≤◌, ltb, leb, eqb, min, true, false, List, [], length, get_or, drop, take, map, refl, sym, ap, ◌∙◌, arith, Some, None, Ok, Err}
+use Rattle.std.proofs.Common.{◌≡◌, ℕ, suc, ◌+◌, ◌*◌, ◌/◌, ◌<◌, ◌≤◌, min, List, [], length, get_or, drop, map, refl, sym, ap, ◌∙◌, arith, Some, None, Ok, Err}
 use Rattle.std.proofs.lemmas.Bool.{lt-ltb, le-ltb, le-leb, lt-leb, ne_eqb, eq-eqb}
 use Rattle.std.proofs.lemmas.List.{drop-drop, drop_min, length-drop}
 use Rattle.std.proofs.lemmas.List.FromFn.{get_or-map-range_with_len, length-map-range_with_len}
 use Rattle.std.proofs.lemmas.Option.{slice_get_within, get_or_from_slice_get}
-use Rattle.std.specs.List.{range_with_len, slice_get, sum_by}
+use Rattle.std.specs.List.{range_with_len, slice_get}
 use Rattle.pdb_base.specs.Refusal.{Refusal, unexpected_eof, stream_not_found}
 use Rattle.pdb_base.specs.Place.{Place, left}
 use Rattle.pdb_base.specs.Reading.{number_at}
+use Rattle.pdb_base.specs.Answer.{Answer}
 use Rattle.pdb_msf.specs.Pages.{pages, page_numbers, words}
 use Rattle.pdb_msf.specs.declared.header.Geometry.{Geometry}
 use Rattle.pdb_msf.specs.declared.directory.StreamPlace.{StreamPlace}
@@ -90,10 +91,24 @@ pub size_read : (n count : ℕ) (d slice : List ℕ) (place : Place) (x : ℕ ×
 size_read n count d slice place x counted at read =
     record { counted = counted; is = (next_word (sizes_of d) n (left place) x (sizes_left n d slice place at) read).0 }
 
+-- what the readings of a count and of a size behind the sizes of n streams say, one after the other
+pub size_there : (n : ℕ) (d slice : List ℕ) (start place : Place) (same : List ℕ) (count size : ℕ × List ℕ) → slice ≡ d → start ≡ record { slice = slice; pos = 0 } → number_at 4 (left start) ≡ Ok count → same ≡ start.slice → n < count.0
+    → place ≡ record { slice = same; pos = min (4 + 4 * n) (length same) } → number_at 4 (left place) ≡ Ok size → HasSize n d count.0 size.0
+size_there n d slice start place same count size whole begins counted kept known sought read =
+    size_read n count.0 d same place size (record { has = count_read d slice start count whole begins counted; known = known })
+    (record { whole = kept ∙ ap (λ (p : Place). p.slice) begins ∙ whole; begins = sought }) read
+
 pub size_missing : (page_size n count : ℕ) (d slice : List ℕ) (place : Place) (e : Refusal) → IsCounted n d count → IsBehind n d slice place → number_at 4 (left place) ≡ Err e → place_in page_size n d ≡ Err e
 size_missing page_size n count d slice place e counted at missing =
     let none = no_word (sizes_of d) n (left place) e (sizes_left n d slice place at) missing in
     rw none.1 (no_size page_size n d count counted none.0)
+
+-- where a count is read and no size behind the sizes of n streams
+pub no_size_there : (page_size n : ℕ) (d slice : List ℕ) (start place : Place) (same : List ℕ) (count : ℕ × List ℕ) (e : Refusal) → slice ≡ d → start ≡ record { slice = slice; pos = 0 } → number_at 4 (left start) ≡ Ok count → same ≡ start.slice → n < count.0
+    → place ≡ record { slice = same; pos = min (4 + 4 * n) (length same) } → number_at 4 (left place) ≡ Err e → place_in page_size n d ≡ Err e
+no_size_there page_size n d slice start place same count e whole begins counted kept known sought missing =
+    size_missing page_size n count.0 d same place e (record { has = count_read d slice start count whole begins counted; known = known })
+    (record { whole = kept ∙ ap (λ (p : Place). p.slice) begins ∙ whole; begins = sought }) missing
 
 -- ---- the places that are kept
 
@@ -157,3 +172,11 @@ pub entry_refused : (g : Geometry) (n : ℕ) (d : List ℕ) (place : StreamPlace
     → page_numbers g.pages_used (pages g.page_size place.size) (words (drop place.start d)) ≡ Err e → entry_of g n d ≡ Err e
 unfolding entry_of
 entry_refused g n d place e here bad = rw (here, bad) refl
+
+-- the page numbers that are read at the place of a stream
+pub numbers_read : (g : Geometry) (size at count : ℕ) (d slice : List ℕ) (start place : Place) (answer : Answer (List ℕ)) → slice ≡ d → start ≡ record { slice = slice; pos = 0 } → place ≡ record start { pos = min at (length start.slice) }
+    → count ≡ pages g.page_size size → page_numbers g.pages_used count (words (left place)) ≡ answer → page_numbers g.pages_used (pages g.page_size size) (words (drop at d)) ≡ answer
+numbers_read g size at count d slice start place answer whole begins sought counted are =
+    ap (λ (n : ℕ). page_numbers g.pages_used n (words (drop at d))) (sym counted)
+    ∙ ap (page_numbers g.pages_used count) (sym (numbers_left at d slice start place whole begins sought))
+    ∙ are

@@ -1,5 +1,5 @@
 -- The bytes of a stream, and that they are the same whatever was asked before.
-use Rattle.std.proofs.Common.{◌≡◌, ◌⊎◌, ℕ, zero, suc, ◌+◌, ◌*◌, ◌<◌, ◌≤◌, Bool, true, false, ltb, leb, eqb, cond, List, [], ◌∷◌, ◌++◌, length, get_or, drop, take, map, refl, sym, ap, ◌∙◌, arith, inl, inr, subst, Option, Some, None, Result, Ok, Err}
+use Rattle.std.proofs.Common.{◌≡◌, ℕ, zero, suc, ◌+◌, ◌*◌, ◌<◌, ◌≤◌, Bool, true, false, ltb, leb, eqb, List, [], ◌∷◌, length, get_or, drop, take, map, refl, sym, ap, ◌∙◌, arith, inl, inr, subst, Option, Some, Result, Ok, Err}
 use Rattle.std.specs.Prelude.{not}
 use Rattle.std.specs.List.{range_with_len, slice_get}
 use Rattle.std.proofs.lemmas.Bool.{ltb-true, leb-true, lt-ltb, le-leb, eq-eqb}
@@ -7,18 +7,18 @@ use Rattle.std.proofs.lemmas.List.{take_all, take_more}
 use Rattle.std.proofs.lemmas.Option.{slice_get-get_or}
 use Rattle.pdb_base.specs.declared.error.Error.{Error}
 use Rattle.pdb_base.specs.Refusal.{Refusal, refusal_of, unexpected_eof, stream_not_found}
-use Rattle.pdb_base.specs.Answer.{Answer, ◌>>=◌, AnswersUnless, collected, required}
+use Rattle.pdb_base.specs.Answer.{Answer, AnswersUnless, collected, required}
 use Rattle.pdb_base.proofs.Collected.{ok_is, err_is, ok_is_no_err, bind_ok}
 use Rattle.pdb_msf.specs.declared.directory.StreamPlace.{StreamPlace}
-use Rattle.pdb_msf.specs.Source.{State, IsKept, HasFailed, found}
-use Rattle.pdb_msf.specs.Pages.{pages, page_number, page_numbers, present, judged, scatter, words}
+use Rattle.pdb_msf.specs.Source.{HasFailed, found}
+use Rattle.pdb_msf.specs.Pages.{pages, page_number, page_numbers, present, scatter, words}
 use Rattle.pdb_msf.specs.Header.{Head, directory_pages}
-use Rattle.pdb_msf.specs.Directory.{Entry, absent, directory_of, entry_of, pages_taken, place_in, sizes_of, start_of}
+use Rattle.pdb_msf.specs.Directory.{Entry, absent, directory_of, entry_of, place_in, sizes_of, start_of}
 use Rattle.pdb_msf.specs.File.{limited, stream_of}
-use Rattle.pdb_msf.specs.Laws.{AreGood, IsDirectory, IsStream, IsScattered, Moment, IsLater, AnswersAlike, AgreeUnless}
+use Rattle.pdb_msf.specs.Laws.{AreGood, IsDirectory, IsStream, Moment, IsLater, AnswersAlike, AgreeUnless}
 use Rattle.pdb_msf.proofs.Kept.{kept_here, kept_then}
 use Rattle.pdb_msf.proofs.WordLemmas.{collected_more}
-use Rattle.pdb_msf.proofs.PlaceLemmas.{HasCount, HasSize, IsCounted, entry_found, stands}
+use Rattle.pdb_msf.proofs.PlaceLemmas.{HasSize, entry_found, stands}
 use Rattle.pdb_msf.proofs.LawLemmas.{are_good, found_there, scatters, word_there}
 
 -- ---- where a stream stands

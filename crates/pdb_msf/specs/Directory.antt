@@ -1,6 +1,6 @@
 -- The directory of a file: u32 count of streams, a u32 size for each, then the page numbers of the
 -- first stream, of the second and so on, as many for each as its size takes.
-use Rattle.std.specs.Prelude.{◌≡◌, ℕ, ◌+◌, ◌*◌, ◌<◌, ◌≤◌, not, nat_lt, nat_le, ◌==◌, if◌then◌else◌, List, length, map, take, drop, min, slice_get, slice_index, vec_capacity, Ok, Err}
+use Rattle.std.specs.Prelude.{◌≡◌, ℕ, ◌+◌, ◌*◌, ◌<◌, ◌≤◌, not, nat_lt, nat_le, ◌==◌, if◌then◌else◌, List, length, map, take, drop, min, slice_get, slice_index, vec_capacity, Ok}
 use Rattle.std.specs.List.{sum_by, range_with_len}
 use Rattle.pdb_base.specs.Refusal.{unexpected_eof, stream_not_found}
 use Rattle.pdb_base.specs.Answer.{Answer, ◌>>=◌, required}

@@ -24,10 +24,11 @@ pub record Head : Type 0 where
 abbrev pub header_view : Header → Head
 header_view header = record { geometry = header.geometry; location = header.location.items }
 
--- the 32 bytes at the front of a file of this format, and the 42 of the format before it, 2.00
+-- the 32 bytes at the front of a file of this format, 7.00
 unfoldable pub big_magic : List ℕ
 big_magic = codes "Microsoft C/C++ MSF 7.00\r\n" ++ 0x1a ∷ 0x44 ∷ 0x53 ∷ 0 ∷ 0 ∷ 0 ∷ []
 
+-- the 42 bytes at the front of a file of the format before it, 2.00
 unfoldable pub small_magic : List ℕ
 small_magic = codes "Microsoft C/C++ program database 2.00\r\n" ++ 0x1a ∷ 0x4a ∷ 0x47 ∷ []
 
@@ -49,10 +50,11 @@ fields_of view = do
   reserved ← number_at 4 directory_size.1
   Ok (record { page_size = page_size.0; pages_used = pages_used.0; directory_size = directory_size.0 }, reserved.1)
 
--- how many pages hold the directory, and how many hold the numbers of those
+-- how many pages hold the directory
 abbrev pub directory_pages : Geometry → ℕ
 directory_pages geometry = pages geometry.page_size geometry.directory_size
 
+-- how many pages hold the numbers of the pages of the directory, four bytes each
 abbrev pub location_pages : Geometry → ℕ
 location_pages geometry = pages geometry.page_size (4 * directory_pages geometry)
 

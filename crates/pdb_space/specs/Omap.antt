@@ -10,6 +10,7 @@ use Rattle.pdb_base.specs.Reading.{front_at, read_as}
 use Rattle.pdb_base.specs.Records.{spelled}
 use Rattle.pdb_space.specs.Sum.{fitting}
 
+-- a record of an OMAP table: the first address that it moves, and where it moves that address
 pub record Mapping : Type 0 where
   pub source : ℕ
   pub target : ℕ
@@ -26,10 +27,11 @@ first_mapping bytes = read_as mapping_of (front_at 8 bytes)
 abbrev pub mappings_of : List ℕ → List Mapping
 mappings_of bytes = spelled 8 mapping_of bytes
 
--- the source of the record at a place, and its target
+-- the source of the record at a place
 abbrev pub source_at : List Mapping → ℕ → ℕ
 source_at table place = slice_index (map (λ mapping. mapping.source) table) place
 
+-- the target of the record at a place
 abbrev pub target_at : List Mapping → ℕ → ℕ
 target_at table place = slice_index (map (λ mapping. mapping.target) table) place
 

@@ -25,5 +25,6 @@ equal_places x y = (λ same. grind (arith, nat_tests), λ equal. grind (arith, n
 same_order : (x y z : SectionPlace) → same_place x y ≡ true → order_within_section x z ≡ order_within_section y z
 same_order x y z same = grind (arith, nat_tests)
 
+-- the order within a section is a partial order, and equal in it are equal places alone
 pub is_partial_order : IsPartialOrder same_place order_within_section
 is_partial_order = record { antisymm = antisymm_order; trans = trans_order; matches_eq = equal_places; congr = same_order }

@@ -88,7 +88,7 @@ impl OMAPRecord {
         if self.target == 0 {
             return None;
         }
-        let start = self.clipped(asked.start.max(self.source));
+        let start = self.clipped(asked.start);
         let end = self.clipped(next.min(asked.end));
         if start < end { Some(start..end) } else { None }
     }

@@ -21,23 +21,25 @@ pub(crate) struct Found {
 
 /// Searches for the last record that begins at or below an address, and counts the comparisons.
 ///
-/// The part of the table that is left to search halves with each comparison, whichever way it falls,
-/// and the source is kept beside the place. So the step needs no branch.
+/// The part of the table that is left to search halves with each comparison, whichever way it falls.
+/// How far the address is behind the source is kept beside the place, since one subtraction compares
+/// and says how far. So the step needs no branch.
 #[tactic(auto, using(pdb_base::proofs::HalvingLemmas::halving_begins, pdb_base::proofs::HalvingLemmas::halving_takes, pdb_base::proofs::HalvingLemmas::halving_passes, pdb_base::proofs::HalvingLemmas::halving_ends, pdb_base::proofs::HalvingLemmas::halving_counts, pdb_base::proofs::HalvingLemmas::halving_counted))]
 pub(crate) fn search(bytes: &[u8], address: u32, count: &mut Count) -> Found
     ensures found { IsFound (source_at (mappings_of bytes.now)) (length bytes.now / 8) address result.place result.source }
     ensures counted { calls_of count.new ≡ after_calls (binary_digits (length bytes.now / 8)) (calls_of count.old) }
 {
-    let (mut place, mut source) = (0, 0);
+    let (mut place, mut distance) = (0, address);
     let mut size = bytes.len() / RECORD_SIZE;
     while size > 0 {
         let middle = place + size / 2;
         let next = source_at(bytes, middle, count);
         if next <= address {
             place = middle + size % 2;
-            source = next;
+            distance = address - next;
         }
         size /= 2;
     }
+    let source = address - distance;
     Found { place, source }
 }

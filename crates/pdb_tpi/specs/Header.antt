@@ -8,10 +8,11 @@ use Rattle.pdb_base.specs.Reading.{number_at, signed_at}
 use Rattle.pdb_tpi.specs.declared.header.Header.{Header}
 use Rattle.pdb_tpi.specs.declared.header.Slice.{Slice}
 
--- the header of a table without bytes: every field is 0
+-- a slice at 0 of no bytes
 abbrev pub empty_slice : Slice
 empty_slice = record { offset = pos 0; size = 0 }
 
+-- the header of a table without bytes: every field is 0
 abbrev pub empty_header : Header
 empty_header = record {
   version = 0;

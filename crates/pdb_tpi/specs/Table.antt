@@ -4,6 +4,7 @@ use Rattle.pdb_base.specs.Answer.{Answer, ◌>>=◌}
 use Rattle.pdb_tpi.specs.declared.header.Header.{Header}
 use Rattle.pdb_tpi.specs.Header.{header_of}
 
+-- a table: the bytes of its stream, and the header that they begin with
 pub record Table : Type 0 where
   pub bytes : List ℕ
   pub header : Header

@@ -55,5 +55,6 @@ abbrev pub stop_of : Answer (List ℕ) → Refusal
 stop_of (Err fault) = fault
 stop_of (Ok item) = type_not_found 0xffffffff
 
+-- the fault of a walk that stops before this rest
 unfoldable pub fault_of : List ℕ → Refusal
 fault_of rest = stop_of (first_item rest)

@@ -12,9 +12,6 @@ pub(crate) fn copy_items<T: Copy>(alloc: Global, items: &[T]) -> Result<Vec<T>>
     ensures copied { Answers (λ copies. copies.items) result (Ok items.now) }
     ensures want { LacksOnlyIf result (HasItem items.now) }
 {
-    if items.is_empty() {
-        return Ok(Vec::new(alloc));
-    }
     let mut copies = Vec::with_capacity(alloc, items.len())?;
     for item in items {
         copies.push(*item)?;

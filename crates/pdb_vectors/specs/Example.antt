@@ -36,5 +36,6 @@ s1_of stream =
     page header 0 ++ page [] 0 ++ page (directory (length stream)) 0 ++ page location 0
     ++ page [] 0 ++ page [] 98 ++ page [] 97 ++ page stream 0
 
+-- the example file, whose stream 3 says `hello`
 abbrev pub s1_bytes : List ℕ
 s1_bytes = s1_of hello

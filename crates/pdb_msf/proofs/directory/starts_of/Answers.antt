@@ -1,11 +1,10 @@
-use Rattle.std.proofs.Common.{rules, ◌≡◌, ℕ, ◌+◌, ◌*◌, ◌/◌, ◌^◌, ◌<◌, ◌≤◌, min, List, [], ◌∷◌, ◌++◌, length, drop, take, map, get_or, refl, ap, sym, ◌∙◌, arith}
-use Rattle.std.specs.List.{range_with_len, slice_get, sum_by}
+use Rattle.std.proofs.Common.{rules, ◌≡◌, ℕ, ◌/◌, ◌^◌, ◌<◌, min, List, [], ◌∷◌, ◌++◌, length, drop, map, ap, sym, ◌∙◌, arith}
+use Rattle.std.specs.List.{range_with_len}
 use Rattle.std.proofs.lemmas.List.FromFn.{map-range_with_len_more}
 use Rattle.std.proofs.lemmas.List.{length-drop}
-use Rattle.std.proofs.lemmas.Option.{get_or_from_slice_get}
 use Rattle.pdb_base.specs.Place.{Place, left}
 use Rattle.pdb_msf.specs.Pages.{words}
-use Rattle.pdb_msf.specs.Directory.{count_of, sizes_of, start_of, starts_of, pages_taken}
+use Rattle.pdb_msf.specs.Directory.{sizes_of, start_of}
 use Rattle.pdb_msf.proofs.WordLemmas.{next_word, no_word, word_past}
 use Rattle.pdb_msf.proofs.PlaceLemmas.{count_is, known_is, next_start, no_starts}
 use Rattle.pdb_msf.proofs.directory.starts_of.Goals as goal

@@ -1,10 +1,6 @@
-use Rattle.std.proofs.Common.{◌≡◌, ◌<◌, ◌*◌, ◌^◌, ◌≤◌, min, length, drop, ap, sym, ◌∙◌, inl, inr, List, ℕ, arith, Ok}
-use Rattle.std.proofs.lemmas.List.{drop_min}
-use Rattle.pdb_base.specs.Place.{Place, left}
+use Rattle.std.proofs.Common.{inl, inr, arith}
 use Rattle.pdb_base.proofs.Refused.{passed_on}
-use Rattle.pdb_msf.specs.Pages.{pages, words, page_numbers}
-use Rattle.pdb_msf.specs.Directory.{absent, entry_of}
-use Rattle.pdb_msf.proofs.PlaceLemmas.{entry_found, entry_refused, numbers_left}
+use Rattle.pdb_msf.proofs.PlaceLemmas.{entry_found, entry_refused, numbers_read}
 use Rattle.pdb_msf.proofs.directory.Directory.entry.Goals as goal
 
 pub returns-in_err-pages-clause-entry : goal.returns-in_err-pages-clause-entry
@@ -12,12 +8,9 @@ returns-in_err-pages-clause-entry c =
     let g = c.args.geometry in
     let d = c.args.self.now.bytes.items in
     let place = c.in_ok-place.place in
-    let left = numbers_left place.start d c.as_slice.result.now _ _ c.as_slice.ensures.value c.from-buffer.ensures c.seek.ensures in
-    let numbers : page_numbers g.pages_used (pages g.page_size place.size) (words (drop place.start d)) ≡ page_numbers g.pages_used c.pages-count.result _ =
-    ap (λ count. page_numbers g.pages_used count (words (drop place.start d))) (sym c.pages-count.ensures.pages) ∙ ap (page_numbers g.pages_used c.pages-count.result) (sym left) in
     rw (passed_on _ _ c.from_residual-in_err-pages.ensures.1)
     (elim c.in_err-pages.ensures.numbers [
-      | inl bad ↦ inl (entry_refused g c.args.stream_number d place _ c.in_ok-place.ensures.place (numbers ∙ bad))
+      | inl bad ↦ inl (entry_refused g c.args.stream_number d place _ c.in_ok-place.ensures.place (numbers_read g place.size place.start _ d c.as_slice.result.now _ _ _ c.as_slice.ensures.value c.from-buffer.ensures c.seek.ensures c.pages-count.ensures.pages bad))
       | inr want ↦ inr want
     ])
 
@@ -26,10 +19,7 @@ returns-clause-entry c =
     let g = c.args.geometry in
     let d = c.args.self.now.bytes.items in
     let place = c.in_ok-place.place in
-    let left = numbers_left place.start d c.as_slice.result.now _ _ c.as_slice.ensures.value c.from-buffer.ensures c.seek.ensures in
-    let numbers : page_numbers g.pages_used (pages g.page_size place.size) (words (drop place.start d)) ≡ page_numbers g.pages_used c.pages-count.result _ =
-    ap (λ count. page_numbers g.pages_used count (words (drop place.start d))) (sym c.pages-count.ensures.pages) ∙ ap (page_numbers g.pages_used c.pages-count.result) (sym left) in
-    entry_found g c.args.stream_number d place c.in_ok-pages.pages.items c.in_ok-place.ensures.place (numbers ∙ c.in_ok-pages.ensures.numbers)
+    entry_found g c.args.stream_number d place c.in_ok-pages.pages.items c.in_ok-place.ensures.place (numbers_read g place.size place.start _ d c.as_slice.result.now _ _ _ c.as_slice.ensures.value c.from-buffer.ensures c.seek.ensures c.pages-count.ensures.pages c.in_ok-pages.ensures.numbers)
 
 pub returns-clause-whole : goal.returns-clause-whole
 returns-clause-whole c = record {

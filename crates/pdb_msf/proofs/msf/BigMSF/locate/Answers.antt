@@ -1,4 +1,4 @@
-use Rattle.std.proofs.Common.{◌≡◌, ap, sym, ◌∙◌, Bool, ℕ, true}
+use Rattle.std.proofs.Common.{ap, sym, ◌∙◌, Bool}
 use Rattle.pdb_msf.specs.Asked.{raised_by}
 use Rattle.pdb_msf.specs.File.{locating}
 use Rattle.pdb_msf.proofs.AskedLemmas.{asks_nothing}

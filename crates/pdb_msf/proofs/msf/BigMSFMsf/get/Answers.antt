@@ -1,4 +1,4 @@
-use Rattle.std.proofs.Common.{rules, ◌≡◌, ◌<◌, ◌^◌, length, ap, sym, ◌∙◌, arith}
+use Rattle.std.proofs.Common.{◌≡◌, length, ap, sym, ◌∙◌, arith}
 use Rattle.pdb_base.proofs.Refused.{passed_on}
 use Rattle.pdb_msf.specs.Pages.{pages}
 use Rattle.std.proofs.Common.{List, ℕ}
