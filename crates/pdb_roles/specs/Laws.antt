@@ -1,0 +1,1 @@
+-- What the definitions say in other words.
