@@ -3,18 +3,18 @@
 #![tactic(auto)]
 
 mod dbi_header;
-mod extra_streams;
+mod debug_header;
 mod fields;
-//mod file;
+mod file;
 mod information;
 pub mod laws;
-//mod section_headers;
-//mod stream_names;
+mod section_headers;
+mod stream_names;
 
 pub use dbi_header::DBIHeader;
-pub use extra_streams::DBIExtraStreams;
-//pub use file::address_map;
-//pub use file::extra_streams as file_extra_streams;
-//pub use file::{frame_table, named_stream, pdb_information, string_table};
+pub use debug_header::DBIExtraStreams;
+pub use file::{
+    address_map, extra_streams, frame_table, named_stream, pdb_information, string_table,
+};
 pub use information::PDBInformation;
-//pub use stream_names::{StreamName, StreamNames};
+pub use stream_names::{StreamName, StreamNames};

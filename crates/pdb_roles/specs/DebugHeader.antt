@@ -9,7 +9,7 @@ use Rattle.pdb_base.specs.declared.index.StreamIndex.{StreamIndex}
 use Rattle.pdb_roles.specs.Fields.{u16_in}
 use Rattle.pdb_roles.specs.DbiHeader.{header_size, dbi_header_of}
 use Rattle.pdb_roles.specs.declared.dbi_header.DBIHeader.{DBIHeader}
-use Rattle.pdb_roles.specs.declared.extra_streams.DBIExtraStreams.{DBIExtraStreams}
+use Rattle.pdb_roles.specs.declared.debug_header.DBIExtraStreams.{DBIExtraStreams}
 
 -- the sizes of what stands before the debug header, in this order: the header, modules, section
 -- contributions, the section map, file info, the type server map, edit-and-continue names

@@ -2,7 +2,7 @@
 
 ghost use Rattle.std.specs.Prelude.{◌≡◌, ◌+◌, ◌^◌, ◌<◌, sum};
 ghost use Rattle.pdb_base.specs.Answer.{Gives};
-ghost use Rattle.pdb_roles.specs.ExtraStreams.{debug_header_of, extra_streams, extra_streams_of, listed, roles_in, sizes_before};
+ghost use Rattle.pdb_roles.specs.DebugHeader.{debug_header_of, extra_streams, extra_streams_of, listed, roles_in, sizes_before};
 
 use crate::dbi_header::{DBIHeader, HEADER_SIZE};
 use crate::fields::u16_in;
@@ -77,7 +77,7 @@ fn size_before(header: &DBIHeader) -> usize
 }
 
 /// The debug header in stream 3, which is empty where the stream is.
-#[tactic(auto, unfolding(crate::specs::ExtraStreams::debug_header_behind))]
+#[tactic(auto, unfolding(crate::specs::DebugHeader::debug_header_behind))]
 fn debug_header(stream: &[u8]) -> Result<&[u8]>
     ensures { Gives (λ list. list.now) result (debug_header_of stream.now) }
 {
@@ -100,7 +100,7 @@ impl DBIExtraStreams {
     /// # Errors
     /// What `DBIHeader::parse` refuses, `UnexpectedEof` where the stream ends before the debug header
     /// does, and what `parse` refuses.
-    #[tactic(auto, unfolding(crate::specs::ExtraStreams::extra_streams_of))]
+    #[tactic(auto, unfolding(crate::specs::DebugHeader::extra_streams_of))]
     pub fn new(stream: &Stream) -> Result<Self>
         ensures { Gives (λ roles. roles) result (extra_streams_of stream.now) }
     {
@@ -113,7 +113,7 @@ impl DBIExtraStreams {
     ///
     /// # Errors
     /// `UnexpectedEof` where one of the first eleven numbers is cut in half.
-    #[tactic(auto, unfolding(crate::specs::ExtraStreams::extra_streams))]
+    #[tactic(auto, unfolding(crate::specs::DebugHeader::extra_streams))]
     pub fn parse(list: &[u8]) -> Result<Self>
         ensures { Gives (λ roles. roles) result (extra_streams list.now) }
     {
@@ -124,7 +124,7 @@ impl DBIExtraStreams {
     }
 
     /// The streams of the roles, each by its place in a list.
-    #[tactic(auto, unfolding(crate::specs::ExtraStreams::roles_in))]
+    #[tactic(auto, unfolding(crate::specs::DebugHeader::roles_in))]
     fn of_list(list: &[u8]) -> Self
         ensures { result ≡ roles_in list.now }
     {
