@@ -1,17 +1,17 @@
 -- Which header and which debug header a stream holds.
-use Rattle.std.proofs.Common.{◌≡◌, ◌≢◌, ℕ, ◌+◌, ◌*◌, ◌<◌, ◌≤◌, ◌==◌, nat_le, inl, inr, true, false, Bool, List, [], ◌∷◌, ◌++◌, length, take, drop, sum, refl, sym, ap, ◌∙◌, arith, eq-eqb, Ok, Err, codes}
-use Rattle.std.proofs.lemmas.Bool.{cases_lt, ne_eqb, lt-ltb, le-ltb}
+use Rattle.std.proofs.Common.{◌≡◌, ℕ, ◌+◌, ◌<◌, ◌≤◌, ◌==◌, nat_le, inl, inr, true, false, Bool, List, ◌++◌, length, take, drop, sum, refl, sym, ap, ◌∙◌, arith, eq-eqb, Ok, Err, codes}
+use Rattle.std.proofs.lemmas.Bool.{cases_lt, ne_eqb}
 use Rattle.std.proofs.lemmas.Bool.Decides.{nat_tests}
 use Rattle.pdb_base.specs.Refusal.{Refusal, unexpected_eof, unimplemented_feature}
-use Rattle.pdb_base.specs.Answer.{Answer, ◌>>=◌, required}
-use Rattle.pdb_base.specs.Reading.{front_at, number_at}
+use Rattle.pdb_base.specs.Answer.{◌>>=◌, required}
+use Rattle.pdb_base.specs.Reading.{front_at}
 use Rattle.pdb_base.proofs.Collected.{ok, ok_is, ok_is_no_err, bind_ok}
 use Rattle.pdb_base.proofs.ReadingLemmas.{front_cut, number_whole, number_cut}
 use Rattle.pdb_roles.specs.Fields.{u32_in}
 use Rattle.pdb_roles.specs.DbiHeader.{signature, header_size, dbi_header, dbi_header_of}
 use Rattle.pdb_roles.specs.DebugHeader.{sizes_before, debug_header_behind}
 use Rattle.pdb_roles.specs.declared.dbi_header.DBIHeader.{DBIHeader}
-use Rattle.pdb_roles.specs.Laws.{HoldsHeader, FindsHeader, HoldsDebugHeader, FindsDebugHeader, IsCut, LieInOrder}
+use Rattle.pdb_roles.specs.Laws.{HoldsHeader, FindsHeader, HoldsDebugHeader, FindsDebugHeader, IsCut}
 use Rattle.pdb_roles.proofs.CutLemmas.{front_found, front_only, joined, parted, cut_at, cut_length}
 
 abbrev ancient : Refusal
@@ -97,9 +97,11 @@ debug_only : (stream list : List ℕ) → HoldsDebugHeader stream list → debug
 unfolding debug_header_behind
 debug_only stream list holds =
     let before = joined (sizes_before holds.header) stream holds.behind holds.before in
-    rw (header_only stream holds.header holds.begins,
-    front_only (sum (sizes_before holds.header)) stream before.0 holds.behind before.1,
-    front_only holds.header.debug_header_size holds.behind list holds.rest holds.taken) refl
+    rw (
+      header_only stream holds.header holds.begins,
+      front_only (sum (sizes_before holds.header)) stream before.0 holds.behind before.1,
+      front_only holds.header.debug_header_size holds.behind list holds.rest holds.taken,
+    ) refl
 
 debug_refused : (stream : List ℕ) (e : Refusal) → dbi_header_of stream ≡ Err e → debug_header_behind stream ≡ Err e
 unfolding debug_header_behind
@@ -112,8 +114,11 @@ debug_cut stream header holds short = elim (cases_lt (length stream) (sum (sizes
   | inr late ↦
       let before : IsCut (sum (sizes_before header)) stream (take (sum (sizes_before header)) stream) (drop (sum (sizes_before header)) stream) = cut_at (sum (sizes_before header)) stream late in
       let len = cut_length _ stream _ _ before in
-      rw (header_only stream header holds, front_only (sum (sizes_before header)) stream _ _ before,
-      front_cut header.debug_header_size (drop (sum (sizes_before header)) stream) (omega (arith, len, short))) refl
+      rw (
+        header_only stream header holds,
+        front_only (sum (sizes_before header)) stream _ _ before,
+        front_cut header.debug_header_size (drop (sum (sizes_before header)) stream) (omega (arith, len, short)),
+      ) refl
 ]
 
 pub finds_debug_header : (stream : List ℕ) → FindsDebugHeader stream

@@ -1,11 +1,11 @@
 -- What is refused only since the bytes end too soon.
-use Rattle.std.proofs.Common.{◌≡◌, ◌≢◌, ℕ, Bool, true, false, ◌*◌, ◌/◌, List, [], ◌∷◌, length, take, drop, map, refl, sym, ap, ◌∙◌, inl, inr, Ok, Err, Result, IsOk}
+use Rattle.std.proofs.Common.{◌≡◌, ℕ, Bool, true, false, ◌*◌, ◌/◌, List, [], ◌∷◌, length, take, drop, map, refl, sym, ap, ◌∙◌, inl, inr, Ok, Err, Result}
 use Rattle.std.proofs.lemmas.Bool.{cases_lt}
 use Rattle.std.specs.List.{range_with_len}
 use Rattle.pdb_base.specs.Answer.{Answer, ◌>>=◌, collected, required}
 use Rattle.pdb_base.specs.Endian.{little_number}
 use Rattle.pdb_base.specs.Reading.{front_at, number_at}
-use Rattle.pdb_base.specs.Refusal.{Refusal, refusal_of, unexpected_eof}
+use Rattle.pdb_base.specs.Refusal.{refusal_of, unexpected_eof}
 use Rattle.pdb_base.specs.declared.error.Error.{Error}
 use Rattle.pdb_base.specs.declared.error.Error.TheVariants.{OutOfMemory}
 use Rattle.pdb_base.proofs.Collected.{err_is, ok_is_no_err}

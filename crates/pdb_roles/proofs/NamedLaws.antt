@@ -1,17 +1,15 @@
 -- Which streams stream 1 names.
-use Rattle.std.proofs.Common.{◌≡◌, ◌≢◌, ℕ, zero, suc, ◌+◌, ◌*◌, ◌/◌, ◌<◌, ◌≤◌, inl, inr, min, List, [], ◌∷◌, ◌++◌, length, map, take, drop, refl, sym, ap, subst, ◌∙◌, arith, Option, Some, None, Ok, Err}
+use Rattle.std.proofs.Common.{◌≡◌, ℕ, zero, suc, ◌+◌, ◌*◌, ◌/◌, min, List, [], ◌∷◌, ◌++◌, length, map, refl, sym, ap, subst, ◌∙◌, arith, Option, Some, Ok}
 use Rattle.std.specs.List.{range_with_len, slice_get}
 use Rattle.std.proofs.lemmas.Option.{slice_get_past}
 use Rattle.pdb_base.specs.Index.{no_stream}
-use Rattle.pdb_base.specs.Refusal.{Refusal, unexpected_eof}
-use Rattle.pdb_base.specs.Answer.{Answer, ◌>>=◌, collected}
+use Rattle.pdb_base.specs.Answer.{Answer}
 use Rattle.pdb_base.specs.Reading.{front_at, number_at}
 use Rattle.pdb_base.specs.Spelling.{SpellsNumber, Begins}
-use Rattle.pdb_base.proofs.Collected.{ok, ok_is, ok_is_no_err, bind_ok, collects_all}
+use Rattle.pdb_base.proofs.Collected.{ok, ok_is, bind_ok, collects_all}
 use Rattle.pdb_base.proofs.SpellingLaws.{numbers}
 use Rattle.std.proofs.lemmas.List.{append_assoc}
 use Rattle.pdb_space.specs.StringTable.{name_of}
-use Rattle.pdb_space.specs.StringTableLaws.{IsNameAt}
 use Rattle.pdb_space.proofs.NameLemmas.{finds_name}
 use Rattle.pdb_roles.specs.Fields.{u32_in}
 use Rattle.pdb_roles.specs.StreamNames.{Map, Named, behind_set, entries_at, map_of, named_at, named_in}
@@ -94,17 +92,24 @@ entries_only : (bytes entries behind_count behind_capacity bits behind_present o
     → IsCut (8 * number) behind_deleted entries rest → entries_at bytes ≡ Ok entries
 unfolding entries_at
 entries_only bytes entries behind_count behind_capacity bits behind_present other behind_deleted rest number most count capacity present deleted cut =
-    rw ((numbers 4).only bytes number behind_count count, (numbers 4).only behind_count most behind_capacity capacity,
-    set_only behind_capacity bits behind_present present, set_only behind_present other behind_deleted deleted,
-    front_only (8 * number) behind_deleted entries rest cut) refl
+    rw (
+      (numbers 4).only bytes number behind_count count,
+      (numbers 4).only behind_count most behind_capacity capacity,
+      set_only behind_capacity bits behind_present present,
+      set_only behind_present other behind_deleted deleted,
+      front_only (8 * number) behind_deleted entries rest cut,
+    ) refl
 
 map_only : (information : PDBInformation) (table : Map) → HoldsMap information table → map_of information ≡ Ok table
 unfolding map_of
 map_only information table holds =
     let entries = entries_only holds.behind_names table.entries holds.behind_count holds.behind_capacity holds.bits holds.behind_present holds.other_bits holds.behind_deleted holds.rest holds.number holds.most
     holds.count holds.capacity holds.present holds.deleted holds.entries in
-    rw (front_only information.names_offset information.stream holds.before holds.behind holds.header,
-    front_only information.names_size holds.behind table.names holds.behind_names holds.names, entries) refl
+    rw (
+      front_only information.names_offset information.stream holds.before holds.behind holds.header,
+      front_only information.names_size holds.behind table.names holds.behind_names holds.names,
+      entries,
+    ) refl
 
 -- ---- the entries
 

@@ -1,13 +1,11 @@
 -- Which roles a list gives.
-use Rattle.std.proofs.Common.{◌≡◌, ◌≢◌, ℕ, ◌+◌, ◌*◌, ◌%◌, ◌<◌, ◌≤◌, ◌==◌, ◌||◌, ◌⊎◌, nat_le, inl, inr, true, false, Bool, List, length, take, drop, refl, sym, ap, subst, ◌∙◌, arith, if◌then◌else◌, Ok, Err}
+use Rattle.std.proofs.Common.{◌≡◌, ◌≢◌, ℕ, ◌+◌, ◌*◌, ◌%◌, ◌<◌, ◌≤◌, ◌⊎◌, nat_le, inl, inr, true, false, Bool, List, length, drop, refl, sym, ap, subst, ◌∙◌, arith, Ok}
 use Rattle.std.proofs.lemmas.Bool.{cases_lt}
 use Rattle.std.proofs.lemmas.Bool.Decides.{nat_tests}
-use Rattle.std.proofs.lemmas.List.{length-drop, length-append, length-take-le, take-append-drop}
+use Rattle.std.proofs.lemmas.List.{length-drop, length-append}
 use Rattle.pdb_base.specs.Index.{no_stream}
-use Rattle.pdb_base.specs.Endian.{little_number}
-use Rattle.pdb_base.specs.Refusal.{Refusal, unexpected_eof}
-use Rattle.pdb_base.specs.Answer.{Answer, ◌>>=◌, required}
-use Rattle.pdb_base.specs.Reading.{number_at}
+use Rattle.pdb_base.specs.Refusal.{unexpected_eof}
+use Rattle.pdb_base.specs.Answer.{◌>>=◌, required}
 use Rattle.pdb_base.specs.Spelling.{SpellsNumber, Begins}
 use Rattle.pdb_base.proofs.Collected.{ok, ok_is, ok_is_no_err, err_is}
 use Rattle.pdb_base.proofs.ReadingLemmas.{number_whole}

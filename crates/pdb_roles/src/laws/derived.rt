@@ -1,11 +1,14 @@
 //! What `Default` and `==` of each type say. The functions do nothing: each contract is a law.
 
-ghost use Rattle.std.specs.Prelude.{◌≡◌};
+ghost use Rattle.std.specs.Prelude.{◌≡◌, ◌↔◌, IsTrue};
 ghost use Rattle.pdb_base.specs.Derived.{DefaultsTo, TellsApart};
 ghost use Rattle.pdb_base.specs.Index.{no_stream};
+ghost use Rattle.pdb_roles.specs.StreamNames.{named_view};
+ghost use Rattle.pdb_roles.specs.declared.stream_names.StreamName.{StreamName};
 
 use crate::dbi_header::DBIHeader;
 use crate::debug_header::DBIExtraStreams;
+use crate::stream_names::StreamName;
 
 /// Headers are equal just where all fields are.
 pub fn headers()
@@ -28,4 +31,9 @@ pub fn roles()
       original_section_headers = record { 0 = no_stream };
     }) }
     ensures equal { TellsApart ⟦<DBIExtraStreams as PartialEq>⟧.eq }
+{}
+
+/// A named stream is equal to another just where its name has the same bytes and the stream is the same.
+pub fn named_streams()
+    ensures { (a b : StreamName) → IsTrue (⟦<StreamName<'static> as PartialEq>⟧.eq a b) ↔ (named_view a ≡ named_view b) }
 {}

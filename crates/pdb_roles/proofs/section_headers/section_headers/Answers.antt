@@ -1,9 +1,5 @@
-use Rattle.std.proofs.Common.{◌≡◌, ◌≤◌, ◌*◌, ◌-◌, ◌/◌, length, [], sym, ap, ◌∙◌, arith, ◌++◌, ℕ, ◌%◌, refl}
+use Rattle.std.proofs.Common.{◌≡◌, ◌≤◌, length, sym, ap, ◌∙◌, arith, ℕ, ◌%◌, refl}
 use Rattle.pdb_base.specs.Place.{Place, left}
-use Rattle.pdb_base.specs.Records.{spelled}
-use Rattle.pdb_base.proofs.RecordLemmas.{spelled_none}
-use Rattle.pdb_space.specs.SectionHeader.{section_header}
-use Rattle.pdb_roles.specs.SectionHeaders.{section_headers_of}
 use Rattle.pdb_roles.proofs.HeaderLemmas.{header_refused, header_step, all_headers}
 use Rattle.pdb_roles.proofs.section_headers.section_headers.Goals as goal
 

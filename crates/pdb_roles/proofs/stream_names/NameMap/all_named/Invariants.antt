@@ -1,4 +1,4 @@
-use Rattle.std.proofs.Common.{◌≡◌, ◌/◌, ◌≤◌, length, map, vec_len, vec_capacity, Ok}
+use Rattle.std.proofs.Common.{◌≡◌, ◌≤◌, map, vec_len, vec_capacity, Ok}
 use Rattle.std.specs.List.{range_with_len}
 use Rattle.pdb_base.specs.Answer.{collected}
 use Rattle.pdb_roles.specs.StreamNames.{map_view, named_at, named_view}
