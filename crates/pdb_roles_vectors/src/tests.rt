@@ -22,32 +22,34 @@ fn front(bytes: &[u8], len: usize) -> &[u8] {
     &bytes[..len.min(bytes.len())]
 }
 
-/// The streams of the roles, each at its place in the list.
-fn by_place(roles: &DBIExtraStreams) -> [StreamIndex; 11] {
-    [
-        roles.fpo,
-        roles.exception,
-        roles.fixup,
-        roles.omap_to_src,
-        roles.omap_from_src,
-        roles.section_headers,
-        roles.token_rid_map,
-        roles.xdata,
-        roles.pdata,
-        roles.framedata,
-        roles.original_section_headers,
-    ]
+/// The stream of the role of a place in the list.
+fn at_place(roles: &DBIExtraStreams, place: u16) -> StreamIndex {
+    match place {
+        0 => roles.fpo,
+        1 => roles.exception,
+        2 => roles.fixup,
+        3 => roles.omap_to_src,
+        4 => roles.omap_from_src,
+        5 => roles.section_headers,
+        6 => roles.token_rid_map,
+        7 => roles.xdata,
+        8 => roles.pdata,
+        9 => roles.framedata,
+        _ => roles.original_section_headers,
+    }
 }
 
 /// Whether the first so many roles have the streams 100, 101 and so on, and the others none.
 fn has_first(roles: &DBIExtraStreams, count: usize) -> bool {
-    let mut want = 100;
-    for (place, stream) in by_place(roles).iter().enumerate() {
-        let meant = if place < count { want } else { 0xffff };
-        if stream.0 != meant {
+    for place in 0..11u16 {
+        let want = if (place as usize) < count {
+            100 + place
+        } else {
+            0xffff
+        };
+        if at_place(roles, place).0 != want {
             return false;
         }
-        want = meant.saturating_add(1);
     }
     true
 }

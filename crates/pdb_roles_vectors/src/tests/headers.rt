@@ -36,16 +36,13 @@ const FIELDS: DBIHeader = DBIHeader {
     reserved: 0x0900_001a,
 };
 
-/// What stands between that header and its debug header: 84 bytes, that say other numbers.
-const PARTS: [u8; 84] = [0xee; 84];
-
 /// Three numbers, and a byte behind them.
 const LIST: &[u8] = b"\x64\0\x65\0\x66\0\x67";
 
-/// The stream of that header, whole.
+/// The stream of that header, whole: between the header and the list stand other numbers.
 fn whole(alloc: Global) -> Result<Vec<u8>, Fail> {
     let mut bytes = Vec::from_slice(alloc, HEADER)?;
-    bytes.extend_from_slice(&PARTS)?;
+    bytes.resize(148, 0xee)?;
     bytes.extend_from_slice(LIST)?;
     Ok(bytes)
 }
@@ -92,16 +89,13 @@ fn is_ancient(alloc: Global, bytes: &[u8]) -> Result<bool, Fail> {
     )
 }
 
+/// Streams that are as old as that.
+const ANCIENT: &[&[u8]] = &[b"\xfe\xff\xff\xff", b"\0\0\0\0\0", b"\xff\xff\xff\x7f"];
+
 #[test]
 fn ancient_headers(rt: HostRuntime) -> Result<(), Fail> {
-    let ancient = [
-        b"\xfe\xff\xff\xff".as_slice(),
-        b"\0\0\0\0\0",
-        b"\xff\xff\xff\x7f",
-    ];
-    for bytes in ancient {
+    for bytes in ANCIENT {
         assert!(rt; is_ancient(rt.alloc(), bytes)?, "{bytes:?}");
     }
-    assert!(rt; !is_ancient(rt.alloc(), b"\xfe\xff\xff")?);
     Ok(())
 }

@@ -90,7 +90,7 @@ fn two(alloc: Global) -> Result<Vec<u8>, Fail> {
 #[test]
 fn cuts(rt: HostRuntime) -> Result<(), Fail> {
     let bytes = two(rt.alloc())?;
-    for len in 0..bytes.len() {
+    for len in 0..88usize {
         let text = shown(rt.alloc(), front(&bytes, len))?;
         assert_eq!(rt; text.as_str(), ENDS, "of {len} bytes");
     }
