@@ -1,5 +1,5 @@
 //! Program databases (PDB): the container and what it replies to queries, tables of items, values of
-//! records, names, addresses and how they are translated, and frames.
+//! records, names, addresses and how they are translated, frames, and which stream is what.
 #![tactic(auto)]
 
 mod fields;
@@ -51,6 +51,17 @@ pub use pdb_msf::Stream;
 pub use pdb_msf::big;
 pub use pdb_msf::open_msf;
 pub use pdb_msf::small;
+pub use pdb_roles::DBIExtraStreams;
+pub use pdb_roles::DBIHeader;
+pub use pdb_roles::PDBInformation;
+pub use pdb_roles::StreamName;
+pub use pdb_roles::StreamNames;
+pub use pdb_roles::address_map;
+pub use pdb_roles::extra_streams;
+pub use pdb_roles::frame_table;
+pub use pdb_roles::named_stream;
+pub use pdb_roles::pdb_information;
+pub use pdb_roles::string_table;
 pub use pdb_space::AddressMap;
 pub use pdb_space::ImageSectionHeader;
 pub use pdb_space::OMAPRecord;

@@ -1,0 +1,6 @@
+pub mod CutLemmas
+pub mod HeaderLemmas
+pub mod EndLemmas
+pub mod DbiLaws
+pub mod RoleLaws
+pub mod NamedLaws

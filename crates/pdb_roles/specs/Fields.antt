@@ -1,0 +1,13 @@
+-- Fields that stand at fixed offsets.
+use Rattle.std.specs.Prelude.{ℕ, List, take, drop}
+use Rattle.pdb_base.specs.Endian.{little_number}
+
+-- the number in so many bytes at an offset, the lowest byte first
+abbrev pub number_in : ℕ → ℕ → List ℕ → ℕ
+number_in width offset bytes = little_number width (take width (drop offset bytes))
+
+abbrev pub u16_in : ℕ → List ℕ → ℕ
+u16_in = number_in 2
+
+abbrev pub u32_in : ℕ → List ℕ → ℕ
+u32_in = number_in 4

@@ -1,0 +1,34 @@
+//! The headers of all sections of an image.
+
+ghost use Rattle.std.specs.Prelude.{◌≡◌, ◌↔◌};
+ghost use Rattle.pdb_base.specs.Answer.{Answers};
+ghost use Rattle.pdb_roles.specs.SectionHeaders.{section_headers_of};
+
+use pdb_base::{Error, Result};
+use pdb_msf::Stream;
+use pdb_space::ImageSectionHeader;
+use std::alloc::Global;
+
+/// How many bytes a header has.
+const HEADER_SIZE: usize = 40;
+
+/// The headers that a stream holds, forty bytes each.
+///
+/// # Errors
+/// `UnexpectedEof` where the last header is cut, before memory is asked for, and `OutOfMemory` where
+/// memory is refused.
+#[tactic(auto, unfolding(crate::specs::SectionHeaders::section_headers_of))]
+pub fn section_headers(alloc: Global, stream: &Stream) -> Result<Vec<ImageSectionHeader>>
+    ensures { Answers (λ headers. headers.items) result (section_headers_of stream.now) }
+{
+    let mut buffer = stream.parse_buffer();
+    if buffer.len() % HEADER_SIZE != 0 {
+        return Err(Error::UnexpectedEof);
+    }
+    let count = buffer.len() / HEADER_SIZE;
+    let mut headers = Vec::with_capacity(alloc, count)?;
+    for _ in 0..count {
+        headers.push_reserved(ImageSectionHeader::parse(&mut buffer)?);
+    }
+    Ok(headers)
+}
