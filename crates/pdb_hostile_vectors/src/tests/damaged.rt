@@ -81,9 +81,51 @@ fn bytes_set(rt: HostRuntime) -> std::result::Result<(), Fail> {
 
 #[test]
 fn cuts(rt: HostRuntime) -> std::result::Result<(), Fail> {
-    let mut file = s1(rt.alloc())?;
-    while let Some(_) = file.pop() {
-        assert!(rt; is_agreed(rt.alloc(), &file)?, "{} bytes", file.len());
+    let file = s1(rt.alloc())?;
+    for len in 0..4096usize {
+        let front = file.get(..len).unwrap_or(&[]);
+        assert!(rt; is_agreed(rt.alloc(), front)?, "{len} bytes");
     }
+    Ok(())
+}
+
+/// A file of 4096 bytes in pages of 256, whose directory has so many bytes and lies, as its location does,
+/// on page 1 all over: each of its words is 1.
+fn claiming(alloc: Global, directory_size: u32) -> Result<Vec<u8>> {
+    let mut file = Vec::from_slice(alloc, b"Microsoft C/C++ MSF 7.00\r\n\x1aDS\0\0\0")?;
+    for word in [256, 1, 8, directory_size, 0] {
+        file.extend_from_slice(&word.to_le_bytes())?;
+    }
+    for _ in 0..1011u16 {
+        file.extend_from_slice(&[1, 0, 0, 0])?;
+    }
+    Ok(file)
+}
+
+/// Whether a reply is a stream of the byte 1.
+fn is_one_byte(reply: &Reply) -> bool {
+    matches!(reply, Reply::Bytes(bytes) if bytes.as_slice() == [1u8].as_slice())
+}
+
+/// Whether a reply is that stream 1 is absent.
+fn is_absent(reply: &Reply) -> bool {
+    matches!(reply, Reply::Refused(Error::StreamNotFound(1)))
+}
+
+/// Whether a file has one stream, of the byte 1.
+fn is_one_stream(alloc: Global, file: &[u8]) -> Result<bool> {
+    let replies = run(alloc, file, &streams())?;
+    Ok(replies.first().is_some_and(is_one_byte) && replies.get(1).is_some_and(is_absent))
+}
+
+#[test]
+fn claims(rt: HostRuntime) -> std::result::Result<(), Fail> {
+    let alloc = rt.alloc();
+    let most = claiming(alloc, 16_564_224)?;
+    assert!(rt; is_agreed(alloc, &most)?);
+    assert!(rt; is_one_stream(alloc, &most)?);
+    let more = claiming(alloc, 16_564_225)?;
+    assert!(rt; is_agreed(alloc, &more)?);
+    assert!(rt; matches!(run(alloc, more, &streams()), Err(Error::UnexpectedEof)));
     Ok(())
 }

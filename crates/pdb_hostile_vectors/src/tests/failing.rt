@@ -41,7 +41,11 @@ fn is_answered(alloc: Global, row: &Row, n: u64) -> Result<bool> {
     };
     let (once, faults) = asked(alloc, &mut file, row);
     let (again, more) = asked(alloc, &mut file, row);
-    let faults = if is_open { faults + more } else { 1 };
+    let faults = if is_open {
+        faults.saturating_add(more)
+    } else {
+        1
+    };
     Ok(once && again && faults == u64::from(n <= row.views))
 }
 
@@ -64,14 +68,21 @@ fn stream_1() -> Query {
     }
 }
 
-/// The fault, and then all of stream 1.
+/// Whether a reply is the fault.
+fn is_refused(reply: &Reply) -> bool {
+    matches!(reply, Reply::Refused(Error::IoError(error)) if error.kind() == ErrorKind::Other)
+}
+
+/// Whether a reply is all of stream 1.
+fn is_stream_1(reply: &Reply) -> bool {
+    matches!(reply, Reply::Bytes(bytes) if is_front(bytes, 600))
+}
+
+/// Whether replies are the fault, and then all of stream 1.
 fn are_fault_and_stream(replies: &[Reply]) -> bool {
-    match replies {
-        [Reply::Refused(Error::IoError(error)), Reply::Bytes(bytes)] => {
-            error.kind() == ErrorKind::Other && is_front(bytes, 600)
-        }
-        _ => false,
-    }
+    replies.len() == 2
+        && replies.first().is_some_and(is_refused)
+        && replies.get(1).is_some_and(is_stream_1)
 }
 
 #[test]

@@ -1,14 +1,13 @@
 //! Refused memory: each row passes whichever single request for memory is refused. What is answered
 //! `OutOfMemory` is asked once more, and then has to be answered as ever.
 
-ghost use Rattle.std.specs.Prelude.{◌≡◌};
 ghost use Rattle.pdb_msf.specs.Source.{in_memory};
 
-use super::rows::{Row, edited, rows};
+use super::rows::{Row, edited, list_of, rows};
 use pdb_base::{Error, FallibleIterator, IdIndex, Result, TypeIndex, Variant};
 use pdb_command::{Outcome, act, read_all};
 use pdb_container::{Query, Reply, run};
-use pdb_msf::{BigMSF, Msf, PageList, ReadView, Source, SourceSlice, Stream, open_msf};
+use pdb_msf::{BigMSF, Msf, ReadView, Source, SourceSlice, Stream, open_msf};
 use pdb_tpi::{IdInformation, TypeFinder, TypeInformation};
 use pdb_values::{FieldList, IdData, PointerType, TypeData};
 use pdb_vectors::{item_table, s1, s1_with};
@@ -37,17 +36,6 @@ fn streams(rt: HostRuntime) -> std::result::Result<(), Fail> {
         assert!(rt; is, "stream {}, limit {:?}", row.number, row.limit);
     }
     Ok(())
-}
-
-/// A list of pages of 4096 bytes, added in turn.
-fn list_of(alloc: Global, pages: &[u32]) -> Result<PageList> {
-    let mut list = PageList::new(alloc, 4096);
-    for page in pages {
-        if !list.is_truncated() && list.len() < 0x10000 {
-            settled!(list.push(*page))?;
-        }
-    }
-    Ok(list)
 }
 
 #[test]
@@ -163,18 +151,17 @@ fn is_pointer(pointer: &PointerType) -> bool {
         && pointer.containing_class.is_none()
 }
 
+/// Whether a field is a value of an enumeration.
+fn is_value(field: Option<&TypeData<'_>>, value: Variant, name: &[u8]) -> bool {
+    matches!(field, Some(TypeData::Enumerate(it)) if it.value == value && it.name.as_bytes() == name)
+}
+
 /// Whether fields are the values A, 0, and B, -1.
 fn are_fields(list: &FieldList<'_>) -> bool {
-    match list.fields.as_slice() {
-        [TypeData::Enumerate(a), TypeData::Enumerate(b)] => {
-            a.value == Variant::U16(0)
-                && a.name.as_bytes() == b"A".as_slice()
-                && b.value == Variant::I16(-1)
-                && b.name.as_bytes() == b"B".as_slice()
-                && list.continuation.is_none()
-        }
-        _ => false,
-    }
+    list.fields.len() == 2
+        && is_value(list.fields.first(), Variant::U16(0), b"A")
+        && is_value(list.fields.get(1), Variant::I16(-1), b"B")
+        && list.continuation.is_none()
 }
 
 impl Says {
@@ -286,13 +273,13 @@ fn ran(alloc: Global, file: &[u8]) -> Result<Vec<Reply>> {
     }
 }
 
-/// Whether each reply is the row's, or `OutOfMemory`, and how many are `OutOfMemory`.
-fn replies_told(replies: &[Reply]) -> (bool, usize) {
+/// Whether each reply is the row's or `OutOfMemory`, and whether one is `OutOfMemory`.
+fn replies_told(replies: &[Reply]) -> (bool, bool) {
     let mut is = replies.len() == 3;
-    let mut refused = 0;
+    let mut refused = false;
     for (number, reply) in [2, 3, 2].iter().zip(replies) {
         match reply {
-            Reply::Refused(Error::OutOfMemory) => refused += 1,
+            Reply::Refused(Error::OutOfMemory) => refused = true,
             Reply::Refused(Error::StreamNotFound(2)) => is &= *number == 2,
             Reply::Bytes(bytes) => is &= *number == 3 && bytes.as_slice() == b"hello".as_slice(),
             _ => is = false,
@@ -307,8 +294,8 @@ fn replies_told(replies: &[Reply]) -> (bool, usize) {
 /// `OutOfMemory` where the run was refused, or one of its replies was.
 fn answered(alloc: Global, file: &[u8]) -> Result<()> {
     match replies_told(&ran(alloc, file)?) {
-        (true, 0) => Ok(()),
-        (true, _) => Err(Error::OutOfMemory),
+        (true, false) => Ok(()),
+        (true, true) => Err(Error::OutOfMemory),
         (false, _) => Err(Error::UnimplementedFeature("another reply")),
     }
 }

@@ -1,7 +1,7 @@
 //! Worked rows on streams of S1, for readers that are refused something.
 
 use pdb_base::{Error, Result};
-use pdb_msf::Stream;
+use pdb_msf::{PageList, Stream};
 use pdb_vectors::s1;
 use std::alloc::Global;
 use std::io::ErrorKind;
@@ -111,4 +111,15 @@ pub(crate) fn rows() -> [Row; 10] {
         edited_row(none, None, Want::OutOfRange(9), 3),
         edited_row(none, Some(0), Want::OutOfRange(9), 3),
     ]
+}
+
+/// A list of pages of 4096 bytes, added in turn.
+pub(crate) fn list_of(alloc: Global, pages: &[u32]) -> Result<PageList> {
+    let mut list = PageList::new(alloc, 4096);
+    for page in pages {
+        if !list.is_truncated() && list.len() < 0x10000 {
+            settled!(list.push(*page))?;
+        }
+    }
+    Ok(list)
 }

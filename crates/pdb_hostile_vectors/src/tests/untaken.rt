@@ -1,15 +1,17 @@
 //! Calls that take no memory. `fixtures` makes what they are called on, and `calls` does the same and
 //! calls them: so both ask for memory as often.
 
-use super::rows::edited;
+ghost use Rattle.std.specs.Prelude.{◌≡◌};
+
+use super::rows::{edited, list_of};
 use pdb_base::{
     Count, Error, FallibleIterator, IdIndex, ParseBuffer, RawString, Result, StreamIndex,
     TypeIndex, Variant,
 };
 use pdb_container::{
-    AddressMap, FrameTable, IdInformation, ImageSectionHeader, OMAPTable, PdbInternalRva, Rva,
-    SectionOffset, StringRef, StringTable, TypeData, TypeFinder, TypeInformation, TypeProperties,
-    type_data_for_primitive,
+    AddressMap, FrameDataIter, FrameTable, IdInformation, ImageSectionHeader, OMAPRecord,
+    OMAPTable, PdbInternalRva, Rva, SectionOffset, StringRef, StringTable, TypeData, TypeFinder,
+    TypeInformation, TypeProperties, type_data_for_primitive,
 };
 use pdb_msf::{BigMSF, Msf, PageList, ReadView, SourceView, Stream, open_msf};
 use std::alloc::Global;
@@ -74,17 +76,6 @@ fn is_buffer_read(bytes: &[u8]) -> Result<bool> {
     Ok(read && is_moved(&mut buffer)? && StreamIndex(7).msf_number() == Some(7))
 }
 
-/// Four slices of pages.
-fn listed(alloc: Global) -> Result<PageList> {
-    let mut list = PageList::new(alloc, 4096);
-    for page in [0, 1, 4, 5, 2, 2] {
-        if !list.is_truncated() && list.len() < 0x10000 {
-            settled!(list.push(page))?;
-        }
-    }
-    Ok(list)
-}
-
 /// Whether a list of pages is cut as ever.
 fn is_list_cut(mut list: PageList) -> bool {
     let whole = list.len() == 24576 && list.source_slices().len() == 4;
@@ -118,36 +109,40 @@ fn is_absent(answer: &Result<Stream>) -> bool {
     matches!(answer, Err(Error::StreamNotFound(_)))
 }
 
-/// Whether the directory of a located file refuses streams: it has no count of them, too few sizes, or
-/// too few page numbers, or the stream is absent.
-fn are_streams_refused(alloc: Global, files: &mut [BigMSF<Vec<u8>>; 4]) -> bool {
-    let [none, short, cut, whole] = files;
-    let told = whole.located() && whole.asked() == 36 && whole.source().len() == 4096;
-    told && is_ended(&none.get(alloc, 0, None))
-        && is_ended(&short.get(alloc, 3, None))
-        && is_ended(&short.get(alloc, 0, None))
-        && is_ended(&cut.get(alloc, 3, None))
-        && is_absent(&whole.get(alloc, 2, None))
-        && is_absent(&whole.get(alloc, 4, None))
+/// Whether a located file refuses streams that its directory of so many bytes lacks: it has no count of
+/// them, too few sizes, or too few page numbers; or that are absent.
+fn are_streams_refused(alloc: Global, size: u8, file: &mut BigMSF<Vec<u8>>) -> bool {
+    match size {
+        0 => is_ended(&file.get(alloc, 0, None)),
+        19 => is_ended(&file.get(alloc, 3, None)) && is_ended(&file.get(alloc, 0, None)),
+        24 => is_ended(&file.get(alloc, 3, None)),
+        _ => is_absent(&file.get(alloc, 2, None)) && is_absent(&file.get(alloc, 4, None)),
+    }
 }
 
-/// Whether the container answers as ever, where `calls` says that it is asked.
+/// Whether S1 with a directory of so many bytes refuses streams as ever, where `calls` says that it is
+/// asked for them.
+fn is_directory(alloc: Global, size: u8, calls: bool) -> Result<bool> {
+    let mut file = located(alloc, size)?;
+    if !calls {
+        return Ok(true);
+    }
+    let told = file.located() && file.asked() > 0;
+    let source = file.source();
+    let whole = source.len() == 4096;
+    Ok(told && whole && are_streams_refused(alloc, size, &mut file))
+}
+
+/// Whether pages, views and buffers answer as ever, where `calls` says that they are asked.
 fn is_container(alloc: Global, calls: bool) -> Result<bool> {
-    let list = listed(alloc)?;
-    let mut files = [
-        located(alloc, 0)?,
-        located(alloc, 19)?,
-        located(alloc, 24)?,
-        located(alloc, 32)?,
-    ];
+    let list = list_of(alloc, &[0, 1, 4, 5, 2, 2])?;
     let stream = stream_of(alloc, BYTES)?;
     if !calls {
         return Ok(true);
     }
-    let refused = are_streams_refused(alloc, &mut files);
     let read = is_buffer_read(stream.as_slice())? && stream.parse_buffer().len() == BYTES.len();
     let view = ReadView::new(stream.into_bytes());
-    Ok(is_list_cut(list) && refused && read && view.as_slice().len() == BYTES.len())
+    Ok(is_list_cut(list) && read && view.as_slice().len() == BYTES.len())
 }
 
 /// A table of three types: a pointer, a list of arguments with a false count, and a structure.
@@ -256,8 +251,8 @@ fn is_named(names: &StringTable) -> bool {
 fn is_moved_so(omap: &OMAPTable) -> bool {
     let mut count = Count::new();
     let looked = omap.lookup_counted(0x1008, &mut count) == omap.lookup(0x1008);
-    let ranges = omap.lookup_range(0..0x1010).count() == 1;
-    looked && ranges && omap.is_sorted() && omap.records().count() == 2
+    let moved = omap.lookup_range(0..0x1010).next() == Some(0x15d44..0x15d4c);
+    looked && moved && omap.is_sorted() && omap.records().next() == Some(OMAPRecord::new(0x1000, 0))
 }
 
 /// Whether places are found as ever.
@@ -267,16 +262,21 @@ fn is_placed(map: &AddressMap) -> bool {
         && PdbInternalRva(0x1005).to_rva(map) == Some(Rva(0x1005))
         && map
             .rva_ranges(PdbInternalRva(0)..PdbInternalRva(0x10))
-            .count()
-            == 1
-        && map.internal_rva_ranges(Rva(5)..Rva(5)).count() == 0
+            .next()
+            .is_some()
+        && map.internal_rva_ranges(Rva(5)..Rva(5)).next().is_none()
+}
+
+/// Whether there is a next frame.
+fn has_next(frames: &mut FrameDataIter<'_>) -> bool {
+    matches!(frames.next(), Ok(Some(_)))
 }
 
 /// Whether frames come as ever.
-fn are_frames(frames: &FrameTable) -> Result<bool> {
-    let first = frames.iter().next()?.is_some();
-    let last = frames.iter_at_rva(PdbInternalRva(0x40)).next()?.is_none();
-    Ok(first && last && !frames.is_empty())
+fn are_frames(frames: &FrameTable) -> bool {
+    let mut all = frames.iter();
+    let mut behind = frames.iter_at_rva(PdbInternalRva(0x40));
+    has_next(&mut all) && !has_next(&mut behind) && !frames.is_empty()
 }
 
 /// One section.
@@ -295,11 +295,16 @@ fn is_space(alloc: Global, calls: bool) -> Result<bool> {
         return Ok(true);
     }
     let moved = is_moved_so(&omap) && is_placed(&map) && section.name() == ".data";
-    Ok(is_named(&names) && moved && are_frames(&frames)?)
+    Ok(is_named(&names) && moved && are_frames(&frames))
 }
 
 /// Whether all is answered as ever, where `calls` says that it is asked.
 fn is_all(alloc: Global, calls: bool) -> Result<bool> {
+    for size in [0, 19, 24, 32] {
+        if !is_directory(alloc, size, calls)? {
+            return Ok(false);
+        }
+    }
     Ok(is_container(alloc, calls)? && are_tables(alloc, calls)? && is_space(alloc, calls)?)
 }
 
