@@ -127,7 +127,7 @@ fn is_directory(alloc: Global, size: u8, calls: bool) -> Result<bool> {
     if !calls {
         return Ok(true);
     }
-    let told = file.located() && file.asked() > 0;
+    let told = file.located() && file.asked() >= u64::from(size);
     let source = file.source();
     let whole = source.len() == 4096;
     Ok(told && whole && are_streams_refused(alloc, size, &mut file))
