@@ -38,12 +38,29 @@ fn streams(rt: HostRuntime) -> std::result::Result<(), Fail> {
     Ok(())
 }
 
+/// Pages of 4096 bytes, and the slices that they are joined into. Where a page comes again it begins a
+/// slice, so that the list grows.
+const PAGES: &[(&[u32], &[(u64, usize)])] = &[
+    (
+        &[0, 1, 4, 5, 2, 2],
+        &[(0, 8192), (16384, 8192), (8192, 4096), (8192, 4096)],
+    ),
+    (&[7; 16], &[(28672, 4096); 16]),
+];
+
+/// Whether slices begin at these places and have these sizes.
+fn are_slices(slices: &[SourceSlice], want: &[(u64, usize)]) -> bool {
+    slices.len() == want.len()
+        && slices.iter().zip(want).all(|(slice, (offset, size))| slice.offset == *offset
+            && slice.size == *size)
+}
+
 #[test]
 fn pages(rt: HostRuntime) -> std::result::Result<(), Fail> {
-    let list = list_of(rt.alloc(), &[0, 1, 4, 5, 2, 2])?;
-    let places = [(0, 8192), (16384, 8192), (8192, 4096), (8192, 4096)];
-    let slices = places.map(|(offset, size)| SourceSlice { offset, size });
-    assert!(rt; list.source_slices() == slices.as_slice());
+    for (pages, slices) in PAGES {
+        let list = list_of(rt.alloc(), pages)?;
+        assert!(rt; are_slices(list.source_slices(), slices), "{pages:?}");
+    }
     Ok(())
 }
 
