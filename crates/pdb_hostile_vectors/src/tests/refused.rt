@@ -242,9 +242,7 @@ fn ids(rt: HostRuntime) -> std::result::Result<(), Fail> {
     Ok(())
 }
 
-// The rows of field lists that are joined through their continuations stand here, once there is a call
-// that joins them: a table of two lists, of which the second goes on in the first, whose fields are
-// asked for with `settled!`.
+// Field lists joined: their rows belong here, once there is a call that joins them.
 
 /// Bytes whose views are counted.
 #[derive(Drop)]
