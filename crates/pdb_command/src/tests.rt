@@ -125,6 +125,10 @@ const BUILD_INFO: &[u8] = b"\x0c\x00\x03\x16\x02\x00\x01\x10\x00\x00\x02\x10\x00
 const SHORT: &[u8] =
     b"\x02\x00\x01\x10\x02\x00\x01\x10\x02\x00\x01\x10\x02\x00\x01\x10\x02\x00\x01\x10\x02\x00\x01\x10\x02\x00\x01\x10\x02\x00\x01\x10\x02\x00\x01\x10";
 
+/// The same but for a length of 1 of the third.
+const SHORT_LENGTH: &[u8] =
+    b"\x02\x00\x01\x10\x02\x00\x01\x10\x01\x00\x01\x10\x02\x00\x01\x10\x02\x00\x01\x10\x02\x00\x01\x10\x02\x00\x01\x10\x02\x00\x01\x10\x02\x00\x01\x10";
+
 /// The items of a table, from index 0x1000 up to below a maximum, and what is asked of S1 with that table
 /// as stream 3; and what is answered.
 const TABLES: &[(&[u8], u32, &[&str], u8, &str, &str)] = &[
@@ -178,6 +182,14 @@ const TABLES: &[(&[u8], u32, &[&str], u8, &str, &str)] = &[
         "UnexpectedEof\n",
     ),
     (
+        SHORT_LENGTH,
+        0x1009,
+        &["type", "3", "0x1005"],
+        1,
+        "",
+        "TypeTooShort\n",
+    ),
+    (
         BUILD_INFO,
         0x1001,
         &["id", "3", "0x1000"],
@@ -225,6 +237,10 @@ const BROKEN: &[u8] = b"\xfe\xef\xfe\xef\x01\x00\x00\x00\x04\x00\x00\x00f\xffo\x
 
 const OMAP: &[u8] = b"\x00\x10\x00\x00\x00\x00\x00\x00\x08\x10\x00\x00\x44\x5d\x01\x00";
 
+/// A table of two types, whose least index and maximum are 0xffffffff.
+const LAST: &[u8] =
+    b"\0\0\0\0\x38\0\0\0\xff\xff\xff\xff\xff\xff\xff\xff\0\0\0\0\0\0\0\0\0\0\0\0\0\0\0\0\0\0\0\0\0\0\0\0\0\0\0\0\0\0\0\0\0\0\0\0\0\0\0\0\x02\0\x01\x10\x02\0\x01\x10";
+
 /// What is asked of S1 with these bytes as stream 3, and what is answered.
 const NAMES_AND_RANGES: &[(&[u8], &[&str], u8, &str, &str)] = &[
     (NAMES, &["name", "3", "1"], 0, "foo\n", ""),
@@ -241,6 +257,14 @@ const NAMES_AND_RANGES: &[(&[u8], &[&str], u8, &str, &str)] = &[
     (OMAP, &["ranges", "3", "0", "0x1008"], 0, "", ""),
     (OMAP, &["ranges", "4", "0", "0x1010"], 1, "", ABSENT_4),
     (b"hello", &["ranges", "3", "0", "0x1010"], 1, "", NO_OMAP),
+    (&[0; 12], &["ranges", "3", "0", "1"], 1, "", NO_OMAP),
+    (
+        LAST,
+        &["type", "3", "0xffffffff"],
+        1,
+        "",
+        "Type 4294967295 not found\n",
+    ),
 ];
 
 #[test]

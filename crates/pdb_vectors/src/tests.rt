@@ -51,12 +51,16 @@ fn stream_1(alloc: Global) -> pdb_base::Result<Vec<u8>> {
 
 const STREAM_2_ABSENT: &[u8] = b"The requested stream (2) is not stored in this file";
 
+const STREAM_4_ABSENT: &[u8] = b"The requested stream (4) is not stored in this file";
+
 const SOURCE_ENDS: &[u8] = b"IO error while reading PDB: unexpected end of file";
 
 const OUT_OF_RANGE: &[u8] = b"MSF referred to page number (9) out of range";
 
-/// Where stream 3's page number stands in S1, and the directory's size.
+/// Where the page number of stream 3 stands in S1, the second one of stream 1, and the directory's size.
 const PAGE_OF_3: usize = 1052;
+
+const PAGE_OF_1: usize = 1048;
 
 const DIRECTORY_SIZE: usize = 44;
 
@@ -91,17 +95,20 @@ fn streams(rt: HostRuntime) -> Result<(), Fail> {
         );
     }
 
-    let rows: [(&[(usize, u8)], u32, Option<usize>, &[u8]); 19] = [
+    // The directory ends behind the page numbers of stream 1.
+    let whole = stream_1(alloc)?;
+    assert!(rt;
+        answers_twice(alloc, &[(DIRECTORY_SIZE, 28)], 1, None, &whole)?,
+        "stream 1, whose page numbers are the last"
+    );
+
+    let rows: [(&[(usize, u8)], u32, Option<usize>, &[u8]); 22] = [
         (&[], 0, None, b""),
         (&[], 1, Some(0), b""),
         (&[], 2, None, STREAM_2_ABSENT),
         (&[], 3, None, b"hello"),
-        (
-            &[],
-            4,
-            None,
-            b"The requested stream (4) is not stored in this file",
-        ),
+        (&[], 4, None, STREAM_4_ABSENT),
+        (&[(PAGE_OF_1, 6)], 1, None, &[b'a'; 600]),
         (&[(PAGE_OF_3, 8)], 3, None, SOURCE_ENDS),
         (&[(PAGE_OF_3, 8)], 3, Some(0), b""),
         (&[(PAGE_OF_3, 9)], 3, None, OUT_OF_RANGE),
@@ -117,6 +124,8 @@ fn streams(rt: HostRuntime) -> Result<(), Fail> {
         (&[(DIRECTORY_SIZE, 24)], 1, None, b"UnexpectedEof"),
         (&[(DIRECTORY_SIZE, 24)], 3, None, b"UnexpectedEof"),
         (&[(DIRECTORY_SIZE, 28)], 3, None, b"UnexpectedEof"),
+        (&[(DIRECTORY_SIZE, 19)], 0, None, b"UnexpectedEof"),
+        (&[(DIRECTORY_SIZE, 19)], 4, None, STREAM_4_ABSENT),
     ];
     for (edits, number, limit, want) in rows {
         assert!(rt;

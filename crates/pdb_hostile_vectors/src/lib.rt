@@ -1,0 +1,5 @@
+//! Damaged files, refused memory and failing sources, as tests.
+#![tactic(auto)]
+
+#[cfg(test)]
+mod tests;

@@ -1,0 +1,22 @@
+//! What a file of a stranger, or a machine without memory, may do to a reader.
+
+/// What a call answers; where memory is refused, what it answers when it is asked once more. The function
+/// returns `OutOfMemory` where memory is refused again.
+macro_rules! settled {
+    ($call:expr) => {
+        match $call {
+            Err(Error::OutOfMemory) => match $call {
+                Err(Error::OutOfMemory) => return Err(Error::OutOfMemory),
+                answer => answer,
+            },
+            answer => answer,
+        }
+    };
+}
+
+mod damaged;
+mod failing;
+mod plain;
+mod refused;
+mod rows;
+mod untaken;

@@ -1,0 +1,98 @@
+//! Sources of which one view fails: the fault is told where it is met, and what is asked again is then
+//! answered.
+
+use super::rows::{Row, edited, is_front, rows};
+use pdb_base::{Error, Result};
+use pdb_container::{Query, Reply, run};
+use pdb_msf::{BigMSF, Msf, open_msf};
+use pdb_vectors::{Failing, s1};
+use std::alloc::Global;
+use std::io::ErrorKind;
+use std::test::Fail;
+
+/// Whether a call is refused by the fault of the source.
+fn is_fault<T>(answer: &Result<T>) -> bool {
+    matches!(answer, Err(Error::IoError(error)) if error.kind() == ErrorKind::Other)
+}
+
+/// Opens a row's file, of whose views this one fails.
+fn opened(alloc: Global, row: &Row, n: u64) -> Result<BigMSF<Failing>> {
+    open_msf(alloc, Failing::new(edited(alloc, row.edits)?, n))
+}
+
+/// Whether the row's stream is answered as ever, and how many faults were told before it was.
+fn asked(alloc: Global, file: &mut BigMSF<Failing>, row: &Row) -> (bool, u64) {
+    let answer = file.get(alloc, row.number, row.limit);
+    if is_fault(&answer) {
+        let again = file.get(alloc, row.number, row.limit);
+        return (row.fits(&again), 1);
+    }
+    (row.fits(&answer), 0)
+}
+
+/// Whether a row is answered as ever, but for one fault where one of its views fails.
+fn is_answered(alloc: Global, row: &Row, n: u64) -> Result<bool> {
+    let first = opened(alloc, row, n);
+    let is_open = !is_fault(&first);
+    let mut file = if is_open {
+        first?
+    } else {
+        opened(alloc, row, 0)?
+    };
+    let (once, faults) = asked(alloc, &mut file, row);
+    let (again, more) = asked(alloc, &mut file, row);
+    let faults = if is_open {
+        faults.saturating_add(more)
+    } else {
+        1
+    };
+    Ok(once && again && faults == u64::from(n <= row.views))
+}
+
+#[test]
+fn views(rt: HostRuntime) -> std::result::Result<(), Fail> {
+    for n in 1..6u64 {
+        for row in &rows() {
+            let is = is_answered(rt.alloc(), row, n)?;
+            assert!(rt; is, "view {n}, stream {}", row.number);
+        }
+    }
+    Ok(())
+}
+
+/// A question for stream 1.
+fn stream_1() -> Query {
+    Query::Stream {
+        number: 1,
+        limit: None,
+    }
+}
+
+/// Whether a reply is the fault.
+fn is_refused(reply: &Reply) -> bool {
+    matches!(reply, Reply::Refused(Error::IoError(error)) if error.kind() == ErrorKind::Other)
+}
+
+/// Whether a reply is all of stream 1.
+fn is_stream_1(reply: &Reply) -> bool {
+    matches!(reply, Reply::Bytes(bytes) if is_front(bytes, 600))
+}
+
+/// Whether replies are the fault, and then all of stream 1.
+fn are_fault_and_stream(replies: &[Reply]) -> bool {
+    replies.len() == 2
+        && replies.first().is_some_and(is_refused)
+        && replies.get(1).is_some_and(is_stream_1)
+}
+
+#[test]
+fn runs(rt: HostRuntime) -> std::result::Result<(), Fail> {
+    let alloc = rt.alloc();
+    let queries = [stream_1(), stream_1()];
+    assert!(rt; is_fault(&run(alloc, Failing::new(s1(alloc)?, 1), &queries)));
+    for n in 2..5u64 {
+        let replies = run(alloc, Failing::new(s1(alloc)?, n), &queries)?;
+        assert!(rt; are_fault_and_stream(&replies), "view {n}");
+    }
+    Ok(())
+}
