@@ -4,7 +4,7 @@ ghost use Rattle.std.specs.Prelude.{◌≡◌, ◌≤◌, ◌++◌, length, map,
 ghost use Rattle.std.specs.Option.{option_map};
 ghost use Rattle.pdb_base.specs.Text.{lossy};
 ghost use Rattle.pdb_base.specs.ErrorText.{hexadecimal_of_four};
-ghost use Rattle.pdb_command.specs.Lines.{line, hex_line, hex_lines, record_line, name_lines, range_lines, reply_lines};
+ghost use Rattle.pdb_command.specs.Lines.{line, hex_line, hex_lines, record_line, name_text, name_lines, range_lines, reply_lines};
 
 use pdb_container::{Error, RawString, Reply, Result};
 use std::alloc::Global;
@@ -55,6 +55,24 @@ impl fmt::Display for Kind {
     }
 }
 
+/// The text of a name, or `-` if there is none.
+#[derive(Clone, Copy)]
+struct NameText<'a>(Option<&'a [u8]>);
+
+impl fmt::Display for NameText<'_> {
+    ghost output = { λ name. Some (name_text (option_map (λ bytes. bytes.now) name.0)) };
+
+    fn fmt<W: fmt::Write>(&self, f: &mut fmt::Formatter<W>) -> fmt::Result {
+        match self.0 {
+            Some(name) => {
+                let name = RawString::from(name);
+                write!(f, "{name}")
+            }
+            None => write!(f, "-"),
+        }
+    }
+}
+
 /// A record as a line: its index, its kind and its name, or `-` where it has none.
 #[tactic(auto, unfolding(crate::specs::Lines::record_line))]
 fn record_line(alloc: Global, index: u32, kind: u16, name: Option<&[u8]>) -> Result<Vec<u8>>
@@ -63,13 +81,8 @@ fn record_line(alloc: Global, index: u32, kind: u16, name: Option<&[u8]>) -> Res
     ensures want { IfErr result (λ e. e ≡ Error.OutOfMemory) }
 {
     let kind = Kind(kind);
-    match name {
-        Some(name) => {
-            let name = RawString::from(name);
-            Ok(format!(in alloc; "0x{index:x} {kind} {name}\n")?.into_bytes())
-        }
-        None => Ok(format!(in alloc; "0x{index:x} {kind} -\n")?.into_bytes()),
-    }
+    let name = NameText(name);
+    Ok(format!(in alloc; "0x{index:x} {kind} {name}\n")?.into_bytes())
 }
 
 /// The text of a name as a line.
@@ -90,13 +103,8 @@ fn name_lines(alloc: Global, names: &[Option<Vec<u8>>]) -> Result<Vec<u8>>
 {
     let mut out = String::new(alloc);
     for name in names {
-        match name {
-            Some(name) => {
-                let name = RawString::from(name.as_slice());
-                writeln!(out, "{name}")?;
-            }
-            None => writeln!(out, "-")?,
-        }
+        let name = NameText(name.as_deref());
+        writeln!(out, "{name}")?;
     }
     Ok(out.into_bytes())
 }

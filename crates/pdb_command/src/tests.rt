@@ -9,7 +9,8 @@ use pdb_base::Result;
 use pdb_vectors::{item_table, s1, s1_with};
 use std::alloc::Global;
 
-const USAGE: &str = "usage: pdbq stream N [LIMIT] | type S I | id S I | name S O | ranges S A B\n";
+const USAGE: &str =
+    "usage: pdbq stream N [LIMIT] | type S I | id S I | name S O | ranges S A B | fields S I\n";
 
 const ABSENT_2: &str = "The requested stream (2) is not stored in this file\n";
 
@@ -72,6 +73,8 @@ const STREAMS: &[(&[&str], u8, &[u8], &str)] = &[
     (&["type", "3"], 2, b"", USAGE),
     (&["ranges", "3", "0"], 2, b"", USAGE),
     (&["name", "3", "0x"], 2, b"", USAGE),
+    (&["fields", "3"], 2, b"", USAGE),
+    (&["fields", "4", "0"], 1, b"", ABSENT_4),
 ];
 
 #[test]
@@ -128,6 +131,67 @@ const SHORT: &[u8] =
 /// The same but for a length of 1 of the third.
 const SHORT_LENGTH: &[u8] =
     b"\x02\x00\x01\x10\x02\x00\x01\x10\x01\x00\x01\x10\x02\x00\x01\x10\x02\x00\x01\x10\x02\x00\x01\x10\x02\x00\x01\x10\x02\x00\x01\x10\x02\x00\x01\x10";
+
+/// A list of the field B, and one of the field A that goes on in the list 0x1000.
+const LISTS: &[u8] =
+    b"\x0c\x00\x03\x12\x02\x15\x03\x00\x01\x00B\x00\xf2\xf1\x12\x00\x03\x12\x02\x15\x03\x00\x00\x00A\x00\x04\x14\x00\x00\x00\x10\x00\x00";
+
+/// The same, and behind them a list of the field C that goes on in the list 0x1001.
+const THREE_LISTS: &[u8] =
+    b"\x0c\x00\x03\x12\x02\x15\x03\x00\x01\x00B\x00\xf2\xf1\x12\x00\x03\x12\x02\x15\x03\x00\x00\x00A\x00\x04\x14\x00\x00\x00\x10\x00\x00\x12\x00\x03\x12\x02\x15\x03\x00\x02\x00C\x00\x04\x14\x00\x00\x01\x10\x00\x00";
+
+/// The two lists, where the second goes on in itself.
+const OWN_LIST: &[u8] =
+    b"\x0c\x00\x03\x12\x02\x15\x03\x00\x01\x00B\x00\xf2\xf1\x12\x00\x03\x12\x02\x15\x03\x00\x00\x00A\x00\x04\x14\x00\x00\x01\x10\x00\x00";
+
+/// The two lists, where the second goes on in a primitive type.
+const NO_LIST: &[u8] =
+    b"\x0c\x00\x03\x12\x02\x15\x03\x00\x01\x00B\x00\xf2\xf1\x12\x00\x03\x12\x02\x15\x03\x00\x00\x00A\x00\x04\x14\x00\x00\xff\x0f\x00\x00";
+
+/// The two lists, where behind the continuation of the second an entry has a leaf without a record.
+const FAULT_BEHIND: &[u8] =
+    b"\x0c\x00\x03\x12\x02\x15\x03\x00\x01\x00B\x00\xf2\xf1\x14\x00\x03\x12\x02\x15\x03\x00\x00\x00A\x00\x04\x14\x00\x00\x00\x10\x00\x00\x34\x12";
+
+/// The list of B, seven empty lists, and in another block of the table one of A that goes on in the first.
+const FAR_LISTS: &[u8] =
+    b"\x0c\x00\x03\x12\x02\x15\x03\x00\x01\x00B\x00\xf2\xf1\x02\x00\x03\x12\x02\x00\x03\x12\x02\x00\x03\x12\x02\x00\x03\x12\x02\x00\x03\x12\x02\x00\x03\x12\x02\x00\x03\x12\x12\x00\x03\x12\x02\x15\x03\x00\x00\x00A\x00\x04\x14\x00\x00\x00\x10\x00\x00";
+
+/// A list of an empty list of methods, which has no name.
+const NAMELESS: &[u8] = b"\x04\x00\x03\x12\x06\x12";
+
+const NOT_BELOW: &str =
+    "Unimplemented PDB feature: field list continuation not below its list\n";
+
+const PRIMITIVE: &str = "Support for types of kind 0xffff is not implemented\n";
+
+/// The same of fields, with the one number that differs: the index of the list.
+const FIELDS: &[(&[u8], u32, &str, u8, &str, &str)] = &[
+    (LISTS, 0x1002, "0x1001", 0, "A\nB\n", ""),
+    (LISTS, 0x1002, "0x1000", 0, "B\n", ""),
+    (LISTS, 0x1002, "0x74", 1, "", PRIMITIVE),
+    (LISTS, 0x1002, "0x1002", 1, "", "Type 4098 not found\n"),
+    (THREE_LISTS, 0x1003, "0x1002", 0, "C\nA\nB\n", ""),
+    (OWN_LIST, 0x1002, "0x1001", 1, "", NOT_BELOW),
+    (NO_LIST, 0x1002, "0x1001", 1, "", PRIMITIVE),
+    (
+        FAULT_BEHIND,
+        0x1002,
+        "0x1001",
+        1,
+        "",
+        "Support for types of kind 0x1234 is not implemented\n",
+    ),
+    (FAR_LISTS, 0x1009, "0x1008", 0, "A\nB\n", ""),
+    (NAMELESS, 0x1001, "0x1000", 0, "-\n", ""),
+    (
+        MODIFIER,
+        0x1001,
+        "0x1000",
+        1,
+        "",
+        "Support for types of kind 0x1001 is not implemented\n",
+    ),
+];
 
 /// The items of a table, from index 0x1000 up to below a maximum, and what is asked of S1 with that table
 /// as stream 3; and what is answered.
@@ -227,6 +291,17 @@ fn tables(rt: HostRuntime) -> Result<()> {
         let file = file_of(rt.alloc(), *maximum, items)?;
         let is = writes(rt.alloc(), file, words, *status, out.as_bytes(), err)?;
         assert!(rt; is, "{words:?}");
+    }
+    Ok(())
+}
+
+#[test]
+fn fields(rt: HostRuntime) -> Result<()> {
+    for (items, maximum, index, status, out, err) in FIELDS {
+        let file = file_of(rt.alloc(), *maximum, items)?;
+        let words = &["fields", "3", *index];
+        let is = writes(rt.alloc(), file, words, *status, out.as_bytes(), err)?;
+        assert!(rt; is, "{index} of {maximum:x}");
     }
     Ok(())
 }

@@ -1,5 +1,6 @@
 //! The program on the channels of a process that lies in memory.
 
+use super::{ABSENT_2, USAGE};
 use crate::program;
 use pdb_vectors::s1_with;
 use std::alloc::{Allocator, Global};
@@ -100,20 +101,10 @@ impl Eprint for Process<'_> {
 }
 
 /// What a process is called with; and the status, and what it writes to each output.
-const CALLS: &[(&[&str], u8, &[u8], &[u8])] = &[
-    (&["pdbq", "stream", "3"], 0, b"736576656e\n", b""),
-    (
-        &["pdbq", "stream", "2"],
-        1,
-        b"",
-        b"The requested stream (2) is not stored in this file\n",
-    ),
-    (
-        &["pdbq", "stream"],
-        2,
-        b"",
-        b"usage: pdbq stream N [LIMIT] | type S I | id S I | name S O | ranges S A B\n",
-    ),
+const CALLS: &[(&[&str], u8, &str, &str)] = &[
+    (&["pdbq", "stream", "3"], 0, "736576656e\n", ""),
+    (&["pdbq", "stream", "2"], 1, "", ABSENT_2),
+    (&["pdbq", "stream"], 2, "", USAGE),
 ];
 
 /// Whether a cell holds these bytes.
@@ -136,7 +127,7 @@ fn calls(rt: HostRuntime) -> Result<(), Fail> {
         let ended = program(&process);
         assert!(rt; ended == *status, "status {status}");
         assert!(rt;
-            holds(&process.out, out) && holds(&process.err, err),
+            holds(&process.out, out.as_bytes()) && holds(&process.err, err.as_bytes()),
             "status {status}"
         );
     }

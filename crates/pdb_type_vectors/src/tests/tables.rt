@@ -2,12 +2,13 @@
 
 ghost use Rattle.std.specs.Prelude.{◌≡◌, ◌<◌, length, IfOk};
 
-use pdb_base::{Count, Error, FallibleIterator, IdIndex, TypeIndex};
+use pdb_base::{Count, Error, FallibleIterator, IdIndex, TypeIndex, Variant};
 use pdb_msf::Stream;
 use pdb_tpi::{
     Header, IdFinder, IdInformation, IdIter, ItemFinder, ItemInformation, ItemIter, Slice, Type,
     TypeFinder, TypeInformation, TypeIter,
 };
+use pdb_values::TypeData;
 use pdb_vectors::item_table;
 use std::alloc::Global;
 use std::test::Fail;
@@ -559,5 +560,34 @@ fn many_finders(rt: HostRuntime) -> Result<(), Fail> {
     let table = table_of(rt.alloc(), 0x1000, 0xffff_ffff, b"\x02\x00\x01\x10")?;
     let finders = finders_of(rt.alloc(), &table)?;
     assert_eq!(rt; finders.len(), 100_000);
+    Ok(())
+}
+
+/// The list of the field B at 0x1000, seven empty lists, and at 0x1008 a list of the field A that goes on in
+/// the first.
+const LISTS: &[u8] =
+    b"\x0c\x00\x03\x12\x02\x15\x03\x00\x01\x00B\x00\xf2\xf1\x02\x00\x03\x12\x02\x00\x03\x12\x02\x00\x03\x12\x02\x00\x03\x12\x02\x00\x03\x12\x02\x00\x03\x12\x02\x00\x03\x12\x12\x00\x03\x12\x02\x15\x03\x00\x00\x00A\x00\x04\x14\x00\x00\x00\x10\x00\x00";
+
+/// Whether a field is a value of an enumeration with this name and number.
+fn is_enumerate(field: Option<&TypeData<'_>>, name: &[u8], number: u16) -> bool {
+    match field {
+        Some(TypeData::Enumerate(value)) => {
+            value.name.as_bytes() == name && value.value == Variant::U16(number)
+        }
+        _ => false,
+    }
+}
+
+#[test]
+fn joined_fields(rt: HostRuntime) -> Result<(), Fail> {
+    let alloc = rt.alloc();
+    let table = table_of(alloc, 0x1000, 0x1009, LISTS)?;
+    let mut finder = table.finder(alloc)?;
+    let unknown = finder.fields(alloc, TypeIndex(0x1008));
+    assert!(rt; matches!(unknown, Err(Error::TypeNotIndexed(0x1008, 0x1007))));
+    show_each(&table, &mut finder, 8)?;
+    let fields = finder.fields(alloc, TypeIndex(0x1008))?;
+    assert!(rt; fields.len() == 2);
+    assert!(rt; is_enumerate(fields.first(), b"A", 0) && is_enumerate(fields.get(1), b"B", 1));
     Ok(())
 }
