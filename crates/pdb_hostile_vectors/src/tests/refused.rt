@@ -335,6 +335,10 @@ const OMAP: &[u8] = b"\x00\x10\x00\x00\x00\x00\x00\x00\x08\x10\x00\x00\x44\x5d\x
 const MODIFIER: &[u8] =
     b"\0\0\0\0\x38\0\0\0\x00\x10\0\0\x01\x10\0\0\0\0\0\0\0\0\0\0\0\0\0\0\0\0\0\0\0\0\0\0\0\0\0\0\0\0\0\0\0\0\0\0\0\0\0\0\0\0\0\0\x0a\x00\x01\x10\x74\x00\x00\x00\x01\x00\xf2\xf1";
 
+/// A table of two lists of fields, of which the second goes on in the first.
+const LISTS: &[u8] =
+    b"\0\0\0\0\x38\0\0\0\x00\x10\0\0\x02\x10\0\0\0\0\0\0\0\0\0\0\0\0\0\0\0\0\0\0\0\0\0\0\0\0\0\0\0\0\0\0\0\0\0\0\0\0\0\0\0\0\0\0\x0c\x00\x03\x12\x02\x15\x03\x00\x01\x00B\x00\xf2\xf1\x12\x00\x03\x12\x02\x15\x03\x00\x00\x00A\x00\x04\x14\x00\x00\x00\x10\x00\x00";
+
 /// Stream 3 of S1, what the program is asked of it, and the status, the output and the line of a refusal.
 const CALLS: &[(&[u8], &[&str], u8, &[u8], &[u8])] = &[
     (
@@ -359,6 +363,7 @@ const CALLS: &[(&[u8], &[&str], u8, &[u8], &[u8])] = &[
         b"",
     ),
     (MODIFIER, &["type", "3", "0x74"], 0, b"0x74 0xffff -\n", b""),
+    (LISTS, &["fields", "3", "0x1001"], 0, b"A\nB\n", b""),
     (
         MODIFIER,
         &["type", "3", "0x1001"],
