@@ -1,13 +1,8 @@
 -- Records are refused for what their bytes are.
-use Rattle.std.proofs.Common.{◌≡◌, inl, inr, ℕ, ◌==◌, Bool, true, false, List, Option, Some, None, Err, sym}
-use Rattle.pdb_base.specs.Refusal.{Refusal, type_not_indexed}
-use Rattle.pdb_base.specs.Answer.{Answer, ◌>>=◌}
-use Rattle.pdb_base.proofs.Collected.{err, err_is, ok, ok_is_no_err}
+use Rattle.std.proofs.Common.{inl, inr, ℕ, ◌==◌, Bool, true, false, List, Option, Some, None, sym}
+use Rattle.pdb_base.specs.Refusal.{Refusal}
 use Rattle.pdb_grammar.specs.Shape.{u16}
 use Rattle.pdb_grammar.specs.Fault.{IsFaultOfBytes}
-use Rattle.pdb_grammar.specs.Row.{Stops}
-use Rattle.pdb_grammar.specs.ToEnd.{FailsBehind}
-use Rattle.pdb_grammar.specs.Dimensions.{NoDimensions}
 use Rattle.pdb_grammar.proofs.NoWant.{is_fault, shape_fault, stops_fault, padding_fault, dimensions_fault}
 use Rattle.pdb_records.specs.declared.leaf.Leaf.{Leaf}
 use Rattle.pdb_records.specs.declared.leaf.Leaf.TheVariants.{Plain, ArgumentList, MethodList, Array}
@@ -16,7 +11,7 @@ use Rattle.pdb_records.specs.Lists.{arguments_row, array_row}
 use Rattle.pdb_records.specs.Known.{NoKnown}
 use Rattle.pdb_records.specs.Leaves.{leaf_of, row_of}
 use Rattle.pdb_records.specs.Fields.{continuation_leaf, field_list_leaf}
-use Rattle.pdb_records.specs.Grammar.{NoLastDimensions, NoArray, NoData, NoEntryOf, NoEntry, NoRecordOf, NoRecord, IsEntry}
+use Rattle.pdb_records.specs.Grammar.{NoLastDimensions, NoArray, NoData, NoEntryOf, NoEntry, NoRecordOf, NoRecord}
 
 last_fault : (bytes : List ℕ) (refusal : Refusal) → NoLastDimensions bytes refusal → IsFaultOfBytes refusal
 last_fault bytes refusal (inl first) = dimensions_fault bytes refusal first

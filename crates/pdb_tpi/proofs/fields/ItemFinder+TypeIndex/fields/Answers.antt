@@ -1,9 +1,9 @@
-use Rattle.std.proofs.Common.{map, ap, ◌∙◌, inl, inr, sym}
+use Rattle.std.proofs.Common.{map, ◌∙◌, sym}
 use Rattle.std.proofs.lemmas.List.{map-append}
 use Rattle.pdb_base.proofs.Refused.{passed_on}
 use Rattle.pdb_values.specs.TypeView.{type_value}
 use Rattle.pdb_tpi.specs.Finder.{find_of}
-use Rattle.pdb_tpi.specs.Chain.{fields_of, listed_value}
+use Rattle.pdb_tpi.specs.Chain.{listed_value}
 use Rattle.pdb_tpi.proofs.ChainLemmas.{fields_listed, list_refused, next_refused, follows_more, not_ge}
 use Rattle.pdb_tpi.proofs.fields.ItemFinder+TypeIndex.fields.Goals as goal
 
