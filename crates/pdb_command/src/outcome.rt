@@ -53,8 +53,8 @@ pub fn usage(alloc: Global) -> Result<Outcome>
     ensures ok { IfOk result IsUsage }
     ensures want { IfErr result (λ e. e ≡ Error.OutOfMemory) }
 {
-    let usage = b"usage: pdbq stream N [LIMIT] | type S I | id S I | name S O | ranges S A B | fields S I\n"
-        .as_slice();
+    let usage =
+        b"usage: pdbq stream N [LIMIT] | type S I | id S I | name S O | ranges S A B | fields S I\n".as_slice();
     Ok(Outcome {
         status: 2,
         out: Vec::new(alloc),

@@ -159,8 +159,7 @@ const FAR_LISTS: &[u8] =
 /// A list of an empty list of methods, which has no name.
 const NAMELESS: &[u8] = b"\x04\x00\x03\x12\x06\x12";
 
-const NOT_BELOW: &str =
-    "Unimplemented PDB feature: field list continuation not below its list\n";
+const NOT_BELOW: &str = "Unimplemented PDB feature: field list continuation not below its list\n";
 
 const PRIMITIVE: &str = "Support for types of kind 0xffff is not implemented\n";
 

@@ -10,7 +10,6 @@ use Rattle.pdb_values.specs.TypeValue.{TypeValue, field_list, values_in}
 use Rattle.pdb_values.specs.TypeView.{type_value}
 use Rattle.pdb_records.specs.Fields.{field_list_leaf}
 use Rattle.pdb_tpi.specs.Record.{kind_of, type_of}
-
 pub mod Step
 
 -- what a look-up answers of an index: the bytes of an item
