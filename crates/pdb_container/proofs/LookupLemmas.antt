@@ -70,10 +70,6 @@ pub record IsShown (table : Table) (stand : Stand) (finder : Indexed) : Type 0 w
   pub least : table.header.minimum_index ≤ stand.index
   pub knows : KnowsWalked table (stand.index - table.header.minimum_index) finder
 
--- how many items of the walk are still to come
-abbrev pub to_come : Table → Stand → ℕ
-to_come table stand = length (walk table) - (stand.index - table.header.minimum_index)
-
 -- an iterator before the first item and a new finder
 pub shown_first : (table : Table) (stand : Stand) (finder : Indexed) → stand ≡ record { table = table; index = table.header.minimum_index } → finder ≡ record { table = table; known = known_first table } → IsShown table stand finder
 shown_first table stand finder stands is =
@@ -87,9 +83,9 @@ shown_first table stand finder stands is =
     } in
     subst (λ (s : Stand). IsShown table s finder) (sym stands) (subst (IsShown table first) (sym is) shown)
 
--- and what holds after another step: the finder is shown its end, and an item less is to come
+-- and what holds after another step, whose end the finder is shown
 steps_on : {X : Type 0} (seen : X → ℕ × List ℕ) (old new : Stand) (x : X) (finder : Indexed) → IsShown old.table old finder → IsStep seen old (Ok (Some x)) new
-    → IsShown old.table new (record { table = finder.table; known = known_after finder.table finder.known new.index }) × (to_come old.table new < to_come old.table old)
+    → IsShown old.table new (record { table = finder.table; known = known_after finder.table finder.known new.index })
 steps_on {X} seen old new x finder shown step =
     let moved = step_some seen old x new step in
     let next : new.index ≡ old.index + 1 = ap (λ (s : Stand). s.index) moved.1 in
@@ -102,15 +98,14 @@ steps_on {X} seen old new x finder shown step =
     let learned : KnowsWalked old.table (new.index - old.table.header.minimum_index) (record finder { known = known_after finder.table finder.known new.index }) =
     subst (λ (n : ℕ). KnowsWalked old.table n (record finder { known = known_after finder.table finder.known new.index })) walked
     (subst (λ (k : ℕ). KnowsWalked old.table (old.index - old.table.header.minimum_index + 1) (record finder { known = k })) same knows) in
-    let within = moved.0 in
-    (record { same = step.stays; least = omega arith; knows = learned }, omega arith)
+    record { same = step.stays; least = omega arith; knows = learned }
 
 pub shown_more : {X : Type 0} (seen : X → ℕ × List ℕ) (table : Table) (old new : Stand) (x : X) (finder updated : Indexed) → IsShown table old finder → IsStep seen old (Ok (Some x)) new
-    → updated ≡ record { table = finder.table; known = known_after finder.table finder.known new.index } → IsShown table new updated × (to_come table new < to_come table old)
+    → updated ≡ record { table = finder.table; known = known_after finder.table finder.known new.index } → IsShown table new updated
 shown_more {X} seen table old new x finder updated shown step is =
     let after : Indexed = record { table = finder.table; known = known_after finder.table finder.known new.index } in
-    let here = subst (λ (t : Table). IsShown t old finder → IsShown t new after × (to_come t new < to_come t old)) shown.same (λ s. steps_on seen old new x finder s step) shown in
-    (subst (IsShown table new) (sym is) here.0, here.1)
+    let here = subst (λ (t : Table). IsShown t old finder → IsShown t new after) shown.same (λ s. steps_on seen old new x finder s step) shown in
+    subst (IsShown table new) (sym is) here
 
 -- behind the last item the finder knows the whole walk
 pub shown_whole : (table : Table) (stand : Stand) (finder : Indexed) → IsShown table stand finder → length (walk stand.table) ≤ place_of stand → KnowsWalked table (length (walk table)) finder

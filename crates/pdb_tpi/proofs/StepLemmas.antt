@@ -10,7 +10,7 @@ use Rattle.pdb_base.specs.Answer.{Answer}
 use Rattle.pdb_base.proofs.Collected.{err, ok_is, err_is, ok_is_no_err}
 use Rattle.pdb_tpi.specs.Table.{Table}
 use Rattle.pdb_tpi.specs.Walk.{first_item, fault_of}
-use Rattle.pdb_tpi.specs.Steps.{Stand, walk, walk_rest, nth_item, place_of, stopped, step_of, IsStep}
+use Rattle.pdb_tpi.specs.Steps.{Stand, walk, walk_rest, nth_item, place_of, items_left, stopped, step_of, IsStep}
 use Rattle.pdb_tpi.specs.Place.{IsPlace}
 use Rattle.pdb_tpi.proofs.FrontLemmas.{empty_front}
 use Rattle.pdb_tpi.proofs.WalkLemmas.{IsBehind, place_end, place_full, place_next, nth_some, nth_none}
@@ -79,6 +79,16 @@ step_faults table index position fault place some e =
 pub step_gives : (stand : Stand) (item : List ℕ) → nth_item stand.table (place_of stand) ≡ Ok item → step_of stand ≡ Ok (Some (stand.index, item), record stand { index = stand.index + 1 })
 unfolding step_of
 step_gives stand item e = let is = nth_ok stand.table (place_of stand) item e in rw is refl
+
+item_is_none : (item : List ℕ) → Some item ≡ None → ⊥
+item_is_none item e = cc
+
+-- behind an item that is there one fewer is left
+pub leaves_fewer : (old new : Stand) (item : List ℕ) → old.table.header.minimum_index ≤ old.index → nth_item old.table (place_of old) ≡ Ok item → new ≡ record old { index = old.index + 1 } → items_left new < items_left old
+leaves_fewer old new item least e moved = elim ((slice_get_cases (walk old.table) (place_of old)).1) [
+  | inl here ↦ let within = here.1 in rw moved (omega arith)
+  | inr past ↦ absurd (item_is_none item (sym (nth_ok old.table (place_of old) item e) ∙ past.1))
+]
 
 some_is_none : (x : ℕ × List ℕ) → Some x ≡ None → ⊥
 some_is_none x e = cc

@@ -1,5 +1,5 @@
 -- The walk over a table, and an iterator's steps along it.
-use Rattle.std.specs.Prelude.{◌≡◌, ℕ, ◌+◌, ◌-◌, ◌^◌, ◌||◌, nat_lt, nat_le, if◌then◌else◌, List, [], ◌∷◌, length, drop, slice_get, Option, Some, None, Result, Ok, Err, OnErr}
+use Rattle.std.specs.Prelude.{◌≡◌, ℕ, ◌+◌, ◌-◌, ◌^◌, ◌<◌, ◌||◌, nat_lt, nat_le, if◌then◌else◌, List, [], ◌∷◌, length, drop, slice_get, Option, Some, None, Result, Ok, Err, OnErr, IfOk, IfSome}
 use Rattle.std.specs.Option.{option_map, option_map_or}
 use Rattle.pdb_base.specs.declared.error.Error.{Error}
 use Rattle.pdb_base.specs.Answer.{Answer, Gives}
@@ -37,6 +37,10 @@ pub record Stand : Type 0 where
 abbrev pub place_of : Stand → ℕ
 place_of stand = stand.index - stand.table.header.minimum_index
 
+-- how many items an iterator still has to give
+abbrev pub items_left : Stand → ℕ
+items_left stand = length (walk stand.table) - place_of stand
+
 -- what a step gives behind the last item: nothing where no byte is left, else the fault
 abbrev pub stopped : Stand → List ℕ → Answer (Option (ℕ × List ℕ) × Stand)
 stopped stand [] = Ok (None, stand)
@@ -48,11 +52,13 @@ step_of stand =
     option_map_or (λ item. Ok (Some (stand.index, item), record stand { index = stand.index + 1 })) (slice_get (walk stand.table) (place_of stand)) (stopped stand (walk_rest stand.table))
 
 -- A step gives what it is to give, each item as `seen` shows its index and bytes, and stays in its
--- table. A refused one moves nothing, so that the same refusal comes again.
+-- table. A refused one moves nothing, so that the same refusal comes again. One that gives an item leaves
+-- fewer.
 pub record IsStep {X : Type 0} (seen : X → ℕ × List ℕ) (old : Stand) (result : Result (Option X) Error) (new : Stand) : Type 0 where
   pub gives : Gives (λ item. (option_map seen item, new)) result (step_of old)
   pub kept : OnErr result (new ≡ old)
   pub stays : new.table ≡ old.table
+  pub fewer : IfOk result (λ given. IfSome given (λ item. items_left new < items_left old))
 
 -- a count after the next step has read its length: one more where two bytes are left for it
 abbrev pub reads_one : Stand → ℕ → ℕ

@@ -10,10 +10,10 @@ pub loop-finder-init : goal.loop-finder-init
 loop-finder-init g c = shown_first _ _ _ c.iter-iterator.ensures c.requires
 
 pub loop-finder-smaller : goal.loop-finder-smaller
-loop-finder-smaller g c = (shown_more _ _ _ _ _ _ _ c.loop-finder.invariant (rw c.in-Ok-Some.field-0-is at c.in-Ok-Some.ensures) c.update.ensures.next).1
+loop-finder-smaller g c = (rw c.in-Ok-Some.field-0-is at c.in-Ok-Some.ensures).fewer
 
 pub loop-finder-preserved : goal.loop-finder-preserved
-loop-finder-preserved g c = (shown_more _ _ _ _ _ _ _ c.loop-finder.invariant (rw c.in-Ok-Some.field-0-is at c.in-Ok-Some.ensures) c.update.ensures.next).0
+loop-finder-preserved g c = shown_more _ _ _ _ _ _ _ c.loop-finder.invariant (rw c.in-Ok-Some.field-0-is at c.in-Ok-Some.ensures) c.update.ensures.next
 
 pub returns-in-Ok-None-clause-stops : goal.returns-in-Ok-None-clause-stops
 returns-in-Ok-None-clause-stops g c = end_fault _ _ _ c.loop-finder.invariant (step_none _ _ _ (rw c.in-Ok-None.field-0-is at c.in-Ok-None.ensures)).1
