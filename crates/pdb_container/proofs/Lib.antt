@@ -1,3 +1,3 @@
 pub mod ReplyLemmas
 pub mod LookupLemmas
-pub mod SettledLemmas
+pub mod FieldsLemmas

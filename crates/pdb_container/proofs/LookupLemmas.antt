@@ -1,20 +1,19 @@
--- What a finder knows that was shown the whole walk, and what it finds.
-use Rattle.std.proofs.Common.{◌≡◌, inl, inr, ℕ, ◌+◌, ◌-◌, ◌*◌, ◌≤◌, ◌<◌, ◌⊎◌, List, [], ◌∷◌, length, refl, sym, ap, subst, ◌∙◌, arith, Bool, true, false, cond, ◌&&◌, ltb, leb, Ok, Err, Some}
-use Rattle.std.proofs.lemmas.Bool.{cases_lt}
+-- What a finder knows that is shown a walk, and what it finds.
+use Rattle.std.proofs.Common.{◌≡◌, inl, inr, ℕ, ◌+◌, ◌-◌, ◌*◌, ◌≤◌, ◌<◌, ◌⊎◌, List, [], ◌∷◌, length, refl, sym, ap, subst, ◌∙◌, arith, Bool, true, false, cond, ◌&&◌, ltb, leb, not, Ok, Err, Some, Option, None}
+use Rattle.std.proofs.lemmas.Bool.{cases_lt, leb-true}
 use Rattle.std.proofs.lemmas.Bool.Decides.{nat_tests}
 use Rattle.std.proofs.lemmas.Option.{slice_get_past}
-use Rattle.pdb_base.specs.Refusal.{Refusal, unexpected_eof, type_not_found, type_not_indexed}
+use Rattle.pdb_base.specs.Refusal.{Refusal, unexpected_eof, type_not_found}
 use Rattle.pdb_base.specs.Answer.{Answer}
 use Rattle.pdb_base.specs.Reading.{number_at, front_at}
-use Rattle.pdb_base.proofs.Collected.{err}
+use Rattle.pdb_base.proofs.Collected.{ok_is}
 use Rattle.pdb_tpi.specs.Table.{Table}
 use Rattle.pdb_tpi.specs.Walk.{first_item, fault_of}
-use Rattle.pdb_tpi.specs.Steps.{Stand, walk, walk_rest, place_of, nth_item, IsStep}
-use Rattle.pdb_tpi.specs.Finder.{Indexed, first_of, block_of, known_first, known_after, is_counted, item_of, find_of, max_index_of}
+use Rattle.pdb_tpi.specs.Steps.{Stand, walk, walk_rest, place_of, nth_item, step_of, IsStep}
+use Rattle.pdb_tpi.specs.Finder.{Indexed, first_of, block_of, known_first, known_after, is_counted, item_of, find_of}
 use Rattle.pdb_tpi.proofs.WalkLemmas.{nth_none}
-use Rattle.pdb_tpi.proofs.StepLemmas.{nth_err, step_some}
-use Rattle.pdb_container.specs.Lookup.{KnowsWalked}
-use Rattle.pdb_container.proofs.SettledLemmas.{AgreesBut}
+use Rattle.pdb_tpi.proofs.StepLemmas.{step_some, step_none}
+use Rattle.pdb_container.specs.Lookup.{KnowsWalked, IsShown, is_known}
 
 -- no byte is a cut length
 fault_of_none : fault_of [] ≡ unexpected_eof
@@ -64,12 +63,6 @@ knows_fewer table fewer walked finder le knows = record {
   blocks = λ block below reached. let h : 8 * block ≤ walked = omega arith in knows.blocks block below h;
 }
 
--- The finder was shown an iterator over its table that has come to a place.
-pub record IsShown (table : Table) (stand : Stand) (finder : Indexed) : Type 0 where
-  pub same : stand.table ≡ table
-  pub least : table.header.minimum_index ≤ stand.index
-  pub knows : KnowsWalked table (stand.index - table.header.minimum_index) finder
-
 -- an iterator before the first item and a new finder
 pub shown_first : (table : Table) (stand : Stand) (finder : Indexed) → stand ≡ record { table = table; index = table.header.minimum_index } → finder ≡ record { table = table; known = known_first table } → IsShown table stand finder
 shown_first table stand finder stands is =
@@ -113,11 +106,39 @@ shown_whole table stand finder shown past =
     let here = subst (λ (t : Table). length (walk t) ≤ stand.index - t.header.minimum_index) shown.same past in
     knows_fewer table (length (walk table)) (stand.index - table.header.minimum_index) finder here shown.knows
 
+-- a step behind the last item moves nothing
+pub ends_there : {X : Type 0} (seen : X → ℕ × List ℕ) (old new : Stand) → IsStep seen old (Ok None) new → new ≡ old
+unfolding step_of
+ends_there {X} seen old new step =
+    let over = step_none seen old new step in
+    let none = slice_get_past (walk old.table) (place_of old) over.0 in
+    let given : Option (ℕ × List ℕ) × Stand = (None, new) in
+    let stands : Option (ℕ × List ℕ) × Stand = (None, old) in
+    let is : given ≡ stands = ok_is given stands (sym step.gives ∙ rw (none, over.1) refl) in
+    ap (λ (p : Option (ℕ × List ℕ) × Stand). p.1) is
+
+-- and neither does a refused one
+pub stays_shown : (table : Table) (old new : Stand) (finder : Indexed) → IsShown table old finder → new ≡ old → IsShown table new finder
+stays_shown table old new finder shown is = subst (λ (s : Stand). IsShown table s finder) (sym is) shown
+
 -- the fault behind a walk that ends
 pub end_fault : (table : Table) (stand : Stand) (finder : Indexed) → IsShown table stand finder → walk_rest stand.table ≡ [] → unexpected_eof ≡ fault_of (walk_rest table)
 end_fault table stand finder shown ends = sym (ap (λ (t : Table). fault_of (walk_rest t)) (sym shown.same) ∙ ap fault_of ends ∙ fault_of_none)
 
 -- ---- what is found
+
+not_true : (test : Bool) → not test ≡ true → test ≡ false
+not_true true is = sym is
+not_true false is = refl
+
+not_false : (test : Bool) → not test ≡ false → test ≡ true
+not_false true is = refl
+not_false false is = sym is
+
+both_true : (a b : Bool) → (a && b) ≡ true → (a ≡ true) × (b ≡ true)
+both_true true true is = (refl, refl)
+both_true true false is = absurd cc
+both_true false b is = absurd cc
 
 -- a counted index in an unknown block has no item in the walk
 pub unknown_is : (table : Table) (finder : Indexed) (i : ℕ) → KnowsWalked table (length (walk table)) finder → is_counted table i ≡ true → finder.known ≤ block_of table i
@@ -137,58 +158,36 @@ unknown_is table finder i knows counted unknown =
       | inr within ↦ let known = knows.blocks block below within in absurd (omega arith)
     ]
 
--- a look-up answers the item, or that its block is not known
-find_by : (test : Bool) (unknown : Refusal) (item : Answer (List ℕ)) (found : Answer (List ℕ)) → cond test (Err unknown) item ≡ found
-    → ((test ≡ true) × (found ≡ Err unknown)) ⊎ (item ≡ found)
-find_by true unknown item found e = inl (refl, sym e)
-find_by false unknown item found e = inr e
-
-pub find_cases : (table : Table) (known i : ℕ) (found : Answer (List ℕ)) → find_of table known i ≡ found
-    → ((is_counted table i ≡ true) × (known ≤ block_of table i) × (found ≡ Err (type_not_indexed i (max_index_of table known)))) ⊎ (item_of table i ≡ found)
+-- what is found of an index that is known is its item
+pub found_known : (table : Table) (known i : ℕ) → is_known table known i ≡ true → find_of table known i ≡ item_of table i
 unfolding find_of
-find_cases table known i found e =
-    elim (find_by (is_counted table i && leb known (block_of table i)) (type_not_indexed i (max_index_of table known)) (item_of table i) found e) [
-      | inl unknown ↦
-          let test = unknown.0 in
-          let counted : is_counted table i ≡ true = grind (arith, nat_tests) in
-          let block : known ≤ block_of table i = grind (arith, nat_tests) in
-          inl (counted, block, unknown.1)
-      | inr item ↦ inr item
-    ]
+found_known table known i is =
+    let test : (is_counted table i && leb known (block_of table i)) ≡ false = not_true (is_counted table i && leb known (block_of table i)) is in
+    rw test refl
 
--- an item of the walk, or the fault at which that stops
-nth_refuses : (table : Table) (n : ℕ) (fault : Refusal) → nth_item table n ≡ Err fault → nth_item table n ≡ Err (fault_of (walk_rest table))
-nth_refuses table n fault e = let is = nth_err table n fault e in e ∙ ap (λ (f : Refusal). err {A = List ℕ} f) (sym is.1)
+-- the same of a finder that is shown a walk
+pub found_shown : (table : Table) (stand : Stand) (finder : Indexed) (i : ℕ) → IsShown table stand finder → is_known table finder.known i ≡ true → find_of finder.table finder.known i ≡ item_of table i
+found_shown table stand finder i shown is = ap (λ (t : Table). find_of t finder.known i) shown.knows.same ∙ found_known table finder.known i is
 
-item_by : (below above : Bool) (i : ℕ) (nth : Answer (List ℕ)) (a b : ℕ) → cond below (Ok (0xff ∷ 0xff ∷ [])) (cond above (Err (type_not_found i)) nth) ≡ Err (type_not_indexed a b)
-    → (cond below (Ok (0xff ∷ 0xff ∷ [])) (cond above (Err (type_not_found i)) nth) ≡ nth) × (nth ≡ Err (type_not_indexed a b))
-item_by true above i nth a b e = absurd cc
-item_by false true i nth a b e = absurd cc
-item_by false false i nth a b e = (refl, e)
+-- an index that is not known has no item, if the walk is over
+pub missed : (table : Table) (stand : Stand) (finder : Indexed) (i : ℕ) → IsShown table stand finder → is_known table finder.known i ≡ false → length (walk stand.table) ≤ place_of stand
+    → item_of table i ≡ Err (fault_of (walk_rest table))
+missed table stand finder i shown unknown past =
+    let both = both_true (is_counted table i) (leb finder.known (block_of table i)) (not_false (is_counted table i && leb finder.known (block_of table i)) unknown) in
+    unknown_is table finder i (shown_whole table stand finder shown past) both.0 (leb-true finder.known (block_of table i) both.1)
 
--- no item is refused as not indexed but by the walk
-never_indexed : (table : Table) (i a b : ℕ) → item_of table i ≡ Err (type_not_indexed a b) → item_of table i ≡ Err (fault_of (walk_rest table))
+-- an index below the minimum is known, since it is not counted
+pub known_uncounted : (table : Table) (known i : ℕ) → i < table.header.minimum_index → is_known table known i ≡ true
+known_uncounted table known i below = grind (arith, nat_tests)
+
+-- where an index below the maximum is known, all below it are
+pub known_below : (table : Table) (known index i : ℕ) → is_known table known index ≡ true → index < table.header.maximum_index → i ≤ index → is_known table known i ≡ true
+known_below table known index i is below le = grind (arith, nat_tests)
+
+-- from the maximum on there is no item
+pub item_past : (table : Table) (i : ℕ) → table.header.maximum_index ≤ i → table.header.minimum_index ≤ i → item_of table i ≡ Err (type_not_found i)
 unfolding item_of
-never_indexed table i a b e =
-    let n = i - table.header.minimum_index in
-    let is = item_by (ltb i table.header.minimum_index) (leb table.header.maximum_index i) i (nth_item table n) a b e in
-    is.0 ∙ nth_refuses table n (type_not_indexed a b) is.1
-
--- Where a finder was shown the whole walk, what it finds is the item, but for an index that it doesn't know:
--- there stands the walk's fault.
-pub finds_items : (table : Table) (finder : Indexed) (fault : Refusal) → KnowsWalked table (length (walk table)) finder → fault ≡ fault_of (walk_rest table)
-    → (i : ℕ) → AgreesBut fault (find_of finder.table finder.known i) (item_of table i)
-finds_items table finder fault knows stops i =
-    subst (λ (t : Table). AgreesBut fault (find_of t finder.known i) (item_of table i)) (sym knows.same)
-    (record {
-      other = λ known. elim (find_cases table finder.known i (find_of table finder.known i) refl) [
-        | inl unknown ↦ absurd (known i (max_index_of table finder.known) unknown.2)
-        | inr is ↦ is
-      ];
-      unknown = λ a b is.
-          elim (find_cases table finder.known i (Err (type_not_indexed a b)) is) [
-            | inl unknown ↦ unknown_is table finder i knows unknown.0 unknown.1
-            | inr item ↦ never_indexed table i a b item
-          ]
-          ∙ ap (λ (f : Refusal). err {A = List ℕ} f) (sym stops);
-    })
+item_past table i past least =
+    let first : ltb i table.header.minimum_index ≡ false = grind (arith, nat_tests) in
+    let last : leb table.header.maximum_index i ≡ true = grind (arith, nat_tests) in
+    rw (first, last) refl

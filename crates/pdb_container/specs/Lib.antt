@@ -1,4 +1,5 @@
 pub mod Reply
+pub mod Asked
 pub mod Lookup
 -- the words of the libraries below that the contracts of this one speak in
 pub use Rattle.pdb_base.specs.Refusal

@@ -1,9 +1,8 @@
--- What a finder knows that was shown the walk of its table.
-use Rattle.std.specs.Prelude.{◌≡◌, ℕ, ◌*◌, ◌<◌, ◌≤◌}
-use Rattle.pdb_base.specs.declared.error.Error.{Error}
-use Rattle.pdb_base.specs.declared.error.Error.TheVariants.{TypeNotIndexed}
+-- What a finder knows that is shown a walk along its table.
+use Rattle.std.specs.Prelude.{◌≡◌, ℕ, ◌-◌, ◌*◌, ◌<◌, ◌≤◌, Bool, ◌&&◌, nat_le, not}
 use Rattle.pdb_tpi.specs.Table.{Table}
-use Rattle.pdb_tpi.specs.Finder.{Indexed, first_of}
+use Rattle.pdb_tpi.specs.Steps.{Stand}
+use Rattle.pdb_tpi.specs.Finder.{Indexed, first_of, block_of, is_counted}
 
 -- A finder of the table knows each block of counted indexes that begins among so many items of the walk,
 -- or right behind them.
@@ -11,7 +10,18 @@ pub record KnowsWalked (table : Table) (walked : ℕ) (finder : Indexed) : Type 
   pub same : finder.table ≡ table
   pub blocks : (block : ℕ) → first_of table block < table.header.maximum_index → 8 * block ≤ walked → block < finder.known
 
--- the refusal of a finder, with a fault in place of saying that an index is not known to it
-abbrev pub settled_of : Error → Error → Error
-settled_of (TypeNotIndexed index covered) fault = fault
-settled_of error fault = error
+-- The finder was shown an iterator over its table that has come to a place.
+pub record IsShown (table : Table) (stand : Stand) (finder : Indexed) : Type 0 where
+  pub same : stand.table ≡ table
+  pub least : table.header.minimum_index ≤ stand.index
+  pub knows : KnowsWalked table (stand.index - table.header.minimum_index) finder
+
+-- A table, how many of its blocks are known, and the index of the item before which a walk along it stands.
+pub record Walked : Type 0 where
+  pub table : Table
+  pub known : ℕ
+  pub index : ℕ
+
+-- An index that is not counted has no block, and the block of each other is known.
+abbrev pub is_known : Table → ℕ → ℕ → Bool
+is_known table known i = not (is_counted table i && nat_le known (block_of table i))

@@ -66,12 +66,15 @@ id_within index stream = table_of stream >>= id_in index
 unfoldable pub fields_within : ℕ → List ℕ → Answer Said
 fields_within index stream = table_of stream >>= fields_in index
 
--- the name at an offset of the string table that a stream is
-unfoldable pub name_within : ℕ → List ℕ → Answer Said
-name_within offset stream = do
-  names ← names_of stream
+-- the name at an offset of the names of a string table
+unfoldable pub name_in : ℕ → List ℕ → Answer Said
+name_in offset names = do
   text ← name_of names offset
   Ok (name text)
+
+-- the name at an offset of the string table that a stream is
+unfoldable pub name_within : ℕ → List ℕ → Answer Said
+name_within offset stream = names_of stream >>= name_in offset
 
 -- where the OMAP table that a stream is moves the addresses of a range
 unfoldable pub moved_within : Range ℕ → List ℕ → Answer Said

@@ -4,14 +4,12 @@ ghost use Rattle.std.specs.Prelude.{◌≡◌, map, IfOk, IfErr};
 ghost use Rattle.std.specs.Option.{option_map};
 ghost use Rattle.pdb_values.specs.TypeValue.{name_of};
 ghost use Rattle.pdb_values.specs.TypeView.{type_value};
-ghost use Rattle.pdb_container.specs.Reply.{Replies, fields_within};
+ghost use Rattle.pdb_container.specs.Reply.{Replies, fields_in};
 
-use crate::lookup::look_up_fields;
+use crate::lookup::Lookup;
 use crate::name::copied;
 use crate::query::Reply;
 use pdb_base::{Error, Result, TypeIndex};
-use pdb_msf::Stream;
-use pdb_tpi::TypeInformation;
 use pdb_values::TypeData;
 use std::alloc::Global;
 
@@ -27,16 +25,19 @@ fn names_of(alloc: Global, fields: &[TypeData<'_>]) -> Result<Vec<Option<Vec<u8>
     Ok(names)
 }
 
-/// The fields of a list of the table that a stream is, by the index of the list.
+/// The fields of a list of a table, by the index of the list.
 ///
 /// # Errors
-/// What the table refuses, and then what the lists do, one after another; `OutOfMemory` where memory is
-/// refused.
-#[tactic(auto, unfolding(crate::specs::Reply::fields_within, crate::specs::Reply::fields_in))]
-pub fn fields(alloc: Global, stream: Stream, index: TypeIndex) -> Result<Reply>
-    ensures { Replies result (fields_within index.0 stream) }
+/// What the lists are refused for, one after another; `OutOfMemory` if memory is refused.
+#[tactic(auto, unfolding(crate::specs::Reply::fields_in))]
+pub fn fields(
+    alloc: Global,
+    types: &mut Lookup<'_, TypeIndex>,
+    index: TypeIndex,
+) -> Result<Reply>
+    ensures said { Replies result (fields_in index.0 types.old.table) }
+    ensures table { types.new.table ≡ types.old.table }
 {
-    let table = TypeInformation::parse(stream)?;
-    let fields = look_up_fields(alloc, &table, index)?;
+    let fields = types.fields(alloc, index)?;
     Ok(Reply::Fields(names_of(alloc, &fields)?))
 }

@@ -2,9 +2,11 @@
 //! records, names, addresses and how they are translated, frames, and which stream is what.
 #![tactic(auto)]
 
+mod asked;
 mod fields;
 mod lookup;
 mod name;
+mod opened;
 mod query;
 mod ranges;
 mod record;

@@ -1,87 +1,111 @@
-//! What a finder that was shown the whole walk of its table finds: an item by its index, and the fields
-//! of a list.
+//! Looks items of a table up by their indexes, and the fields of lists, by one walk along the table.
 
-ghost use Rattle.std.specs.Prelude.{◌≡◌, length, map, IfOk};
+ghost use Rattle.std.specs.Prelude.{◌≡◌, ◌≤◌, map, Ok, true, IfOk, IfErr};
 ghost use Rattle.pdb_base.specs.Refusal.{refusal_of};
-ghost use Rattle.pdb_base.specs.Answer.{Answers};
-ghost use Rattle.pdb_tpi.specs.Walk.{fault_of};
-ghost use Rattle.pdb_tpi.specs.Steps.{walk, walk_rest};
+ghost use Rattle.pdb_base.specs.Answer.{Answers, Gives};
 ghost use Rattle.pdb_tpi.specs.Finder.{known_first, item_of};
 ghost use Rattle.pdb_tpi.specs.Chain.{fields_of};
 ghost use Rattle.pdb_values.specs.TypeView.{type_value};
-ghost use Rattle.pdb_container.specs.Lookup.{KnowsWalked, settled_of};
+ghost use Rattle.pdb_container.specs.Lookup.{is_known};
 
 use pdb_base::{Error, FallibleIterator, ItemIndex, Result, TypeIndex};
-use pdb_tpi::{Item, ItemFinder, ItemInformation, TypeInformation};
+use pdb_tpi::{Item, ItemFinder, ItemInformation, ItemIter};
 use pdb_values::TypeData;
 use std::alloc::Global;
+use std::marker::Model;
 
-/// Walks a whole table, shows each step to a new finder of it, and gives the fault at which the walk
-/// stops, or `UnexpectedEof` where it ends.
-fn learn<I: ItemIndex>(finder: &mut ItemFinder<'_, I>, table: &ItemInformation<I>) -> Error
-    requires { finder.old ≡ record { table = table.now; known = known_first table.now } }
-    ensures stops { refusal_of result ≡ fault_of (walk_rest table.now) }
-    ensures learned { KnowsWalked table.now (length (walk table.now)) finder.new }
-{
-    let mut iterator = table.iter();
-    loop {
-        match iterator.next() {
-            Ok(Some(_)) => finder.update(&iterator),
-            Ok(None) => return Error::UnexpectedEof,
-            Err(fault) => return fault,
-        }
-    }
-}
-
-/// The refusal of a finder, with this fault in place of saying that an index is not known to it.
-fn settled(error: Error, fault: Error) -> Error
-    ensures { result ≡ settled_of error fault }
-{
-    match error {
-        Error::TypeNotIndexed(_, _) => fault,
-        error => error,
-    }
-}
-
-/// The item of an index, wherever in the table it stands.
+/// Looks up items of a table, wherever they stand, in any order.
 ///
-/// # Errors
-/// `TypeNotFound` from the table's maximum on; where the walk stops before the item, the refusal at
-/// which it stops; `UnexpectedEof` where it ends before the item; and `OutOfMemory` where memory is
-/// refused.
-pub fn look_up<'t, I: ItemIndex>(
-    alloc: Global,
+/// It walks along the table once, and no further than the block of the last index that it was asked for.
+#[derive(Drop)]
+pub struct Lookup<'t, I> {
     table: &'t ItemInformation<I>,
-    index: I,
-) -> Result<Item<'t, I>>
-    ensures item { Answers (λ item. item.bytes.now) result (item_of table.now (I.number index)) }
-    ensures index { IfOk result (λ item. item.index ≡ index) }
-{
-    let mut finder = table.finder(alloc)?;
-    let fault = learn(&mut finder, table);
-    match finder.find(index) {
-        Ok(item) => Ok(item),
-        Err(error) => Err(settled(error, fault)),
+    finder: ItemFinder<'t, I>,
+    items: ItemIter<'t, I>,
+}
+
+impl<'t, I> Model for Lookup<'t, I> {
+    ghost use Rattle.pdb_container.specs.Lookup.{Walked, IsShown};
+
+    ghost Value = { Walked };
+
+    ghost view = { λ l. record { table = l.table.now; known = l.finder.known; index = l.items.index } };
+
+    ghost invariant = { λ l. IsShown l.table.now l.items l.finder };
+}
+
+impl<'t, I: ItemIndex> Lookup<'t, I> {
+    /// Looks up items of this table, along which no step has been made.
+    ///
+    /// # Errors
+    /// `OutOfMemory` if memory is refused.
+    pub fn new(alloc: Global, table: &'t ItemInformation<I>) -> Result<Self>
+        ensures { Answers (λ lookup. lookup) result (Ok (record { table = table.now; known = known_first table.now; index = table.now.header.minimum_index })) }
+    {
+        Ok(Lookup {
+            table,
+            finder: table.finder(alloc)?,
+            items: table.iter(),
+        })
+    }
+
+    /// Whether the finder knows the block of an index, or need not know it since the header doesn't count
+    /// the index.
+    fn knows(&self, index: I) -> bool
+        ensures { result ≡ is_known self.now.table self.now.known (I.number index) }
+    {
+        let header = self.table.header();
+        let number: u32 = index.into();
+        let last: u32 = self.finder.max_index().into();
+        number < header.minimum_index || number >= header.maximum_index || number <= last
+    }
+
+    /// Walks on until the finder knows the block of an index.
+    ///
+    /// # Errors
+    /// The fault at which the walk stops before that block, or `UnexpectedEof` if it ends before it.
+    fn learn(&mut self, index: I) -> Result<()>
+        ensures known { IfOk result (λ _. is_known self.new.table self.new.known (I.number index) ≡ true) }
+        ensures stops { IfErr result (λ e. item_of self.old.table (I.number index) ≡ Err (refusal_of e)) }
+        ensures table { self.new.table ≡ self.old.table }
+    {
+        while !self.knows(index) {
+            match self.items.next()? {
+                Some(_) => self.finder.update(&self.items),
+                None => return Err(Error::UnexpectedEof),
+            }
+        }
+        Ok(())
+    }
+
+    /// The item of an index, wherever in the table it stands.
+    ///
+    /// # Errors
+    /// `TypeNotFound` from the table's maximum on; the refusal at which the walk stops before the item;
+    /// `UnexpectedEof` if the walk ends before the item.
+    pub fn item(&mut self, index: I) -> Result<Item<'t, I>>
+        ensures item { Gives (λ item. item.bytes.now) result (item_of self.old.table (I.number index)) }
+        ensures index { IfOk result (λ item. item.index ≡ index) }
+        ensures table { self.new.table ≡ self.old.table }
+    {
+        self.learn(index)?;
+        self.finder.find(index)
     }
 }
 
-/// The fields of a list and of the lists in which it goes on, wherever in the table they stand.
-///
-/// # Errors
-/// What comes first along the lists, in this order for each: what `look_up` refuses; that the item is
-/// no list of fields; what its record is refused for; and that it goes on in a list that is not below it.
-/// `OutOfMemory` where memory is refused.
-pub fn look_up_fields<'t>(
-    alloc: Global,
-    table: &'t TypeInformation,
-    index: TypeIndex,
-) -> Result<Vec<TypeData<'t>>>
-    ensures { Answers (λ fields. map type_value fields.items) result (fields_of (item_of table.now) index.0) }
-{
-    let mut finder = table.finder(alloc)?;
-    let fault = learn(&mut finder, table);
-    match finder.fields(alloc, index) {
-        Ok(fields) => Ok(fields),
-        Err(error) => Err(settled(error, fault)),
+impl<'t> Lookup<'t, TypeIndex> {
+    /// The fields of a list and of the lists in which it goes on, wherever in the table they stand.
+    ///
+    /// # Errors
+    /// What comes first along the lists, in this order for each: what `item` refuses; that the item is no
+    /// list of fields; what its record is refused for; and that it goes on in a list that is not below it.
+    /// `OutOfMemory` if memory is refused.
+    pub fn fields(&mut self, alloc: Global, index: TypeIndex) -> Result<Vec<TypeData<'t>>>
+        ensures fields { Answers (λ fields. map type_value fields.items) result (fields_of (item_of self.old.table) index.0) }
+        ensures table { self.new.table ≡ self.old.table }
+    {
+        // A list goes on in lists below it alone, which are known where it is.
+        self.learn(index)?;
+        self.finder.fields(alloc, index)
     }
 }

@@ -3,11 +3,10 @@
 ghost use Rattle.std.specs.Prelude.{◌≡◌, IfOk, IfErr};
 ghost use Rattle.std.specs.Option.{option_map};
 ghost use Rattle.pdb_values.specs.Text.{text_bytes};
-ghost use Rattle.pdb_container.specs.Reply.{Replies, name_within};
+ghost use Rattle.pdb_container.specs.Reply.{Replies, name_in};
 
 use crate::query::Reply;
 use pdb_base::{Error, RawString, Result};
-use pdb_msf::Stream;
 use pdb_space::{StringRef, StringTable};
 use std::alloc::Global;
 
@@ -22,16 +21,15 @@ pub fn copied(alloc: Global, name: Option<RawString<'_>>) -> Result<Option<Vec<u
     }
 }
 
-/// The name at a place in the string table that a stream is.
+/// The name at a place in a string table.
 ///
 /// # Errors
-/// What the table refuses, and then `UnexpectedEof` where no NUL stands in the names at or after the
-/// place; `OutOfMemory` where memory is refused.
-#[tactic(auto, unfolding(crate::specs::Reply::name_within))]
-pub fn name(alloc: Global, stream: Stream, place: StringRef) -> Result<Reply>
-    ensures { Replies result (name_within place stream) }
+/// `UnexpectedEof` if no NUL stands in the names at or after the place; `OutOfMemory` if memory is
+/// refused.
+#[tactic(auto, unfolding(crate::specs::Reply::name_in))]
+pub fn name(alloc: Global, names: &StringTable, place: StringRef) -> Result<Reply>
+    ensures { Replies result (name_in place names.now) }
 {
-    let names = StringTable::parse(stream)?;
     let name = names.get(place)?;
     Ok(Reply::Name(Vec::from_slice(alloc, name.as_bytes())?))
 }

@@ -5,14 +5,13 @@ ghost use Rattle.std.specs.Option.{option_map};
 ghost use Rattle.pdb_values.specs.Text.{text_bytes};
 ghost use Rattle.pdb_values.specs.IdValue.{id_name, id_value};
 ghost use Rattle.pdb_tpi.specs.Record.{kind_of};
-ghost use Rattle.pdb_container.specs.Reply.{Replies, entry, id_within, type_within};
+ghost use Rattle.pdb_container.specs.Reply.{Replies, entry, id_in, type_in};
 
-use crate::lookup::look_up;
+use crate::lookup::Lookup;
 use crate::name::copied;
 use crate::query::Reply;
 use pdb_base::{IdIndex, ItemIndex, RawString, Result, TypeIndex};
-use pdb_msf::Stream;
-use pdb_tpi::{IdInformation, Item, TypeInformation};
+use pdb_tpi::Item;
 use pdb_values::IdData;
 use std::alloc::Global;
 
@@ -43,32 +42,34 @@ fn name_of_id<'t>(id: &IdData<'t>) -> Option<RawString<'t>>
     }
 }
 
-/// A type of the table that a stream is, by its index.
+/// A type of a table, by its index.
 ///
 /// # Errors
-/// What the table refuses, and then what the look-up and what the record does; `OutOfMemory` where
-/// memory is refused.
-#[tactic(auto, unfolding(crate::specs::Reply::type_within, crate::specs::Reply::type_in))]
-pub fn type_record(alloc: Global, stream: Stream, index: TypeIndex) -> Result<Reply>
-    ensures { Replies result (type_within index.0 stream) }
+/// What the look-up refuses, and then what the record does; `OutOfMemory` if memory is refused.
+#[tactic(auto, unfolding(crate::specs::Reply::type_in))]
+pub fn type_record(
+    alloc: Global,
+    types: &mut Lookup<'_, TypeIndex>,
+    index: TypeIndex,
+) -> Result<Reply>
+    ensures said { Replies result (type_in index.0 types.old.table) }
+    ensures table { types.new.table ≡ types.old.table }
 {
-    let table = TypeInformation::parse(stream)?;
-    let item = look_up(alloc, &table, index)?;
+    let item = types.item(index)?;
     let value = item.parse(alloc)?;
     reply(alloc, &item, value.name())
 }
 
-/// An id of the table that a stream is, by its index.
+/// An id of a table, by its index.
 ///
 /// # Errors
-/// What the table refuses, and then what the look-up and what the record does; `OutOfMemory` where
-/// memory is refused.
-#[tactic(auto, unfolding(crate::specs::Reply::id_within, crate::specs::Reply::id_in))]
-pub fn id_record(alloc: Global, stream: Stream, index: IdIndex) -> Result<Reply>
-    ensures { Replies result (id_within index.0 stream) }
+/// What the look-up refuses, and then what the record does; `OutOfMemory` if memory is refused.
+#[tactic(auto, unfolding(crate::specs::Reply::id_in))]
+pub fn id_record(alloc: Global, ids: &mut Lookup<'_, IdIndex>, index: IdIndex) -> Result<Reply>
+    ensures said { Replies result (id_in index.0 ids.old.table) }
+    ensures table { ids.new.table ≡ ids.old.table }
 {
-    let table = IdInformation::parse(stream)?;
-    let item = look_up(alloc, &table, index)?;
+    let item = ids.item(index)?;
     let value = item.parse(alloc)?;
     reply(alloc, &item, name_of_id(&value))
 }

@@ -1,17 +1,18 @@
 //! Whole runs: a file, and all that is asked of it.
 
-ghost use Rattle.std.specs.Prelude.{◌≡◌, IsTrue, IfOk, IfErr, OnErr};
+ghost use Rattle.std.specs.Prelude.{◌≡◌, ◌<◌, ◌≤◌, IsTrue, IsSome, IfOk, IfErr, OnErr, length, true};
 ghost use Rattle.pdb_msf.specs.Source.{HasFailed, IsKept};
-ghost use Rattle.pdb_container.specs.Reply.{AreReplies, IsReply, IsRun, Replies, RepliesUnless, reply_of, said_within, stream_asked};
+ghost use Rattle.pdb_container.specs.Reply.{AreReplies, IsRun, reply_of, stream_asked};
+ghost use Rattle.pdb_container.specs.Asked.{AnswersAt, IsAnsweredFrom, IsAnsweredOn, MeansTable, is_answered, query_at, said_by};
 
-use crate::fields::fields;
-use crate::name::name;
+use crate::asked::Asked;
+use crate::lookup::Lookup;
+use crate::opened::Opened;
 use crate::query::{Query, Reply};
-use crate::ranges::ranges;
-use crate::record::{id_record, type_record};
-use pdb_base::{Error, IdIndex, Result, TypeIndex};
+use pdb_base::Result;
 use pdb_msf::{BigMSF, Msf, Source, Stream, open_msf};
-use pdb_space::StringRef;
+use pdb_space::{OMAPTable, StringTable};
+use pdb_tpi::{IdInformation, TypeInformation};
 use std::alloc::Global;
 
 /// The stream that a query asks of, and how many of its bytes at most.
@@ -28,49 +29,102 @@ fn stream_asked(query: Query) -> (u32, Option<usize>)
     }
 }
 
-/// What that stream says to the query.
-fn said_within(alloc: Global, stream: Stream, query: Query) -> Result<Reply>
-    ensures { Replies result (said_within query stream) }
+/// Answers the query at a place, if it is not answered yet and asks of the table as which this stream is
+/// opened.
+fn offer(
+    alloc: Global,
+    stream: (u32, Option<usize>),
+    opened: &mut Opened<'_>,
+    at: usize,
+    asked: &mut Asked<'_>,
+)
+    requires { at < length asked.old.queries }
+    ensures on { IsAnsweredOn (MeansTable stream opened.old) asked.old asked.new }
+    ensures answered { stream_asked (query_at asked.old at) ≡ stream → IsSome (said_by opened.old (query_at asked.old at)) → is_answered asked.new at ≡ true }
+    ensures kept { (query : Query) → said_by opened.new query ≡ said_by opened.old query }
 {
-    match query {
-        Query::Stream { .. } => Ok(Reply::Bytes(stream.into_bytes())),
-        Query::TypeRecord { index, .. } => type_record(alloc, stream, TypeIndex(index)),
-        Query::IdRecord { index, .. } => id_record(alloc, stream, IdIndex(index)),
-        Query::Name { offset, .. } => name(alloc, stream, StringRef(offset)),
-        Query::Ranges { start, end, .. } => ranges(alloc, stream, start..end),
-        Query::Fields { index, .. } => fields(alloc, stream, TypeIndex(index)),
+    let query = asked.query(at);
+    if asked.is_answered(at) || stream_asked(query) != stream {
+        return;
+    }
+    if let Some(reply) = opened.reply(alloc, query) {
+        asked.answer(at, reply);
     }
 }
 
-/// What a file answers to one question.
-fn answer<S: Source>(alloc: Global, file: &mut BigMSF<S>, query: Query) -> Result<Reply>
-    ensures answer { RepliesUnless (HasFailed (S.state file.old.source) (S.state file.new.source)) result
-        (reply_of (S.state file.old.source).bytes file.old.head query) }
-    ensures source { IsKept (S.state file.old.source) (S.state file.new.source) }
-    ensures head { file.new.head ≡ file.old.head }
+/// Answers the query at a place and all later ones that ask of the table as which this stream is opened.
+fn share(
+    alloc: Global,
+    stream: (u32, Option<usize>),
+    opened: &mut Opened<'_>,
+    from: usize,
+    asked: &mut Asked<'_>,
+)
+    requires { from < length asked.old.queries }
+    ensures on { IsAnsweredOn (MeansTable stream opened.old) asked.old asked.new }
+    ensures answered { stream_asked (query_at asked.old from) ≡ stream → IsSome (said_by opened.old (query_at asked.old from)) → is_answered asked.new from ≡ true }
 {
-    let (number, limit) = stream_asked(query);
-    let stream = file.get(alloc, number, limit)?;
-    said_within(alloc, stream, query)
+    for at in from..asked.len() {
+        offer(alloc, stream, opened, at, asked);
+    }
 }
 
-/// Asks a file one question.
-fn ask<S: Source>(alloc: Global, file: &mut BigMSF<S>, query: Query) -> Reply
-    ensures reply { IsReply (HasFailed (S.state file.old.source) (S.state file.new.source)) result
-        (reply_of (S.state file.old.source).bytes file.old.head query) }
+/// Answers the query at a place by the stream of which it asks, and all later ones that ask of the same
+/// table.
+///
+/// # Errors
+/// What the table refuses, or `OutOfMemory` if memory is refused. Then no query is answered.
+fn answer_by(alloc: Global, stream: Stream, at: usize, asked: &mut Asked<'_>) -> Result<()>
+    requires { at < length asked.old.queries }
+    ensures { AnswersAt stream at asked.old result asked.new }
+{
+    let query = asked.query(at);
+    let asks = stream_asked(query);
+    match query {
+        Query::Stream { .. } => asked.answer(at, Reply::Bytes(stream.into_bytes())),
+        Query::TypeRecord { .. } | Query::Fields { .. } => {
+            let table = TypeInformation::parse(stream)?;
+            let types = Lookup::new(alloc, &table)?;
+            share(alloc, asks, &mut Opened::Types(types), at, asked);
+        }
+        Query::IdRecord { .. } => {
+            let table = IdInformation::parse(stream)?;
+            let ids = Lookup::new(alloc, &table)?;
+            share(alloc, asks, &mut Opened::Ids(ids), at, asked);
+        }
+        Query::Name { .. } => {
+            let names = StringTable::parse(stream)?;
+            share(alloc, asks, &mut Opened::Names(&names), at, asked);
+        }
+        Query::Ranges { .. } => {
+            let table = OMAPTable::parse(stream)?;
+            share(alloc, asks, &mut Opened::Omap(&table), at, asked);
+        }
+    }
+    Ok(())
+}
+
+/// Answers the query at a place, and all later ones that ask of the same table.
+fn answer<S: Source>(alloc: Global, file: &mut BigMSF<S>, at: usize, asked: &mut Asked<'_>)
+    requires { at < length asked.old.queries }
+    ensures answer { IsAnsweredFrom (HasFailed (S.state file.old.source) (S.state file.new.source)) (reply_of (S.state file.old.source).bytes file.old.head) at asked.old asked.new }
     ensures source { IsKept (S.state file.old.source) (S.state file.new.source) }
     ensures head { file.new.head ≡ file.old.head }
 {
-    match answer(alloc, file, query) {
-        Ok(reply) => reply,
-        Err(error) => Reply::Refused(error),
+    let (number, limit) = stream_asked(asked.query(at));
+    let done = match file.get(alloc, number, limit) {
+        Ok(stream) => answer_by(alloc, stream, at, asked),
+        Err(error) => Err(error),
+    };
+    if let Err(error) = done {
+        asked.answer(at, Reply::Refused(error));
     }
 }
 
 /// Asks a file all queries: one reply to each, in order.
 ///
 /// # Errors
-/// `OutOfMemory` where there is no room for the list of replies, and then nothing was asked. Want of memory
+/// `OutOfMemory` if there is no room for the list of replies, and then nothing was asked. Want of memory
 /// within a query is the reply to that query.
 fn ask_all<S: Source>(alloc: Global, file: &mut BigMSF<S>, queries: &[Query]) -> Result<Vec<Reply>>
     ensures replies { IfOk result (λ replies. AreReplies (¬ IsTrue (S.state file.old.source).is_sound)
@@ -78,18 +132,24 @@ fn ask_all<S: Source>(alloc: Global, file: &mut BigMSF<S>, queries: &[Query]) ->
     ensures want { IfErr result (λ e. e ≡ Error.OutOfMemory) }
     ensures unasked { OnErr result (file.new ≡ file.old) }
 {
-    let mut replies = Vec::with_capacity(alloc, queries.len())?;
-    for query in queries {
-        replies.push_reserved(ask(alloc, file, *query));
+    let mut asked = Asked::new(alloc, queries)?;
+    for at in 0..queries.len() {
+        if !asked.is_answered(at) {
+            answer(alloc, file, at, &mut asked);
+        }
     }
-    Ok(replies)
+    Ok(asked.into_replies())
 }
 
 /// Opens a file and asks it all queries: one reply to each, in order. On a sound source a refused query
 /// does not touch the next.
 ///
+/// A stream is read, and the table in it walked along, once for all queries that ask of it: the first of
+/// them opens it, and the later ones are answered with it. If it is refused, so is that query alone, and
+/// the next one asks for it again.
+///
 /// # Errors
-/// What `open_msf` refuses, or `OutOfMemory` where there is no room for the list of replies.
+/// What `open_msf` refuses, or `OutOfMemory` if there is no room for the list of replies.
 pub fn run<S: Source + Drop>(alloc: Global, source: S, queries: &[Query]) -> Result<Vec<Reply>>
     ensures { IsRun (¬ IsTrue (S.state source).is_sound) (S.state source).bytes queries.now result }
 {

@@ -1,0 +1,77 @@
+-- Queries that are answered in any order, and streams that are opened as tables to answer more than one.
+use Rattle.std.specs.Prelude.{◌≡◌, ℕ, ◌<◌, Bool, true, false, IsTrue, List, length, get_or, Option, Some, None, Result, Ok, Err, ⊤}
+use Rattle.std.specs.declared.ops.Range.{Range}
+use Rattle.pdb_base.specs.Answer.{Answer, RefusesUnless}
+use Rattle.pdb_base.specs.declared.error.Error.{Error}
+use Rattle.pdb_container.specs.declared.query.Query.{Query}
+use Rattle.pdb_container.specs.declared.query.Query.TheVariants as queries
+use Rattle.pdb_container.specs.declared.query.Reply.{Reply}
+use Rattle.pdb_container.specs.declared.opened.Opened.{Opened}
+use Rattle.pdb_container.specs.declared.opened.Opened.TheVariants as tables
+use Rattle.pdb_container.specs.Reply.{Said, IsReply, moved, type_in, id_in, fields_in, name_in, stream_asked, said_within}
+
+-- What a stream that is opened as a table says to a query, if the query asks of such a table.
+abbrev pub said_by : Opened → Query → Option (Answer Said)
+said_by (tables.Types types) (queries.TypeRecord stream index) = Some (type_in index types.table)
+said_by (tables.Types types) (queries.Fields stream index) = Some (fields_in index types.table)
+said_by (tables.Ids ids) (queries.IdRecord stream index) = Some (id_in index ids.table)
+said_by (tables.Names names) (queries.Name stream offset) = Some (name_in offset names.now)
+said_by (tables.Omap omap) (queries.Ranges stream start end) = Some (Ok (moved omap.now (record { start = start; end = end })))
+said_by opened query = None
+
+-- a reply where something is said, which is that
+abbrev pub RepliesIf : Option Reply → Option (Answer Said) → Type 0
+RepliesIf None None = ⊤
+RepliesIf (Some reply) (Some said) = IsReply ⊥ reply said
+RepliesIf reply said = ⊥
+
+-- Queries, a place for the reply to each, and which of them are answered.
+pub record Asked : Type 0 where
+  pub queries : List Query
+  pub replies : List Reply
+  pub answered : List Bool
+
+-- the query at a place
+abbrev pub query_at : Asked → ℕ → Query
+query_at asked i = get_or asked.queries i (queries.Stream 0 None)
+
+-- whether it is answered
+abbrev pub is_answered : Asked → ℕ → Bool
+is_answered asked i = get_or asked.answered i false
+
+-- queries of which none is answered
+pub record IsUnanswered (queries : List Query) (asked : Asked) : Type 0 where
+  pub queries : asked.queries ≡ queries
+  pub none : (i : ℕ) → is_answered asked i ≡ false
+
+-- The reply to each query that is answered says what is meant. It may be refused by a fault of the source
+-- where that is not sound.
+abbrev pub AreRight : Bool → (Query → Answer Said) → Asked → Type 0
+AreRight sound meant asked = (i : ℕ) (d : Reply) → is_answered asked i ≡ true → IsReply (¬ IsTrue sound) (get_or asked.replies i d) (meant (query_at asked i))
+
+-- More of the queries are answered than before, and rightly if those before were.
+pub record IsAnsweredOn (means : (Query → Answer Said) → Type 0) (old new : Asked) : Type 0 where
+  pub queries : new.queries ≡ old.queries
+  pub stays : (i : ℕ) → is_answered old i ≡ true → is_answered new i ≡ true
+  pub right : (sound : Bool) (meant : Query → Answer Said) → means meant → AreRight sound meant old → AreRight sound meant new
+
+-- what is meant of the queries that ask this of a stream is what it says, opened as a table
+abbrev pub MeansTable : ℕ × Option ℕ → Opened → (Query → Answer Said) → Type 0
+MeansTable stream opened meant = (query : Query) (said : Answer Said) → stream_asked query ≡ stream → said_by opened query ≡ Some said → meant query ≡ said
+
+-- what is meant of the queries that ask this of a stream is what its bytes say
+abbrev pub MeansStream : ℕ × Option ℕ → List ℕ → (Query → Answer Said) → Type 0
+MeansStream stream bytes meant = (query : Query) → stream_asked query ≡ stream → meant query ≡ said_within query bytes
+
+-- A stream answers the query at a place, and others that ask the same of it. Where it refuses that query,
+-- nothing is answered.
+abbrev pub AnswersAt : List ℕ → ℕ → Asked → Result (Unit {0}) Error → Asked → Type 0
+AnswersAt bytes at old (Ok done) new = IsAnsweredOn (MeansStream (stream_asked (query_at old at)) bytes) old new × (is_answered new at ≡ true)
+AnswersAt bytes at old (Err e) new = RefusesUnless ⊥ e (said_within (query_at old at) bytes) × (new ≡ old)
+
+-- A file answers the query at a place, and others. A source that fails refuses that query alone.
+pub record IsAnsweredFrom (failed : Type 0) (meant : Query → Answer Said) (at : ℕ) (old new : Asked) : Type 0 where
+  pub queries : new.queries ≡ old.queries
+  pub stays : (i : ℕ) → is_answered old i ≡ true → is_answered new i ≡ true
+  pub answered : is_answered new at ≡ true
+  pub right : (sound : Bool) → (failed → ¬ IsTrue sound) → AreRight sound meant old → AreRight sound meant new

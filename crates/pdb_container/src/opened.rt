@@ -1,0 +1,71 @@
+//! Streams that are opened as tables, and what those say to queries.
+
+ghost use Rattle.std.specs.Prelude.{◌≡◌};
+ghost use Rattle.pdb_base.specs.Answer.{Answer};
+ghost use Rattle.pdb_container.specs.Reply.{Said, Replies, IsReply};
+ghost use Rattle.pdb_container.specs.declared.query.Query.{Query};
+ghost use Rattle.pdb_container.specs.Asked.{said_by, RepliesIf};
+
+use crate::fields::fields;
+use crate::lookup::Lookup;
+use crate::name::name;
+use crate::query::{Query, Reply};
+use crate::ranges::ranges;
+use crate::record::{id_record, type_record};
+use pdb_base::{IdIndex, Result, TypeIndex};
+use pdb_space::{OMAPTable, StringRef, StringTable};
+use std::alloc::Global;
+
+/// What a stream is opened as.
+#[derive(Drop)]
+pub enum Opened<'t> {
+    /// A table of types.
+    Types(Lookup<'t, TypeIndex>),
+
+    /// A table of ids.
+    Ids(Lookup<'t, IdIndex>),
+
+    /// A string table.
+    Names(&'t StringTable),
+
+    /// An OMAP table.
+    Omap(&'t OMAPTable),
+}
+
+/// The reply that a call answers: its refusal is a reply too.
+fn replied(answered: Result<Reply>) -> Reply
+    ensures { (meant : Answer Said) → Replies answered.entry meant → IsReply ⊥ result meant }
+{
+    match answered {
+        Ok(reply) => reply,
+        Err(error) => Reply::Refused(error),
+    }
+}
+
+impl Opened<'_> {
+    /// What it replies to a query, if the query asks of such a table.
+    pub fn reply(&mut self, alloc: Global, query: Query) -> Option<Reply>
+        ensures said { RepliesIf result (said_by self.old query) }
+        ensures kept { (query : Query) → said_by self.new query ≡ said_by self.old query }
+    {
+        let reply = match (self, query) {
+            (Opened::Types(types), Query::TypeRecord { index, .. }) => {
+                type_record(alloc, types, TypeIndex(index))
+            }
+            (Opened::Types(types), Query::Fields { index, .. }) => {
+                fields(alloc, types, TypeIndex(index))
+            }
+            (Opened::Ids(ids), Query::IdRecord { index, .. }) => {
+                id_record(alloc, ids, IdIndex(index))
+            }
+            (Opened::Names(names), Query::Name { offset, .. }) => {
+                name(alloc, names, StringRef(offset))
+            }
+            (Opened::Omap(table), Query::Ranges { start, end, .. }) => {
+                ranges(alloc, table, start..end)
+            }
+            _ => return None,
+        };
+        Some(replied(reply))
+    }
+}
