@@ -26,31 +26,31 @@ RepliesIf (Some reply) (Some said) = IsReply ⊥ reply said
 RepliesIf reply said = ⊥
 
 -- Queries, a place for the reply to each, and which of them are answered.
-pub record Asked : Type 0 where
+pub record Progress : Type 0 where
   pub queries : List Query
   pub replies : List Reply
   pub answered : List Bool
 
 -- the query at a place
-abbrev pub query_at : Asked → ℕ → Query
+abbrev pub query_at : Progress → ℕ → Query
 query_at asked i = get_or asked.queries i (queries.Stream 0 None)
 
 -- whether it is answered
-abbrev pub is_answered : Asked → ℕ → Bool
+abbrev pub is_answered : Progress → ℕ → Bool
 is_answered asked i = get_or asked.answered i false
 
 -- queries of which none is answered
-pub record IsUnanswered (queries : List Query) (asked : Asked) : Type 0 where
-  pub queries : asked.queries ≡ queries
+pub record IsUnanswered (asks : List Query) (asked : Progress) : Type 0 where
+  pub queries : asked.queries ≡ asks
   pub none : (i : ℕ) → is_answered asked i ≡ false
 
 -- The reply to each query that is answered says what is meant. It may be refused by a fault of the source
 -- where that is not sound.
-abbrev pub AreRight : Bool → (Query → Answer Said) → Asked → Type 0
+abbrev pub AreRight : Bool → (Query → Answer Said) → Progress → Type 0
 AreRight sound meant asked = (i : ℕ) (d : Reply) → is_answered asked i ≡ true → IsReply (¬ IsTrue sound) (get_or asked.replies i d) (meant (query_at asked i))
 
 -- More of the queries are answered than before, and rightly if those before were.
-pub record IsAnsweredOn (means : (Query → Answer Said) → Type 0) (old new : Asked) : Type 0 where
+pub record IsAnsweredOn (means : (Query → Answer Said) → Type 0) (old new : Progress) : Type 0 where
   pub queries : new.queries ≡ old.queries
   pub stays : (i : ℕ) → is_answered old i ≡ true → is_answered new i ≡ true
   pub right : (sound : Bool) (meant : Query → Answer Said) → means meant → AreRight sound meant old → AreRight sound meant new
@@ -65,12 +65,12 @@ MeansStream stream bytes meant = (query : Query) → stream_asked query ≡ stre
 
 -- A stream answers the query at a place, and others that ask the same of it. Where it refuses that query,
 -- nothing is answered.
-abbrev pub AnswersAt : List ℕ → ℕ → Asked → Result (Unit {0}) Error → Asked → Type 0
+abbrev pub AnswersAt : List ℕ → ℕ → Progress → Result (Unit {0}) Error → Progress → Type 0
 AnswersAt bytes at old (Ok done) new = IsAnsweredOn (MeansStream (stream_asked (query_at old at)) bytes) old new × (is_answered new at ≡ true)
 AnswersAt bytes at old (Err e) new = RefusesUnless ⊥ e (said_within (query_at old at) bytes) × (new ≡ old)
 
 -- A file answers the query at a place, and others. A source that fails refuses that query alone.
-pub record IsAnsweredFrom (failed : Type 0) (meant : Query → Answer Said) (at : ℕ) (old new : Asked) : Type 0 where
+pub record IsAnsweredFrom (failed : Type 0) (meant : Query → Answer Said) (at : ℕ) (old new : Progress) : Type 0 where
   pub queries : new.queries ≡ old.queries
   pub stays : (i : ℕ) → is_answered old i ≡ true → is_answered new i ≡ true
   pub answered : is_answered new at ≡ true

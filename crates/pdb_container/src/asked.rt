@@ -1,7 +1,7 @@
 //! Queries, and the replies to those that are answered so far.
 
 ghost use Rattle.std.specs.Prelude.{◌≡◌, ◌<◌, ◌≤◌, map, length, true, set, IfOk, IfErr};
-ghost use Rattle.pdb_container.specs.Asked.{Asked, query_at, is_answered, IsUnanswered};
+ghost use Rattle.pdb_container.specs.Asked.{query_at, is_answered, IsUnanswered};
 
 use crate::query::{Query, Reply};
 use pdb_base::{Error, Result};
@@ -18,9 +18,9 @@ pub struct Asked<'q> {
 
 impl<'q> Model for Asked<'q> {
     ghost use Rattle.std.specs.Prelude.{◌≡◌, length};
-    ghost use Rattle.pdb_container.specs.Asked.{Asked as Value};
+    ghost use Rattle.pdb_container.specs.Asked.{Progress};
 
-    ghost Value = { Value };
+    ghost Value = { Progress };
 
     ghost view = { λ a. record { queries = a.queries.now; replies = a.replies.items; answered = a.answered.items } };
 
@@ -60,7 +60,8 @@ impl<'q> Asked<'q> {
         requires { at < length self.now.queries }
         ensures { result ≡ query_at self.now at }
     {
-        self.queries[at]
+        let queries = self.queries;
+        queries[at]
     }
 
     /// Whether the query at a place is answered.

@@ -34,7 +34,7 @@ pub enum Opened<'t> {
 
 /// The reply that a call answers: its refusal is a reply too.
 fn replied(answered: Result<Reply>) -> Reply
-    ensures { (meant : Answer Said) → Replies answered.entry meant → IsReply ⊥ result meant }
+    ensures { (meant : Answer Said) → Replies answered meant → IsReply ⊥ result meant }
 {
     match answered {
         Ok(reply) => reply,
