@@ -1,3 +1,4 @@
 pub mod ReplyLemmas
 pub mod LookupLemmas
 pub mod FieldsLemmas
+pub mod AskedLemmas

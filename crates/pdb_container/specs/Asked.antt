@@ -1,5 +1,5 @@
 -- Queries that are answered in any order, and streams that are opened as tables to answer more than one.
-use Rattle.std.specs.Prelude.{◌≡◌, ℕ, ◌<◌, Bool, true, false, IsTrue, List, length, get_or, Option, Some, None, Result, Ok, Err, ⊤}
+use Rattle.std.specs.Prelude.{◌≡◌, ◌≢◌, ℕ, ◌<◌, Bool, true, false, IsTrue, List, length, get_or, Option, Some, None, Result, Ok, Err, ⊤}
 use Rattle.std.specs.declared.ops.Range.{Range}
 use Rattle.pdb_base.specs.Answer.{Answer, RefusesUnless}
 use Rattle.pdb_base.specs.declared.error.Error.{Error}
@@ -15,8 +15,8 @@ abbrev pub said_by : Opened → Query → Option (Answer Said)
 said_by (tables.Types types) (queries.TypeRecord stream index) = Some (type_in index types.table)
 said_by (tables.Types types) (queries.Fields stream index) = Some (fields_in index types.table)
 said_by (tables.Ids ids) (queries.IdRecord stream index) = Some (id_in index ids.table)
-said_by (tables.Names names) (queries.Name stream offset) = Some (name_in offset names.now)
-said_by (tables.Omap omap) (queries.Ranges stream start end) = Some (Ok (moved omap.now (record { start = start; end = end })))
+said_by (tables.Names names) (queries.Name stream offset) = Some (name_in offset names)
+said_by (tables.Omap omap) (queries.Ranges stream start end) = Some (Ok (moved omap (record { start = start; end = end })))
 said_by opened query = None
 
 -- a reply where something is said, which is that
@@ -44,6 +44,13 @@ pub record IsUnanswered (asks : List Query) (asked : Progress) : Type 0 where
   pub queries : asked.queries ≡ asks
   pub none : (i : ℕ) → is_answered asked i ≡ false
 
+-- The query at a place is answered with a reply, and nothing else changes.
+pub record IsAnsweredWith (at : ℕ) (reply : Reply) (old new : Progress) : Type 0 where
+  pub queries : new.queries ≡ old.queries
+  pub here : is_answered new at ≡ true
+  pub reply_is : (d : Reply) → get_or new.replies at d ≡ reply
+  pub others : (i : ℕ) (d : Reply) → i ≢ at → (is_answered new i ≡ is_answered old i) × (get_or new.replies i d ≡ get_or old.replies i d)
+
 -- The reply to each query that is answered says what is meant. It may be refused by a fault of the source
 -- where that is not sound.
 abbrev pub AreRight : Bool → (Query → Answer Said) → Progress → Type 0
@@ -55,13 +62,34 @@ pub record IsAnsweredOn (means : (Query → Answer Said) → Type 0) (old new : 
   pub stays : (i : ℕ) → is_answered old i ≡ true → is_answered new i ≡ true
   pub right : (sound : Bool) (meant : Query → Answer Said) → means meant → AreRight sound meant old → AreRight sound meant new
 
--- what is meant of the queries that ask this of a stream is what it says, opened as a table
-abbrev pub MeansTable : ℕ × Option ℕ → Opened → (Query → Answer Said) → Type 0
-MeansTable stream opened meant = (query : Query) (said : Answer Said) → stream_asked query ≡ stream → said_by opened query ≡ Some said → meant query ≡ said
+-- what is meant of the queries that ask of a stream is what it says, opened as a table
+abbrev pub MeansTable : ℕ → Opened → (Query → Answer Said) → Type 0
+MeansTable number opened meant = (query : Query) (said : Answer Said) → (stream_asked query).0 ≡ number → said_by opened query ≡ Some said → meant query ≡ said
 
 -- what is meant of the queries that ask this of a stream is what its bytes say
 abbrev pub MeansStream : ℕ × Option ℕ → List ℕ → (Query → Answer Said) → Type 0
 MeansStream stream bytes meant = (query : Query) → stream_asked query ≡ stream → meant query ≡ said_within query bytes
+
+-- a query of a table of types
+abbrev pub AsksTypes : Query → Type 0
+AsksTypes (queries.TypeRecord stream index) = ⊤
+AsksTypes (queries.Fields stream index) = ⊤
+AsksTypes query = ⊥
+
+-- a query of a table of ids
+abbrev pub AsksIds : Query → Type 0
+AsksIds (queries.IdRecord stream index) = ⊤
+AsksIds query = ⊥
+
+-- a query of a string table
+abbrev pub AsksNames : Query → Type 0
+AsksNames (queries.Name stream offset) = ⊤
+AsksNames query = ⊥
+
+-- a query of an OMAP table
+abbrev pub AsksOmap : Query → Type 0
+AsksOmap (queries.Ranges stream start end) = ⊤
+AsksOmap query = ⊥
 
 -- A stream answers the query at a place, and others that ask the same of it. Where it refuses that query,
 -- nothing is answered.

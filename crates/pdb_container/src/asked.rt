@@ -1,7 +1,7 @@
 //! Queries, and the replies to those that are answered so far.
 
-ghost use Rattle.std.specs.Prelude.{◌≡◌, ◌<◌, ◌≤◌, map, length, true, set, IfOk, IfErr};
-ghost use Rattle.pdb_container.specs.Asked.{query_at, is_answered, IsUnanswered};
+ghost use Rattle.std.specs.Prelude.{◌≡◌, ◌<◌, ◌≤◌, length, IfOk, IfErr};
+ghost use Rattle.pdb_container.specs.Asked.{query_at, is_answered, IsAnsweredWith, IsUnanswered};
 
 use crate::query::{Query, Reply};
 use pdb_base::{Error, Result};
@@ -75,7 +75,7 @@ impl<'q> Asked<'q> {
     /// Answers the query at a place with a reply.
     pub fn answer(&mut self, at: usize, reply: Reply)
         requires { at < length self.old.queries }
-        ensures { self.new ≡ record self.old { replies = set self.old.replies at reply; answered = set self.old.answered at true } }
+        ensures { IsAnsweredWith at reply self.old self.new }
     {
         self.replies[at] = reply;
         self.answered[at] = true;

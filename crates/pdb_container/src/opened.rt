@@ -26,10 +26,10 @@ pub enum Opened<'t> {
     Ids(Lookup<'t, IdIndex>),
 
     /// A string table.
-    Names(&'t StringTable),
+    Names(StringTable),
 
     /// An OMAP table.
-    Omap(&'t OMAPTable),
+    Omap(OMAPTable),
 }
 
 /// The reply that a call answers: its refusal is a reply too.

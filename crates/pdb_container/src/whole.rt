@@ -3,13 +3,13 @@
 ghost use Rattle.std.specs.Prelude.{◌≡◌, ◌<◌, ◌≤◌, IsTrue, IsSome, IfOk, IfErr, OnErr, length, true};
 ghost use Rattle.pdb_msf.specs.Source.{HasFailed, IsKept};
 ghost use Rattle.pdb_container.specs.Reply.{AreReplies, IsRun, reply_of, stream_asked};
-ghost use Rattle.pdb_container.specs.Asked.{AnswersAt, IsAnsweredFrom, IsAnsweredOn, MeansTable, is_answered, query_at, said_by};
+ghost use Rattle.pdb_container.specs.Asked.{AnswersAt, AsksIds, AsksNames, AsksOmap, AsksTypes, IsAnsweredFrom, IsAnsweredOn, MeansTable, is_answered, query_at, said_by};
 
 use crate::asked::Asked;
 use crate::lookup::Lookup;
 use crate::opened::Opened;
 use crate::query::{Query, Reply};
-use pdb_base::Result;
+use pdb_base::{Error, Result};
 use pdb_msf::{BigMSF, Msf, Source, Stream, open_msf};
 use pdb_space::{OMAPTable, StringTable};
 use pdb_tpi::{IdInformation, TypeInformation};
@@ -29,22 +29,22 @@ fn stream_asked(query: Query) -> (u32, Option<usize>)
     }
 }
 
-/// Answers the query at a place, if it is not answered yet and asks of the table as which this stream is
-/// opened.
+/// Answers the query at a place, if it is not answered yet and asks of the table as which the stream of
+/// this number is opened.
 fn offer(
     alloc: Global,
-    stream: (u32, Option<usize>),
+    number: u32,
     opened: &mut Opened<'_>,
     at: usize,
     asked: &mut Asked<'_>,
 )
     requires { at < length asked.old.queries }
-    ensures on { IsAnsweredOn (MeansTable stream opened.old) asked.old asked.new }
-    ensures answered { stream_asked (query_at asked.old at) ≡ stream → IsSome (said_by opened.old (query_at asked.old at)) → is_answered asked.new at ≡ true }
+    ensures on { IsAnsweredOn (MeansTable number opened.old) asked.old asked.new }
+    ensures answered { (stream_asked (query_at asked.old at)).0 ≡ number → IsSome (said_by opened.old (query_at asked.old at)) → is_answered asked.new at ≡ true }
     ensures kept { (query : Query) → said_by opened.new query ≡ said_by opened.old query }
 {
     let query = asked.query(at);
-    if asked.is_answered(at) || stream_asked(query) != stream {
+    if asked.is_answered(at) || stream_asked(query).0 != number {
         return;
     }
     if let Some(reply) = opened.reply(alloc, query) {
@@ -52,21 +52,72 @@ fn offer(
     }
 }
 
-/// Answers the query at a place and all later ones that ask of the table as which this stream is opened.
+/// Answers the query at a place and all later ones that ask of the table as which the stream of this
+/// number is opened.
 fn share(
     alloc: Global,
-    stream: (u32, Option<usize>),
+    number: u32,
     opened: &mut Opened<'_>,
     from: usize,
     asked: &mut Asked<'_>,
 )
     requires { from < length asked.old.queries }
-    ensures on { IsAnsweredOn (MeansTable stream opened.old) asked.old asked.new }
-    ensures answered { stream_asked (query_at asked.old from) ≡ stream → IsSome (said_by opened.old (query_at asked.old from)) → is_answered asked.new from ≡ true }
+    ensures on { IsAnsweredOn (MeansTable number opened.old) asked.old asked.new }
+    ensures answered { (stream_asked (query_at asked.old from)).0 ≡ number → IsSome (said_by opened.old (query_at asked.old from)) → is_answered asked.new from ≡ true }
 {
     for at in from..asked.len() {
-        offer(alloc, stream, opened, at, asked);
+        offer(alloc, number, opened, at, asked);
     }
+}
+
+/// Answers the query at a place, which asks of a table of types, and all later ones that ask of the same.
+fn answer_types(alloc: Global, stream: Stream, at: usize, asked: &mut Asked<'_>) -> Result<()>
+    requires within { at < length asked.old.queries }
+    requires asks { AsksTypes (query_at asked.old at) }
+    ensures { AnswersAt stream at asked.old result asked.new }
+{
+    let (number, _) = stream_asked(asked.query(at));
+    let table = TypeInformation::parse(stream)?;
+    let types = Lookup::new(alloc, &table)?;
+    share(alloc, number, &mut Opened::Types(types), at, asked);
+    Ok(())
+}
+
+/// Answers the query at a place, which asks of a table of ids, and all later ones that ask of the same.
+fn answer_ids(alloc: Global, stream: Stream, at: usize, asked: &mut Asked<'_>) -> Result<()>
+    requires within { at < length asked.old.queries }
+    requires asks { AsksIds (query_at asked.old at) }
+    ensures { AnswersAt stream at asked.old result asked.new }
+{
+    let (number, _) = stream_asked(asked.query(at));
+    let table = IdInformation::parse(stream)?;
+    let ids = Lookup::new(alloc, &table)?;
+    share(alloc, number, &mut Opened::Ids(ids), at, asked);
+    Ok(())
+}
+
+/// Answers the query at a place, which asks of a string table, and all later ones that ask of the same.
+fn answer_names(alloc: Global, stream: Stream, at: usize, asked: &mut Asked<'_>) -> Result<()>
+    requires within { at < length asked.old.queries }
+    requires asks { AsksNames (query_at asked.old at) }
+    ensures { AnswersAt stream at asked.old result asked.new }
+{
+    let (number, _) = stream_asked(asked.query(at));
+    let names = StringTable::parse(stream)?;
+    share(alloc, number, &mut Opened::Names(names), at, asked);
+    Ok(())
+}
+
+/// Answers the query at a place, which asks of an OMAP table, and all later ones that ask of the same.
+fn answer_ranges(alloc: Global, stream: Stream, at: usize, asked: &mut Asked<'_>) -> Result<()>
+    requires within { at < length asked.old.queries }
+    requires asks { AsksOmap (query_at asked.old at) }
+    ensures { AnswersAt stream at asked.old result asked.new }
+{
+    let (number, _) = stream_asked(asked.query(at));
+    let table = OMAPTable::parse(stream)?;
+    share(alloc, number, &mut Opened::Omap(table), at, asked);
+    Ok(())
 }
 
 /// Answers the query at a place by the stream of which it asks, and all later ones that ask of the same
@@ -78,30 +129,16 @@ fn answer_by(alloc: Global, stream: Stream, at: usize, asked: &mut Asked<'_>) ->
     requires { at < length asked.old.queries }
     ensures { AnswersAt stream at asked.old result asked.new }
 {
-    let query = asked.query(at);
-    let asks = stream_asked(query);
-    match query {
-        Query::Stream { .. } => asked.answer(at, Reply::Bytes(stream.into_bytes())),
-        Query::TypeRecord { .. } | Query::Fields { .. } => {
-            let table = TypeInformation::parse(stream)?;
-            let types = Lookup::new(alloc, &table)?;
-            share(alloc, asks, &mut Opened::Types(types), at, asked);
+    match asked.query(at) {
+        Query::Stream { .. } => {
+            asked.answer(at, Reply::Bytes(stream.into_bytes()));
+            Ok(())
         }
-        Query::IdRecord { .. } => {
-            let table = IdInformation::parse(stream)?;
-            let ids = Lookup::new(alloc, &table)?;
-            share(alloc, asks, &mut Opened::Ids(ids), at, asked);
-        }
-        Query::Name { .. } => {
-            let names = StringTable::parse(stream)?;
-            share(alloc, asks, &mut Opened::Names(&names), at, asked);
-        }
-        Query::Ranges { .. } => {
-            let table = OMAPTable::parse(stream)?;
-            share(alloc, asks, &mut Opened::Omap(&table), at, asked);
-        }
+        Query::TypeRecord { .. } | Query::Fields { .. } => answer_types(alloc, stream, at, asked),
+        Query::IdRecord { .. } => answer_ids(alloc, stream, at, asked),
+        Query::Name { .. } => answer_names(alloc, stream, at, asked),
+        Query::Ranges { .. } => answer_ranges(alloc, stream, at, asked),
     }
-    Ok(())
 }
 
 /// Answers the query at a place, and all later ones that ask of the same table.

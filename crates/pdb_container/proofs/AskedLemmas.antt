@@ -1,0 +1,244 @@
+-- Queries that are answered in any order: one after another, by a table, by a stream, by a file.
+use Rattle.std.proofs.Common.{◌≡◌, ◌≢◌, ◌⊎◌, inl, inr, ℕ, ◌+◌, ◌<◌, ◌≤◌, Bool, true, false, List, [], ◌∷◌, length, get_or, refl, sym, ap, ◌∙◌, subst, arith, Option, Some, None, Result, Ok, Err}
+use Rattle.std.specs.Prelude.{IsTrue, IsSome}
+use Rattle.std.proofs.lemmas.Bool.{cases_eq, cases_lt}
+use Rattle.pdb_base.specs.declared.error.Error.{Error}
+use Rattle.pdb_base.specs.declared.error.Error.TheVariants as errors
+use Rattle.pdb_base.specs.Answer.{Answer, ◌>>=◌}
+use Rattle.pdb_msf.specs.Header.{Head}
+use Rattle.pdb_msf.specs.File.{stream_of}
+use Rattle.pdb_container.specs.declared.query.Query.{Query}
+use Rattle.pdb_container.specs.declared.query.Query.TheVariants as queries
+use Rattle.pdb_container.specs.declared.query.Reply.{Reply}
+use Rattle.pdb_container.specs.declared.query.Reply.TheVariants as replies
+use Rattle.std.specs.Global.{Vec}
+use Rattle.pdb_base.proofs.Collected.{ok}
+use Rattle.pdb_container.specs.declared.opened.Opened.{Opened}
+use Rattle.pdb_container.specs.declared.opened.Opened.TheVariants as tables
+use Rattle.pdb_tpi.specs.Table.{table_of}
+use Rattle.pdb_space.specs.StringTable.{names_of}
+use Rattle.pdb_space.specs.Omap.{Mapping}
+use Rattle.pdb_space.specs.Omap as omap
+use Rattle.pdb_base.specs.Refusal.{Refusal, refusal_of}
+use Rattle.pdb_container.specs.Lookup.{Walked}
+use Rattle.pdb_container.specs.Reply as reply
+use Rattle.pdb_container.specs.Reply.{Said, IsReply, AreReplies, reply_of, stream_asked, said_within, type_within, id_within, fields_within, name_within, moved_within}
+use Rattle.pdb_container.specs.Asked.{Progress, query_at, is_answered, said_by, RepliesIf, IsAnsweredWith, AreRight, IsAnsweredOn, MeansTable, MeansStream, AsksTypes, AsksIds, AsksNames, AsksOmap, AnswersAt, IsAnsweredFrom}
+use Rattle.pdb_container.proofs.ReplyLemmas.{IsReply-weaker}
+
+below_other : (a b : ℕ) → a < b + 1 → a ≢ b → a < b
+below_other a b reached other = elim (cases_lt a b) [
+  | inl below ↦ below
+  | inr least ↦ absurd (other (omega (arith, reached, least)))
+]
+
+-- ---- one after another
+
+-- where none is answered any more, all stays right
+pub on_itself : (means : (Query → Answer Said) → Type 0) (asked : Progress) → IsAnsweredOn means asked asked
+on_itself means asked = record { queries = refl; stays = λ i is. is; right = λ sound meant m are. are }
+
+pub on_then : (means : (Query → Answer Said) → Type 0) (old mid new : Progress) → IsAnsweredOn means old mid → IsAnsweredOn means mid new → IsAnsweredOn means old new
+on_then means old mid new first then = record {
+  queries = then.queries ∙ first.queries;
+  stays = λ i is. then.stays i (first.stays i is);
+  right = λ sound meant m are. then.right sound meant m (first.right sound meant m are);
+}
+
+stays_with : (at : ℕ) (reply : Reply) (old new : Progress) → IsAnsweredWith at reply old new → (i : ℕ) → is_answered old i ≡ true → is_answered new i ≡ true
+stays_with at reply old new with i is = elim (cases_eq i at) [
+  | inl here ↦ subst (λ (n : ℕ). is_answered new n ≡ true) (sym here) with.here
+  | inr other ↦ (with.others i reply other).0 ∙ is
+]
+
+-- one right reply more
+right_with : (sound : Bool) (meant : Query → Answer Said) (at : ℕ) (reply : Reply) (old new : Progress) → IsAnsweredWith at reply old new → IsReply (¬ IsTrue sound) reply (meant (query_at old at))
+    → AreRight sound meant old → AreRight sound meant new
+right_with sound meant at reply old new with is are i d answered = elim (cases_eq i at) [
+  | inl here ↦
+      rw (here, with.reply_is d, ap (λ (qs : List Query). get_or qs at (queries.Stream 0 None)) with.queries) is
+  | inr other ↦
+      let same = with.others i d other in
+      rw (same.1, ap (λ (qs : List Query). get_or qs i (queries.Stream 0 None)) with.queries) (are i d (sym same.0 ∙ answered))
+]
+
+-- a reply that no source was read for
+pub on_with : (means : (Query → Answer Said) → Type 0) (at : ℕ) (reply : Reply) (old new : Progress) → IsAnsweredWith at reply old new
+    → ((meant : Query → Answer Said) → means meant → IsReply ⊥ reply (meant (query_at old at))) → IsAnsweredOn means old new
+on_with means at reply old new with is = record {
+  queries = with.queries;
+  stays = stays_with at reply old new with;
+  right = λ sound meant m are. right_with sound meant at reply old new with (IsReply-weaker ⊥ (¬ IsTrue sound) reply (meant (query_at old at)) (λ no. absurd no) (is meant m)) are;
+}
+
+pair_is : {A B : Type 0} (one other : A × B) → one.0 ≡ other.0 → one.1 ≡ other.1 → one ≡ other
+pair_is {A} {B} (a, b) (c, d) first second = ap (λ (x : A). (x, b)) first ∙ ap (λ (y : B). (c, y)) second
+
+-- ---- by a table
+
+-- what is said where a reply is
+said_there : (reply : Reply) (said : Option (Answer Said)) → RepliesIf (Some reply) said → (meant : Answer Said) × (said ≡ Some meant) × IsReply ⊥ reply meant
+said_there reply None is = absurd is
+said_there reply (Some meant) is = (meant, refl, is)
+
+-- what a table says to a query at a place is a right reply
+pub offered : (number : ℕ) (opened : Opened) (at : ℕ) (query : Query) (reply : Reply) (old new : Progress) → query ≡ query_at old at → (stream_asked query).0 ≡ number → RepliesIf (Some reply) (said_by opened query)
+    → IsAnsweredWith at reply old new → IsAnsweredOn (MeansTable number opened) old new
+offered number opened at query reply old new is asks replies with =
+    let there = said_there reply (said_by opened query) replies in
+    on_with (MeansTable number opened) at reply old new with
+    (λ meant means. subst (λ (q : Query). IsReply ⊥ reply (meant q)) is (subst (λ (said : Answer Said). IsReply ⊥ reply said) (sym (means query there.0 asks there.1)) there.2))
+
+-- a table as which the same stream is opened means the same
+pub on_same : (number : ℕ) (one other : Opened) (old new : Progress) → ((query : Query) → said_by other query ≡ said_by one query) → IsAnsweredOn (MeansTable number other) old new → IsAnsweredOn (MeansTable number one) old new
+on_same number one other old new same on = record {
+  queries = on.queries;
+  stays = on.stays;
+  right = λ sound meant m are. on.right sound meant (λ query said asks is. m query said asks (sym (same query) ∙ is)) are;
+}
+
+nothing_said : {A : Type 0} (x : A) → None ≡ Some x → ⊥
+nothing_said x is = cc
+
+all_said : {A : Type 0} (x y : A) → Some x ≡ Some y → x ≡ y
+all_said x y is = cc
+
+-- A stream that is opened as a table fits a query: it asks of the whole stream, the table says something to it,
+-- and says what the stream's bytes say.
+pub record Fits (bytes : List ℕ) (opened : Opened) (asking : Query) : Type 0 where
+  pub whole : stream_asked asking ≡ ((stream_asked asking).0, None)
+  pub says : IsSome (said_by opened asking)
+  pub means : (query : Query) (said : Answer Said) → said_by opened query ≡ Some said → ((stream_asked query).1 ≡ None) × (said_within query bytes ≡ said)
+
+-- ---- types
+
+types_mean : (bytes : List ℕ) (types : Walked) → table_of bytes ≡ Ok types.table → (query : Query) (said : Answer Said) → said_by (tables.Types types) query ≡ Some said → ((stream_asked query).1 ≡ None) × (said_within query bytes ≡ said)
+unfolding type_within fields_within
+types_mean bytes types is (queries.Stream stream limit) said says = absurd (nothing_said said says)
+types_mean bytes types is (queries.TypeRecord stream index) said says = (refl, rw is (all_said _ _ says))
+types_mean bytes types is (queries.Fields stream index) said says = (refl, rw is (all_said _ _ says))
+types_mean bytes types is (queries.IdRecord stream index) said says = absurd (nothing_said said says)
+types_mean bytes types is (queries.Name stream offset) said says = absurd (nothing_said said says)
+types_mean bytes types is (queries.Ranges stream start end) said says = absurd (nothing_said said says)
+
+pub types_fit : (bytes : List ℕ) (types : Walked) → table_of bytes ≡ Ok types.table → (asking : Query) → AsksTypes asking → Fits bytes (tables.Types types) asking
+types_fit bytes types is (queries.TypeRecord stream index) asks = record { whole = refl; says = refl; means = types_mean bytes types is }
+types_fit bytes types is (queries.Fields stream index) asks = record { whole = refl; says = refl; means = types_mean bytes types is }
+types_fit bytes types is other asks = absurd asks
+
+pub types_refuse : (bytes : List ℕ) (e : Refusal) → table_of bytes ≡ Err e → (asking : Query) → AsksTypes asking → said_within asking bytes ≡ Err e
+unfolding type_within fields_within
+types_refuse bytes e is (queries.TypeRecord stream index) asks = rw is refl
+types_refuse bytes e is (queries.Fields stream index) asks = rw is refl
+types_refuse bytes e is other asks = absurd asks
+
+-- ---- ids
+
+ids_mean : (bytes : List ℕ) (ids : Walked) → table_of bytes ≡ Ok ids.table → (query : Query) (said : Answer Said) → said_by (tables.Ids ids) query ≡ Some said → ((stream_asked query).1 ≡ None) × (said_within query bytes ≡ said)
+unfolding id_within
+ids_mean bytes ids is (queries.Stream stream limit) said says = absurd (nothing_said said says)
+ids_mean bytes ids is (queries.TypeRecord stream index) said says = absurd (nothing_said said says)
+ids_mean bytes ids is (queries.Fields stream index) said says = absurd (nothing_said said says)
+ids_mean bytes ids is (queries.IdRecord stream index) said says = (refl, rw is (all_said _ _ says))
+ids_mean bytes ids is (queries.Name stream offset) said says = absurd (nothing_said said says)
+ids_mean bytes ids is (queries.Ranges stream start end) said says = absurd (nothing_said said says)
+
+pub ids_fit : (bytes : List ℕ) (ids : Walked) → table_of bytes ≡ Ok ids.table → (asking : Query) → AsksIds asking → Fits bytes (tables.Ids ids) asking
+ids_fit bytes ids is (queries.IdRecord stream index) asks = record { whole = refl; says = refl; means = ids_mean bytes ids is }
+ids_fit bytes ids is other asks = absurd asks
+
+pub ids_refuse : (bytes : List ℕ) (e : Refusal) → table_of bytes ≡ Err e → (asking : Query) → AsksIds asking → said_within asking bytes ≡ Err e
+unfolding id_within
+ids_refuse bytes e is (queries.IdRecord stream index) asks = rw is refl
+ids_refuse bytes e is other asks = absurd asks
+
+-- ---- names
+
+names_mean : (bytes : List ℕ) (names : List ℕ) → names_of bytes ≡ Ok names → (query : Query) (said : Answer Said) → said_by (tables.Names names) query ≡ Some said → ((stream_asked query).1 ≡ None) × (said_within query bytes ≡ said)
+unfolding name_within
+names_mean bytes names is (queries.Stream stream limit) said says = absurd (nothing_said said says)
+names_mean bytes names is (queries.TypeRecord stream index) said says = absurd (nothing_said said says)
+names_mean bytes names is (queries.Fields stream index) said says = absurd (nothing_said said says)
+names_mean bytes names is (queries.IdRecord stream index) said says = absurd (nothing_said said says)
+names_mean bytes names is (queries.Name stream offset) said says = (refl, rw is (all_said _ _ says))
+names_mean bytes names is (queries.Ranges stream start end) said says = absurd (nothing_said said says)
+
+pub names_fit : (bytes : List ℕ) (names : List ℕ) → names_of bytes ≡ Ok names → (asking : Query) → AsksNames asking → Fits bytes (tables.Names names) asking
+names_fit bytes names is (queries.Name stream offset) asks = record { whole = refl; says = refl; means = names_mean bytes names is }
+names_fit bytes names is other asks = absurd asks
+
+pub names_refuse : (bytes : List ℕ) (e : Refusal) → names_of bytes ≡ Err e → (asking : Query) → AsksNames asking → said_within asking bytes ≡ Err e
+unfolding name_within
+names_refuse bytes e is (queries.Name stream offset) asks = rw is refl
+names_refuse bytes e is other asks = absurd asks
+
+-- ---- omap
+
+omap_mean : (bytes : List ℕ) (table : List Mapping) → omap.table_of bytes ≡ Ok table → (query : Query) (said : Answer Said) → said_by (tables.Omap table) query ≡ Some said → ((stream_asked query).1 ≡ None) × (said_within query bytes ≡ said)
+unfolding moved_within
+omap_mean bytes table is (queries.Stream stream limit) said says = absurd (nothing_said said says)
+omap_mean bytes table is (queries.TypeRecord stream index) said says = absurd (nothing_said said says)
+omap_mean bytes table is (queries.Fields stream index) said says = absurd (nothing_said said says)
+omap_mean bytes table is (queries.IdRecord stream index) said says = absurd (nothing_said said says)
+omap_mean bytes table is (queries.Name stream offset) said says = absurd (nothing_said said says)
+omap_mean bytes table is (queries.Ranges stream start end) said says = (refl, rw is (all_said _ _ says))
+
+pub omap_fit : (bytes : List ℕ) (table : List Mapping) → omap.table_of bytes ≡ Ok table → (asking : Query) → AsksOmap asking → Fits bytes (tables.Omap table) asking
+omap_fit bytes table is (queries.Ranges stream start end) asks = record { whole = refl; says = refl; means = omap_mean bytes table is }
+omap_fit bytes table is other asks = absurd asks
+
+pub omap_refuse : (bytes : List ℕ) (e : Refusal) → omap.table_of bytes ≡ Err e → (asking : Query) → AsksOmap asking → said_within asking bytes ≡ Err e
+unfolding moved_within
+omap_refuse bytes e is (queries.Ranges stream start end) asks = rw is refl
+omap_refuse bytes e is other asks = absurd asks
+
+-- ---- places
+
+-- what is said of the query at a place, where a table was asked up to another place
+abbrev pub IsReached : ℕ → Opened → Progress → ℕ → ℕ → Progress → Type 0
+IsReached number opened start from at now = from < at → (stream_asked (query_at start from)).0 ≡ number → IsSome (said_by opened (query_at start from)) → is_answered now from ≡ true
+
+-- one place more
+pub reached_more : (number : ℕ) (one other : Opened) (start old new : Progress) (from at : ℕ) → IsAnsweredOn (MeansTable number one) start old → ((query : Query) → said_by other query ≡ said_by one query)
+    → IsReached number one start from at old → ((stream_asked (query_at old at)).0 ≡ number → IsSome (said_by other (query_at old at)) → is_answered new at ≡ true)
+    → ((i : ℕ) → is_answered old i ≡ true → is_answered new i ≡ true) → IsReached number one start from (at + 1) new
+reached_more number one other start old new from at on same so_far here stays reached asks there = elim (cases_eq from at) [
+  | inl last ↦
+      let query : query_at old at ≡ query_at start from = rw (on.queries, last) refl in
+      let answered = here (ap (λ (q : Query). (stream_asked q).0) query ∙ asks) (subst (λ (said : Option (Answer Said)). IsSome said) (sym (same (query_at old at) ∙ ap (λ (q : Query). said_by one q) query)) there) in
+      subst (λ (n : ℕ). is_answered new n ≡ true) (sym last) answered
+  | inr before ↦
+      let below : from < at = below_other from at reached before in
+      stays from (so_far below asks there)
+]
+
+-- ---- by a file
+
+-- what a file means of the queries that ask this of a stream is what its bytes say
+pub file_means : (file : List ℕ) (head : Head) (stream : ℕ × Option ℕ) (bytes : List ℕ) → stream_of file head stream.0 stream.1 ≡ Ok bytes → MeansStream stream bytes (reply_of file head)
+file_means file head stream bytes is query asks =
+    ap (λ (asked : ℕ × Option ℕ). stream_of file head asked.0 asked.1 >>= said_within query) asks ∙ ap (λ (answer : Answer (List ℕ)). answer >>= said_within query) is
+
+-- a stream that is opened as a table answers the query at a place, and others
+pub answers_at : (bytes : List ℕ) (opened : Opened) (number at : ℕ) (old new : Progress) → IsAnsweredOn (MeansTable number opened) old new
+    → ((stream_asked (query_at old at)).0 ≡ number → IsSome (said_by opened (query_at old at)) → is_answered new at ≡ true) → Fits bytes opened (query_at old at) → (stream_asked (query_at old at)).0 ≡ number → AnswersAt bytes at old (Ok tt) new
+answers_at bytes opened number at old new on answered fits asks =
+    (record {
+      queries = on.queries;
+      stays = on.stays;
+      right = λ sound meant m are. on.right sound meant
+          (λ query said of_it says. let meant_so = fits.means query said says in
+              m query (pair_is (stream_asked query) (stream_asked (query_at old at)) (of_it ∙ sym asks) (meant_so.0 ∙ sym (ap (λ (p : ℕ × Option ℕ). p.1) fits.whole))) ∙ meant_so.1)
+          are;
+    }, answered asks fits.says)
+
+-- the bytes of a stream answer the query at a place
+pub bytes_answer : (stream : List ℕ) (copy : Vec ℕ) (number : ℕ) (limit : Option ℕ) (at : ℕ) (old new : Progress) → query_at old at ≡ queries.Stream number limit → copy.items ≡ stream → IsAnsweredWith at (replies.Bytes copy) old new → AnswersAt stream at old (Ok tt) new
+bytes_answer stream copy number limit at old new is copied with =
+    (on_with (MeansStream (stream_asked (query_at old at)) stream) at (replies.Bytes copy) old new with
+    (λ meant m. m (query_at old at) refl ∙ ap (λ (q : Query). said_within q stream) is ∙ ap (λ (all : List ℕ). ok (reply.bytes all)) (sym copied)), with.here)
+
+-- a table that is refused
+pub refuses_at : (bytes : List ℕ) (at : ℕ) (asked : Progress) (e : Error) → (said_within (query_at asked at) bytes ≡ Err (refusal_of e)) ⊎ (e ≡ errors.OutOfMemory) → AnswersAt bytes at asked (Err e) asked
+refuses_at bytes at asked e (inl is) = (inl is, refl)
+refuses_at bytes at asked e (inr want) = (inr (inl want), refl)
