@@ -4,7 +4,7 @@ use Rattle.std.specs.Prelude.{IsTrue, IsSome}
 use Rattle.std.proofs.lemmas.Bool.{cases_eq, cases_lt}
 use Rattle.pdb_base.specs.declared.error.Error.{Error}
 use Rattle.pdb_base.specs.declared.error.Error.TheVariants as errors
-use Rattle.pdb_base.specs.Answer.{Answer, ◌>>=◌}
+use Rattle.pdb_base.specs.Answer.{Answer, ◌>>=◌, RefusesUnless}
 use Rattle.pdb_msf.specs.Header.{Head}
 use Rattle.pdb_msf.specs.File.{stream_of}
 use Rattle.pdb_container.specs.declared.query.Query.{Query}
@@ -23,7 +23,7 @@ use Rattle.pdb_base.specs.Refusal.{Refusal, refusal_of}
 use Rattle.pdb_container.specs.Lookup.{Walked}
 use Rattle.pdb_container.specs.Reply as reply
 use Rattle.pdb_container.specs.Reply.{Said, IsReply, AreReplies, reply_of, stream_asked, said_within, type_within, id_within, fields_within, name_within, moved_within}
-use Rattle.pdb_container.specs.Asked.{Progress, query_at, is_answered, said_by, RepliesIf, IsAnsweredWith, AreRight, IsAnsweredOn, MeansTable, MeansStream, AsksTypes, AsksIds, AsksNames, AsksOmap, AnswersAt, IsAnsweredFrom}
+use Rattle.pdb_container.specs.Asked.{Progress, query_at, is_answered, said_by, RepliesIf, IsAnsweredWith, AreRight, IsAnsweredOn, MeansTable, MeansStream, AsksTypes, AsksIds, AsksNames, AsksOmap, AnswersAt, IsAnsweredFrom, AnswersFrom}
 use Rattle.pdb_container.proofs.ReplyLemmas.{IsReply-weaker}
 
 below_other : (a b : ℕ) → a < b + 1 → a ≢ b → a < b
@@ -222,23 +222,61 @@ file_means file head stream bytes is query asks =
 -- a stream that is opened as a table answers the query at a place, and others
 pub answers_at : (bytes : List ℕ) (opened : Opened) (number at : ℕ) (old new : Progress) → IsAnsweredOn (MeansTable number opened) old new
     → ((stream_asked (query_at old at)).0 ≡ number → IsSome (said_by opened (query_at old at)) → is_answered new at ≡ true) → Fits bytes opened (query_at old at) → (stream_asked (query_at old at)).0 ≡ number → AnswersAt bytes at old (Ok tt) new
-answers_at bytes opened number at old new on answered fits asks =
-    (record {
-      queries = on.queries;
-      stays = on.stays;
-      right = λ sound meant m are. on.right sound meant
-          (λ query said of_it says. let meant_so = fits.means query said says in
-              m query (pair_is (stream_asked query) (stream_asked (query_at old at)) (of_it ∙ sym asks) (meant_so.0 ∙ sym (ap (λ (p : ℕ × Option ℕ). p.1) fits.whole))) ∙ meant_so.1)
-          are;
-    }, answered asks fits.says)
+answers_at bytes opened number at old new on answered fits asks = (
+  record {
+    queries = on.queries;
+    stays = on.stays;
+    right = λ sound meant m are. on.right sound meant
+        (λ query said of_it says. let meant_so = fits.means query said says in
+        m query (pair_is (stream_asked query) (stream_asked (query_at old at)) (of_it ∙ sym asks) (meant_so.0 ∙ sym (ap (λ (p : ℕ × Option ℕ). p.1) fits.whole))) ∙ meant_so.1)
+        are;
+  },
+  answered asks fits.says,
+)
 
 -- the bytes of a stream answer the query at a place
 pub bytes_answer : (stream : List ℕ) (copy : Vec ℕ) (number : ℕ) (limit : Option ℕ) (at : ℕ) (old new : Progress) → query_at old at ≡ queries.Stream number limit → copy.items ≡ stream → IsAnsweredWith at (replies.Bytes copy) old new → AnswersAt stream at old (Ok tt) new
-bytes_answer stream copy number limit at old new is copied with =
-    (on_with (MeansStream (stream_asked (query_at old at)) stream) at (replies.Bytes copy) old new with
-    (λ meant m. m (query_at old at) refl ∙ ap (λ (q : Query). said_within q stream) is ∙ ap (λ (all : List ℕ). ok (reply.bytes all)) (sym copied)), with.here)
+bytes_answer stream copy number limit at old new is copied with = (
+  on_with (MeansStream (stream_asked (query_at old at)) stream) at (replies.Bytes copy) old new with
+      (λ meant m. m (query_at old at) refl ∙ ap (λ (q : Query). said_within q stream) is ∙ ap (λ (all : List ℕ). ok (reply.bytes all)) (sym copied)),
+  with.here,
+)
 
 -- a table that is refused
 pub refuses_at : (bytes : List ℕ) (at : ℕ) (asked : Progress) (e : Error) → (said_within (query_at asked at) bytes ≡ Err (refusal_of e)) ⊎ (e ≡ errors.OutOfMemory) → AnswersAt bytes at asked (Err e) asked
 refuses_at bytes at asked e (inl is) = (inl is, refl)
 refuses_at bytes at asked e (inr want) = (inr (inl want), refl)
+
+never_fails : {Y : Type 0} (failed : Type 0) (e : Error) (meant : Answer Y) → RefusesUnless ⊥ e meant → RefusesUnless failed e meant
+never_fails failed e meant (inl is) = inl is
+never_fails failed e meant (inr (inl want)) = inr (inl want)
+never_fails failed e meant (inr (inr fault)) = absurd fault.1
+
+-- a stream that is read answers the query at a place of the file
+pub answers_from : (failed : Type 0) (file : List ℕ) (head : Head) (stream : List ℕ) (at : ℕ) (old new : Progress) (result : Result (Unit {0}) Error) → stream_of file head (stream_asked (query_at old at)).0 (stream_asked (query_at old at)).1 ≡ Ok stream
+    → AnswersAt stream at old result new → AnswersFrom failed (reply_of file head) at old result new
+answers_from failed file head stream at old new (Ok done) is answers = record {
+  queries = answers.0.queries;
+  stays = answers.0.stays;
+  answered = answers.1;
+  right = λ sound fails are. answers.0.right sound (reply_of file head) (file_means file head (stream_asked (query_at old at)) stream is) are;
+}
+answers_from failed file head stream at old new (Err e) is answers =
+    (rw (file_means file head (stream_asked (query_at old at)) stream is (query_at old at) refl) (never_fails failed e (said_within (query_at old at) stream) answers.0), answers.1)
+
+-- a stream that is refused
+pub refuses_from : (failed : Type 0) (file : List ℕ) (head : Head) (at : ℕ) (asked : Progress) (e : Error) → RefusesUnless failed e (stream_of file head (stream_asked (query_at asked at)).0 (stream_asked (query_at asked at)).1)
+    → AnswersFrom failed (reply_of file head) at asked (Err e) asked
+refuses_from failed file head at asked e (inl is) = (inl (rw is refl), refl)
+refuses_from failed file head at asked e (inr other) = (inr other, refl)
+
+-- a refusal is the reply to the query at a place
+pub refusal_replies : (failed : Type 0) (meant : Query → Answer Said) (at : ℕ) (e : Error) (old mid new : Progress) → AnswersFrom failed meant at old (Err e) mid → IsAnsweredWith at (replies.Refused e) mid new → IsAnsweredFrom failed meant at old new
+refusal_replies failed meant at e old mid new refuses with =
+    let first = subst (λ (p : Progress). IsAnsweredWith at (replies.Refused e) p new) refuses.1 with in
+    record {
+      queries = first.queries;
+      stays = stays_with at (replies.Refused e) old new first;
+      answered = first.here;
+      right = λ sound fails are. right_with sound meant at (replies.Refused e) old new first (IsReply-weaker failed (¬ IsTrue sound) (replies.Refused e) (meant (query_at old at)) fails refuses.0) are;
+    }

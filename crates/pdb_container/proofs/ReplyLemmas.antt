@@ -1,11 +1,9 @@
--- One reply more.
-use Rattle.std.proofs.Common.{◌≡◌, Result, Ok, Err, IfOk, IfErr, ℕ, ◌+◌, ◌<◌, List, [], ◌∷◌, ◌++◌, length, get_or, take, inl, inr}
-use Rattle.std.proofs.lemmas.List.{take_more}
-use Rattle.std.proofs.Common.{subst, sym}
+-- Replies of sources that fail more or less often, and a run.
+use Rattle.std.proofs.Common.{◌≡◌, Result, Ok, Err, IfOk, IfErr, ℕ, suc, ◌<◌, List, [], ◌∷◌, length, get_or, arith, inl, inr}
+use Rattle.std.proofs.Common.{subst}
 use Rattle.pdb_base.specs.Answer.{Answer}
 use Rattle.std.specs.Prelude.{IsTrue}
-use Rattle.pdb_msf.specs.Source.{State, IsKept, HasFailed}
-use Rattle.pdb_msf.proofs.Kept.{unsound_before}
+use Rattle.pdb_msf.specs.Source.{State, IsKept}
 use Rattle.pdb_msf.specs.Header.{Head, opened}
 use Rattle.std.specs.Global.{Vec}
 use Rattle.pdb_base.specs.declared.error.Error.{Error}
@@ -26,29 +24,14 @@ IsReply-weaker failed unsound (replies.Refused e) meant weaker (inl is) = inl is
 IsReply-weaker failed unsound (replies.Refused e) meant weaker (inr (inl want)) = inr (inl want)
 IsReply-weaker failed unsound (replies.Refused e) meant weaker (inr (inr fault)) = inr (inr (fault.0, weaker fault.1))
 
-AreReplies-push : (failed : Type 0) (file : List ℕ) (head : Head) (queries : List Query) (replies : List Reply) (query : Query) (reply : Reply)
-    → AreReplies failed file head queries replies → IsReply failed reply (reply_of file head query) → AreReplies failed file head (queries ++ query ∷ []) (replies ++ reply ∷ [])
-AreReplies-push failed file head [] [] query reply so_far here = (here, tt)
-AreReplies-push failed file head [] (r ∷ replies) query reply so_far here = absurd so_far
-AreReplies-push failed file head (q ∷ queries) [] query reply so_far here = absurd so_far
-AreReplies-push failed file head (q ∷ queries) (r ∷ replies) query reply so_far here =
-    (so_far.0, AreReplies-push failed file head queries replies query reply so_far.1 here)
-
--- the replies to one query more of a list
-pub AreReplies-more : (failed : Type 0) (file : List ℕ) (head : Head) (queries : List Query) (i : ℕ) (d : Query) (replies : List Reply) (reply : Reply)
-    → i < length queries → AreReplies failed file head (take i queries) replies → IsReply failed reply (reply_of file head (get_or queries i d)) → AreReplies failed file head (take (i + 1) queries) (replies ++ reply ∷ [])
-AreReplies-more failed file head queries i d replies reply within so_far here =
-    subst (λ (qs : List Query). AreReplies failed file head qs (replies ++ reply ∷ [])) (sym (take_more queries i d within))
-    (AreReplies-push failed file head (take i queries) replies (get_or queries i d) reply so_far here)
-
--- the same where a source, which was first as `first`, went from `old` to `new` for the last query
-pub asked_once : (first old new : State) (head : Head) (queries : List Query) (i : ℕ) (d : Query) (replies : List Reply) (reply : Reply)
-    → IsKept first old → IsKept old new → i < length queries → AreReplies (¬ IsTrue first.is_sound) first.bytes head (take i queries) replies
-    → IsReply (HasFailed old new) reply (reply_of old.bytes head (get_or queries i d)) → AreReplies (¬ IsTrue first.is_sound) first.bytes head (take (i + 1) queries) (replies ++ reply ∷ [])
-asked_once first old new head queries i d replies reply before now within so_far here =
-    let weaker = IsReply-weaker (HasFailed old new) (¬ IsTrue first.is_sound) reply (reply_of old.bytes head (get_or queries i d)) (unsound_before first old new before now) here in
-    let same = subst (λ (bytes : List ℕ). IsReply (¬ IsTrue first.is_sound) reply (reply_of bytes head (get_or queries i d))) before.bytes weaker in
-    AreReplies-more (¬ IsTrue first.is_sound) first.bytes head queries i d replies reply within so_far same
+-- replies to all queries, each of which is one to the query at its place
+pub each_replied : (failed : Type 0) (file : List ℕ) (head : Head) (d : Query) (queries : List Query) (replies : List Reply) → length replies ≡ length queries
+    → ((i : ℕ) (r : Reply) → i < length queries → IsReply failed (get_or replies i r) (reply_of file head (get_or queries i d))) → AreReplies failed file head queries replies
+each_replied failed file head d [] [] counted each = tt
+each_replied failed file head d [] (r ∷ replies) counted each = absurd (omega (arith, counted))
+each_replied failed file head d (q ∷ queries) [] counted each = absurd (omega (arith, counted))
+each_replied failed file head d (q ∷ queries) (r ∷ replies) counted each =
+    (each 0 r (omega arith), each_replied failed file head d queries replies (omega (arith, counted)) (λ i s within. each (suc i) s (omega (arith, within))))
 
 AreReplies-weaker : (failed unsound : Type 0) (file : List ℕ) (head : Head) (queries : List Query) (replies : List Reply) → (failed → unsound)
     → AreReplies failed file head queries replies → AreReplies unsound file head queries replies

@@ -103,3 +103,8 @@ pub record IsAnsweredFrom (failed : Type 0) (meant : Query → Answer Said) (at 
   pub stays : (i : ℕ) → is_answered old i ≡ true → is_answered new i ≡ true
   pub answered : is_answered new at ≡ true
   pub right : (sound : Bool) → (failed → ¬ IsTrue sound) → AreRight sound meant old → AreRight sound meant new
+
+-- A file answers the query at a place, and others. Where it refuses that query, nothing is answered.
+abbrev pub AnswersFrom : Type 0 → (Query → Answer Said) → ℕ → Progress → Result (Unit {0}) Error → Progress → Type 0
+AnswersFrom failed meant at old (Ok done) new = IsAnsweredFrom failed meant at old new
+AnswersFrom failed meant at old (Err e) new = RefusesUnless failed e (meant (query_at old at)) × (new ≡ old)

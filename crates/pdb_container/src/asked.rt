@@ -83,7 +83,8 @@ impl<'q> Asked<'q> {
 
     /// The replies, in the order of the queries.
     pub fn into_replies(self) -> Vec<Reply>
-        ensures { result.items ≡ self.entry.replies }
+        ensures replies { result.items ≡ self.entry.replies }
+        ensures all { length result.items ≡ length self.entry.queries }
     {
         self.replies
     }

@@ -30,11 +30,7 @@ fn names_of(alloc: Global, fields: &[TypeData<'_>]) -> Result<Vec<Option<Vec<u8>
 /// # Errors
 /// What the lists are refused for, one after another; `OutOfMemory` if memory is refused.
 #[tactic(auto, unfolding(crate::specs::Reply::fields_in))]
-pub fn fields(
-    alloc: Global,
-    types: &mut Lookup<'_, TypeIndex>,
-    index: TypeIndex,
-) -> Result<Reply>
+pub fn fields(alloc: Global, types: &mut Lookup<'_, TypeIndex>, index: TypeIndex) -> Result<Reply>
     ensures said { Replies result (fields_in index.0 types.old.table) }
     ensures table { types.new.table ≡ types.old.table }
 {

@@ -3,7 +3,7 @@
 ghost use Rattle.std.specs.Prelude.{◌≡◌, ◌<◌, ◌≤◌, IsTrue, IsSome, IfOk, IfErr, OnErr, length, true};
 ghost use Rattle.pdb_msf.specs.Source.{HasFailed, IsKept};
 ghost use Rattle.pdb_container.specs.Reply.{AreReplies, IsRun, reply_of, stream_asked};
-ghost use Rattle.pdb_container.specs.Asked.{AnswersAt, AsksIds, AsksNames, AsksOmap, AsksTypes, IsAnsweredFrom, IsAnsweredOn, MeansTable, is_answered, query_at, said_by};
+ghost use Rattle.pdb_container.specs.Asked.{AnswersAt, AnswersFrom, AsksIds, AsksNames, AsksOmap, AsksTypes, IsAnsweredFrom, IsAnsweredOn, MeansTable, is_answered, query_at, said_by};
 
 use crate::asked::Asked;
 use crate::lookup::Lookup;
@@ -31,13 +31,7 @@ fn stream_asked(query: Query) -> (u32, Option<usize>)
 
 /// Answers the query at a place, if it is not answered yet and asks of the table as which the stream of
 /// this number is opened.
-fn offer(
-    alloc: Global,
-    number: u32,
-    opened: &mut Opened<'_>,
-    at: usize,
-    asked: &mut Asked<'_>,
-)
+fn offer(alloc: Global, number: u32, opened: &mut Opened<'_>, at: usize, asked: &mut Asked<'_>)
     requires { at < length asked.old.queries }
     ensures on { IsAnsweredOn (MeansTable number opened.old) asked.old asked.new }
     ensures answered { (stream_asked (query_at asked.old at)).0 ≡ number → IsSome (said_by opened.old (query_at asked.old at)) → is_answered asked.new at ≡ true }
@@ -54,13 +48,7 @@ fn offer(
 
 /// Answers the query at a place and all later ones that ask of the table as which the stream of this
 /// number is opened.
-fn share(
-    alloc: Global,
-    number: u32,
-    opened: &mut Opened<'_>,
-    from: usize,
-    asked: &mut Asked<'_>,
-)
+fn share(alloc: Global, number: u32, opened: &mut Opened<'_>, from: usize, asked: &mut Asked<'_>)
     requires { from < length asked.old.queries }
     ensures on { IsAnsweredOn (MeansTable number opened.old) asked.old asked.new }
     ensures answered { (stream_asked (query_at asked.old from)).0 ≡ number → IsSome (said_by opened.old (query_at asked.old from)) → is_answered asked.new from ≡ true }
@@ -142,18 +130,35 @@ fn answer_by(alloc: Global, stream: Stream, at: usize, asked: &mut Asked<'_>) ->
 }
 
 /// Answers the query at a place, and all later ones that ask of the same table.
+///
+/// # Errors
+/// What the stream refuses, and then what the table in it does, or `OutOfMemory` if memory is refused. Then
+/// no query is answered.
+fn attempt<S: Source>(
+    alloc: Global,
+    file: &mut BigMSF<S>,
+    at: usize,
+    asked: &mut Asked<'_>,
+) -> Result<()>
+    requires { at < length asked.old.queries }
+    ensures answer { AnswersFrom (HasFailed (S.state file.old.source) (S.state file.new.source)) (reply_of (S.state file.old.source).bytes file.old.head) at asked.old result asked.new }
+    ensures source { IsKept (S.state file.old.source) (S.state file.new.source) }
+    ensures head { file.new.head ≡ file.old.head }
+{
+    let (number, limit) = stream_asked(asked.query(at));
+    let stream = file.get(alloc, number, limit)?;
+    answer_by(alloc, stream, at, asked)
+}
+
+/// Answers the query at a place, and all later ones that ask of the same table. A refusal is the reply to
+/// that query alone.
 fn answer<S: Source>(alloc: Global, file: &mut BigMSF<S>, at: usize, asked: &mut Asked<'_>)
     requires { at < length asked.old.queries }
     ensures answer { IsAnsweredFrom (HasFailed (S.state file.old.source) (S.state file.new.source)) (reply_of (S.state file.old.source).bytes file.old.head) at asked.old asked.new }
     ensures source { IsKept (S.state file.old.source) (S.state file.new.source) }
     ensures head { file.new.head ≡ file.old.head }
 {
-    let (number, limit) = stream_asked(asked.query(at));
-    let done = match file.get(alloc, number, limit) {
-        Ok(stream) => answer_by(alloc, stream, at, asked),
-        Err(error) => Err(error),
-    };
-    if let Err(error) = done {
+    if let Err(error) = attempt(alloc, file, at, asked) {
         asked.answer(at, Reply::Refused(error));
     }
 }
