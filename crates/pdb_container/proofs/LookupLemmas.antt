@@ -1,15 +1,14 @@
 -- What a finder knows that is shown a walk, and what it finds.
-use Rattle.std.proofs.Common.{◌≡◌, inl, inr, ℕ, ◌+◌, ◌-◌, ◌*◌, ◌≤◌, ◌<◌, ◌⊎◌, List, [], ◌∷◌, length, refl, sym, ap, subst, ◌∙◌, arith, Bool, true, false, cond, ◌&&◌, ltb, leb, not, Ok, Err, Some, Option, None}
+use Rattle.std.proofs.Common.{◌≡◌, inl, inr, ℕ, ◌+◌, ◌-◌, ◌*◌, ◌≤◌, ◌<◌, List, [], length, refl, sym, ap, subst, ◌∙◌, arith, Bool, true, false, ◌&&◌, ltb, leb, not, Ok, Err, Some, Option, None}
 use Rattle.std.proofs.lemmas.Bool.{cases_lt, leb-true}
 use Rattle.std.proofs.lemmas.Bool.Decides.{nat_tests}
 use Rattle.std.proofs.lemmas.Option.{slice_get_past}
-use Rattle.pdb_base.specs.Refusal.{Refusal, unexpected_eof, type_not_found}
-use Rattle.pdb_base.specs.Answer.{Answer}
+use Rattle.pdb_base.specs.Refusal.{unexpected_eof, type_not_found}
 use Rattle.pdb_base.specs.Reading.{number_at, front_at}
 use Rattle.pdb_base.proofs.Collected.{ok_is}
 use Rattle.pdb_tpi.specs.Table.{Table}
 use Rattle.pdb_tpi.specs.Walk.{first_item, fault_of}
-use Rattle.pdb_tpi.specs.Steps.{Stand, walk, walk_rest, place_of, nth_item, step_of, IsStep}
+use Rattle.pdb_tpi.specs.Steps.{Stand, walk, walk_rest, place_of, step_of, IsStep}
 use Rattle.pdb_tpi.specs.Finder.{Indexed, first_of, block_of, known_first, known_after, is_counted, item_of, find_of}
 use Rattle.pdb_tpi.proofs.WalkLemmas.{nth_none}
 use Rattle.pdb_tpi.proofs.StepLemmas.{step_some, step_none}

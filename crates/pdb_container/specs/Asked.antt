@@ -1,6 +1,5 @@
 -- Queries that are answered in any order, and streams that are opened as tables to answer more than one.
-use Rattle.std.specs.Prelude.{◌≡◌, ◌≢◌, ℕ, ◌<◌, Bool, true, false, IsTrue, List, length, get_or, Option, Some, None, Result, Ok, Err, ⊤}
-use Rattle.std.specs.declared.ops.Range.{Range}
+use Rattle.std.specs.Prelude.{◌≡◌, ◌≢◌, ℕ, Bool, true, false, IsTrue, List, get_or, Option, Some, None, Result, Ok, Err, ⊤}
 use Rattle.pdb_base.specs.Answer.{Answer, RefusesUnless}
 use Rattle.pdb_base.specs.declared.error.Error.{Error}
 use Rattle.pdb_container.specs.declared.query.Query.{Query}

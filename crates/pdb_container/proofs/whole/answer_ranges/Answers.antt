@@ -1,10 +1,7 @@
 use Rattle.std.proofs.Common.{ℕ, Option, sym, ap, ◌∙◌, inl}
-use Rattle.pdb_base.proofs.Collected.{ok, ok_is}
 use Rattle.pdb_base.proofs.Refused.{passed_on}
-use Rattle.pdb_tpi.specs.Table.{Table}
 use Rattle.pdb_container.specs.declared.query.Query.{Query}
 use Rattle.pdb_container.specs.Reply.{stream_asked}
-use Rattle.pdb_container.specs.Lookup.{Walked}
 use Rattle.pdb_container.proofs.AskedLemmas.{omap_fit, omap_refuse, answers_at, refuses_at}
 use Rattle.pdb_container.proofs.whole.answer_ranges.Goals as goal
 
