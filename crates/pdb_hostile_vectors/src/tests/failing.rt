@@ -5,7 +5,7 @@ use super::rows::{Row, edited, is_front, rows};
 use pdb_base::{Error, Result};
 use pdb_container::{Query, Reply, run};
 use pdb_msf::{BigMSF, Msf, open_msf};
-use pdb_vectors::{Failing, s1};
+use pdb_vectors::{Failing, item_table, s1, s1_with};
 use std::alloc::Global;
 use std::io::ErrorKind;
 use std::test::Fail;
@@ -94,5 +94,41 @@ fn runs(rt: HostRuntime) -> std::result::Result<(), Fail> {
         let replies = run(alloc, Failing::new(s1(alloc)?, n), &queries)?;
         assert!(rt; are_fault_and_stream(&replies), "view {n}");
     }
+    Ok(())
+}
+
+/// Two items of a table of types: lists of no arguments.
+const LISTS: &[u8] = b"\x06\0\x01\x12\0\0\0\0\x06\0\x01\x12\0\0\0\0";
+
+/// A question for a type of stream 3.
+fn list(index: u32) -> Query {
+    Query::TypeRecord { stream: 3, index }
+}
+
+/// Whether a reply is the list of an index.
+fn is_list(reply: &Reply, wanted: u32) -> bool {
+    matches!(reply, Reply::Record { index, kind: 0x1201, name: None } if *index == wanted)
+}
+
+/// The replies of a file whose stream 3 is the table of two lists, and of whose views this one fails: for one
+/// list, for stream 1, and for the other list.
+fn asked_of_lists(alloc: Global, n: u64) -> Result<Vec<Reply>> {
+    let table = item_table(alloc, 56, 0x1000, 0x1002, LISTS)?;
+    let file = Failing::new(s1_with(alloc, &table)?, n);
+    run(alloc, file, &[list(0x1001), stream_1(), list(0x1000)])
+}
+
+/// A table is read for the first query of it, and no other view answers the later ones. Where it is refused,
+/// the next query of it reads it again.
+#[test]
+fn one_read(rt: HostRuntime) -> std::result::Result<(), Fail> {
+    let once = asked_of_lists(rt.alloc(), 5)?;
+    let is =
+        matches!(once.as_slice(), [first, fault, last] if is_list(first, 0x1001) && is_refused(fault) && is_list(last, 0x1000));
+    assert!(rt; is);
+    let again = asked_of_lists(rt.alloc(), 4)?;
+    let is =
+        matches!(again.as_slice(), [fault, stream, last] if is_refused(fault) && is_stream_1(stream) && is_list(last, 0x1000));
+    assert!(rt; is);
     Ok(())
 }
