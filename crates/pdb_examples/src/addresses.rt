@@ -1,23 +1,32 @@
 //! An address of the running image, the section of the original image that it comes from, and the way back.
 
-use pdb_container::{PdbInternalSectionOffset, Result, Rva, address_map, open_msf};
+ghost use Rattle.std.specs.Prelude.{◌≡◌};
+ghost use Rattle.pdb_base.specs.Answer.{Answers};
+ghost use Rattle.pdb_examples.specs.Uses.{AreSorted, map_in, there_and_back};
+
+use pdb_container::{AddressMap, PdbInternalSectionOffset, Result, Rva, address_map, open_msf};
 use std::alloc::Global;
 
-/// The place in a section of the original image from which an address of the running image comes, and
-/// the address to which the map of the file moves that place. None where the address comes from no
-/// section.
+/// The address map of a file.
 ///
 /// # Errors
 /// What `open_msf` and `address_map` refuse.
-pub fn there_and_back(
-    alloc: Global,
-    bytes: Vec<u8>,
-    address: Rva,
-) -> Result<Option<(PdbInternalSectionOffset, Option<Rva>)>> {
+#[tactic(auto, unfolding(crate::specs::Uses::map_in))]
+pub fn map_of(alloc: Global, bytes: Vec<u8>) -> Result<AddressMap>
+    ensures { Answers (λ map. map) result (map_in bytes.items) }
+{
     let mut file = open_msf(alloc, bytes)?;
-    let map = address_map(alloc, &mut file)?;
-    match address.to_internal_offset(&map) {
-        Some(place) => Ok(Some((place, place.to_rva(&map)))),
-        None => Ok(None),
-    }
+    address_map(alloc, &mut file)
+}
+
+/// The place in a section of the original image from which an address of the running image comes, and
+/// the address to which the map moves that place. Nothing if the address comes from no section.
+pub fn there_and_back(
+    map: &AddressMap,
+    address: Rva,
+) -> Option<(PdbInternalSectionOffset, Option<Rva>)>
+    ensures { AreSorted map.now → result ≡ there_and_back map.now address }
+{
+    let place = address.to_internal_offset(map)?;
+    Some((place, place.to_rva(map)))
 }

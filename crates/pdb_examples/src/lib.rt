@@ -11,8 +11,8 @@ mod streams;
 mod tests;
 mod types;
 
-pub use addresses::there_and_back;
-pub use fields::class_fields;
+pub use addresses::{map_of, there_and_back};
+pub use fields::{class_fields, finder_of};
 pub use frames::frames_at;
 pub use names::name_at;
 pub use sources::{Counting, stream_and_views};

@@ -1,5 +1,8 @@
 //! A file that is opened through a source of one's own.
 
+ghost use Rattle.pdb_base.specs.Answer.{Answers};
+ghost use Rattle.pdb_examples.specs.Uses.{stream_in};
+
 use pdb_container::{Msf, ReadView, Result, Source, SourceSlice, Stream, open_msf};
 use std::alloc::Global;
 use std::io;
@@ -26,7 +29,10 @@ impl Source for Counting {
 ///
 /// # Errors
 /// What `open_msf` and `Msf::get` refuse.
-pub fn stream_and_views(alloc: Global, bytes: Vec<u8>, number: u32) -> Result<(Stream, u64)> {
+#[tactic(auto, unfolding(crate::specs::Uses::stream_in))]
+pub fn stream_and_views(alloc: Global, bytes: Vec<u8>, number: u32) -> Result<(Stream, u64)>
+    ensures { Answers (λ given. given.0) result (stream_in bytes.items number) }
+{
     let source = Counting { bytes, views: 0 };
     let mut file = open_msf(alloc, source)?;
     let stream = file.get(alloc, number, None)?;

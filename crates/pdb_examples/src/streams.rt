@@ -1,5 +1,9 @@
 //! All streams of a file, with their sizes.
 
+ghost use Rattle.std.specs.Prelude.{◌≡◌, IfOk, Ok};
+ghost use Rattle.pdb_msf.specs.Header.{Head, opened};
+ghost use Rattle.pdb_examples.specs.Uses.{sizes_of};
+
 use pdb_container::{Error, Msf, Result, open_msf};
 use std::alloc::Global;
 
@@ -11,7 +15,9 @@ const STREAM_NUMBERS: u32 = 65535;
 /// # Errors
 /// What `open_msf` refuses, and then what `Msf::get` refuses of the first stream that the directory holds
 /// but the file does not. `OutOfMemory` where memory is refused.
-pub fn stream_sizes(alloc: Global, bytes: Vec<u8>) -> Result<Vec<(u32, usize)>> {
+pub fn stream_sizes(alloc: Global, bytes: Vec<u8>) -> Result<Vec<(u32, usize)>>
+    ensures { IfOk result (λ sizes. (head : Head) × (opened bytes.items ≡ Ok head) × (sizes.items ≡ sizes_of 65535 bytes.items head)) }
+{
     let mut file = open_msf(alloc, bytes)?;
     let mut sizes = Vec::new(alloc);
     for number in 0..STREAM_NUMBERS {

@@ -1,9 +1,10 @@
-//! Each use, over one file of ten streams.
+//! Each use, over one file of eleven streams, of which one is absent.
 
 mod file;
 
 use crate::{
-    class_fields, frames_at, name_at, stream_and_views, stream_sizes, there_and_back, types_named,
+    class_fields, finder_of, frames_at, map_of, name_at, stream_and_views, stream_sizes,
+    there_and_back, types_named,
 };
 use file::built;
 use pdb_container::{
@@ -42,7 +43,8 @@ fn types(rt: HostRuntime) -> Result<(), Fail> {
 fn fields(rt: HostRuntime) -> Result<(), Fail> {
     let mut file = open_msf(rt.alloc(), built(rt.alloc())?)?;
     let types = TypeInformation::parse(file.get(rt.alloc(), 2, None)?)?;
-    let fields = class_fields(rt.alloc(), &types, TypeIndex(0x1001))?;
+    let finder = finder_of(rt.alloc(), &types)?;
+    let fields = class_fields(rt.alloc(), &finder, TypeIndex(0x1001))?;
     let is = matches!(
         fields.as_slice(),
         [TypeData::Member(member)] if member.name.as_bytes() == b"x".as_slice() && member.field_type == TypeIndex(0x74)
@@ -53,7 +55,8 @@ fn fields(rt: HostRuntime) -> Result<(), Fail> {
 
 #[test]
 fn addresses(rt: HostRuntime) -> Result<(), Fail> {
-    let there = there_and_back(rt.alloc(), built(rt.alloc())?, Rva(0x5010))?;
+    let map = map_of(rt.alloc(), built(rt.alloc())?)?;
+    let there = there_and_back(&map, Rva(0x5010));
     let place = PdbInternalSectionOffset::new(1, 0x10);
     assert!(rt; there == Some((place, Some(Rva(0x5010)))));
     Ok(())

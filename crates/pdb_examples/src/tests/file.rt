@@ -1,4 +1,4 @@
-//! A file of eleven streams, of which one is absent.
+//! The file that the uses are tried on.
 
 use pdb_vectors::item_table;
 use std::alloc::Global;
