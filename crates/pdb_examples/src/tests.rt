@@ -39,16 +39,23 @@ fn types(rt: HostRuntime) -> Result<(), Fail> {
     Ok(())
 }
 
+/// Whether a type is the member `x`, a 4-byte integer.
+fn is_x(value: &TypeData<'_>) -> bool {
+    match value {
+        TypeData::Member(member) => {
+            member.name.as_bytes() == b"x".as_slice() && member.field_type == TypeIndex(0x74)
+        }
+        _ => false,
+    }
+}
+
 #[test]
 fn fields(rt: HostRuntime) -> Result<(), Fail> {
     let mut file = open_msf(rt.alloc(), built(rt.alloc())?)?;
     let types = TypeInformation::parse(file.get(rt.alloc(), 2, None)?)?;
     let finder = finder_of(rt.alloc(), &types)?;
     let fields = class_fields(rt.alloc(), &finder, TypeIndex(0x1001))?;
-    let is = matches!(
-        fields.as_slice(),
-        [TypeData::Member(member)] if member.name.as_bytes() == b"x".as_slice() && member.field_type == TypeIndex(0x74)
-    );
+    let is = matches!(fields.as_slice(), [field] if is_x(field));
     assert!(rt; is);
     Ok(())
 }
