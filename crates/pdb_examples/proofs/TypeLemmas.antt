@@ -18,7 +18,6 @@ still_named name stand = indexes_named name stand.index (drop (place_of stand) (
 
 -- a new one has all of them to give
 pub all_named : (name : List ℕ) (table : Table) → types_in name table ≡ still_named name (record { table = table; index = table.header.minimum_index })
-unfolding types_in
 all_named name table = let none : table.header.minimum_index - table.header.minimum_index ≡ 0 = omega arith in rw none refl
 
 some_is : (x y : ℕ × List ℕ) → Some x ≡ Some y → x ≡ y

@@ -25,7 +25,7 @@ use Rattle.pdb_roles.specs.File.{file_address_map, file_frame_table, file_string
 -- ---- streams
 
 -- a stream of a file
-unfoldable pub stream_in : List ℕ → ℕ → Answer (List ℕ)
+abbrev pub stream_in : List ℕ → ℕ → Answer (List ℕ)
 stream_in file number = do
   head ← opened file
   stream_of file head number None
@@ -53,11 +53,11 @@ indexes_named name index (item ∷ items) =
     if has_name name (type_of index item) then index ∷ indexes_named name (index + 1) items else indexes_named name (index + 1) items
 
 -- the indexes of all types of this name that a table has
-unfoldable pub types_in : List ℕ → Table → List ℕ
+abbrev pub types_in : List ℕ → Table → List ℕ
 types_in name table = indexes_named name table.header.minimum_index (walk table)
 
 -- those of the types of a file
-unfoldable pub types_of : List ℕ → List ℕ → Answer (List ℕ)
+abbrev pub types_of : List ℕ → List ℕ → Answer (List ℕ)
 types_of name file = do
   stream ← stream_in file 2
   table ← table_of stream
@@ -76,7 +76,7 @@ fields_at look (Some list) = fields_of look list.0
 fields_at look None = Ok []
 
 -- the fields of the class of an index
-unfoldable pub class_fields : LookUp → ℕ → Answer (List TypeValue)
+abbrev pub class_fields : LookUp → ℕ → Answer (List TypeValue)
 class_fields look index = do
   item ← look index
   value ← type_of index item
@@ -85,14 +85,14 @@ class_fields look index = do
 -- ---- what streams say by their roles
 
 -- the name at an offset of a file's string table
-unfoldable pub name_in : List ℕ → ℕ → Answer (List ℕ)
+abbrev pub name_in : List ℕ → ℕ → Answer (List ℕ)
 name_in file offset = do
   head ← opened file
   names ← file_string_table file head
   name_of names offset
 
 -- the address map of a file
-unfoldable pub map_in : List ℕ → Answer Arrangement
+abbrev pub map_in : List ℕ → Answer Arrangement
 map_in file = do
   head ← opened file
   file_address_map file head
@@ -111,7 +111,7 @@ abbrev pub is_at : ℕ → FrameData → Bool
 is_at address frame = covers (record { start = frame.code_start; size = frame.code_size }) address
 
 -- the frames of a file at an address
-unfoldable pub frames_in : List ℕ → ℕ → Answer (List FrameData)
+abbrev pub frames_in : List ℕ → ℕ → Answer (List FrameData)
 frames_in file address = do
   head ← opened file
   frames ← file_frame_table file head

@@ -11,7 +11,6 @@ use std::alloc::Global;
 ///
 /// # Errors
 /// What `open_msf` and `address_map` refuse.
-#[tactic(auto, unfolding(crate::specs::Uses::map_in))]
 pub fn map_of(alloc: Global, bytes: Vec<u8>) -> Result<AddressMap>
     ensures { Answers (λ map. map) result (map_in bytes.items) }
 {

@@ -41,7 +41,6 @@ fn list_in(value: &TypeData<'_>) -> Option<TypeIndex>
 ///
 /// # Errors
 /// What `TypeFinder::find`, `Type::parse` and `TypeFinder::fields` refuse.
-#[tactic(auto, unfolding(crate::specs::Uses::class_fields))]
 pub fn class_fields<'t>(
     alloc: Global,
     finder: &TypeFinder<'t>,

@@ -37,7 +37,6 @@ fn those_at(alloc: Global, table: &FrameTable, address: PdbInternalRva) -> Resul
 ///
 /// # Errors
 /// What `open_msf` and `frame_table` refuse, and `OutOfMemory` if memory is refused.
-#[tactic(auto, unfolding(crate::specs::Uses::frames_in))]
 pub fn frames_at(alloc: Global, bytes: Vec<u8>, address: PdbInternalRva) -> Result<Vec<FrameData>>
     ensures { Answers (λ found. found.items) result (frames_in bytes.items address) }
 {

@@ -11,7 +11,6 @@ use std::alloc::Global;
 /// # Errors
 /// What `open_msf` and `string_table` refuse, and `UnexpectedEof` if no name ends at the offset or
 /// behind it. `OutOfMemory` if memory is refused.
-#[tactic(auto, unfolding(crate::specs::Uses::name_in))]
 pub fn name_at(alloc: Global, bytes: Vec<u8>, offset: StringRef) -> Result<Vec<u8>>
     ensures { Answers (λ name. name.items) result (name_in bytes.items offset) }
 {

@@ -29,7 +29,6 @@ impl Source for Counting {
 ///
 /// # Errors
 /// What `open_msf` and `Msf::get` refuse.
-#[tactic(auto, unfolding(crate::specs::Uses::stream_in))]
 pub fn stream_and_views(alloc: Global, bytes: Vec<u8>, number: u32) -> Result<(Stream, u64)>
     ensures { Answers (λ given. given.0) result (stream_in bytes.items number) }
 {
