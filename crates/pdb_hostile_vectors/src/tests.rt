@@ -14,9 +14,8 @@ macro_rules! settled {
     };
 }
 
-mod damaged;
+mod claims;
 mod failing;
-mod plain;
 mod refused;
 mod rows;
 mod untaken;

@@ -281,7 +281,9 @@ fn are_frames(frames: &FrameTable) -> bool {
 
 /// One section.
 fn sections(alloc: Global, section: ImageSectionHeader) -> Result<Vec<ImageSectionHeader>> {
-    Ok(Vec::from_slice(alloc, &[section])?)
+    let mut sections = Vec::new(alloc);
+    sections.push(section)?;
+    Ok(sections)
 }
 
 /// Whether addresses, names and frames are answered as ever, where `calls` says that they are asked for.

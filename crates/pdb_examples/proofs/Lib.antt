@@ -1,0 +1,2 @@
+mod SizeLemmas
+pub mod TypeLemmas

@@ -1,0 +1,11 @@
+use Rattle.std.proofs.Common.{◌≡◌, Ok}
+use Rattle.pdb_msf.specs.Header.{opened}
+use Rattle.pdb_examples.specs.Uses.{sizes_of}
+use Rattle.pdb_examples.proofs.streams.stream_sizes.Given as goal
+
+abbrev pub invariant-loop-number : goal.invariant-loop-number
+invariant-loop-number l = record {
+  head : opened l.initial.file.source.items ≡ Ok l.file.head;
+  same : l.file.source.items ≡ l.initial.file.source.items;
+  so_far : l.sizes.items ≡ sizes_of l.number l.file.source.items l.file.head;
+}

@@ -1,0 +1,31 @@
+//! An address of the running image, the section of the original image that it comes from, and the way back.
+
+ghost use Rattle.std.specs.Prelude.{◌≡◌};
+ghost use Rattle.pdb_base.specs.Answer.{Answers};
+ghost use Rattle.pdb_examples.specs.Uses.{AreSorted, map_in, there_and_back};
+
+use pdb_container::{AddressMap, PdbInternalSectionOffset, Result, Rva, address_map, open_msf};
+use std::alloc::Global;
+
+/// The address map of a file.
+///
+/// # Errors
+/// What `open_msf` and `address_map` refuse.
+pub fn map_of(alloc: Global, bytes: Vec<u8>) -> Result<AddressMap>
+    ensures { Answers (λ map. map) result (map_in bytes.items) }
+{
+    let mut file = open_msf(alloc, bytes)?;
+    address_map(alloc, &mut file)
+}
+
+/// The place in a section of the original image from which an address of the running image comes, and
+/// the address to which the map moves that place. Nothing if the address comes from no section.
+pub fn there_and_back(
+    map: &AddressMap,
+    address: Rva,
+) -> Option<(PdbInternalSectionOffset, Option<Rva>)>
+    ensures { AreSorted map.now → result ≡ there_and_back map.now address }
+{
+    let place = address.to_internal_offset(map)?;
+    Some((place, place.to_rva(map)))
+}

@@ -1,0 +1,31 @@
+//! All streams of a file, with their sizes.
+
+ghost use Rattle.std.specs.Prelude.{◌≡◌, IfOk, Ok};
+ghost use Rattle.pdb_msf.specs.Header.{Head, opened};
+ghost use Rattle.pdb_examples.specs.Uses.{sizes_of};
+
+use pdb_container::{Error, Msf, Result, open_msf};
+use std::alloc::Global;
+
+/// How many numbers a stream can have that a table names: of the 16-bit numbers, 65535 is no stream.
+const STREAM_NUMBERS: u32 = 65535;
+
+/// The number of each stream that a file holds, and its size in bytes.
+///
+/// # Errors
+/// What `open_msf` refuses, and then what `Msf::get` refuses of the first stream that the directory holds
+/// but the file does not. `OutOfMemory` where memory is refused.
+pub fn stream_sizes(alloc: Global, bytes: Vec<u8>) -> Result<Vec<(u32, usize)>>
+    ensures { IfOk result (λ sizes. (head : Head) × (opened bytes.items ≡ Ok head) × (sizes.items ≡ sizes_of 65535 bytes.items head)) }
+{
+    let mut file = open_msf(alloc, bytes)?;
+    let mut sizes = Vec::new(alloc);
+    for number in 0..STREAM_NUMBERS {
+        match file.get(alloc, number, None) {
+            Ok(stream) => sizes.push((number, stream.as_slice().len()))?,
+            Err(Error::StreamNotFound(_)) => {}
+            Err(error) => return Err(error),
+        }
+    }
+    Ok(sizes)
+}
