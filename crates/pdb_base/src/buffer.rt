@@ -59,6 +59,7 @@ impl<'b> ParseBuffer<'b> {
     }
 
     /// What is left to read.
+    #[inline(always)]
     fn rest(&self) -> &'b [u8]
         ensures { result.now ≡ left self.now }
     {
@@ -90,6 +91,7 @@ impl<'b> ParseBuffer<'b> {
     ///
     /// # Errors
     /// `UnexpectedEof` where fewer are left.
+    #[inline(always)]
     #[tactic(auto, unfolding(crate::specs::Reading::front_at))]
     pub fn take(&mut self, count: usize) -> Result<&'b [u8]>
         ensures read { Gives (λ bytes. (bytes.now, left self.new)) result (front_at count (left self.old)) }
@@ -176,6 +178,7 @@ impl<'b> ParseBuffer<'b> {
     ///
     /// # Errors
     /// `UnexpectedEof` where no byte is left.
+    #[inline(always)]
     #[tactic(auto, unfolding(crate::specs::Reading::number_at, crate::specs::Reading::front_at))]
     pub fn parse_u8(&mut self) -> Result<u8>
         ensures read { Gives (λ number. (number, left self.new)) result (number_at 1 (left self.old)) }
@@ -189,6 +192,7 @@ impl<'b> ParseBuffer<'b> {
     ///
     /// # Errors
     /// `UnexpectedEof` where fewer than two bytes are left.
+    #[inline(always)]
     #[tactic(auto, unfolding(crate::specs::Reading::number_at, crate::specs::Reading::front_at))]
     pub fn parse_u16(&mut self) -> Result<u16>
         ensures read { Gives (λ number. (number, left self.new)) result (number_at 2 (left self.old)) }
@@ -202,6 +206,7 @@ impl<'b> ParseBuffer<'b> {
     ///
     /// # Errors
     /// `UnexpectedEof` where fewer than four bytes are left.
+    #[inline(always)]
     #[tactic(auto, unfolding(crate::specs::Reading::number_at, crate::specs::Reading::front_at))]
     pub fn parse_u32(&mut self) -> Result<u32>
         ensures read { Gives (λ number. (number, left self.new)) result (number_at 4 (left self.old)) }
@@ -215,6 +220,7 @@ impl<'b> ParseBuffer<'b> {
     ///
     /// # Errors
     /// `UnexpectedEof` where fewer than eight bytes are left.
+    #[inline(always)]
     #[tactic(auto, unfolding(crate::specs::Reading::number_at, crate::specs::Reading::front_at))]
     pub fn parse_u64(&mut self) -> Result<u64>
         ensures read { Gives (λ number. (number, left self.new)) result (number_at 8 (left self.old)) }
@@ -228,6 +234,7 @@ impl<'b> ParseBuffer<'b> {
     ///
     /// # Errors
     /// `UnexpectedEof` where fewer than two bytes are left.
+    #[inline(always)]
     #[tactic(auto, unfolding(crate::specs::Reading::signed_at, crate::specs::Reading::number_at, crate::specs::Reading::front_at))]
     pub fn parse_i16(&mut self) -> Result<i16>
         ensures read { Gives (λ number. (number, left self.new)) result (signed_at w16 2 (left self.old)) }
@@ -241,6 +248,7 @@ impl<'b> ParseBuffer<'b> {
     ///
     /// # Errors
     /// `UnexpectedEof` where fewer than four bytes are left.
+    #[inline(always)]
     #[tactic(auto, unfolding(crate::specs::Reading::signed_at, crate::specs::Reading::number_at, crate::specs::Reading::front_at))]
     pub fn parse_i32(&mut self) -> Result<i32>
         ensures read { Gives (λ number. (number, left self.new)) result (signed_at w32 4 (left self.old)) }
@@ -254,6 +262,7 @@ impl<'b> ParseBuffer<'b> {
     ///
     /// # Errors
     /// `UnexpectedEof` where fewer than eight bytes are left.
+    #[inline(always)]
     #[tactic(auto, unfolding(crate::specs::Reading::signed_at, crate::specs::Reading::number_at, crate::specs::Reading::front_at))]
     pub fn parse_i64(&mut self) -> Result<i64>
         ensures read { Gives (λ number. (number, left self.new)) result (signed_at w64 8 (left self.old)) }
@@ -289,6 +298,7 @@ impl<'b> ParseBuffer<'b> {
     ///
     /// # Errors
     /// `UnexpectedEof` where no NUL is left.
+    #[inline(always)]
     #[tactic(auto, using(crate::proofs::TextLemmas::text_found, crate::proofs::TextLemmas::text_cut))]
     pub fn parse_cstring(&mut self) -> Result<RawString<'b>>
         ensures read { Gives (λ text. (text.0.now, left self.new)) result (text_at (left self.old)) }
@@ -308,6 +318,7 @@ impl<'b> ParseBuffer<'b> {
     /// # Errors
     /// `UnexpectedEof` where no byte is left, or fewer than the length says. A length byte that was
     /// there is then read, and nothing else.
+    #[inline(always)]
     #[tactic(auto, unfolding(crate::specs::Reading::counted_at))]
     pub fn parse_u8_pascal_string(&mut self) -> Result<RawString<'b>>
         ensures read { Gives (λ text. (text.0.now, left self.new)) result (counted_at (left self.old)) }

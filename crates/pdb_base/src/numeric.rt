@@ -20,6 +20,7 @@ impl<'b> ParseBuffer<'b> {
     /// # Errors
     /// `UnexpectedNumericPrefix` where any other prefix stands there, and `UnexpectedEof` where the
     /// bytes end before the number does.
+    #[inline(always)]
     #[tactic(auto, unfolding(crate::specs::Numeric::num_at, crate::specs::Numeric::numeral_at), using(crate::proofs::NumericLemmas::stays))]
     pub fn parse_num(&mut self) -> Result<u64>
         ensures read { Gives (λ number. (number, left self.new)) result (num_at (left self.old)) }
@@ -43,6 +44,7 @@ impl<'b> ParseBuffer<'b> {
     /// # Errors
     /// `UnexpectedNumericPrefix` where any other prefix stands there, and `UnexpectedEof` where the
     /// bytes end before the number does.
+    #[inline(always)]
     #[tactic(auto, unfolding(crate::specs::Numeric::variant_at, crate::specs::Numeric::numeral_at), using(crate::proofs::NumericLemmas::stays))]
     pub fn parse_variant(&mut self) -> Result<Variant>
         ensures read { Gives (λ value. (value, left self.new)) result (variant_at (left self.old)) }
@@ -59,6 +61,7 @@ impl<'b> ParseBuffer<'b> {
     }
 
     /// The number without a sign that a prefix announces, or the prefix itself.
+    #[inline(always)]
     #[tactic(auto, unfolding(crate::specs::Numeric::numeral_behind))]
     fn num_behind(&mut self, prefix: u16) -> Result<u64>
         requires { self.old.pos ≤ length self.old.slice }
@@ -78,6 +81,7 @@ impl<'b> ParseBuffer<'b> {
     }
 
     /// The number that a prefix announces, in its width, or the prefix itself.
+    #[inline(always)]
     #[tactic(auto, unfolding(crate::specs::Numeric::numeral_behind, crate::specs::Reading::signed_at))]
     fn variant_behind(&mut self, prefix: u16) -> Result<Variant>
         requires { self.old.pos ≤ length self.old.slice }

@@ -37,6 +37,7 @@ impl<'t> Item<'t, TypeIndex> {
     /// `OutOfMemory` where memory for a list is refused, which is asked for only once the list's first
     /// item is there. So a count that the bytes don't hold is `UnexpectedEof`, also as the first entry
     /// of a list of fields.
+    #[inline(always)]
     #[tactic(auto, unfolding(crate::specs::Record::type_of))]
     pub fn parse(&self, alloc: Global) -> Result<TypeData<'t>>
         ensures read { Answers type_value result (type_of self.now.index.0 self.now.bytes.now) }

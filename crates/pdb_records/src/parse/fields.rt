@@ -22,6 +22,7 @@ use pdb_values::{FieldList, TypeData};
 use std::alloc::Global;
 
 /// The list that goes on, behind two bytes of padding, whatever they are.
+#[inline(always)]
 #[tactic(auto, unfolding(pdb_grammar::specs::Row::row, crate::specs::Rows::continuation_row))]
 fn parse_continuation(buffer: &mut ParseBuffer<'_>) -> Result<TypeIndex>
     ensures { Gives (λ index. (index, left buffer.new)) result (row continuation_row (left buffer.old)) }
@@ -31,6 +32,7 @@ fn parse_continuation(buffer: &mut ParseBuffer<'_>) -> Result<TypeIndex>
 }
 
 /// What stands behind the leaf of an entry.
+#[inline(always)]
 fn parse_behind_entry<'t>(
     alloc: Global,
     buffer: &mut ParseBuffer<'t>,
@@ -49,6 +51,7 @@ fn parse_behind_entry<'t>(
 }
 
 /// An entry, with padding behind it.
+#[inline(always)]
 #[tactic(auto, unfolding(crate::specs::Fields::field_at))]
 fn parse_field<'t>(alloc: Global, buffer: &mut ParseBuffer<'t>) -> Result<FieldEntry<'t>>
     ensures read { Answers (λ e. (entry_value e, left buffer.new)) result (field_at (left buffer.old)) }
@@ -75,6 +78,7 @@ fn field_list<'t>(fields: Vec<TypeData<'t>>, continuation: Option<TypeIndex>) ->
 }
 
 /// Entries to the end of the bytes, as a list of fields.
+#[inline(never)]
 pub(crate) fn parse_field_list<'t>(
     alloc: Global,
     buffer: &mut ParseBuffer<'t>,

@@ -34,6 +34,7 @@ impl Index for IdIndex {
 }
 
 /// An index.
+#[inline(always)]
 pub(crate) fn parse_index<I: Index>(buffer: &mut ParseBuffer<'_>) -> Result<I>
     ensures { Gives (λ index. (index, left buffer.new)) result (index_at I.said (left buffer.old)) }
 {

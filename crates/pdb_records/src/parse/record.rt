@@ -17,6 +17,7 @@ use pdb_values::{ArgumentList, TypeData};
 use std::alloc::Global;
 
 /// The record of a leaf, of this number.
+#[inline(always)]
 fn parse_leaf<'t>(
     alloc: Global,
     buffer: &mut ParseBuffer<'t>,
@@ -44,6 +45,7 @@ fn parse_leaf<'t>(
 ///
 /// # Errors
 /// `UnimplementedTypeKind` for a leaf that has none.
+#[inline(never)]
 #[tactic(auto, unfolding(crate::specs::Records::behind_leaf))]
 pub(crate) fn parse_behind_leaf<'t>(
     alloc: Global,

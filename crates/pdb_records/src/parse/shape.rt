@@ -12,6 +12,7 @@ use crate::parse::index::parse_index;
 use pdb_base::{IdIndex, ParseBuffer, RawString, Result, TypeIndex};
 
 /// The index of a type.
+#[inline(always)]
 pub(crate) fn parse_type_index(buffer: &mut ParseBuffer<'_>) -> Result<TypeIndex>
     ensures { Gives (λ index. (index, left buffer.new)) result (read_shape type_index (left buffer.old)) }
 {
@@ -19,6 +20,7 @@ pub(crate) fn parse_type_index(buffer: &mut ParseBuffer<'_>) -> Result<TypeIndex
 }
 
 /// The index of a type, or none, for which 0 and 0xffff stand.
+#[inline(always)]
 pub(crate) fn parse_some_type(buffer: &mut ParseBuffer<'_>) -> Result<Option<TypeIndex>>
     ensures { Gives (λ index. (index, left buffer.new)) result (read_shape some_type (left buffer.old)) }
 {
@@ -29,6 +31,7 @@ pub(crate) fn parse_some_type(buffer: &mut ParseBuffer<'_>) -> Result<Option<Typ
 }
 
 /// The index of an id.
+#[inline(always)]
 pub(crate) fn parse_id_index(buffer: &mut ParseBuffer<'_>) -> Result<IdIndex>
     ensures { Gives (λ index. (index, left buffer.new)) result (read_shape id_index (left buffer.old)) }
 {
@@ -36,6 +39,7 @@ pub(crate) fn parse_id_index(buffer: &mut ParseBuffer<'_>) -> Result<IdIndex>
 }
 
 /// The index of an id, or none, for which 0 stands.
+#[inline(always)]
 pub(crate) fn parse_some_id(buffer: &mut ParseBuffer<'_>) -> Result<Option<IdIndex>>
     ensures { Gives (λ index. (index, left buffer.new)) result (read_shape some_id (left buffer.old)) }
 {
@@ -46,6 +50,7 @@ pub(crate) fn parse_some_id(buffer: &mut ParseBuffer<'_>) -> Result<Option<IdInd
 }
 
 /// A text in a record of a leaf.
+#[inline(always)]
 pub(crate) fn parse_text<'t>(buffer: &mut ParseBuffer<'t>, leaf: u16) -> Result<RawString<'t>>
     ensures { Gives (λ name. (name.0.now, left buffer.new)) result (read_shape (text leaf) (left buffer.old)) }
 {
@@ -57,6 +62,7 @@ pub(crate) fn parse_text<'t>(buffer: &mut ParseBuffer<'t>, leaf: u16) -> Result<
 }
 
 /// A text in a record of a leaf, where the record has it.
+#[inline(always)]
 pub(crate) fn parse_some_text<'t>(
     buffer: &mut ParseBuffer<'t>,
     leaf: u16,

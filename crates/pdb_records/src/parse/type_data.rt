@@ -22,6 +22,7 @@ use pdb_values::TypeData;
 use std::alloc::Global;
 
 /// The record at the front of a buffer.
+#[inline(always)]
 #[tactic(auto, unfolding(crate::specs::Fields::record_at, crate::specs::Entries::gathered))]
 fn parse_record<'t>(alloc: Global, buffer: &mut ParseBuffer<'t>) -> Result<TypeData<'t>>
     ensures read { Answers (λ t. (type_value t, left buffer.new)) result (record_at (left buffer.old)) }
@@ -50,6 +51,7 @@ fn parse_record<'t>(alloc: Global, buffer: &mut ParseBuffer<'t>) -> Result<TypeD
 /// is unknown, `UnimplementedFeature` for an array's dimension above 0xffffffff; and `OutOfMemory`
 /// where memory for a list is refused, which is asked for only once the list's first item is there.
 /// So a count that the bytes don't hold is `UnexpectedEof`, also as the first entry of a list of fields.
+#[inline(always)]
 pub fn parse_type_data<'t>(alloc: Global, bytes: &'t [u8]) -> Result<TypeData<'t>>
     ensures read { Answers type_value result (type_record bytes.now) }
     ensures answers { SaysAssigned type_value (IsRecord bytes.now) (NoRecord bytes.now) result }
