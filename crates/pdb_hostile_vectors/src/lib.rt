@@ -1,4 +1,4 @@
-//! Damaged files, refused memory and failing sources, as tests.
+//! False claims, refused memory and failing sources, as tests.
 #![tactic(auto)]
 
 #[cfg(test)]
