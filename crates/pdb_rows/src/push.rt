@@ -1,7 +1,7 @@
 //! Rows as lines.
 
 use crate::form::Form;
-use crate::leaf_name::leaf_name;
+use crate::leaf_names::leaf_name;
 use crate::number::{push_decimal, push_four_digits, push_hexadecimal, push_signed};
 use crate::row::{Field, Row, Value};
 use crate::text::{push_quoted, push_text};

@@ -12,18 +12,18 @@ mod primitive;
 
 use crate::head::Head;
 use crate::row::Row;
-use crate::type_row::base_class::{base_class_row, table_pointer_row, virtual_base_row};
-use crate::type_row::class::{class_row, union_row};
-use crate::type_row::enumeration::{enumerate_row, enumeration_row};
-use crate::type_row::function::{member_function_row, procedure_row};
-use crate::type_row::list::{
+use crate::type_rows::base_class::{base_class_row, table_pointer_row, virtual_base_row};
+use crate::type_rows::class::{class_row, union_row};
+use crate::type_rows::enumeration::{enumerate_row, enumeration_row};
+use crate::type_rows::function::{member_function_row, procedure_row};
+use crate::type_rows::list::{
     argument_list_row, array_row, field_list_row, method_list_row, table_shape_row,
 };
-use crate::type_row::member::{member_row, nested_row, static_member_row};
-pub(crate) use crate::type_row::method::listed_method_row;
-use crate::type_row::method::{method_row, overloaded_method_row};
-use crate::type_row::pointer::{bitfield_row, modifier_row, pointer_row};
-use crate::type_row::primitive::primitive_row;
+use crate::type_rows::member::{member_row, nested_row, static_member_row};
+pub(crate) use crate::type_rows::method::listed_method_row;
+use crate::type_rows::method::{method_row, overloaded_method_row};
+use crate::type_rows::pointer::{bitfield_row, modifier_row, pointer_row};
+use crate::type_rows::primitive::primitive_row;
 use pdb_base::Result;
 use pdb_values::TypeData;
 use std::alloc::Global;

@@ -2,7 +2,7 @@
 
 use crate::head::{Head, field, nonzero, optional_word, row_of, type_index};
 use crate::row::{Row, Value};
-use crate::type_row::class::unique_name;
+use crate::type_rows::class::unique_name;
 use crate::words::{access_word, field_words, property_words};
 use pdb_base::{Result, Variant};
 use pdb_values::{EnumerateType, EnumerationType};
