@@ -1,6 +1,6 @@
 //! Records of OMAP tables as rows.
 
-use crate::head::{field, row_of};
+use crate::head::field;
 use crate::row::{Row, Value};
 use pdb_base::Result;
 use pdb_space::OMAPRecord;
@@ -11,17 +11,15 @@ use std::alloc::Global;
 /// # Errors
 /// `OutOfMemory` if memory is refused.
 pub fn omap_row<'t>(alloc: Global, record: OMAPRecord) -> Result<Row<'t>> {
-    row_of(
-        alloc,
-        [
-            field(
-                "source_address",
-                Value::Hexadecimal(record.source_address()),
-            ),
-            field(
-                "target_address",
-                Value::Hexadecimal(record.target_address()),
-            ),
-        ],
-    )
+    let fields = vec![in alloc;
+        field(
+            "source_address",
+            Value::Hexadecimal(record.source_address()),
+        ),
+        field(
+            "target_address",
+            Value::Hexadecimal(record.target_address()),
+        ),
+    ]?;
+    Ok(Row { fields })
 }
