@@ -5,5 +5,6 @@ pub mod Lines
 pub mod Words
 pub mod Fields
 pub mod TypeRows
+pub mod EntryRows
 pub mod IdRows
 pub mod TableRows

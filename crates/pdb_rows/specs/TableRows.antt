@@ -37,7 +37,7 @@ omap_row mapping =
 
 -- the place of a frame's program in the string table, if it has one
 abbrev pub program_place : Option StringRef → ShownValue
-program_place (Some place) = hexadecimal place.0
+program_place (Some place) = hexadecimal place
 program_place None = absent
 
 -- a frame

@@ -33,7 +33,7 @@ use Rattle.pdb_rows.specs.Row.{ShownValue, ShownRow, number, signed, flag, text,
 use Rattle.pdb_rows.specs.Words.{access_word, field_words, function_words, indirection_word, kind_word, mode_word, modifier_words, pointer_words, primitive_word, property_words}
 
 -- a type without a record
-abbrev pub primitive_fields : PrimitiveType → ShownRow
+unfoldable pub primitive_fields : PrimitiveType → ShownRow
 primitive_fields type =
     (codes "primitive_kind", text (primitive_word type.kind))
     ∷ (codes "indirection", optional_text (option_map indirection_word type.indirection))

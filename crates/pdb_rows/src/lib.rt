@@ -8,6 +8,7 @@ mod frame_rows;
 mod head;
 mod id_rows;
 mod leaf_names;
+mod lists;
 mod number;
 mod omap_rows;
 mod push;
