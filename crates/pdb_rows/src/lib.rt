@@ -7,6 +7,7 @@ mod form;
 mod frame_rows;
 mod head;
 mod id_rows;
+pub mod laws;
 mod leaf_names;
 mod lists;
 mod number;
