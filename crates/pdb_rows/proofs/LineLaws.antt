@@ -1,5 +1,5 @@
 -- A row is one line.
-use Rattle.std.proofs.Common.{◌≡◌, ℕ, zero, suc, ◌+◌, ◌/◌, ◌%◌, ◌<◌, ◌≤◌, ◌==◌, ℤ, pos, negsuc, Bool, true, false, cond, not, ◌&&◌, ◌||◌, leb, ltb, List, [], ◌∷◌, ◌++◌, map, codes, Option, Some, None, refl, sym, ap, subst, ◌∙◌, arith, append_assoc, ⊎_elim}
+use Rattle.std.proofs.Common.{◌≡◌, ℕ, zero, suc, ◌+◌, ◌/◌, ◌%◌, ◌<◌, ◌≤◌, ◌==◌, ℤ, pos, negsuc, Bool, true, false, cond, leb, ltb, List, [], ◌∷◌, ◌++◌, codes, refl, ap, ◌∙◌, arith, ⊎_elim}
 use Rattle.std.specs.Fmt.{decimal, digit_glyph, digits, digits_onto, signed_decimal}
 use Rattle.std.specs.List.{filter, flat_map, list_all}
 use Rattle.std.specs.Char.{encode_utf8}
@@ -7,14 +7,13 @@ use Rattle.std.proofs.lemmas.Str.{encode_ascii}
 use Rattle.std.proofs.lemmas.Bool.{and_parts, cond-true, cond-false, cases_Bool, cases_lt}
 use Rattle.std.proofs.lemmas.Bool.Decides.{nat_tests}
 use Rattle.bstr.specs.Utf8.{lossy_chars}
-use Rattle.pdb_base.specs.ErrorText.{hexadecimal}
 use Rattle.pdb_rows.specs.declared.form.Form.{Form}
 use Rattle.pdb_rows.specs.declared.form.Form.TheVariants.{Text, Json}
 use Rattle.pdb_rows.specs.Laws.{IsEscape, IsLine, short, long, is_hexadecimal, is_short}
-use Rattle.pdb_rows.specs.Lines.{field_line, field_text, fields_text, front_text, index_text, is_leading, is_shown, kind_text, line_feed, list_text, row_text, separated, separator, value_text}
+use Rattle.pdb_rows.specs.Lines.{field_line, field_text, fields_text, front_text, index_text, is_leading, is_shown, kind_text, list_text, row_text, separated, separator, value_text}
 use Rattle.pdb_rows.specs.Row as rows
 use Rattle.pdb_rows.specs.Row.{ShownField, ShownRow, ShownValue}
-use Rattle.pdb_rows.specs.Text.{backslash, escape, is_escaped, quoted, shown_char, shown_text}
+use Rattle.pdb_rows.specs.Text.{escape, is_escaped, quoted, shown_char, shown_text}
 use Rattle.pdb_rows.proofs.StringLaws.{and_both, escape_is, wide_bytes}
 
 -- whether no byte is below 0x20

@@ -1,5 +1,5 @@
 -- A text in JSON is a string.
-use Rattle.std.proofs.Common.{◌≡◌, ℕ, ◌+◌, ◌*◌, ◌/◌, ◌%◌, ◌-◌, ◌<◌, ◌≤◌, ◌==◌, ◌⊎◌, Bool, true, false, cond, not, ◌&&◌, leb, ltb, List, [], ◌∷◌, ◌++◌, Option, Some, None, refl, sym, ap, subst, ◌∙◌, arith, append_assoc, IsTrue, ⊎_elim}
+use Rattle.std.proofs.Common.{◌≡◌, ℕ, ◌+◌, ◌/◌, ◌%◌, ◌<◌, ◌≤◌, ◌==◌, Bool, true, false, cond, ◌&&◌, leb, ltb, List, [], ◌∷◌, ◌++◌, Some, None, refl, sym, ap, subst, ◌∙◌, arith, ⊎_elim}
 use Rattle.std.specs.Fmt.{digit_glyph}
 use Rattle.std.specs.List.{flat_map, list_all}
 use Rattle.std.specs.Char.{encode_utf8}
@@ -9,8 +9,8 @@ use Rattle.std.proofs.lemmas.Bool.Decides.{nat_tests}
 use lib.Utf8.{encode}
 use Rattle.bstr.specs.Utf8.{lossy_chars}
 use Rattle.pdb_rows.specs.declared.form.Form.TheVariants.{Json}
-use Rattle.pdb_rows.specs.Text.{quote, backslash, four_digits, short_escape, behind_backslash, escape, is_escaped, shown_char, shown_text, quoted}
-use Rattle.pdb_rows.specs.Laws.{IsEscape, IsInside, IsString, is_hexadecimal, is_short, is_unescaped, short, long, ended, unescaped, escaped}
+use Rattle.pdb_rows.specs.Text.{backslash, behind_backslash, escape, is_escaped, shown_char, shown_text, quoted}
+use Rattle.pdb_rows.specs.Laws.{IsEscape, IsInside, IsString, is_hexadecimal, is_unescaped, short, long, ended, unescaped, escaped}
 
 -- each digit is one
 pub digit_is_hexadecimal : (d : ℕ) → d < 16 → is_hexadecimal (digit_glyph false d) ≡ true

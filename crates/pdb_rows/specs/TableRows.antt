@@ -1,6 +1,6 @@
 -- The rows of section headers, of records of OMAP tables and of frames, whose fields are called as those
 -- of their types.
-use Rattle.std.specs.Prelude.{ℕ, List, [], ◌∷◌, codes, Option, Some, None}
+use Rattle.std.specs.Prelude.{ℕ, [], ◌∷◌, codes, Option, Some, None}
 use Rattle.pdb_frames.specs.FrameNumbers as frames
 use Rattle.pdb_frames.specs.declared.frame_data.FrameData.{FrameData}
 use Rattle.pdb_space.specs.Omap.{Mapping}

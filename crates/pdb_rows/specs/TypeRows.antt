@@ -1,7 +1,7 @@
 -- The fields that are shown of types, behind their index and leaf. They are called as the fields of the
 -- types are; a flag word is told by the words of the flags that are set, and by fields of their own for
 -- the numbers in it.
-use Rattle.std.specs.Prelude.{ℕ, List, [], ◌∷◌, length, map, codes, Option, Some, None}
+use Rattle.std.specs.Prelude.{ℕ, List, [], ◌∷◌, length, map, codes, Option, Some}
 use Rattle.std.specs.Option.{option_map}
 use Rattle.pdb_base.specs.declared.index.TypeIndex.{TypeIndex}
 use Rattle.pdb_base.specs.declared.variant.Variant.{Variant}
