@@ -1,0 +1,11 @@
+pub mod Row
+pub mod LeafNames
+pub mod Text
+pub mod Lines
+pub mod Words
+pub mod Fields
+pub mod TypeRows
+pub mod EntryRows
+pub mod IdRows
+pub mod TableRows
+pub mod Laws

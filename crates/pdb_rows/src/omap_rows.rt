@@ -1,0 +1,33 @@
+//! Records of OMAP tables as rows.
+
+ghost use Rattle.std.specs.Prelude.{◌≡◌, IfErr, IfOk};
+ghost use Rattle.pdb_rows.specs.Row.{row_shown};
+ghost use Rattle.pdb_rows.specs.TableRows.{omap_row};
+
+use crate::head::field;
+use crate::row::{Row, Value};
+use pdb_base::{Error, Result};
+use pdb_space::OMAPRecord;
+use std::alloc::Global;
+
+/// The row of a record of an OMAP table.
+///
+/// # Errors
+/// `OutOfMemory` if memory is refused.
+#[tactic(auto, unfolding(crate::specs::TableRows::omap_row))]
+pub fn omap_row<'t>(alloc: Global, mapping: OMAPRecord) -> Result<Row<'t>>
+    ensures ok { IfOk result (λ row. row_shown row ≡ omap_row mapping) }
+    ensures want { IfErr result (λ e. e ≡ Error.OutOfMemory) }
+{
+    let fields = vec![in alloc;
+        field(
+            "source_address",
+            Value::Hexadecimal(mapping.source_address()),
+        ),
+        field(
+            "target_address",
+            Value::Hexadecimal(mapping.target_address()),
+        ),
+    ]?;
+    Ok(Row { fields })
+}
