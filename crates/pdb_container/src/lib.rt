@@ -12,7 +12,9 @@ mod ranges;
 mod record;
 mod whole;
 
-pub use lookup::{look_up, look_up_fields};
+pub use lookup::Lookup;
+pub use lookup::look_up;
+pub use lookup::look_up_fields;
 pub use pdb_base::Count;
 pub use pdb_base::Error;
 pub use pdb_base::FallibleIterator;

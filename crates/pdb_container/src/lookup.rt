@@ -9,7 +9,7 @@ ghost use Rattle.pdb_values.specs.TypeView.{type_value};
 ghost use Rattle.pdb_container.specs.Lookup.{is_known};
 
 use pdb_base::{Error, FallibleIterator, ItemIndex, Result, TypeIndex};
-use pdb_tpi::{Item, ItemFinder, ItemInformation, ItemIter};
+use pdb_tpi::{Item, ItemFinder, ItemInformation, ItemIter, TypeInformation};
 use pdb_values::TypeData;
 use std::alloc::Global;
 use std::marker::Model;
@@ -108,4 +108,34 @@ impl<'t> Lookup<'t, TypeIndex> {
         self.learn(index)?;
         self.finder.fields(alloc, index)
     }
+}
+
+/// The item of an index, wherever in the table it stands.
+///
+/// # Errors
+/// `TypeNotFound` from the table's maximum on; the refusal at which the walk stops before the item;
+/// `UnexpectedEof` if the walk ends before the item; and `OutOfMemory` if memory is refused.
+pub fn look_up<'t, I: ItemIndex>(
+    alloc: Global,
+    table: &'t ItemInformation<I>,
+    index: I,
+) -> Result<Item<'t, I>>
+    ensures item { Answers (λ item. item.bytes.now) result (item_of table.now (I.number index)) }
+    ensures index { IfOk result (λ item. item.index ≡ index) }
+{
+    Lookup::new(alloc, table)?.item(index)
+}
+
+/// The fields of a list and of the lists in which it goes on, wherever in the table they stand.
+///
+/// # Errors
+/// What `Lookup::fields` refuses, and `OutOfMemory` if memory is refused.
+pub fn look_up_fields<'t>(
+    alloc: Global,
+    table: &'t TypeInformation,
+    index: TypeIndex,
+) -> Result<Vec<TypeData<'t>>>
+    ensures { Answers (λ fields. map type_value fields.items) result (fields_of (item_of table.now) index.0) }
+{
+    Lookup::new(alloc, table)?.fields(alloc, index)
 }
