@@ -16,4 +16,7 @@ mod words;
 pub use channels::{Ended, serve};
 pub use input::read_all;
 pub use outcome::{Outcome, act, usage};
+pub use lines::reply_lines;
 pub use process::program;
+pub use refusal::error_line;
+pub use words::{number, query};

@@ -1,0 +1,8 @@
+//! What the program `pdbdump` does: the words of its command line, and the lines that it lists of a program
+//! database.
+#![tactic(auto)]
+
+mod words;
+
+
+pub use words::{Command, Misuse, Verb, any_is, asked_of_file, first_verb, verb_named};
