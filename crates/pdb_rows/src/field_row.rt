@@ -1,0 +1,82 @@
+//! The entries of lists as rows, which have no index.
+
+use crate::head::Head;
+use crate::row::Row;
+use crate::type_row::{headed_row, listed_method_row};
+use pdb_base::Result;
+use pdb_records::constants::{
+    LF_ARGLIST, LF_ARRAY, LF_BCLASS, LF_BINTERFACE, LF_BITFIELD, LF_CLASS, LF_ENUM, LF_ENUMERATE,
+    LF_FIELDLIST, LF_INTERFACE, LF_IVBCLASS, LF_MEMBER, LF_METHOD, LF_METHODLIST, LF_MFUNCTION,
+    LF_MODIFIER, LF_NESTTYPE, LF_NULL, LF_ONEMETHOD, LF_POINTER, LF_PROCEDURE, LF_STMEMBER,
+    LF_STRUCTURE, LF_UNION, LF_VBCLASS, LF_VFUNCTAB, LF_VTSHAPE,
+};
+use pdb_values::{BaseClassType, ClassKind, MethodListEntry, TypeData, VirtualBaseClassType};
+use std::alloc::Global;
+
+/// The leaf of a class of this kind.
+fn class_leaf(kind: ClassKind) -> u16 {
+    match kind {
+        ClassKind::Class => LF_CLASS,
+        ClassKind::Struct => LF_STRUCTURE,
+        ClassKind::Interface => LF_INTERFACE,
+    }
+}
+
+/// The leaf of a base class.
+fn base_class_leaf(base: BaseClassType) -> u16 {
+    match base.kind {
+        ClassKind::Interface => LF_BINTERFACE,
+        _ => LF_BCLASS,
+    }
+}
+
+/// The leaf of a virtual base class.
+fn virtual_base_leaf(base: VirtualBaseClassType) -> u16 {
+    if base.direct { LF_VBCLASS } else { LF_IVBCLASS }
+}
+
+/// The leaf by which records of today say what this says.
+fn leaf_of(data: &TypeData<'_>) -> u16 {
+    match data {
+        TypeData::Primitive(_) => LF_NULL,
+        TypeData::Class(class) => class_leaf(class.kind),
+        TypeData::Member(_) => LF_MEMBER,
+        TypeData::MemberFunction(_) => LF_MFUNCTION,
+        TypeData::OverloadedMethod(_) => LF_METHOD,
+        TypeData::Method(_) => LF_ONEMETHOD,
+        TypeData::StaticMember(_) => LF_STMEMBER,
+        TypeData::Nested(_) => LF_NESTTYPE,
+        TypeData::BaseClass(base) => base_class_leaf(*base),
+        TypeData::VirtualBaseClass(base) => virtual_base_leaf(*base),
+        TypeData::VirtualFunctionTablePointer(_) => LF_VFUNCTAB,
+        TypeData::Procedure(_) => LF_PROCEDURE,
+        TypeData::Pointer(_) => LF_POINTER,
+        TypeData::Modifier(_) => LF_MODIFIER,
+        TypeData::Enumeration(_) => LF_ENUM,
+        TypeData::Enumerate(_) => LF_ENUMERATE,
+        TypeData::Array(_) => LF_ARRAY,
+        TypeData::Union(_) => LF_UNION,
+        TypeData::Bitfield(_) => LF_BITFIELD,
+        TypeData::FieldList(_) => LF_FIELDLIST,
+        TypeData::ArgumentList(_) => LF_ARGLIST,
+        TypeData::MethodList(_) => LF_METHODLIST,
+        TypeData::VirtualTableShape(_) => LF_VTSHAPE,
+    }
+}
+
+/// The row of an entry of a list of fields, whose kind is told by the leaf that records of today have.
+///
+/// # Errors
+/// `OutOfMemory` if memory is refused.
+pub fn field_row<'t>(alloc: Global, data: &TypeData<'t>) -> Result<Row<'t>> {
+    let leaf = leaf_of(data);
+    headed_row(alloc, Head { index: None, leaf }, data)
+}
+
+/// The row of an entry of a list of methods.
+///
+/// # Errors
+/// `OutOfMemory` if memory is refused.
+pub fn method_row<'t>(alloc: Global, method: MethodListEntry) -> Result<Row<'t>> {
+    listed_method_row(alloc, method)
+}

@@ -1,0 +1,333 @@
+//! The names of leaves.
+
+use pdb_records::constants::LF_ALIAS;
+use pdb_records::constants::LF_ALIAS_ST;
+use pdb_records::constants::LF_ARGLIST;
+use pdb_records::constants::LF_ARGLIST_16t;
+use pdb_records::constants::LF_ARRAY;
+use pdb_records::constants::LF_ARRAY_16t;
+use pdb_records::constants::LF_ARRAY_ST;
+use pdb_records::constants::LF_BARRAY;
+use pdb_records::constants::LF_BARRAY_16t;
+use pdb_records::constants::LF_BCLASS;
+use pdb_records::constants::LF_BCLASS_16t;
+use pdb_records::constants::LF_BINTERFACE;
+use pdb_records::constants::LF_BITFIELD;
+use pdb_records::constants::LF_BITFIELD_16t;
+use pdb_records::constants::LF_BUILDINFO;
+use pdb_records::constants::LF_CLASS;
+use pdb_records::constants::LF_CLASS_16t;
+use pdb_records::constants::LF_CLASS_ST;
+use pdb_records::constants::LF_COBOL0;
+use pdb_records::constants::LF_COBOL0_16t;
+use pdb_records::constants::LF_COBOL1;
+use pdb_records::constants::LF_DEFARG;
+use pdb_records::constants::LF_DEFARG_16t;
+use pdb_records::constants::LF_DEFARG_ST;
+use pdb_records::constants::LF_DERIVED;
+use pdb_records::constants::LF_DERIVED_16t;
+use pdb_records::constants::LF_DIMARRAY;
+use pdb_records::constants::LF_DIMARRAY_16t;
+use pdb_records::constants::LF_DIMARRAY_ST;
+use pdb_records::constants::LF_DIMCONLU;
+use pdb_records::constants::LF_DIMCONLU_16t;
+use pdb_records::constants::LF_DIMCONU;
+use pdb_records::constants::LF_DIMCONU_16t;
+use pdb_records::constants::LF_DIMVARLU;
+use pdb_records::constants::LF_DIMVARLU_16t;
+use pdb_records::constants::LF_DIMVARU;
+use pdb_records::constants::LF_DIMVARU_16t;
+use pdb_records::constants::LF_ENDPRECOMP;
+use pdb_records::constants::LF_ENUM;
+use pdb_records::constants::LF_ENUM_16t;
+use pdb_records::constants::LF_ENUM_ST;
+use pdb_records::constants::LF_ENUMERATE;
+use pdb_records::constants::LF_ENUMERATE_ST;
+use pdb_records::constants::LF_FIELDLIST;
+use pdb_records::constants::LF_FIELDLIST_16t;
+use pdb_records::constants::LF_FRIENDCLS;
+use pdb_records::constants::LF_FRIENDCLS_16t;
+use pdb_records::constants::LF_FRIENDFCN;
+use pdb_records::constants::LF_FRIENDFCN_16t;
+use pdb_records::constants::LF_FRIENDFCN_ST;
+use pdb_records::constants::LF_FUNC_ID;
+use pdb_records::constants::LF_HLSL;
+use pdb_records::constants::LF_INDEX;
+use pdb_records::constants::LF_INDEX_16t;
+use pdb_records::constants::LF_INTERFACE;
+use pdb_records::constants::LF_IVBCLASS;
+use pdb_records::constants::LF_IVBCLASS_16t;
+use pdb_records::constants::LF_LABEL;
+use pdb_records::constants::LF_LIST;
+use pdb_records::constants::LF_MANAGED;
+use pdb_records::constants::LF_MANAGED_ST;
+use pdb_records::constants::LF_MATRIX;
+use pdb_records::constants::LF_MEMBER;
+use pdb_records::constants::LF_MEMBER_16t;
+use pdb_records::constants::LF_MEMBER_ST;
+use pdb_records::constants::LF_MEMBERMODIFY;
+use pdb_records::constants::LF_MEMBERMODIFY_ST;
+use pdb_records::constants::LF_METHOD;
+use pdb_records::constants::LF_METHOD_16t;
+use pdb_records::constants::LF_METHOD_ST;
+use pdb_records::constants::LF_METHODLIST;
+use pdb_records::constants::LF_METHODLIST_16t;
+use pdb_records::constants::LF_MFUNC_ID;
+use pdb_records::constants::LF_MFUNCTION;
+use pdb_records::constants::LF_MFUNCTION_16t;
+use pdb_records::constants::LF_MODIFIER;
+use pdb_records::constants::LF_MODIFIER_16t;
+use pdb_records::constants::LF_MODIFIER_EX;
+use pdb_records::constants::LF_NESTTYPE;
+use pdb_records::constants::LF_NESTTYPE_16t;
+use pdb_records::constants::LF_NESTTYPE_ST;
+use pdb_records::constants::LF_NESTTYPEEX;
+use pdb_records::constants::LF_NESTTYPEEX_ST;
+use pdb_records::constants::LF_NOTTRAN;
+use pdb_records::constants::LF_NULL;
+use pdb_records::constants::LF_OEM;
+use pdb_records::constants::LF_OEM_16t;
+use pdb_records::constants::LF_OEM2;
+use pdb_records::constants::LF_ONEMETHOD;
+use pdb_records::constants::LF_ONEMETHOD_16t;
+use pdb_records::constants::LF_ONEMETHOD_ST;
+use pdb_records::constants::LF_POINTER;
+use pdb_records::constants::LF_POINTER_16t;
+use pdb_records::constants::LF_PRECOMP;
+use pdb_records::constants::LF_PRECOMP_16t;
+use pdb_records::constants::LF_PRECOMP_ST;
+use pdb_records::constants::LF_PROCEDURE;
+use pdb_records::constants::LF_PROCEDURE_16t;
+use pdb_records::constants::LF_REFSYM;
+use pdb_records::constants::LF_SKIP;
+use pdb_records::constants::LF_SKIP_16t;
+use pdb_records::constants::LF_STMEMBER;
+use pdb_records::constants::LF_STMEMBER_16t;
+use pdb_records::constants::LF_STMEMBER_ST;
+use pdb_records::constants::LF_STRIDED_ARRAY;
+use pdb_records::constants::LF_STRING_ID;
+use pdb_records::constants::LF_STRUCTURE;
+use pdb_records::constants::LF_STRUCTURE_16t;
+use pdb_records::constants::LF_STRUCTURE_ST;
+use pdb_records::constants::LF_STRUCTURE19;
+use pdb_records::constants::LF_SUBSTR_LIST;
+use pdb_records::constants::LF_TYPESERVER;
+use pdb_records::constants::LF_TYPESERVER_ST;
+use pdb_records::constants::LF_TYPESERVER2;
+use pdb_records::constants::LF_UDT_MOD_SRC_LINE;
+use pdb_records::constants::LF_UDT_SRC_LINE;
+use pdb_records::constants::LF_UNION;
+use pdb_records::constants::LF_UNION_16t;
+use pdb_records::constants::LF_UNION_ST;
+use pdb_records::constants::LF_VBCLASS;
+use pdb_records::constants::LF_VBCLASS_16t;
+use pdb_records::constants::LF_VECTOR;
+use pdb_records::constants::LF_VFTABLE;
+use pdb_records::constants::LF_VFTPATH;
+use pdb_records::constants::LF_VFTPATH_16t;
+use pdb_records::constants::LF_VFUNCOFF;
+use pdb_records::constants::LF_VFUNCOFF_16t;
+use pdb_records::constants::LF_VFUNCTAB;
+use pdb_records::constants::LF_VFUNCTAB_16t;
+use pdb_records::constants::LF_VTSHAPE;
+
+/// The name of a leaf among those of types and entries whose names end at a NUL.
+fn type_leaf(leaf: u16) -> Option<&'static str> {
+    match leaf {
+        LF_TYPESERVER => Some("LF_TYPESERVER"),
+        LF_ENUMERATE => Some("LF_ENUMERATE"),
+        LF_ARRAY => Some("LF_ARRAY"),
+        LF_CLASS => Some("LF_CLASS"),
+        LF_STRUCTURE => Some("LF_STRUCTURE"),
+        LF_UNION => Some("LF_UNION"),
+        LF_ENUM => Some("LF_ENUM"),
+        LF_DIMARRAY => Some("LF_DIMARRAY"),
+        LF_PRECOMP => Some("LF_PRECOMP"),
+        LF_ALIAS => Some("LF_ALIAS"),
+        LF_DEFARG => Some("LF_DEFARG"),
+        LF_FRIENDFCN => Some("LF_FRIENDFCN"),
+        LF_MEMBER => Some("LF_MEMBER"),
+        LF_STMEMBER => Some("LF_STMEMBER"),
+        LF_METHOD => Some("LF_METHOD"),
+        LF_NESTTYPE => Some("LF_NESTTYPE"),
+        LF_ONEMETHOD => Some("LF_ONEMETHOD"),
+        LF_NESTTYPEEX => Some("LF_NESTTYPEEX"),
+        LF_MEMBERMODIFY => Some("LF_MEMBERMODIFY"),
+        LF_MANAGED => Some("LF_MANAGED"),
+        LF_TYPESERVER2 => Some("LF_TYPESERVER2"),
+        LF_STRIDED_ARRAY => Some("LF_STRIDED_ARRAY"),
+        LF_HLSL => Some("LF_HLSL"),
+        LF_MODIFIER_EX => Some("LF_MODIFIER_EX"),
+        LF_INTERFACE => Some("LF_INTERFACE"),
+        LF_BINTERFACE => Some("LF_BINTERFACE"),
+        LF_VECTOR => Some("LF_VECTOR"),
+        LF_MATRIX => Some("LF_MATRIX"),
+        LF_VFTABLE => Some("LF_VFTABLE"),
+        _ => None,
+    }
+}
+
+/// The name of a leaf among those of types that symbols refer to, with indexes of 32 bits.
+fn symbol_type_leaf(leaf: u16) -> Option<&'static str> {
+    match leaf {
+        LF_MODIFIER => Some("LF_MODIFIER"),
+        LF_POINTER => Some("LF_POINTER"),
+        LF_ARRAY_ST => Some("LF_ARRAY_ST"),
+        LF_CLASS_ST => Some("LF_CLASS_ST"),
+        LF_STRUCTURE_ST => Some("LF_STRUCTURE_ST"),
+        LF_UNION_ST => Some("LF_UNION_ST"),
+        LF_ENUM_ST => Some("LF_ENUM_ST"),
+        LF_PROCEDURE => Some("LF_PROCEDURE"),
+        LF_MFUNCTION => Some("LF_MFUNCTION"),
+        LF_COBOL0 => Some("LF_COBOL0"),
+        LF_BARRAY => Some("LF_BARRAY"),
+        LF_DIMARRAY_ST => Some("LF_DIMARRAY_ST"),
+        LF_VFTPATH => Some("LF_VFTPATH"),
+        LF_PRECOMP_ST => Some("LF_PRECOMP_ST"),
+        LF_OEM => Some("LF_OEM"),
+        LF_ALIAS_ST => Some("LF_ALIAS_ST"),
+        LF_OEM2 => Some("LF_OEM2"),
+        _ => None,
+    }
+}
+
+/// The name of a leaf among those of types that other types alone refer to, with indexes of 32 bits.
+fn list_leaf(leaf: u16) -> Option<&'static str> {
+    match leaf {
+        LF_SKIP => Some("LF_SKIP"),
+        LF_ARGLIST => Some("LF_ARGLIST"),
+        LF_DEFARG_ST => Some("LF_DEFARG_ST"),
+        LF_FIELDLIST => Some("LF_FIELDLIST"),
+        LF_DERIVED => Some("LF_DERIVED"),
+        LF_BITFIELD => Some("LF_BITFIELD"),
+        LF_METHODLIST => Some("LF_METHODLIST"),
+        LF_DIMCONU => Some("LF_DIMCONU"),
+        LF_DIMCONLU => Some("LF_DIMCONLU"),
+        LF_DIMVARU => Some("LF_DIMVARU"),
+        LF_DIMVARLU => Some("LF_DIMVARLU"),
+        _ => None,
+    }
+}
+
+/// The name of a leaf among those of entries of a field list, with indexes of 32 bits.
+fn entry_leaf(leaf: u16) -> Option<&'static str> {
+    match leaf {
+        LF_BCLASS => Some("LF_BCLASS"),
+        LF_VBCLASS => Some("LF_VBCLASS"),
+        LF_IVBCLASS => Some("LF_IVBCLASS"),
+        LF_FRIENDFCN_ST => Some("LF_FRIENDFCN_ST"),
+        LF_INDEX => Some("LF_INDEX"),
+        LF_MEMBER_ST => Some("LF_MEMBER_ST"),
+        LF_STMEMBER_ST => Some("LF_STMEMBER_ST"),
+        LF_METHOD_ST => Some("LF_METHOD_ST"),
+        LF_NESTTYPE_ST => Some("LF_NESTTYPE_ST"),
+        LF_VFUNCTAB => Some("LF_VFUNCTAB"),
+        LF_FRIENDCLS => Some("LF_FRIENDCLS"),
+        LF_ONEMETHOD_ST => Some("LF_ONEMETHOD_ST"),
+        LF_VFUNCOFF => Some("LF_VFUNCOFF"),
+        LF_NESTTYPEEX_ST => Some("LF_NESTTYPEEX_ST"),
+        LF_MEMBERMODIFY_ST => Some("LF_MEMBERMODIFY_ST"),
+        LF_MANAGED_ST => Some("LF_MANAGED_ST"),
+        _ => None,
+    }
+}
+
+/// The name of a leaf among those of ids, and of a later leaf of a type.
+fn id_leaf(leaf: u16) -> Option<&'static str> {
+    match leaf {
+        LF_FUNC_ID => Some("LF_FUNC_ID"),
+        LF_MFUNC_ID => Some("LF_MFUNC_ID"),
+        LF_BUILDINFO => Some("LF_BUILDINFO"),
+        LF_SUBSTR_LIST => Some("LF_SUBSTR_LIST"),
+        LF_STRING_ID => Some("LF_STRING_ID"),
+        LF_UDT_SRC_LINE => Some("LF_UDT_SRC_LINE"),
+        LF_UDT_MOD_SRC_LINE => Some("LF_UDT_MOD_SRC_LINE"),
+        LF_STRUCTURE19 => Some("LF_STRUCTURE19"),
+        _ => None,
+    }
+}
+
+/// The name of a leaf among those of types that symbols refer to, as they first were.
+fn first_type_leaf(leaf: u16) -> Option<&'static str> {
+    match leaf {
+        LF_MODIFIER_16t => Some("LF_MODIFIER_16t"),
+        LF_POINTER_16t => Some("LF_POINTER_16t"),
+        LF_ARRAY_16t => Some("LF_ARRAY_16t"),
+        LF_CLASS_16t => Some("LF_CLASS_16t"),
+        LF_STRUCTURE_16t => Some("LF_STRUCTURE_16t"),
+        LF_UNION_16t => Some("LF_UNION_16t"),
+        LF_ENUM_16t => Some("LF_ENUM_16t"),
+        LF_PROCEDURE_16t => Some("LF_PROCEDURE_16t"),
+        LF_MFUNCTION_16t => Some("LF_MFUNCTION_16t"),
+        LF_VTSHAPE => Some("LF_VTSHAPE"),
+        LF_COBOL0_16t => Some("LF_COBOL0_16t"),
+        LF_COBOL1 => Some("LF_COBOL1"),
+        LF_BARRAY_16t => Some("LF_BARRAY_16t"),
+        LF_LABEL => Some("LF_LABEL"),
+        LF_NULL => Some("LF_NULL"),
+        LF_NOTTRAN => Some("LF_NOTTRAN"),
+        LF_DIMARRAY_16t => Some("LF_DIMARRAY_16t"),
+        LF_VFTPATH_16t => Some("LF_VFTPATH_16t"),
+        LF_PRECOMP_16t => Some("LF_PRECOMP_16t"),
+        LF_ENDPRECOMP => Some("LF_ENDPRECOMP"),
+        LF_OEM_16t => Some("LF_OEM_16t"),
+        LF_TYPESERVER_ST => Some("LF_TYPESERVER_ST"),
+        _ => None,
+    }
+}
+
+/// The name of a leaf among those of types that other types alone refer to, as they first were.
+fn first_list_leaf(leaf: u16) -> Option<&'static str> {
+    match leaf {
+        LF_SKIP_16t => Some("LF_SKIP_16t"),
+        LF_ARGLIST_16t => Some("LF_ARGLIST_16t"),
+        LF_DEFARG_16t => Some("LF_DEFARG_16t"),
+        LF_LIST => Some("LF_LIST"),
+        LF_FIELDLIST_16t => Some("LF_FIELDLIST_16t"),
+        LF_DERIVED_16t => Some("LF_DERIVED_16t"),
+        LF_BITFIELD_16t => Some("LF_BITFIELD_16t"),
+        LF_METHODLIST_16t => Some("LF_METHODLIST_16t"),
+        LF_DIMCONU_16t => Some("LF_DIMCONU_16t"),
+        LF_DIMCONLU_16t => Some("LF_DIMCONLU_16t"),
+        LF_DIMVARU_16t => Some("LF_DIMVARU_16t"),
+        LF_DIMVARLU_16t => Some("LF_DIMVARLU_16t"),
+        LF_REFSYM => Some("LF_REFSYM"),
+        _ => None,
+    }
+}
+
+/// The name of a leaf among those of entries of a field list, as they first were.
+fn first_entry_leaf(leaf: u16) -> Option<&'static str> {
+    match leaf {
+        LF_BCLASS_16t => Some("LF_BCLASS_16t"),
+        LF_VBCLASS_16t => Some("LF_VBCLASS_16t"),
+        LF_IVBCLASS_16t => Some("LF_IVBCLASS_16t"),
+        LF_ENUMERATE_ST => Some("LF_ENUMERATE_ST"),
+        LF_FRIENDFCN_16t => Some("LF_FRIENDFCN_16t"),
+        LF_INDEX_16t => Some("LF_INDEX_16t"),
+        LF_MEMBER_16t => Some("LF_MEMBER_16t"),
+        LF_STMEMBER_16t => Some("LF_STMEMBER_16t"),
+        LF_METHOD_16t => Some("LF_METHOD_16t"),
+        LF_NESTTYPE_16t => Some("LF_NESTTYPE_16t"),
+        LF_VFUNCTAB_16t => Some("LF_VFUNCTAB_16t"),
+        LF_FRIENDCLS_16t => Some("LF_FRIENDCLS_16t"),
+        LF_ONEMETHOD_16t => Some("LF_ONEMETHOD_16t"),
+        LF_VFUNCOFF_16t => Some("LF_VFUNCOFF_16t"),
+        _ => None,
+    }
+}
+
+/// The name of a leaf, as `LF_STRUCTURE`, or None if Microsoft's cvinfo.h has no record of this number.
+pub fn leaf_name(leaf: u16) -> Option<&'static str> {
+    match leaf >> 8 {
+        0x15 => type_leaf(leaf),
+        0x10 => symbol_type_leaf(leaf),
+        0x12 => list_leaf(leaf),
+        0x14 => entry_leaf(leaf),
+        0x16 => id_leaf(leaf),
+        0x00 => first_type_leaf(leaf),
+        0x02 => first_list_leaf(leaf),
+        0x04 => first_entry_leaf(leaf),
+        _ => None,
+    }
+}

@@ -1,0 +1,63 @@
+//! What is shown of each record: a row of named fields, from which both a line of text and a line of
+//! JSON are written, so that a field is named once.
+#![tactic(auto)]
+
+mod field_row;
+mod form;
+mod frame_row;
+mod head;
+mod id_row;
+mod leaf_name;
+mod number;
+mod omap_row;
+mod push;
+mod row;
+mod section_row;
+mod text;
+mod type_row;
+mod words;
+
+pub use field_row::{field_row, method_row};
+pub use form::Form;
+pub use frame_row::frame_row;
+pub use id_row::id_row;
+pub use leaf_name::leaf_name;
+pub use omap_row::omap_row;
+pub use push::{push_fields, push_row};
+pub use row::{Field, Row, Value};
+pub use section_row::section_row;
+pub use type_row::type_row;
+
+#[cfg(test)]
+mod tests {
+    use super::*;
+    use pdb_base::{RawString, TypeIndex};
+    use pdb_flags::TypeProperties;
+    use pdb_values::{ClassKind, ClassType, TypeData};
+    use std::test::Fail;
+
+    #[test]
+    fn class(rt: HostRuntime) -> Result<(), Fail> {
+        let data = TypeData::Class(ClassType {
+            kind: ClassKind::Struct,
+            count: 1,
+            properties: TypeProperties::new(0x280),
+            fields: Some(TypeIndex(0x1001)),
+            derived_from: None,
+            vtable_shape: None,
+            size: 4,
+            name: RawString::from("S\n\"x\""),
+            unique_name: Some(RawString::from(".?AUS@@")),
+        });
+        let row = type_row(rt.alloc(), 0x1000, 0x1505, &data)?;
+        let mut out = Vec::new(rt.alloc());
+        push_row(Form::Text, &row, &mut out)?;
+        push_row(Form::Json, &row, &mut out)?;
+        push_fields(Form::Text, &row, &mut out)?;
+        let text = String::from_utf8(out)
+            .ok()
+            .unwrap_or(String::new(rt.alloc()));
+        println!(rt; "{text}")?;
+        Ok(())
+    }
+}
