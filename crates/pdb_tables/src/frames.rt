@@ -1,9 +1,8 @@
 //! The frames of frame tables.
 
 ghost use Rattle.std.specs.Prelude.{◌≡◌};
-ghost use Rattle.pdb_frames.specs.Merge.{by_heads};
-ghost use Rattle.pdb_tables.specs.Listing.{IsListed, whole};
-ghost use Rattle.pdb_tables.specs.Tables.{frame_lines};
+ghost use Rattle.pdb_tables.specs.Listing.{IsListed};
+ghost use Rattle.pdb_tables.specs.Tables.{frames_listing};
 
 use crate::written::write_row;
 use pdb_base::{FallibleIterator, Result};
@@ -23,11 +22,11 @@ pub fn write_frames<W: Write>(
     form: Form,
     out: &mut W,
 ) -> Result<()>
-    ensures { IsListed (whole (frame_lines form (by_heads table.now.old table.now.new))) (W.contents out.old) (W.contents out.new) result }
+    ensures { IsListed (frames_listing form table.now) (W.contents out.old) (W.contents out.new) result }
 {
     let mut line = Vec::new(alloc);
     let mut frames = table.iter();
-    while let Some(frame) = frames.next()? {
+    while let Ok(Some(frame)) = frames.next() {
         let row = frame_row(alloc, &frame)?;
         write_row(form, &row, &mut line, out)?;
     }

@@ -2,12 +2,13 @@
 //! the names of the string table.
 #![tactic(auto)]
 
+mod file;
 mod frames;
+mod names;
 mod omap;
 mod sections;
+mod streams;
 mod written;
 
-pub use frames::write_frames;
-pub use omap::write_omap;
-pub use sections::write_sections;
+pub use file::{list_frames, list_frames_in, list_names, list_omap, list_sections};
 pub use written::write_row;
