@@ -25,3 +25,7 @@ written_more old now new all line rest left next before more = record {
 pub written_all : (old now : Option (List ℕ)) (all rest : List ℕ) → rest ≡ [] → IsWritten old now all rest → Appends old now all
 written_all old now all rest none before =
     subst (Appends old now) (sym (before.left ∙ rw none (append-nil before.done))) before.got
+
+-- what is left, said in other words
+pub written_as : (old now : Option (List ℕ)) (all rest other : List ℕ) → rest ≡ other → IsWritten old now all rest → IsWritten old now all other
+written_as old now all rest other same before = subst (IsWritten old now all) same before

@@ -1,0 +1,10 @@
+//! What a program database is made of, in a few lines: its pages, its streams with their roles and names,
+//! and the kinds of records in its tables.
+#![tactic(auto)]
+
+mod refused;
+mod roles;
+mod streams;
+
+pub use refused::{Part, write_refused};
+pub use streams::{stream, write_streams};
