@@ -14,6 +14,7 @@ refused_text refusal = unwrap_or (text_of refusal) (codes "IO error while readin
 
 -- which part is told of
 abbrev pub part_shown : Part → ShownField
+part_shown parts.Header = (codes "part", text (codes "header"))
 part_shown parts.Directory = (codes "part", text (codes "directory"))
 part_shown parts.Roles = (codes "part", text (codes "roles"))
 part_shown parts.Names = (codes "part", text (codes "names"))

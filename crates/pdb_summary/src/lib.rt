@@ -5,6 +5,7 @@
 mod refused;
 mod roles;
 mod streams;
+mod summary;
 
-pub use refused::{Part, write_refused};
-pub use streams::{stream, write_streams};
+pub use refused::Part;
+pub use summary::list_summary;

@@ -17,6 +17,8 @@ use std::io::Write;
 /// A part of a file.
 #[derive(Clone, Copy, Debug, PartialEq, Eq)]
 pub enum Part {
+    /// The header of the file.
+    Header,
     /// The directory of streams.
     Directory,
     /// The roles of streams.
@@ -45,6 +47,10 @@ fn part_field<'t>(part: Part) -> Field<'t>
     ensures { field_shown result ≡ part_shown part }
 {
     match part {
+        Part::Header => Field {
+            name: "part",
+            value: Value::Word("header"),
+        },
         Part::Directory => Field {
             name: "part",
             value: Value::Word("directory"),
