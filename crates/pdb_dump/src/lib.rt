@@ -2,7 +2,11 @@
 //! database.
 #![tactic(auto)]
 
+mod listed;
+mod served;
 mod words;
 
 
+pub use listed::list;
+pub use served::serve;
 pub use words::{Command, Misuse, Verb, any_is, asked_of_file, first_verb, verb_named};
