@@ -1,0 +1,4 @@
+pub mod Digits
+pub mod PlainText
+pub mod Separated
+pub mod WordLemmas

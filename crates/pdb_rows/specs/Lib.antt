@@ -1,0 +1,9 @@
+pub mod Row
+pub mod LeafNames
+pub mod Text
+pub mod Lines
+pub mod Words
+pub mod Fields
+pub mod TypeRows
+pub mod IdRows
+pub mod TableRows

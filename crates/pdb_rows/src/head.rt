@@ -1,8 +1,13 @@
-//! What the row of each record begins with, and how a row is made.
+//! What the row of each record begins with, and what its fields hold.
 
-use crate::row::{Field, Row, Value};
-use pdb_base::{IdIndex, Result, TypeIndex};
-use std::alloc::Global;
+ghost use Rattle.std.specs.Prelude.{◌≡◌, codes};
+ghost use Rattle.std.specs.Option.{option_map};
+ghost use Rattle.pdb_values.specs.Text.{text_bytes};
+ghost use Rattle.pdb_rows.specs.Fields.{nonzero, optional_hexadecimal, optional_id, optional_number, optional_text, optional_type, type_index};
+ghost use Rattle.pdb_rows.specs.Row.{field_shown, kind, value_shown};
+
+use crate::row::{Field, Value};
+use pdb_base::{IdIndex, RawString, TypeIndex};
 
 /// What a row begins with.
 #[derive(Clone, Copy, Debug)]
@@ -16,23 +21,31 @@ pub(crate) struct Head {
 
 impl Head {
     /// The field of the index.
-    pub(crate) fn index<'t>(self) -> Field<'t> {
+    pub(crate) fn index<'t>(self) -> Field<'t>
+        ensures { field_shown result ≡ (codes "index", optional_hexadecimal self.index) }
+    {
         field("index", optional_hexadecimal(self.index))
     }
 
     /// The field of the leaf.
-    pub(crate) fn kind<'t>(self) -> Field<'t> {
+    pub(crate) fn kind<'t>(self) -> Field<'t>
+        ensures { field_shown result ≡ (codes "kind", kind self.leaf) }
+    {
         field("kind", Value::Kind(self.leaf))
     }
 }
 
 /// A field of this name.
-pub(crate) fn field<'t>(name: &'static str, value: Value<'t>) -> Field<'t> {
+pub(crate) fn field<'t>(name: &'static str, value: Value<'t>) -> Field<'t>
+    ensures { field_shown result ≡ (name.now, value_shown value.entry) }
+{
     Field { name, value }
 }
 
 /// A number that may be absent, shown in hexadecimal.
-pub(crate) fn optional_hexadecimal<'t>(number: Option<u32>) -> Value<'t> {
+pub(crate) fn optional_hexadecimal<'t>(number: Option<u32>) -> Value<'t>
+    ensures { value_shown result ≡ optional_hexadecimal number }
+{
     match number {
         Some(number) => Value::Hexadecimal(number),
         None => Value::Absent,
@@ -40,12 +53,16 @@ pub(crate) fn optional_hexadecimal<'t>(number: Option<u32>) -> Value<'t> {
 }
 
 /// The index of a type.
-pub(crate) fn type_index<'t>(index: TypeIndex) -> Value<'t> {
+pub(crate) fn type_index<'t>(index: TypeIndex) -> Value<'t>
+    ensures { value_shown result ≡ type_index index }
+{
     Value::Hexadecimal(index.0)
 }
 
 /// The index of a type, if there is one.
-pub(crate) fn optional_type<'t>(index: Option<TypeIndex>) -> Value<'t> {
+pub(crate) fn optional_type<'t>(index: Option<TypeIndex>) -> Value<'t>
+    ensures { value_shown result ≡ optional_type index }
+{
     match index {
         Some(index) => Value::Hexadecimal(index.0),
         None => Value::Absent,
@@ -53,7 +70,9 @@ pub(crate) fn optional_type<'t>(index: Option<TypeIndex>) -> Value<'t> {
 }
 
 /// The index of an id, if there is one.
-pub(crate) fn optional_id<'t>(index: Option<IdIndex>) -> Value<'t> {
+pub(crate) fn optional_id<'t>(index: Option<IdIndex>) -> Value<'t>
+    ensures { value_shown result ≡ optional_id index }
+{
     match index {
         Some(index) => Value::Hexadecimal(index.0),
         None => Value::Absent,
@@ -61,7 +80,9 @@ pub(crate) fn optional_id<'t>(index: Option<IdIndex>) -> Value<'t> {
 }
 
 /// A number that may be absent.
-pub(crate) fn optional_number<'t>(number: Option<u32>) -> Value<'t> {
+pub(crate) fn optional_number<'t>(number: Option<u32>) -> Value<'t>
+    ensures { value_shown result ≡ optional_number number }
+{
     match number {
         Some(number) => Value::Number(number as u64),
         None => Value::Absent,
@@ -69,7 +90,9 @@ pub(crate) fn optional_number<'t>(number: Option<u32>) -> Value<'t> {
 }
 
 /// A number that is left out if it is 0.
-pub(crate) fn nonzero<'t>(number: u8) -> Value<'t> {
+pub(crate) fn nonzero<'t>(number: u8) -> Value<'t>
+    ensures { value_shown result ≡ nonzero number }
+{
     if number == 0 {
         Value::Absent
     } else {
@@ -78,18 +101,21 @@ pub(crate) fn nonzero<'t>(number: u8) -> Value<'t> {
 }
 
 /// A word that may be absent.
-pub(crate) fn optional_word<'t>(word: Option<&'static str>) -> Value<'t> {
+pub(crate) fn optional_word<'t>(word: Option<&'static str>) -> Value<'t>
+    ensures { value_shown result ≡ optional_text (option_map (λ text. text.now) word.entry) }
+{
     match word {
         Some(word) => Value::Word(word),
         None => Value::Absent,
     }
 }
 
-/// A row of these fields.
-///
-/// # Errors
-/// `OutOfMemory` if memory is refused.
-pub(crate) fn row_of<'t, const N: usize>(alloc: Global, fields: [Field<'t>; N]) -> Result<Row<'t>> {
-    let fields = Vec::from_array(alloc, fields)?;
-    Ok(Row { fields })
+/// A name or another text that may be absent.
+pub(crate) fn optional_text<'t>(text: Option<RawString<'t>>) -> Value<'t>
+    ensures { value_shown result ≡ optional_text (option_map text_bytes text.entry) }
+{
+    match text {
+        Some(text) => Value::Text(text),
+        None => Value::Absent,
+    }
 }

@@ -2,31 +2,31 @@
 //! JSON are written, so that a field is named once.
 #![tactic(auto)]
 
-mod field_row;
+mod entry_rows;
 mod form;
-mod frame_row;
+mod frame_rows;
 mod head;
-mod id_row;
-mod leaf_name;
+mod id_rows;
+mod leaf_names;
 mod number;
-mod omap_row;
+mod omap_rows;
 mod push;
 mod row;
-mod section_row;
+mod section_rows;
 mod text;
-mod type_row;
+mod type_rows;
 mod words;
 
-pub use field_row::{field_row, method_row};
+pub use entry_rows::{field_row, method_row};
 pub use form::Form;
-pub use frame_row::frame_row;
-pub use id_row::id_row;
-pub use leaf_name::leaf_name;
-pub use omap_row::omap_row;
+pub use frame_rows::frame_row;
+pub use id_rows::id_row;
+pub use leaf_names::leaf_name;
+pub use omap_rows::omap_row;
 pub use push::{push_fields, push_row};
 pub use row::{Field, Row, Value};
-pub use section_row::section_row;
-pub use type_row::type_row;
+pub use section_rows::section_row;
+pub use type_rows::type_row;
 
 #[cfg(test)]
 mod tests {

@@ -1,14 +1,22 @@
 //! Rows as lines.
 
+ghost use Rattle.std.specs.Prelude.{◌≡◌, ◌++◌, if◌then◌else◌, [], map, codes, IfErr, OnOk};
+ghost use Rattle.pdb_rows.specs.Lines.{field_line, field_text, fields_text, full_text, index_text, is_leading, is_shown_value, kind_text, list_text, row_text, separator, value_text};
+ghost use Rattle.pdb_rows.specs.Row.{field_shown, row_shown, value_shown};
+ghost use Rattle.pdb_rows.specs.Text.{quoted};
+
 use crate::form::Form;
-use crate::leaf_name::leaf_name;
-use crate::number::{push_decimal, push_four_digits, push_hexadecimal, push_signed};
+use crate::leaf_names::leaf_name;
+use crate::number::{four_digits, push_decimal, push_hexadecimal, push_signed};
 use crate::row::{Field, Row, Value};
 use crate::text::{push_quoted, push_text};
-use pdb_base::Result;
+use pdb_base::{Error, Result};
 
 /// Adds a number that text shows in hexadecimal.
-fn push_index(form: Form, number: u32, out: &mut Vec<u8>) -> Result<()> {
+fn push_index(form: Form, number: u32, out: &mut Vec<u8>) -> Result<()>
+    ensures ok { OnOk result (out.new.items ≡ out.old.items ++ index_text form number) }
+    ensures want { IfErr result (λ e. e ≡ Error.OutOfMemory) }
+{
     match form {
         Form::Text => push_hexadecimal(number, out),
         Form::Json => push_decimal(number as u64, out),
@@ -16,68 +24,66 @@ fn push_index(form: Form, number: u32, out: &mut Vec<u8>) -> Result<()> {
 }
 
 /// Adds a leaf by its name, or in hexadecimal if it has none.
-fn push_kind(form: Form, leaf: u16, out: &mut Vec<u8>) -> Result<()> {
-    if let Some(name) = leaf_name(leaf) {
-        return push_quoted(form, name.as_bytes(), out);
+#[tactic(auto, unfolding(crate::specs::Lines::kind_text))]
+fn push_kind(form: Form, leaf: u16, out: &mut Vec<u8>) -> Result<()>
+    ensures ok { OnOk result (out.new.items ≡ out.old.items ++ quoted form (kind_text leaf)) }
+    ensures want { IfErr result (λ e. e ≡ Error.OutOfMemory) }
+{
+    match leaf_name(leaf) {
+        Some(name) => push_quoted(form, name.as_bytes(), out),
+        None => {
+            let [a, b, c, d] = four_digits(leaf);
+            push_quoted(form, &[b'0', b'x', a, b, c, d], out)
+        }
     }
-    if form == Form::Json {
-        out.push(b'"')?;
-    }
-    out.extend_from_slice(b"0x")?;
-    push_four_digits(leaf, out)?;
-    if form == Form::Json {
-        out.push(b'"')?;
-    }
-    Ok(())
 }
 
 /// Adds words as a list.
-fn push_words(form: Form, words: &[&'static str], out: &mut Vec<u8>) -> Result<()> {
+#[tactic(auto, unfolding(crate::specs::Lines::list_text), using(crate::proofs::Separated::one_more))]
+fn push_words(form: Form, words: &[&'static str], out: &mut Vec<u8>) -> Result<()>
+    ensures ok { OnOk result (out.new.items
+        ≡ out.old.items ++ list_text (quoted form) (map (λ word. word.now) words.now)) }
+    ensures want { IfErr result (λ e. e ≡ Error.OutOfMemory) }
+{
+    let Some((first, rest)) = words.split_first() else {
+        out.extend_from_slice(b"[]")?;
+        return Ok(());
+    };
     out.push(b'[')?;
-    let mut is_first = true;
-    for word in words {
-        if !is_first {
-            out.push(b',')?;
-        }
+    push_quoted(form, first.as_bytes(), out)?;
+    for word in rest {
+        out.push(b',')?;
         push_quoted(form, word.as_bytes(), out)?;
-        is_first = false;
-    }
-    out.push(b']')?;
-    Ok(())
-}
-
-/// Adds numbers as a list.
-fn push_numbers(numbers: &[u32], out: &mut Vec<u8>) -> Result<()> {
-    out.push(b'[')?;
-    let mut is_first = true;
-    for number in numbers {
-        if !is_first {
-            out.push(b',')?;
-        }
-        push_decimal(*number as u64, out)?;
-        is_first = false;
     }
     out.push(b']')?;
     Ok(())
 }
 
 /// Adds indexes as a list.
-fn push_indexes(form: Form, indexes: &[u32], out: &mut Vec<u8>) -> Result<()> {
+#[tactic(auto, unfolding(crate::specs::Lines::list_text), using(crate::proofs::Separated::one_more))]
+fn push_indexes(form: Form, indexes: &[u32], out: &mut Vec<u8>) -> Result<()>
+    ensures ok { OnOk result (out.new.items ≡ out.old.items ++ list_text (index_text form) indexes.now) }
+    ensures want { IfErr result (λ e. e ≡ Error.OutOfMemory) }
+{
+    let Some((first, rest)) = indexes.split_first() else {
+        out.extend_from_slice(b"[]")?;
+        return Ok(());
+    };
     out.push(b'[')?;
-    let mut is_first = true;
-    for index in indexes {
-        if !is_first {
-            out.push(b',')?;
-        }
+    push_index(form, *first, out)?;
+    for index in rest {
+        out.push(b',')?;
         push_index(form, *index, out)?;
-        is_first = false;
     }
     out.push(b']')?;
     Ok(())
 }
 
-/// Adds what a field holds.
-fn push_value(form: Form, value: &Value<'_>, out: &mut Vec<u8>) -> Result<()> {
+/// Adds what a field holds. Both forms show numbers as JSON shows indexes, in decimal.
+fn push_value(form: Form, value: &Value<'_>, out: &mut Vec<u8>) -> Result<()>
+    ensures ok { OnOk result (out.new.items ≡ out.old.items ++ value_text form (value_shown value.now)) }
+    ensures want { IfErr result (λ e. e ≡ Error.OutOfMemory) }
+{
     match value {
         Value::Number(number) => push_decimal(*number, out),
         Value::Signed(number) => push_signed(*number, out),
@@ -94,60 +100,88 @@ fn push_value(form: Form, value: &Value<'_>, out: &mut Vec<u8>) -> Result<()> {
         Value::Text(text) => push_quoted(form, text.as_bytes(), out),
         Value::Word(word) => push_quoted(form, word.as_bytes(), out),
         Value::Words(words) => push_words(form, words, out),
-        Value::Numbers(numbers) => push_numbers(numbers, out),
+        Value::Numbers(numbers) => push_indexes(Form::Json, numbers, out),
         Value::Indexes(indexes) => push_indexes(form, indexes, out),
         Value::Absent => Ok(()),
     }
 }
 
 /// Whether a form shows a field that holds this.
-fn is_shown(form: Form, value: &Value<'_>) -> bool {
+fn is_shown(form: Form, value: &Value<'_>) -> bool
+    ensures { result ≡ is_shown_value form (value_shown value.now) }
+{
     match value {
         Value::Absent => false,
-        Value::Words(words) => form == Form::Json || !words.is_empty(),
+        Value::Words(words) => match form {
+            Form::Text => !words.is_empty(),
+            Form::Json => true,
+        },
         _ => true,
     }
 }
 
 /// Whether a line of text shows a field of this name without the name.
-fn is_leading(name: &str) -> bool {
-    matches!(name, "index" | "number" | "kind" | "name")
+#[tactic(auto, unfolding(crate::specs::Lines::is_leading))]
+fn is_leading(name: &str) -> bool
+    ensures { result ≡ is_leading name.now }
+{
+    name == "index" || name == "number" || name == "kind" || name == "name"
 }
 
 /// Adds a field of a line.
-fn push_field(form: Form, field: &Field<'_>, out: &mut Vec<u8>) -> Result<()> {
+#[tactic(auto, unfolding(crate::specs::Lines::field_text))]
+fn push_field(form: Form, field: &Field<'_>, out: &mut Vec<u8>) -> Result<()>
+    ensures ok { OnOk result (out.new.items ≡ out.old.items ++ field_text form (field_shown field.now)) }
+    ensures want { IfErr result (λ e. e ≡ Error.OutOfMemory) }
+{
     match form {
+        Form::Text if is_leading(field.name) => push_value(form, &field.value, out),
         Form::Text => {
-            if !is_leading(field.name) {
-                push_text(form, field.name.as_bytes(), out)?;
-                out.push(b'=')?;
-            }
+            push_text(form, field.name.as_bytes(), out)?;
+            out.push(b'=')?;
+            push_value(form, &field.value, out)
         }
         Form::Json => {
             push_quoted(form, field.name.as_bytes(), out)?;
             out.push(b':')?;
+            push_value(form, &field.value, out)
         }
     }
-    push_value(form, &field.value, out)
 }
 
 /// What stands between the fields of a line.
-fn separator(form: Form) -> u8 {
+fn separator(form: Form) -> &'static [u8]
+    ensures { result.now ≡ separator form }
+{
     match form {
-        Form::Text => b' ',
-        Form::Json => b',',
+        Form::Text => b" ",
+        Form::Json => b",",
     }
 }
 
+/// Adds a field of a line, behind a separator if it isn't the first.
+fn push_next(form: Form, is_first: bool, field: &Field<'_>, out: &mut Vec<u8>) -> Result<()>
+    ensures ok { OnOk result (out.new.items
+        ≡ out.old.items ++ (if is_first then [] else separator form) ++ field_text form (field_shown field.now)) }
+    ensures want { IfErr result (λ e. e ≡ Error.OutOfMemory) }
+{
+    if is_first {
+        return push_field(form, field, out);
+    }
+    out.extend_from_slice(separator(form))?;
+    push_field(form, field, out)
+}
+
 /// Adds the fields of a line that are shown.
-fn push_joined(form: Form, fields: &[Field<'_>], out: &mut Vec<u8>) -> Result<()> {
+#[tactic(auto, unfolding(crate::specs::Lines::fields_text))]
+fn push_joined(form: Form, fields: &[Field<'_>], out: &mut Vec<u8>) -> Result<()>
+    ensures ok { OnOk result (out.new.items ≡ out.old.items ++ fields_text form (map field_shown fields.now)) }
+    ensures want { IfErr result (λ e. e ≡ Error.OutOfMemory) }
+{
     let mut is_first = true;
     for field in fields {
         if is_shown(form, &field.value) {
-            if !is_first {
-                out.push(separator(form))?;
-            }
-            push_field(form, field, out)?;
+            push_next(form, is_first, field, out)?;
             is_first = false;
         }
     }
@@ -162,16 +196,50 @@ fn push_joined(form: Form, fields: &[Field<'_>], out: &mut Vec<u8>) -> Result<()
 ///
 /// # Errors
 /// `OutOfMemory` if memory is refused. A part of the line may then stand in `out`.
-pub fn push_row(form: Form, row: &Row<'_>, out: &mut Vec<u8>) -> Result<()> {
+#[tactic(auto, unfolding(crate::specs::Lines::row_text))]
+pub fn push_row(form: Form, row: &Row<'_>, out: &mut Vec<u8>) -> Result<()>
+    ensures ok { OnOk result (out.new.items ≡ out.old.items ++ row_text form (row_shown row.now)) }
+    ensures want { IfErr result (λ e. e ≡ Error.OutOfMemory) }
+{
     match form {
-        Form::Text => push_joined(form, &row.fields, out)?,
+        Form::Text => {
+            push_joined(form, &row.fields, out)?;
+            out.push(b'\n')?;
+            Ok(())
+        }
         Form::Json => {
             out.push(b'{')?;
             push_joined(form, &row.fields, out)?;
-            out.push(b'}')?;
+            out.extend_from_slice(b"}\n")?;
+            Ok(())
         }
     }
+}
+
+/// Adds a field as a line of its own.
+#[tactic(auto, unfolding(crate::specs::Lines::field_line))]
+fn push_line(field: &Field<'_>, out: &mut Vec<u8>) -> Result<()>
+    ensures ok { OnOk result (out.new.items ≡ out.old.items ++ field_line (field_shown field.now)) }
+    ensures want { IfErr result (λ e. e ≡ Error.OutOfMemory) }
+{
+    push_text(Form::Text, field.name.as_bytes(), out)?;
+    out.extend_from_slice(b": ")?;
+    push_value(Form::Text, &field.value, out)?;
     out.push(b'\n')?;
+    Ok(())
+}
+
+/// Adds a line for each field that text shows.
+#[tactic(auto, unfolding(crate::specs::Lines::full_text))]
+fn push_lines(fields: &[Field<'_>], out: &mut Vec<u8>) -> Result<()>
+    ensures ok { OnOk result (out.new.items ≡ out.old.items ++ full_text Form.Text (map field_shown fields.now)) }
+    ensures want { IfErr result (λ e. e ≡ Error.OutOfMemory) }
+{
+    for field in fields {
+        if is_shown(Form::Text, &field.value) {
+            push_line(field, out)?;
+        }
+    }
     Ok(())
 }
 
@@ -179,17 +247,13 @@ pub fn push_row(form: Form, row: &Row<'_>, out: &mut Vec<u8>) -> Result<()> {
 ///
 /// # Errors
 /// `OutOfMemory` if memory is refused. A part of the lines may then stand in `out`.
-pub fn push_fields(form: Form, row: &Row<'_>, out: &mut Vec<u8>) -> Result<()> {
-    if form == Form::Json {
-        return push_row(form, row, out);
+#[tactic(auto, unfolding(crate::specs::Lines::full_text))]
+pub fn push_fields(form: Form, row: &Row<'_>, out: &mut Vec<u8>) -> Result<()>
+    ensures ok { OnOk result (out.new.items ≡ out.old.items ++ full_text form (row_shown row.now)) }
+    ensures want { IfErr result (λ e. e ≡ Error.OutOfMemory) }
+{
+    match form {
+        Form::Text => push_lines(&row.fields, out),
+        Form::Json => push_row(form, row, out),
     }
-    for field in &row.fields {
-        if is_shown(form, &field.value) {
-            push_text(form, field.name.as_bytes(), out)?;
-            out.extend_from_slice(b": ")?;
-            push_value(form, &field.value, out)?;
-            out.push(b'\n')?;
-        }
-    }
-    Ok(())
 }

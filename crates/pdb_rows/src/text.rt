@@ -1,45 +1,82 @@
 //! Text as it is written.
 
+ghost use Rattle.std.specs.Prelude.{◌≡◌, ◌<◌, ◌↔◌, ◌++◌, IfErr, IsTrue, OnOk};
+ghost use Rattle.std.specs.List.{list_all};
+ghost use Rattle.pdb_rows.specs.Text.{escape, is_escaped, is_plain, short_escape, quoted, shown_char, shown_text};
+
 use crate::form::Form;
-use crate::number::push_four_digits;
+use crate::number::four_digits;
 use bstr::{ByteSlice, ByteVec};
-use pdb_base::Result;
+use pdb_base::{Error, Result};
 
 /// Whether a byte is a character that stands for itself in every form.
-fn is_plain(byte: u8) -> bool {
+fn is_plain(byte: u8) -> bool
+    ensures { result ≡ is_plain byte }
+{
     matches!(byte, b' '..=b'~') && byte != b'"' && byte != b'\\'
+}
+
+/// Whether each byte is such a character.
+fn is_all_plain(text: &[u8]) -> bool
+    ensures { result ≡ list_all is_plain text.now }
+{
+    text.iter().all(|byte| is_plain(*byte))
 }
 
 /// Whether a form writes a character by an escape: text the control characters, and JSON those below
 /// U+0020, the quote and the backslash.
-fn is_escaped(form: Form, c: char) -> bool {
+fn is_escaped(form: Form, c: char) -> bool
+    ensures { result ≡ is_escaped form c }
+{
     match form {
-        Form::Text => matches!(c, '\u{0}'..='\u{1f}' | '\u{7f}'..='\u{9f}'),
-        Form::Json => matches!(c, '\u{0}'..='\u{1f}' | '"' | '\\'),
+        Form::Text => c < ' ' || ('\u{7f}' <= c && c < '\u{a0}'),
+        Form::Json => c < ' ' || c == '"' || c == '\\',
+    }
+}
+
+/// What stands behind the backslash of a short escape.
+fn short_escape(c: char) -> Option<u8>
+    ensures { result ≡ short_escape c }
+{
+    match c {
+        '"' => Some(b'"'),
+        '\\' => Some(b'\\'),
+        '\u{8}' => Some(b'b'),
+        '\t' => Some(b't'),
+        '\n' => Some(b'n'),
+        '\u{c}' => Some(b'f'),
+        '\r' => Some(b'r'),
+        _ => None,
     }
 }
 
 /// Adds the escape of a character below U+0100, as JSON has it.
-fn push_escape(c: char, out: &mut Vec<u8>) -> Result<()> {
-    let escape: &[u8] = match c {
-        '"' => b"\\\"",
-        '\\' => b"\\\\",
-        '\u{8}' => b"\\b",
-        '\t' => b"\\t",
-        '\n' => b"\\n",
-        '\u{c}' => b"\\f",
-        '\r' => b"\\r",
-        _ => {
-            out.extend_from_slice(b"\\u")?;
-            return push_four_digits(c as u16, out);
+#[tactic(auto, unfolding(crate::specs::Text::escape))]
+fn push_escape(c: char, out: &mut Vec<u8>) -> Result<()>
+    requires { c < 256 }
+    ensures ok { OnOk result (out.new.items ≡ out.old.items ++ escape c) }
+    ensures want { IfErr result (λ e. e ≡ Error.OutOfMemory) }
+{
+    out.push(b'\\')?;
+    match short_escape(c) {
+        Some(letter) => {
+            out.push(letter)?;
+            Ok(())
         }
-    };
-    out.extend_from_slice(escape)?;
-    Ok(())
+        None => {
+            out.push(b'u')?;
+            out.extend_from_slice(&four_digits(c as u16))?;
+            Ok(())
+        }
+    }
 }
 
 /// Adds a character.
-fn push_char(form: Form, c: char, out: &mut Vec<u8>) -> Result<()> {
+#[tactic(auto, unfolding(crate::specs::Text::shown_char))]
+fn push_char(form: Form, c: char, out: &mut Vec<u8>) -> Result<()>
+    ensures ok { OnOk result (out.new.items ≡ out.old.items ++ shown_char form c) }
+    ensures want { IfErr result (λ e. e ≡ Error.OutOfMemory) }
+{
     if is_escaped(form, c) {
         push_escape(c, out)
     } else {
@@ -50,8 +87,12 @@ fn push_char(form: Form, c: char, out: &mut Vec<u8>) -> Result<()> {
 
 /// Adds a text, with U+FFFD for each run of bytes that is no character, and with escapes for the
 /// characters that the form doesn't write as they are.
-pub(crate) fn push_text(form: Form, text: &[u8], out: &mut Vec<u8>) -> Result<()> {
-    if text.iter().all(|byte| is_plain(*byte)) {
+#[tactic(auto, using(crate::proofs::PlainText::plain_text, std::proofs::lemmas::List::flat_map_more), unfolding(crate::specs::Text::shown_text))]
+pub(crate) fn push_text(form: Form, text: &[u8], out: &mut Vec<u8>) -> Result<()>
+    ensures ok { OnOk result (out.new.items ≡ out.old.items ++ shown_text form text.now) }
+    ensures want { IfErr result (λ e. e ≡ Error.OutOfMemory) }
+{
+    if is_all_plain(text) {
         out.extend_from_slice(text)?;
         return Ok(());
     }
@@ -62,7 +103,11 @@ pub(crate) fn push_text(form: Form, text: &[u8], out: &mut Vec<u8>) -> Result<()
 }
 
 /// Adds a text, in quotes in JSON.
-pub(crate) fn push_quoted(form: Form, text: &[u8], out: &mut Vec<u8>) -> Result<()> {
+#[tactic(auto, unfolding(crate::specs::Text::quoted))]
+pub(crate) fn push_quoted(form: Form, text: &[u8], out: &mut Vec<u8>) -> Result<()>
+    ensures ok { OnOk result (out.new.items ≡ out.old.items ++ quoted form text.now) }
+    ensures want { IfErr result (λ e. e ≡ Error.OutOfMemory) }
+{
     match form {
         Form::Text => push_text(form, text, out),
         Form::Json => {

@@ -1,13 +1,20 @@
 //! The words of the flags that are set.
 
-use pdb_base::Result;
+ghost use Rattle.std.specs.Prelude.{◌≡◌, map, IfErr, IfOk};
+ghost use Rattle.pdb_rows.specs.Words.{chosen};
+
+use pdb_base::{Error, Result};
 use std::alloc::Global;
 
 /// The words that stand beside true, in their order.
 ///
 /// # Errors
 /// `OutOfMemory` if memory is refused, which is asked for only if a word is chosen.
-pub(crate) fn chosen(alloc: Global, flags: &[(bool, &'static str)]) -> Result<Vec<&'static str>> {
+#[tactic(auto, using(crate::proofs::WordLemmas::chosen_more), unfolding(crate::specs::Words::chosen))]
+pub(crate) fn chosen(alloc: Global, flags: &[(bool, &'static str)]) -> Result<Vec<&'static str>>
+    ensures ok { IfOk result (λ words. map (λ name. name.now) words.items ≡ chosen (map (λ flag. (flag.0, flag.1.now)) flags.now)) }
+    ensures want { IfErr result (λ e. e ≡ Error.OutOfMemory) }
+{
     let mut words = Vec::new(alloc);
     for (is_set, word) in flags {
         if *is_set {

@@ -1,12 +1,19 @@
 //! Attributes of a member in words.
 
+ghost use Rattle.std.specs.Prelude.{◌≡◌, map, IfErr, IfOk};
+ghost use Rattle.std.specs.Option.{option_map};
+ghost use Rattle.pdb_rows.specs.Words.{access_word, field_words};
+
 use crate::words::chosen::chosen;
-use pdb_base::Result;
+use pdb_base::{Error, Result};
 use pdb_flags::FieldAttributes;
 use std::alloc::Global;
 
 /// Who may reach a member: `private`, `protected` or `public`, or None if nothing is said.
-pub(crate) fn access_word(word: FieldAttributes) -> Option<&'static str> {
+#[tactic(auto, unfolding(crate::specs::Words::access_word))]
+pub(crate) fn access_word(word: FieldAttributes) -> Option<&'static str>
+    ensures { option_map (λ name. name.now) result ≡ access_word word }
+{
     match word.access() {
         1 => Some("private"),
         2 => Some("protected"),
@@ -16,8 +23,12 @@ pub(crate) fn access_word(word: FieldAttributes) -> Option<&'static str> {
 }
 
 /// The attributes that a member has.
-pub(crate) fn field_words(alloc: Global, word: FieldAttributes) -> Result<Vec<&'static str>> {
-    chosen(
+#[tactic(auto, unfolding(crate::specs::Words::field_words))]
+pub(crate) fn field_words(alloc: Global, word: FieldAttributes) -> Result<Vec<&'static str>>
+    ensures ok { IfOk result (λ words. map (λ name. name.now) words.items ≡ field_words word) }
+    ensures want { IfErr result (λ e. e ≡ Error.OutOfMemory) }
+{
+    let words = chosen(
         alloc,
         &[
             (word.is_virtual(), "is_virtual"),
@@ -25,5 +36,6 @@ pub(crate) fn field_words(alloc: Global, word: FieldAttributes) -> Result<Vec<&'
             (word.is_pure_virtual(), "is_pure_virtual"),
             (word.is_intro_virtual(), "is_intro_virtual"),
         ],
-    )
+    )?;
+    Ok(words)
 }

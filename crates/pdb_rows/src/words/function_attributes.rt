@@ -1,13 +1,20 @@
 //! Attributes of a function in words.
 
+ghost use Rattle.std.specs.Prelude.{◌≡◌, map, IfErr, IfOk};
+ghost use Rattle.pdb_rows.specs.Words.{function_words};
+
 use crate::words::chosen::chosen;
-use pdb_base::Result;
+use pdb_base::{Error, Result};
 use pdb_flags::FunctionAttributes;
 use std::alloc::Global;
 
 /// The attributes that a function has.
-pub(crate) fn function_words(alloc: Global, word: FunctionAttributes) -> Result<Vec<&'static str>> {
-    chosen(
+#[tactic(auto, unfolding(crate::specs::Words::function_words))]
+pub(crate) fn function_words(alloc: Global, word: FunctionAttributes) -> Result<Vec<&'static str>>
+    ensures ok { IfOk result (λ words. map (λ name. name.now) words.items ≡ function_words word) }
+    ensures want { IfErr result (λ e. e ≡ Error.OutOfMemory) }
+{
+    let words = chosen(
         alloc,
         &[
             (word.cxx_return_udt(), "cxx_return_udt"),
@@ -17,5 +24,6 @@ pub(crate) fn function_words(alloc: Global, word: FunctionAttributes) -> Result<
                 "is_constructor_with_virtual_bases",
             ),
         ],
-    )
+    )?;
+    Ok(words)
 }

@@ -1,18 +1,26 @@
 //! Modifiers in words.
 
+ghost use Rattle.std.specs.Prelude.{◌≡◌, map, IfErr, IfOk};
+ghost use Rattle.pdb_rows.specs.Words.{modifier_words};
+
 use crate::words::chosen::chosen;
-use pdb_base::Result;
+use pdb_base::{Error, Result};
 use pdb_values::ModifierType;
 use std::alloc::Global;
 
 /// The modifiers that a type has.
-pub(crate) fn modifier_words(alloc: Global, modifier: ModifierType) -> Result<Vec<&'static str>> {
-    chosen(
+#[tactic(auto, unfolding(crate::specs::Words::modifier_words))]
+pub(crate) fn modifier_words(alloc: Global, modifier: ModifierType) -> Result<Vec<&'static str>>
+    ensures ok { IfOk result (λ words. map (λ name. name.now) words.items ≡ modifier_words modifier) }
+    ensures want { IfErr result (λ e. e ≡ Error.OutOfMemory) }
+{
+    let words = chosen(
         alloc,
         &[
             (modifier.constant, "constant"),
             (modifier.volatile, "volatile"),
             (modifier.unaligned, "unaligned"),
         ],
-    )
+    )?;
+    Ok(words)
 }

@@ -1,12 +1,19 @@
 //! Attributes of a pointer in words.
 
+ghost use Rattle.std.specs.Prelude.{◌≡◌, map, IfErr, IfOk};
+ghost use Rattle.pdb_flags.specs.PointerNumbers.{kind_number, mode_number};
+ghost use Rattle.pdb_rows.specs.Words.{kind_word, mode_word, pointer_words};
+
 use crate::words::chosen::chosen;
-use pdb_base::Result;
+use pdb_base::{Error, Result};
 use pdb_flags::{PointerAttributes, PointerKind, PointerMode};
 use std::alloc::Global;
 
 /// The name of a pointer's kind.
-pub(crate) fn kind_word(kind: PointerKind) -> &'static str {
+#[tactic(auto, unfolding(crate::specs::Words::kind_word))]
+pub(crate) fn kind_word(kind: PointerKind) -> &'static str
+    ensures { result.now ≡ kind_word (kind_number kind) }
+{
     match kind {
         PointerKind::Near16 => "Near16",
         PointerKind::Far16 => "Far16",
@@ -25,7 +32,10 @@ pub(crate) fn kind_word(kind: PointerKind) -> &'static str {
 }
 
 /// The name of a pointer's mode.
-pub(crate) fn mode_word(mode: PointerMode) -> &'static str {
+#[tactic(auto, unfolding(crate::specs::Words::mode_word))]
+pub(crate) fn mode_word(mode: PointerMode) -> &'static str
+    ensures { result.now ≡ mode_word (mode_number mode) }
+{
     match mode {
         PointerMode::Pointer => "Pointer",
         PointerMode::LValueReference => "LValueReference",
@@ -36,8 +46,12 @@ pub(crate) fn mode_word(mode: PointerMode) -> &'static str {
 }
 
 /// The attributes that a pointer has.
-pub(crate) fn pointer_words(alloc: Global, word: PointerAttributes) -> Result<Vec<&'static str>> {
-    chosen(
+#[tactic(auto, unfolding(crate::specs::Words::pointer_words))]
+pub(crate) fn pointer_words(alloc: Global, word: PointerAttributes) -> Result<Vec<&'static str>>
+    ensures ok { IfOk result (λ words. map (λ name. name.now) words.items ≡ pointer_words word) }
+    ensures want { IfErr result (λ e. e ≡ Error.OutOfMemory) }
+{
+    let words = chosen(
         alloc,
         &[
             (word.is_flat_32(), "is_flat_32"),
@@ -47,5 +61,6 @@ pub(crate) fn pointer_words(alloc: Global, word: PointerAttributes) -> Result<Ve
             (word.is_restrict(), "is_restrict"),
             (word.is_mocom(), "is_mocom"),
         ],
-    )
+    )?;
+    Ok(words)
 }

@@ -1,9 +1,14 @@
 //! Primitive types in words.
 
+ghost use Rattle.std.specs.Prelude.{◌≡◌};
+ghost use Rattle.pdb_rows.specs.Words.{indirection_word, primitive_word};
+
 use pdb_values::{Indirection, PrimitiveKind};
 
 /// The name of a primitive type.
-pub(crate) fn primitive_word(kind: PrimitiveKind) -> &'static str {
+pub(crate) fn primitive_word(kind: PrimitiveKind) -> &'static str
+    ensures { result.now ≡ primitive_word kind }
+{
     match kind {
         PrimitiveKind::NoType => "NoType",
         PrimitiveKind::Void => "Void",
@@ -51,7 +56,9 @@ pub(crate) fn primitive_word(kind: PrimitiveKind) -> &'static str {
 }
 
 /// The name of the pointer to a primitive type.
-pub(crate) fn indirection_word(pointer: Indirection) -> &'static str {
+pub(crate) fn indirection_word(pointer: Indirection) -> &'static str
+    ensures { result.now ≡ indirection_word pointer }
+{
     match pointer {
         Indirection::Near16 => "Near16",
         Indirection::Far16 => "Far16",

@@ -1,16 +1,23 @@
 //! The flags of a section in words.
 
+ghost use Rattle.std.specs.Prelude.{◌≡◌, map, IfErr, IfOk};
+ghost use Rattle.pdb_rows.specs.Words.{section_words};
+
 use crate::words::chosen::chosen;
-use pdb_base::Result;
+use pdb_base::{Error, Result};
 use pdb_space::SectionCharacteristics;
 use std::alloc::Global;
 
 /// The flags that a section has.
+#[tactic(auto, unfolding(crate::specs::Words::section_words))]
 pub(crate) fn section_words(
     alloc: Global,
     flags: SectionCharacteristics,
-) -> Result<Vec<&'static str>> {
-    chosen(
+) -> Result<Vec<&'static str>>
+    ensures ok { IfOk result (λ words. map (λ name. name.now) words.items ≡ section_words flags.0) }
+    ensures want { IfErr result (λ e. e ≡ Error.OutOfMemory) }
+{
+    let words = chosen(
         alloc,
         &[
             (flags.executable(), "executable"),
@@ -37,5 +44,6 @@ pub(crate) fn section_words(
             (flags.read(), "read"),
             (flags.write(), "write"),
         ],
-    )
+    )?;
+    Ok(words)
 }

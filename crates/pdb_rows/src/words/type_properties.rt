@@ -1,13 +1,20 @@
 //! Properties of a type in words.
 
+ghost use Rattle.std.specs.Prelude.{◌≡◌, map, IfErr, IfOk};
+ghost use Rattle.pdb_rows.specs.Words.{property_words};
+
 use crate::words::chosen::chosen;
-use pdb_base::Result;
+use pdb_base::{Error, Result};
 use pdb_flags::TypeProperties;
 use std::alloc::Global;
 
 /// The properties that a type has.
-pub(crate) fn property_words(alloc: Global, word: TypeProperties) -> Result<Vec<&'static str>> {
-    chosen(
+#[tactic(auto, unfolding(crate::specs::Words::property_words))]
+pub(crate) fn property_words(alloc: Global, word: TypeProperties) -> Result<Vec<&'static str>>
+    ensures ok { IfOk result (λ words. map (λ name. name.now) words.items ≡ property_words word) }
+    ensures want { IfErr result (λ e. e ≡ Error.OutOfMemory) }
+{
+    let words = chosen(
         alloc,
         &[
             (word.packed(), "packed"),
@@ -23,5 +30,6 @@ pub(crate) fn property_words(alloc: Global, word: TypeProperties) -> Result<Vec<
             (word.sealed(), "sealed"),
             (word.intrinsic_type(), "intrinsic_type"),
         ],
-    )
+    )?;
+    Ok(words)
 }

@@ -1,6 +1,6 @@
 //! Ids as rows.
 
-use crate::head::{Head, field, optional_id, row_of, type_index};
+use crate::head::{Head, field, optional_id, type_index};
 use crate::row::{Row, Value};
 use pdb_base::Result;
 use pdb_values::{
@@ -11,16 +11,14 @@ use std::alloc::Global;
 
 /// The row of a function.
 fn function_row<'t>(alloc: Global, head: Head, id: &FunctionId<'t>) -> Result<Row<'t>> {
-    row_of(
-        alloc,
-        [
-            head.index(),
-            head.kind(),
-            field("name", Value::Text(id.name)),
-            field("scope", optional_id(id.scope)),
-            field("function_type", type_index(id.function_type)),
-        ],
-    )
+    let fields = vec![in alloc;
+        head.index(),
+        head.kind(),
+        field("name", Value::Text(id.name)),
+        field("scope", optional_id(id.scope)),
+        field("function_type", type_index(id.function_type)),
+    ]?;
+    Ok(Row { fields })
 }
 
 /// The row of a method.
@@ -29,16 +27,14 @@ fn member_function_row<'t>(
     head: Head,
     id: &MemberFunctionId<'t>,
 ) -> Result<Row<'t>> {
-    row_of(
-        alloc,
-        [
-            head.index(),
-            head.kind(),
-            field("name", Value::Text(id.name)),
-            field("parent", type_index(id.parent)),
-            field("function_type", type_index(id.function_type)),
-        ],
-    )
+    let fields = vec![in alloc;
+        head.index(),
+        head.kind(),
+        field("name", Value::Text(id.name)),
+        field("parent", type_index(id.parent)),
+        field("function_type", type_index(id.function_type)),
+    ]?;
+    Ok(Row { fields })
 }
 
 /// The row of what a module was built with.
@@ -47,14 +43,12 @@ fn build_info_row<'t>(alloc: Global, head: Head, id: &BuildInfoId) -> Result<Row
     for index in &id.arguments {
         arguments.push(index.0)?;
     }
-    row_of(
-        alloc,
-        [
-            head.index(),
-            head.kind(),
-            field("arguments", Value::Indexes(arguments)),
-        ],
-    )
+    let fields = vec![in alloc;
+        head.index(),
+        head.kind(),
+        field("arguments", Value::Indexes(arguments)),
+    ]?;
+    Ok(Row { fields })
 }
 
 /// The row of the parts of a text.
@@ -63,27 +57,23 @@ fn string_list_row<'t>(alloc: Global, head: Head, id: &StringListId) -> Result<R
     for index in &id.substrings {
         substrings.push(index.0)?;
     }
-    row_of(
-        alloc,
-        [
-            head.index(),
-            head.kind(),
-            field("substrings", Value::Indexes(substrings)),
-        ],
-    )
+    let fields = vec![in alloc;
+        head.index(),
+        head.kind(),
+        field("substrings", Value::Indexes(substrings)),
+    ]?;
+    Ok(Row { fields })
 }
 
 /// The row of a text.
 fn string_row<'t>(alloc: Global, head: Head, id: &StringId<'t>) -> Result<Row<'t>> {
-    row_of(
-        alloc,
-        [
-            head.index(),
-            head.kind(),
-            field("name", Value::Text(id.name)),
-            field("substrings", optional_id(id.substrings)),
-        ],
-    )
+    let fields = vec![in alloc;
+        head.index(),
+        head.kind(),
+        field("name", Value::Text(id.name)),
+        field("substrings", optional_id(id.substrings)),
+    ]?;
+    Ok(Row { fields })
 }
 
 /// The number of the module whose file it is, if the file is named in the string table.
@@ -104,17 +94,15 @@ fn source_file<'t>(file: UserDefinedTypeSourceFileRef) -> Value<'t> {
 
 /// The row of where a type is declared.
 fn source_row<'t>(alloc: Global, head: Head, id: &UserDefinedTypeSourceId) -> Result<Row<'t>> {
-    row_of(
-        alloc,
-        [
-            head.index(),
-            head.kind(),
-            field("udt", type_index(id.udt)),
-            field("source_file", source_file(id.source_file)),
-            field("module", module(id.source_file)),
-            field("line", Value::Number(id.line as u64)),
-        ],
-    )
+    let fields = vec![in alloc;
+        head.index(),
+        head.kind(),
+        field("udt", type_index(id.udt)),
+        field("source_file", source_file(id.source_file)),
+        field("module", module(id.source_file)),
+        field("line", Value::Number(id.line as u64)),
+    ]?;
+    Ok(Row { fields })
 }
 
 /// The row of the id of this index, whose record has this leaf.

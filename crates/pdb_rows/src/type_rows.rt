@@ -1,5 +1,11 @@
 //! Types as rows.
 
+ghost use Rattle.std.specs.Prelude.{◌≡◌, IfErr, IfOk};
+ghost use Rattle.pdb_values.specs.TypeView.{type_value};
+ghost use Rattle.pdb_rows.specs.Fields.{headed};
+ghost use Rattle.pdb_rows.specs.Row.{row_shown};
+ghost use Rattle.pdb_rows.specs.TypeRows.{type_fields, type_row};
+
 mod base_class;
 mod class;
 mod enumeration;
@@ -12,24 +18,27 @@ mod primitive;
 
 use crate::head::Head;
 use crate::row::Row;
-use crate::type_row::base_class::{base_class_row, table_pointer_row, virtual_base_row};
-use crate::type_row::class::{class_row, union_row};
-use crate::type_row::enumeration::{enumerate_row, enumeration_row};
-use crate::type_row::function::{member_function_row, procedure_row};
-use crate::type_row::list::{
+use crate::type_rows::base_class::{base_class_row, table_pointer_row, virtual_base_row};
+use crate::type_rows::class::{class_row, union_row};
+use crate::type_rows::enumeration::{enumerate_row, enumeration_row};
+use crate::type_rows::function::{member_function_row, procedure_row};
+use crate::type_rows::list::{
     argument_list_row, array_row, field_list_row, method_list_row, table_shape_row,
 };
-use crate::type_row::member::{member_row, nested_row, static_member_row};
-pub(crate) use crate::type_row::method::listed_method_row;
-use crate::type_row::method::{method_row, overloaded_method_row};
-use crate::type_row::pointer::{bitfield_row, modifier_row, pointer_row};
-use crate::type_row::primitive::primitive_row;
-use pdb_base::Result;
+use crate::type_rows::member::{member_row, nested_row, static_member_row};
+pub(crate) use crate::type_rows::method::listed_method_row;
+use crate::type_rows::method::{method_row, overloaded_method_row};
+use crate::type_rows::pointer::{bitfield_row, modifier_row, pointer_row};
+use crate::type_rows::primitive::primitive_row;
+use pdb_base::{Error, Result};
 use pdb_values::TypeData;
 use std::alloc::Global;
 
 /// The row of a type, behind what it begins with.
-pub(crate) fn headed_row<'t>(alloc: Global, head: Head, data: &TypeData<'t>) -> Result<Row<'t>> {
+pub(crate) fn headed_row<'t>(alloc: Global, head: Head, data: &TypeData<'t>) -> Result<Row<'t>>
+    ensures ok { IfOk result (λ row. row_shown row ≡ headed head.index head.leaf (type_fields (type_value «data».now))) }
+    ensures want { IfErr result (λ e. e ≡ Error.OutOfMemory) }
+{
     match data {
         TypeData::Primitive(primitive) => primitive_row(alloc, head, *primitive),
         TypeData::Class(class) => class_row(alloc, head, class),
@@ -61,7 +70,11 @@ pub(crate) fn headed_row<'t>(alloc: Global, head: Head, data: &TypeData<'t>) -> 
 ///
 /// # Errors
 /// `OutOfMemory` if memory is refused.
-pub fn type_row<'t>(alloc: Global, index: u32, leaf: u16, data: &TypeData<'t>) -> Result<Row<'t>> {
+#[tactic(auto, unfolding(crate::specs::TypeRows::type_row))]
+pub fn type_row<'t>(alloc: Global, index: u32, leaf: u16, data: &TypeData<'t>) -> Result<Row<'t>>
+    ensures ok { IfOk result (λ row. row_shown row ≡ type_row index leaf (type_value «data».now)) }
+    ensures want { IfErr result (λ e. e ≡ Error.OutOfMemory) }
+{
     let index = Some(index);
     headed_row(alloc, Head { index, leaf }, data)
 }

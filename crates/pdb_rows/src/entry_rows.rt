@@ -2,7 +2,7 @@
 
 use crate::head::Head;
 use crate::row::Row;
-use crate::type_row::{headed_row, listed_method_row};
+use crate::type_rows::{headed_row, listed_method_row};
 use pdb_base::Result;
 use pdb_records::constants::{
     LF_ARGLIST, LF_ARRAY, LF_BCLASS, LF_BINTERFACE, LF_BITFIELD, LF_CLASS, LF_ENUM, LF_ENUMERATE,

@@ -1,5 +1,9 @@
 //! The names of leaves.
 
+ghost use Rattle.std.specs.Prelude.{◌≡◌};
+ghost use Rattle.std.specs.Option.{option_map};
+ghost use Rattle.pdb_rows.specs.LeafNames.{type_leaf_text, symbol_type_leaf_text, list_leaf_text, entry_leaf_text, id_leaf_text, first_type_leaf_text, first_list_leaf_text, first_entry_leaf_text, leaf_text};
+
 use pdb_records::constants::LF_ALIAS;
 use pdb_records::constants::LF_ALIAS_ST;
 use pdb_records::constants::LF_ARGLIST;
@@ -132,7 +136,10 @@ use pdb_records::constants::LF_VFUNCTAB_16t;
 use pdb_records::constants::LF_VTSHAPE;
 
 /// The name of a leaf among those of types and entries whose names end at a NUL.
-fn type_leaf(leaf: u16) -> Option<&'static str> {
+#[tactic(auto, unfolding(crate::specs::LeafNames::type_leaf_text))]
+fn type_leaf(leaf: u16) -> Option<&'static str>
+    ensures { option_map (λ name. name.now) result ≡ type_leaf_text leaf }
+{
     match leaf {
         LF_TYPESERVER => Some("LF_TYPESERVER"),
         LF_ENUMERATE => Some("LF_ENUMERATE"),
@@ -168,7 +175,10 @@ fn type_leaf(leaf: u16) -> Option<&'static str> {
 }
 
 /// The name of a leaf among those of types that symbols refer to, with indexes of 32 bits.
-fn symbol_type_leaf(leaf: u16) -> Option<&'static str> {
+#[tactic(auto, unfolding(crate::specs::LeafNames::symbol_type_leaf_text))]
+fn symbol_type_leaf(leaf: u16) -> Option<&'static str>
+    ensures { option_map (λ name. name.now) result ≡ symbol_type_leaf_text leaf }
+{
     match leaf {
         LF_MODIFIER => Some("LF_MODIFIER"),
         LF_POINTER => Some("LF_POINTER"),
@@ -192,7 +202,10 @@ fn symbol_type_leaf(leaf: u16) -> Option<&'static str> {
 }
 
 /// The name of a leaf among those of types that other types alone refer to, with indexes of 32 bits.
-fn list_leaf(leaf: u16) -> Option<&'static str> {
+#[tactic(auto, unfolding(crate::specs::LeafNames::list_leaf_text))]
+fn list_leaf(leaf: u16) -> Option<&'static str>
+    ensures { option_map (λ name. name.now) result ≡ list_leaf_text leaf }
+{
     match leaf {
         LF_SKIP => Some("LF_SKIP"),
         LF_ARGLIST => Some("LF_ARGLIST"),
@@ -210,7 +223,10 @@ fn list_leaf(leaf: u16) -> Option<&'static str> {
 }
 
 /// The name of a leaf among those of entries of a field list, with indexes of 32 bits.
-fn entry_leaf(leaf: u16) -> Option<&'static str> {
+#[tactic(auto, unfolding(crate::specs::LeafNames::entry_leaf_text))]
+fn entry_leaf(leaf: u16) -> Option<&'static str>
+    ensures { option_map (λ name. name.now) result ≡ entry_leaf_text leaf }
+{
     match leaf {
         LF_BCLASS => Some("LF_BCLASS"),
         LF_VBCLASS => Some("LF_VBCLASS"),
@@ -233,7 +249,10 @@ fn entry_leaf(leaf: u16) -> Option<&'static str> {
 }
 
 /// The name of a leaf among those of ids, and of a later leaf of a type.
-fn id_leaf(leaf: u16) -> Option<&'static str> {
+#[tactic(auto, unfolding(crate::specs::LeafNames::id_leaf_text))]
+fn id_leaf(leaf: u16) -> Option<&'static str>
+    ensures { option_map (λ name. name.now) result ≡ id_leaf_text leaf }
+{
     match leaf {
         LF_FUNC_ID => Some("LF_FUNC_ID"),
         LF_MFUNC_ID => Some("LF_MFUNC_ID"),
@@ -248,7 +267,10 @@ fn id_leaf(leaf: u16) -> Option<&'static str> {
 }
 
 /// The name of a leaf among those of types that symbols refer to, as they first were.
-fn first_type_leaf(leaf: u16) -> Option<&'static str> {
+#[tactic(auto, unfolding(crate::specs::LeafNames::first_type_leaf_text))]
+fn first_type_leaf(leaf: u16) -> Option<&'static str>
+    ensures { option_map (λ name. name.now) result ≡ first_type_leaf_text leaf }
+{
     match leaf {
         LF_MODIFIER_16t => Some("LF_MODIFIER_16t"),
         LF_POINTER_16t => Some("LF_POINTER_16t"),
@@ -277,7 +299,10 @@ fn first_type_leaf(leaf: u16) -> Option<&'static str> {
 }
 
 /// The name of a leaf among those of types that other types alone refer to, as they first were.
-fn first_list_leaf(leaf: u16) -> Option<&'static str> {
+#[tactic(auto, unfolding(crate::specs::LeafNames::first_list_leaf_text))]
+fn first_list_leaf(leaf: u16) -> Option<&'static str>
+    ensures { option_map (λ name. name.now) result ≡ first_list_leaf_text leaf }
+{
     match leaf {
         LF_SKIP_16t => Some("LF_SKIP_16t"),
         LF_ARGLIST_16t => Some("LF_ARGLIST_16t"),
@@ -297,7 +322,10 @@ fn first_list_leaf(leaf: u16) -> Option<&'static str> {
 }
 
 /// The name of a leaf among those of entries of a field list, as they first were.
-fn first_entry_leaf(leaf: u16) -> Option<&'static str> {
+#[tactic(auto, unfolding(crate::specs::LeafNames::first_entry_leaf_text))]
+fn first_entry_leaf(leaf: u16) -> Option<&'static str>
+    ensures { option_map (λ name. name.now) result ≡ first_entry_leaf_text leaf }
+{
     match leaf {
         LF_BCLASS_16t => Some("LF_BCLASS_16t"),
         LF_VBCLASS_16t => Some("LF_VBCLASS_16t"),
@@ -318,16 +346,30 @@ fn first_entry_leaf(leaf: u16) -> Option<&'static str> {
 }
 
 /// The name of a leaf, as `LF_STRUCTURE`, or None if Microsoft's cvinfo.h has no record of this number.
-pub fn leaf_name(leaf: u16) -> Option<&'static str> {
-    match leaf >> 8 {
-        0x15 => type_leaf(leaf),
-        0x10 => symbol_type_leaf(leaf),
-        0x12 => list_leaf(leaf),
-        0x14 => entry_leaf(leaf),
-        0x16 => id_leaf(leaf),
-        0x00 => first_type_leaf(leaf),
-        0x02 => first_list_leaf(leaf),
-        0x04 => first_entry_leaf(leaf),
-        _ => None,
+#[tactic(auto, unfolding(crate::specs::LeafNames::leaf_text))]
+pub fn leaf_name(leaf: u16) -> Option<&'static str>
+    ensures { option_map (λ name. name.now) result ≡ leaf_text leaf }
+{
+    if let Some(name) = type_leaf(leaf) {
+        return Some(name);
     }
+    if let Some(name) = symbol_type_leaf(leaf) {
+        return Some(name);
+    }
+    if let Some(name) = list_leaf(leaf) {
+        return Some(name);
+    }
+    if let Some(name) = entry_leaf(leaf) {
+        return Some(name);
+    }
+    if let Some(name) = id_leaf(leaf) {
+        return Some(name);
+    }
+    if let Some(name) = first_type_leaf(leaf) {
+        return Some(name);
+    }
+    if let Some(name) = first_list_leaf(leaf) {
+        return Some(name);
+    }
+    first_entry_leaf(leaf)
 }

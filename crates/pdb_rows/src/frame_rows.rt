@@ -1,0 +1,54 @@
+//! Frames as rows.
+
+use crate::head::{field, optional_number};
+use crate::row::{Row, Value};
+use pdb_base::Result;
+use pdb_frames::{FrameData, FrameType};
+use pdb_space::StringRef;
+use std::alloc::Global;
+
+/// The name of a kind of frame, as it is printed.
+fn frame_word(kind: FrameType) -> &'static str {
+    match kind {
+        FrameType::FPO => "fpo",
+        FrameType::Trap => "trap",
+        FrameType::TSS => "tss",
+        FrameType::Standard => "std",
+        FrameType::FrameData => "fdata",
+        FrameType::Unknown => "unknown",
+    }
+}
+
+/// The place of a frame's program in the string table, if it has one.
+fn program<'t>(place: Option<StringRef>) -> Value<'t> {
+    match place {
+        Some(place) => Value::Hexadecimal(place.0),
+        None => Value::Absent,
+    }
+}
+
+/// The row of a frame.
+///
+/// # Errors
+/// `OutOfMemory` if memory is refused.
+pub fn frame_row<'t>(alloc: Global, frame: &FrameData) -> Result<Row<'t>> {
+    let fields = vec![in alloc;
+        field("code_start", Value::Hexadecimal(frame.code_start.0)),
+        field("code_size", Value::Number(frame.code_size as u64)),
+        field("locals_size", Value::Number(frame.locals_size as u64)),
+        field("params_size", Value::Number(frame.params_size as u64)),
+        field("prolog_size", Value::Number(frame.prolog_size as u64)),
+        field(
+            "saved_regs_size",
+            Value::Number(frame.saved_regs_size as u64),
+        ),
+        field("max_stack_size", optional_number(frame.max_stack_size)),
+        field("ty", Value::Word(frame_word(frame.ty))),
+        field("has_structured_eh", Value::Flag(frame.has_structured_eh)),
+        field("has_cpp_eh", Value::Flag(frame.has_cpp_eh)),
+        field("is_function_start", Value::Flag(frame.is_function_start)),
+        field("uses_base_pointer", Value::Flag(frame.uses_base_pointer)),
+        field("program", program(frame.program)),
+    ]?;
+    Ok(Row { fields })
+}

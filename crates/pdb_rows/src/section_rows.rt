@@ -1,0 +1,69 @@
+//! Headers of sections as rows.
+
+use crate::head::field;
+use crate::row::{Row, Value};
+use crate::words::section_words;
+use pdb_base::{RawString, Result};
+use pdb_space::ImageSectionHeader;
+use std::alloc::Global;
+
+/// The bytes of a section's name: those before the first NUL, or all eight.
+fn name_bytes(header: &ImageSectionHeader) -> &[u8] {
+    match header.name.iter().position(|byte| *byte == 0) {
+        Some(end) => &header.name[..end],
+        None => &header.name,
+    }
+}
+
+/// The multiple at which a section begins, if it states one.
+fn alignment<'t>(multiple: Option<u16>) -> Value<'t> {
+    match multiple {
+        Some(multiple) => Value::Number(multiple as u64),
+        None => Value::Absent,
+    }
+}
+
+/// The row of the header of the section of this number.
+///
+/// # Errors
+/// `OutOfMemory` if memory is refused.
+pub fn section_row(alloc: Global, number: u32, header: &ImageSectionHeader) -> Result<Row<'_>> {
+    let name = RawString::from(name_bytes(header));
+    let characteristics = section_words(alloc, header.characteristics)?;
+    let fields = vec![in alloc;
+        field("number", Value::Number(number as u64)),
+        field("name", Value::Text(name)),
+        field(
+            "virtual_address",
+            Value::Hexadecimal(header.virtual_address),
+        ),
+        field("virtual_size", Value::Number(header.virtual_size as u64)),
+        field(
+            "pointer_to_raw_data",
+            Value::Hexadecimal(header.pointer_to_raw_data),
+        ),
+        field(
+            "size_of_raw_data",
+            Value::Number(header.size_of_raw_data as u64),
+        ),
+        field(
+            "pointer_to_relocations",
+            Value::Hexadecimal(header.pointer_to_relocations),
+        ),
+        field(
+            "number_of_relocations",
+            Value::Number(header.number_of_relocations as u64),
+        ),
+        field(
+            "pointer_to_line_numbers",
+            Value::Hexadecimal(header.pointer_to_line_numbers),
+        ),
+        field(
+            "number_of_line_numbers",
+            Value::Number(header.number_of_line_numbers as u64),
+        ),
+        field("characteristics", Value::Words(characteristics)),
+        field("alignment", alignment(header.characteristics.alignment())),
+    ]?;
+    Ok(Row { fields })
+}

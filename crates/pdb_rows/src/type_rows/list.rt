@@ -1,0 +1,114 @@
+//! Records with a list as rows.
+
+ghost use Rattle.std.specs.Prelude.{◌≡◌, IfErr, IfOk};
+ghost use Rattle.pdb_values.specs.Array.{array_value};
+ghost use Rattle.pdb_values.specs.Function.{argument_types};
+ghost use Rattle.pdb_values.specs.Method.{listed_methods};
+ghost use Rattle.pdb_values.specs.TableShape.{table_shape_value};
+ghost use Rattle.pdb_values.specs.TypeView.{field_list_value};
+ghost use Rattle.pdb_rows.specs.Fields.{headed};
+ghost use Rattle.pdb_rows.specs.Row.{row_shown};
+ghost use Rattle.pdb_rows.specs.TypeRows.{argument_list_fields, array_fields, method_list_fields, table_shape_fields, type_fields};
+
+use crate::head::{Head, field, optional_number, optional_type, type_index};
+use crate::row::{Row, Value};
+use pdb_base::{Error, Result};
+use pdb_values::{ArgumentList, ArrayType, FieldList, MethodList, VirtualTableShapeType};
+use std::alloc::Global;
+
+/// The row of an array.
+#[tactic(auto, unfolding(crate::specs::TypeRows::array_fields))]
+pub(crate) fn array_row<'t>(alloc: Global, head: Head, array: &ArrayType) -> Result<Row<'t>>
+    ensures ok { IfOk result (λ row. row_shown row ≡ headed head.index head.leaf (array_fields (array_value array.now))) }
+    ensures want { IfErr result (λ e. e ≡ Error.OutOfMemory) }
+{
+    let dimensions = Vec::from_slice(alloc, array.dimensions.as_slice())?;
+    let fields = vec![in alloc;
+        head.index(),
+        head.kind(),
+        field("element_type", type_index(array.element_type)),
+        field("indexing_type", type_index(array.indexing_type)),
+        field("stride", optional_number(array.stride)),
+        field("dimensions", Value::Numbers(dimensions)),
+    ]?;
+    Ok(Row { fields })
+}
+
+/// The row of a list of fields.
+#[tactic(auto, unfolding(crate::specs::TypeRows::field_list_fields))]
+pub(crate) fn field_list_row<'t>(alloc: Global, head: Head, list: &FieldList<'_>) -> Result<Row<'t>>
+    ensures ok { IfOk result (λ row. row_shown row ≡ headed head.index head.leaf (type_fields (field_list_value list.now))) }
+    ensures want { IfErr result (λ e. e ≡ Error.OutOfMemory) }
+{
+    let fields = vec![in alloc;
+        head.index(),
+        head.kind(),
+        field("count", Value::Number(list.fields.len() as u64)),
+        field("continuation", optional_type(list.continuation)),
+    ]?;
+    Ok(Row { fields })
+}
+
+/// The row of the types of a function's arguments.
+#[tactic(auto, unfolding(crate::specs::TypeRows::argument_list_fields))]
+pub(crate) fn argument_list_row<'t>(
+    alloc: Global,
+    head: Head,
+    list: &ArgumentList,
+) -> Result<Row<'t>>
+    ensures ok { IfOk result (λ row. row_shown row ≡ headed head.index head.leaf (argument_list_fields (argument_types list.now))) }
+    ensures want { IfErr result (λ e. e ≡ Error.OutOfMemory) }
+{
+    let mut arguments = Vec::with_capacity(alloc, list.arguments.len())?;
+    for index in &list.arguments {
+        arguments.push(index.0)?;
+    }
+    let fields = vec![in alloc;
+        head.index(),
+        head.kind(),
+        field("arguments", Value::Indexes(arguments)),
+    ]?;
+    Ok(Row { fields })
+}
+
+/// The row of a list of methods.
+#[tactic(auto, unfolding(crate::specs::TypeRows::method_list_fields))]
+pub(crate) fn method_list_row<'t>(alloc: Global, head: Head, list: &MethodList) -> Result<Row<'t>>
+    ensures ok { IfOk result (λ row. row_shown row ≡ headed head.index head.leaf (method_list_fields (listed_methods list.now))) }
+    ensures want { IfErr result (λ e. e ≡ Error.OutOfMemory) }
+{
+    let mut methods = Vec::with_capacity(alloc, list.methods.len())?;
+    for method in &list.methods {
+        methods.push(method.method_type.0)?;
+    }
+    let fields = vec![in alloc;
+        head.index(),
+        head.kind(),
+        field("count", Value::Number(list.methods.len() as u64)),
+        field("methods", Value::Indexes(methods)),
+    ]?;
+    Ok(Row { fields })
+}
+
+/// The row of the shape of a table of virtual functions.
+#[tactic(auto, unfolding(crate::specs::TypeRows::table_shape_fields))]
+pub(crate) fn table_shape_row<'t>(
+    alloc: Global,
+    head: Head,
+    shape: VirtualTableShapeType<'_>,
+) -> Result<Row<'t>>
+    ensures ok { IfOk result (λ row. row_shown row ≡ headed head.index head.leaf (table_shape_fields (table_shape_value shape.entry))) }
+    ensures want { IfErr result (λ e. e ≡ Error.OutOfMemory) }
+{
+    let mut descriptors = Vec::with_capacity(alloc, shape.descriptors.len())?;
+    for byte in shape.descriptors {
+        descriptors.push(*byte as u32)?;
+    }
+    let fields = vec![in alloc;
+        head.index(),
+        head.kind(),
+        field("count", Value::Number(shape.count as u64)),
+        field("descriptors", Value::Indexes(descriptors)),
+    ]?;
+    Ok(Row { fields })
+}

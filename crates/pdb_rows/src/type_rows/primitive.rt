@@ -1,0 +1,46 @@
+//! Types without a record as rows.
+
+ghost use Rattle.std.specs.Prelude.{◌≡◌, IfErr, IfOk};
+ghost use Rattle.std.specs.Option.{option_map};
+ghost use Rattle.pdb_rows.specs.Fields.{headed, optional_text};
+ghost use Rattle.pdb_rows.specs.Row.{row_shown, value_shown};
+ghost use Rattle.pdb_rows.specs.TypeRows.{primitive_fields};
+ghost use Rattle.pdb_rows.specs.Words.{indirection_word};
+
+use crate::head::{Head, field};
+use crate::row::{Row, Value};
+use crate::words::{indirection_word, primitive_word};
+use pdb_base::{Error, Result};
+use pdb_values::{Indirection, PrimitiveType};
+use std::alloc::Global;
+
+/// The pointer to a primitive type, if it is one.
+fn indirection<'t>(pointer: Option<Indirection>) -> Value<'t>
+    ensures { value_shown result ≡ optional_text (option_map indirection_word pointer) }
+{
+    match pointer {
+        Some(pointer) => Value::Word(indirection_word(pointer)),
+        None => Value::Absent,
+    }
+}
+
+/// The row of a type that has no record.
+pub(crate) fn primitive_row<'t>(
+    alloc: Global,
+    head: Head,
+    primitive: PrimitiveType,
+) -> Result<Row<'t>>
+    ensures ok { IfOk result (λ row. row_shown row ≡ headed head.index head.leaf (primitive_fields primitive)) }
+    ensures want { IfErr result (λ e. e ≡ Error.OutOfMemory) }
+{
+    let fields = vec![in alloc;
+        head.index(),
+        head.kind(),
+        field(
+            "primitive_kind",
+            Value::Word(primitive_word(primitive.kind)),
+        ),
+        field("indirection", indirection(primitive.indirection)),
+    ]?;
+    Ok(Row { fields })
+}
