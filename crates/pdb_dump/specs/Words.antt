@@ -1,5 +1,5 @@
 -- The words that the program takes.
-use Rattle.std.specs.Prelude.{ℕ, if◌then◌else◌, List, [], ◌∷◌, codes, Option, Some, None, option_and_then, Result, Ok, Err}
+use Rattle.std.specs.Prelude.{ℕ, not, filter, if◌then◌else◌, List, [], ◌∷◌, codes, Option, Some, None, option_and_then, Result, Ok, Err}
 use Rattle.std.specs.Option.{option_map, option_map_or}
 use Rattle.pdb_command.specs.Words.{number_of, same}
 use Rattle.pdb_dump.specs.declared.words.Verb.{Verb}
@@ -8,6 +8,10 @@ use Rattle.pdb_dump.specs.declared.words.Command.{Command}
 use Rattle.pdb_dump.specs.declared.words.Command.TheVariants as commands
 use Rattle.pdb_dump.specs.declared.words.Misuse.{Misuse}
 use Rattle.pdb_dump.specs.declared.words.Misuse.TheVariants as misuses
+
+-- the words but for `--json`
+abbrev pub plain_words : List (List ℕ) → List (List ℕ)
+plain_words words = filter (λ word. not (same word (codes "--json"))) words
 
 -- the command of a name
 abbrev pub verb_of : List ℕ → Option Verb

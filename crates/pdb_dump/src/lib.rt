@@ -2,11 +2,14 @@
 //! database.
 #![tactic(auto)]
 
+mod help;
 mod listed;
+mod process;
 mod served;
 mod words;
 
 
 pub use listed::list;
+pub use process::program;
 pub use served::serve;
-pub use words::{Command, Misuse, Verb, any_is, asked_of_file, first_verb, verb_named};
+pub use words::{Command, Misuse, Verb, any_is, asked_of_file, first_verb, plain_words, verb_named};

@@ -1,11 +1,13 @@
 //! The words that the program takes.
 
-ghost use Rattle.std.specs.Prelude.{◌≡◌, map};
+ghost use Rattle.std.specs.Prelude.{◌≡◌, map, IfErr, IfOk};
 ghost use Rattle.std.specs.List.{list_any};
 ghost use Rattle.pdb_command.specs.Words.{same};
-ghost use Rattle.pdb_dump.specs.Words.{argument_of, asked, command_of, first_verb, frames_asked, one_stream, verb_of};
+ghost use Rattle.pdb_dump.specs.Words.{argument_of, asked, command_of, first_verb, frames_asked, one_stream, plain_words, verb_of};
 
 use pdb_command::number;
+use pdb_container::Error;
+use std::alloc::Global;
 
 /// What a command is called.
 #[derive(Clone, Copy, Debug, PartialEq, Eq)]
@@ -72,6 +74,20 @@ pub fn any_is(words: &[&str], wanted: &str) -> bool
         }
     }
     false
+}
+
+/// The words without `--json`, which may stand anywhere.
+pub fn plain_words<'w>(alloc: Global, words: &[&'w str]) -> pdb_container::Result<Vec<&'w str>>
+    ensures plain { IfOk result (λ plain. map (λ word. word.now) plain.items ≡ plain_words (map (λ word. word.now) words.now)) }
+    ensures want { IfErr result (λ e. e ≡ Error.OutOfMemory) }
+{
+    let mut plain = Vec::new(alloc);
+    for word in words {
+        if *word != "--json" {
+            plain.push(*word)?;
+        }
+    }
+    Ok(plain)
 }
 
 /// The command of a name.

@@ -3,7 +3,7 @@ use Rattle.std.specs.Prelude.{ℕ, List, [], ◌∷◌, codes, unwrap_or}
 use Rattle.pdb_base.specs.ErrorText.{text_of}
 use Rattle.pdb_base.specs.Refusal.{Refusal}
 use Rattle.pdb_rows.specs.declared.form.Form.{Form}
-use Rattle.pdb_rows.specs.Lines.{row_line}
+use Rattle.pdb_rows.specs.Lines.{row_text}
 use Rattle.pdb_rows.specs.Row.{ShownField, ShownRow, number, text}
 use Rattle.pdb_summary.specs.declared.refused.Part.{Part}
 use Rattle.pdb_summary.specs.declared.refused.Part.TheVariants as parts
@@ -26,4 +26,4 @@ abbrev pub refused_shown : Part → Refusal → ShownRow
 refused_shown part refusal = part_shown part ∷ (codes "refused", text (refused_text refusal)) ∷ []
 
 unfoldable pub refused_line : Form → Part → Refusal → List ℕ
-refused_line form part refusal = row_line form (refused_shown part refusal)
+refused_line form part refusal = row_text form (refused_shown part refusal)

@@ -11,7 +11,7 @@ use Rattle.pdb_msf.specs.Header.{Head}
 use Rattle.pdb_roles.specs.StreamNames.{Named}
 use Rattle.pdb_roles.specs.declared.debug_header.DBIExtraStreams.{DBIExtraStreams}
 use Rattle.pdb_rows.specs.declared.form.Form.{Form}
-use Rattle.pdb_rows.specs.Lines.{row_line}
+use Rattle.pdb_rows.specs.Lines.{row_text}
 use Rattle.pdb_rows.specs.Row.{ShownRow, ShownValue, number, text, absent}
 use Rattle.pdb_summary.specs.Refused.{refused_line}
 use Rattle.pdb_summary.specs.declared.refused.Part.TheVariants as parts
@@ -61,7 +61,7 @@ stream_shown n size role name =
 
 -- what is said of the stream of a number: nothing where there is none
 abbrev pub said_of : Form → DBIExtraStreams → List Named → ℕ → Answer (List ℕ) → List ℕ
-said_of form roles names n (Ok stream) = row_line form (stream_shown n (length stream) (role_of roles n) (name_of names n))
+said_of form roles names n (Ok stream) = row_text form (stream_shown n (length stream) (role_of roles n) (name_of names n))
 said_of form roles names n (Err (stream_not_found m)) = []
 said_of form roles names n (Err refusal) = refused_line form (parts.Stream n) refusal
 

@@ -10,7 +10,7 @@ use Rattle.pdb_roles.specs.File.{file_information, file_roles}
 use Rattle.pdb_roles.specs.StreamNames.{Named, stream_names_of}
 use Rattle.pdb_roles.specs.declared.debug_header.DBIExtraStreams.{DBIExtraStreams}
 use Rattle.pdb_rows.specs.declared.form.Form.{Form}
-use Rattle.pdb_rows.specs.Lines.{row_line}
+use Rattle.pdb_rows.specs.Lines.{row_text}
 use Rattle.pdb_rows.specs.Row.{ShownRow, number}
 use Rattle.pdb_summary.specs.Refused.{refused_line}
 use Rattle.pdb_summary.specs.Streams.{stream_lines}
@@ -76,7 +76,7 @@ parts_lines form file head = parts_by form file head (directory_read file head)
 
 -- the line of a file, or that its header is refused
 abbrev pub pages_by : Form → ℕ → Answer (ℕ × ℕ) → List ℕ
-pages_by form size (Ok pages) = row_line form (pages_shown pages size)
+pages_by form size (Ok pages) = row_text form (pages_shown pages size)
 pages_by form size (Err refusal) = refused_line form parts.Header refusal
 
 unfoldable pub pages_line : Form → List ℕ → List ℕ

@@ -6,7 +6,7 @@ ghost use Rattle.std.specs.Option.{option_map};
 ghost use Rattle.pdb_base.specs.Answer.{Answers};
 ghost use Rattle.pdb_msf.specs.File.{stream_of};
 ghost use Rattle.pdb_roles.specs.StreamNames.{named_view};
-ghost use Rattle.pdb_rows.specs.Lines.{row_line};
+ghost use Rattle.pdb_rows.specs.Lines.{row_text};
 ghost use Rattle.pdb_rows.specs.Row.{row_shown, value_shown};
 ghost use Rattle.pdb_summary.specs.Streams.{name_of, role_of, stream_line, stream_lines, stream_shown, text_shown};
 ghost use Rattle.pdb_tables.specs.Listing.{IsCut};
@@ -92,7 +92,7 @@ fn write_found<W: Write>(
     out: &mut W,
 ) -> Result<()>
     ensures line { OnOk result (Appends (W.contents out.old) (W.contents out.new)
-        (row_line form (stream_shown number size (role_of roles.now number) (name_of (map named_view names.now) number)))) }
+        (row_text form (stream_shown number size (role_of roles.now number) (name_of (map named_view names.now) number)))) }
     ensures cut { IfErr result IsCut }
 {
     let role = role_of(roles, number);

@@ -19,22 +19,22 @@ use Rattle.pdb_space.specs.declared.section_header.ImageSectionHeader.{ImageSect
 use Rattle.pdb_roles.proofs.HeaderLemmas.{header_step}
 use Rattle.pdb_frames.specs.declared.frame_data.FrameData.{FrameData}
 use Rattle.pdb_rows.specs.declared.form.Form.{Form}
-use Rattle.pdb_rows.specs.Lines.{row_line}
-use Rattle.pdb_rows.specs.Records.{section_shown, omap_shown, frame_shown}
+use Rattle.pdb_rows.specs.Lines.{row_text}
+use Rattle.pdb_rows.specs.TableRows.{section_row, omap_row, frame_row}
 use Rattle.pdb_rows.specs.Row.{ShownRow}
 use Rattle.pdb_tables.specs.Tables.{section_lines, omap_lines, frame_lines, rises, name_lines, name_shown, names_from, next_place}
 
 -- the line of a first record stands before those of the others
-pub omap_next : (form : Form) (records : List Mapping) (mapping : Mapping) (others : List Mapping) (row : ShownRow) → records ≡ mapping ∷ others → row ≡ omap_shown mapping
-    → omap_lines form records ≡ row_line form row ++ omap_lines form others
+pub omap_next : (form : Form) (records : List Mapping) (mapping : Mapping) (others : List Mapping) (row : ShownRow) → records ≡ mapping ∷ others → row ≡ omap_row mapping
+    → omap_lines form records ≡ row_text form row ++ omap_lines form others
 omap_next form records mapping others row first shown = rw (first, shown) refl
 
-pub frame_next : (form : Form) (frames : List FrameData) (frame : FrameData) (others : List FrameData) (row : ShownRow) → frames ≡ frame ∷ others → row ≡ frame_shown frame
-    → frame_lines form frames ≡ row_line form row ++ frame_lines form others
+pub frame_next : (form : Form) (frames : List FrameData) (frame : FrameData) (others : List FrameData) (row : ShownRow) → frames ≡ frame ∷ others → row ≡ frame_row frame
+    → frame_lines form frames ≡ row_text form row ++ frame_lines form others
 frame_next form frames frame others row first shown = rw (first, shown) refl
 
 pub section_next : (form : Form) (number : ℕ) (headers : List ImageSectionHeader) (header : ImageSectionHeader) (others : List ImageSectionHeader) (row : ShownRow) → headers ≡ header ∷ others
-    → row ≡ section_shown number header → section_lines form number headers ≡ row_line form row ++ section_lines form (number + 1) others
+    → row ≡ section_row number header → section_lines form number headers ≡ row_text form row ++ section_lines form (number + 1) others
 section_next form number headers header others row first shown = rw (first, shown) refl
 
 abbrev given : {A E : Type 0} → Option A → Result (Option A) E
@@ -119,14 +119,14 @@ names_end names place = refl
 -- the line of a name that is read stands before those of the others
 pub name_step : (form : Form) (all at : ℕ) (names : List ℕ) (place : ℕ) (name : List ℕ) (next : ℕ) (row : ShownRow) → at < all → name_of names place ≡ Ok name
     → Some next ≡ next_place place (length name) → row ≡ name_shown (place, name)
-    → name_lines form (names_from (all - at) names place) ≡ row_line form row ++ name_lines form (names_from (all - (at + 1)) names next)
+    → name_lines form (names_from (all - at) names place) ≡ row_text form row ++ name_lines form (names_from (all - (at + 1)) names next)
 name_step form all at names place name next row within read more shown =
     let left : all - at ≡ suc (all - (at + 1)) = omega (arith, within) in
     rw (left, names_next (all - (at + 1)) names place name next read (sym more), shown) refl
 
 pub name_end : (form : Form) (all at : ℕ) (names : List ℕ) (place : ℕ) (name : List ℕ) (row : ShownRow) → at < all → name_of names place ≡ Ok name
     → None ≡ next_place place (length name) → row ≡ name_shown (place, name)
-    → name_lines form (names_from (all - at) names place) ≡ row_line form row ++ []
+    → name_lines form (names_from (all - at) names place) ≡ row_text form row ++ []
 name_end form all at names place name row within read more shown =
     let left : all - at ≡ suc (all - (at + 1)) = omega (arith, within) in
     rw (left, names_last (all - (at + 1)) names place name read (sym more), shown) refl

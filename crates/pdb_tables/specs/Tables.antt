@@ -14,15 +14,15 @@ use Rattle.pdb_frames.specs.Merge.{by_heads}
 use Rattle.pdb_frames.specs.Table.{Frames}
 use Rattle.pdb_frames.specs.declared.frame_data.FrameData.{FrameData}
 use Rattle.pdb_rows.specs.declared.form.Form.{Form}
-use Rattle.pdb_rows.specs.Lines.{row_line}
-use Rattle.pdb_rows.specs.Records.{section_shown, omap_shown, frame_shown}
+use Rattle.pdb_rows.specs.Lines.{row_text}
+use Rattle.pdb_rows.specs.TableRows.{section_row, omap_row, frame_row}
 use Rattle.pdb_rows.specs.Row.{ShownRow, flag, hexadecimal, text}
 use Rattle.pdb_tables.specs.Listing.{Listing, whole, listed_of}
 
 -- the lines of section headers, of which the first has this number
 abbrev pub section_lines : Form → ℕ → List ImageSectionHeader → List ℕ
 section_lines form n [] = []
-section_lines form n (header ∷ headers) = row_line form (section_shown n header) ++ section_lines form (n + 1) headers
+section_lines form n (header ∷ headers) = row_text form (section_row n header) ++ section_lines form (n + 1) headers
 
 -- The section headers of a stream, forty bytes each, numbered from 1. Where the last one is cut, that is
 -- told behind the others.
@@ -34,7 +34,7 @@ sections_listing form stream = record {
 
 -- the lines of OMAP records
 abbrev pub omap_lines : Form → List Mapping → List ℕ
-omap_lines form records = flat_map (λ mapping. row_line form (omap_shown mapping)) records
+omap_lines form records = flat_map (λ mapping. row_text form (omap_row mapping)) records
 
 -- whether no source is below that of the record before, nor the first below a number
 abbrev pub rises : ℕ → List Mapping → Bool
@@ -47,7 +47,7 @@ order_shown sorted = (codes "is_sorted", flag sorted) ∷ []
 
 -- the records of an OMAP table, and behind them what is said of them all
 abbrev pub omap_all : Form → List Mapping → List ℕ
-omap_all form records = omap_lines form records ++ row_line form (order_shown (rises 0 records))
+omap_all form records = omap_lines form records ++ row_text form (order_shown (rises 0 records))
 
 -- the records of the OMAP table that a stream is
 abbrev pub omap_listing : Form → List ℕ → Listing
@@ -55,7 +55,7 @@ omap_listing form stream = listed_of (λ records. whole (omap_all form records))
 
 -- the lines of frames
 abbrev pub frame_lines : Form → List FrameData → List ℕ
-frame_lines form frames = flat_map (λ frame. row_line form (frame_shown frame)) frames
+frame_lines form frames = flat_map (λ frame. row_text form (frame_row frame)) frames
 
 -- the frames of a table, by their starts as both streams have them
 abbrev pub frames_listing : Form → Frames → Listing
@@ -82,4 +82,4 @@ name_shown name = (codes "offset", hexadecimal name.0) ∷ (codes "name", text n
 
 -- the lines of names
 abbrev pub name_lines : Form → List (ℕ × List ℕ) → List ℕ
-name_lines form names = flat_map (λ name. row_line form (name_shown name)) names
+name_lines form names = flat_map (λ name. row_text form (name_shown name)) names

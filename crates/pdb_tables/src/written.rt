@@ -2,7 +2,7 @@
 
 ghost use Rattle.std.specs.Prelude.{OnOk, IfErr};
 ghost use Rattle.std.specs.Io.KnownBytes.{Appends};
-ghost use Rattle.pdb_rows.specs.Lines.{row_line};
+ghost use Rattle.pdb_rows.specs.Lines.{row_text};
 ghost use Rattle.pdb_rows.specs.Row.{row_shown};
 ghost use Rattle.pdb_tables.specs.Listing.{IsCut};
 
@@ -21,7 +21,7 @@ pub fn write_row<W: Write>(
     line: &mut Vec<u8>,
     out: &mut W,
 ) -> Result<()>
-    ensures line { OnOk result (Appends (W.contents out.old) (W.contents out.new) (row_line form (row_shown row.now))) }
+    ensures line { OnOk result (Appends (W.contents out.old) (W.contents out.new) (row_text form (row_shown row.now))) }
     ensures cut { IfErr result IsCut }
 {
     line.clear();
