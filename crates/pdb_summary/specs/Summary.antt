@@ -13,6 +13,7 @@ use Rattle.pdb_rows.specs.declared.form.Form.{Form}
 use Rattle.pdb_rows.specs.Lines.{row_text}
 use Rattle.pdb_rows.specs.Row.{ShownRow, number}
 use Rattle.pdb_summary.specs.Refused.{refused_line}
+use Rattle.pdb_summary.specs.Kinds.{table_part}
 use Rattle.pdb_summary.specs.Streams.{stream_lines}
 use Rattle.pdb_summary.specs.declared.refused.Part.{Part}
 use Rattle.pdb_summary.specs.declared.refused.Part.TheVariants as parts
@@ -62,13 +63,17 @@ streams_part form file head =
     ++ (told form parts.Names (names_of file head)
     ++ stream_lines form (said_or no_roles (file_roles file head)) (said_or [] (names_of file head)) file head)
 
+-- the tables of types and of ids
+unfoldable pub tables_part : Form → List ℕ → Head → List ℕ
+tables_part form file head = table_part form 2 file head ++ table_part form 4 file head
+
 -- whether the directory of a file is read
 unfoldable pub directory_read : List ℕ → Head → Answer (Unit {0})
 directory_read file head = directory_of file head >>= λ directory. Ok tt
 
 -- all parts of a file whose directory is read, and else that it is refused
 abbrev pub parts_by : Form → List ℕ → Head → Answer (Unit {0}) → List ℕ
-parts_by form file head (Ok done) = streams_part form file head
+parts_by form file head (Ok done) = streams_part form file head ++ tables_part form file head
 parts_by form file head (Err refusal) = refused_line form parts.Directory refusal
 
 unfoldable pub parts_lines : Form → List ℕ → Head → List ℕ

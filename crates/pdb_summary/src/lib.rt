@@ -2,10 +2,12 @@
 //! and the kinds of records in its tables.
 #![tactic(auto)]
 
+mod kinds;
 mod refused;
 mod roles;
 mod streams;
 mod summary;
+mod tables;
 
 pub use refused::Part;
 pub use summary::list_summary;

@@ -7,12 +7,13 @@ ghost use Rattle.pdb_roles.specs.File.{file_roles};
 ghost use Rattle.pdb_roles.specs.StreamNames.{stream_names_of};
 ghost use Rattle.pdb_rows.specs.Row.{row_shown};
 ghost use Rattle.pdb_summary.specs.Streams.{stream_lines};
-ghost use Rattle.pdb_summary.specs.Summary.{directory_read, names_of, no_roles, pages_line, pages_of, pages_shown, parts_lines, said_or, streams_part, summary_listing, told};
+ghost use Rattle.pdb_summary.specs.Summary.{directory_read, names_of, no_roles, pages_line, pages_of, pages_shown, parts_lines, said_or, streams_part, summary_listing, tables_part, told};
 ghost use Rattle.pdb_summary.specs.declared.refused.Part.TheVariants as parts;
 ghost use Rattle.pdb_tables.specs.Listing.{IsCut, IsListed};
 
 use crate::refused::{Part, write_refused};
 use crate::streams::write_streams;
+use crate::tables::write_table;
 use pdb_base::{Error, ParseBuffer, Result};
 use pdb_msf::{BigMSF, Msf};
 use pdb_roles::{DBIExtraStreams, PDBInformation, extra_streams, pdb_information};
@@ -23,6 +24,12 @@ use std::io::Write;
 
 /// The place in a file at which its header says the size of a page.
 const PAGE_SIZE_OFFSET: usize = 32;
+
+/// The number of the stream that holds the table of types.
+const TYPE_STREAM: u32 = 2;
+
+/// The number of the stream that holds the table of ids.
+const ID_STREAM: u32 = 4;
 
 /// The size of a page and how many pages are used, as the header of a file says them.
 #[tactic(auto, unfolding(crate::specs::Summary::pages_of), using(std::proofs::lemmas::List::drop_min))]
@@ -108,6 +115,8 @@ fn write_named<W: Write>(
         (told form parts.Names (stream_names_of information.now)
         ++ stream_lines form roles.now (said_or [] (stream_names_of information.now)) file.old.source.items file.old.head)) }
     ensures cut { IfErr result IsCut }
+    ensures bytes { file.new.source.items ≡ file.old.source.items }
+    ensures head { file.new.head ≡ file.old.head }
 {
     match information.stream_names(alloc) {
         Ok(names) => write_streams(alloc, file, roles, names.as_slice(), form, out),
@@ -132,6 +141,8 @@ fn write_all_streams<W: Write>(
         (told form parts.Names (names_of file.old.source.items file.old.head)
         ++ stream_lines form roles.now (said_or [] (names_of file.old.source.items file.old.head)) file.old.source.items file.old.head)) }
     ensures cut { IfErr result IsCut }
+    ensures bytes { file.new.source.items ≡ file.old.source.items }
+    ensures head { file.new.head ≡ file.old.head }
 {
     match pdb_information(alloc, file) {
         Ok(information) => write_named(alloc, file, roles, &information, form, out),
@@ -143,9 +154,9 @@ fn write_all_streams<W: Write>(
     }
 }
 
-/// Writes the parts of a file whose directory is read.
+/// Writes the streams of a file, and what is refused of their roles and names.
 #[tactic(auto, unfolding(crate::specs::Summary::streams_part))]
-fn write_read_parts<W: Write>(
+fn write_streams_part<W: Write>(
     alloc: Global,
     file: &mut BigMSF<Vec<u8>>,
     form: Form,
@@ -153,9 +164,43 @@ fn write_read_parts<W: Write>(
 ) -> Result<()>
     ensures lines { OnOk result (Appends (W.contents out.old) (W.contents out.new) (streams_part form file.old.source.items file.old.head)) }
     ensures cut { IfErr result IsCut }
+    ensures bytes { file.new.source.items ≡ file.old.source.items }
+    ensures head { file.new.head ≡ file.old.head }
 {
     let roles = known_roles(alloc, file, form, out)?;
     write_all_streams(alloc, file, &roles, form, out)?;
+    Ok(())
+}
+
+/// Writes the tables of types and of ids.
+#[tactic(auto, unfolding(crate::specs::Summary::tables_part))]
+fn write_tables<W: Write>(
+    alloc: Global,
+    file: &mut BigMSF<Vec<u8>>,
+    form: Form,
+    out: &mut W,
+) -> Result<()>
+    ensures lines { OnOk result (Appends (W.contents out.old) (W.contents out.new) (tables_part form file.old.source.items file.old.head)) }
+    ensures cut { IfErr result IsCut }
+{
+    write_table(alloc, file, TYPE_STREAM, form, out)?;
+    write_table(alloc, file, ID_STREAM, form, out)?;
+    Ok(())
+}
+
+/// Writes the parts of a file whose directory is read.
+fn write_read_parts<W: Write>(
+    alloc: Global,
+    file: &mut BigMSF<Vec<u8>>,
+    form: Form,
+    out: &mut W,
+) -> Result<()>
+    ensures lines { OnOk result (Appends (W.contents out.old) (W.contents out.new)
+        (streams_part form file.old.source.items file.old.head ++ tables_part form file.old.source.items file.old.head)) }
+    ensures cut { IfErr result IsCut }
+{
+    write_streams_part(alloc, file, form, out)?;
+    write_tables(alloc, file, form, out)?;
     Ok(())
 }
 
@@ -192,8 +237,9 @@ fn write_pages<W: Write>(alloc: Global, file: &[u8], form: Form, out: &mut W) ->
     }
 }
 
-/// Lists what a file is made of: its pages, and a line for each stream. A part that is refused is told in a
-/// line of its own, among those of the others.
+/// Lists what a file is made of: its pages, a line for each stream, and of the tables of types and ids how
+/// many records they have of each kind. A part that is refused is told in a line of its own, among those of
+/// the others.
 ///
 /// # Errors
 /// `IoError` if the writer fails, and `OutOfMemory` if memory is refused.
