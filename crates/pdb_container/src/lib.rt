@@ -10,6 +10,7 @@ mod ranges;
 mod record;
 mod whole;
 
+pub use lookup::{look_up, look_up_fields};
 pub use pdb_base::Count;
 pub use pdb_base::Error;
 pub use pdb_base::FallibleIterator;

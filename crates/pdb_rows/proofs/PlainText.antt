@@ -1,7 +1,6 @@
 -- A text of plain characters is shown as it is.
-use Rattle.std.proofs.Common.{◌≡◌, ℕ, suc, ◌+◌, ◌<◌, ◌≤◌, ◌==◌, Bool, true, false, cond, List, [], ◌∷◌, ◌++◌, length, drop, refl, sym, ap, ◌∙◌, arith, slice_index, ltb}
+use Rattle.std.proofs.Common.{◌≡◌, ℕ, ◌<◌, ◌==◌, true, false, List, [], ◌∷◌, ◌++◌, length, drop, ap, ◌∙◌, arith, ltb}
 use Rattle.std.specs.List.{flat_map, list_all}
-use Rattle.std.specs.Char.{encode_utf8}
 use Rattle.std.proofs.lemmas.Str.{encode_ascii}
 use Rattle.std.proofs.lemmas.Bool.{and_parts, cond-true, cond-false, lt-ltb}
 use Rattle.std.proofs.lemmas.Bool.Decides.{nat_tests}
@@ -9,7 +8,7 @@ use Rattle.bstr.specs.Utf8.{Decoded, decoded, good, or_replacement, lossy_chars}
 use Rattle.bstr.proofs.lemmas.PieceLemmas.{lossy_chars-nil, lossy_chars-step}
 use Rattle.pdb_rows.specs.declared.form.Form.{Form}
 use Rattle.pdb_rows.specs.declared.form.Form.TheVariants.{Text, Json}
-use Rattle.pdb_rows.specs.Text.{is_plain, is_escaped, escape, shown_char, shown_text}
+use Rattle.pdb_rows.specs.Text.{is_plain, is_escaped, shown_char, shown_text}
 
 -- a byte below 0x80 is a character
 first_is_ascii : (b : ℕ) (bs : List ℕ) → b < 128 → decoded (b ∷ bs) ≡ good b 1

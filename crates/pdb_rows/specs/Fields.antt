@@ -1,8 +1,8 @@
 -- What fields of rows hold.
-use Rattle.std.specs.Prelude.{ℕ, ◌==◌, if◌then◌else◌, List, [], ◌∷◌, codes, Option, Some, None}
+use Rattle.std.specs.Prelude.{ℕ, ◌==◌, if◌then◌else◌, List, ◌∷◌, codes, Option, Some, None}
 use Rattle.pdb_base.specs.declared.index.TypeIndex.{TypeIndex}
 use Rattle.pdb_base.specs.declared.index.IdIndex.{IdIndex}
-use Rattle.pdb_rows.specs.Row.{ShownValue, ShownField, ShownRow, number, hexadecimal, kind, text, absent}
+use Rattle.pdb_rows.specs.Row.{ShownValue, ShownRow, number, hexadecimal, kind, text, absent}
 
 -- an index or an address that may be absent
 abbrev pub optional_hexadecimal : Option ℕ → ShownValue

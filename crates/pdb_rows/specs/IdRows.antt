@@ -36,7 +36,7 @@ string_fields id =
 -- the id of a file's name, or its place in the string table
 abbrev pub source_file : UserDefinedTypeSourceFileRef → ShownValue
 source_file (Local id) = hexadecimal id.0
-source_file (Remote module_number place) = hexadecimal place.0
+source_file (Remote module_number place) = hexadecimal place
 
 -- the number of the module, where the file is named in the string table
 abbrev pub source_module : UserDefinedTypeSourceFileRef → ShownValue

@@ -5,5 +5,7 @@ pub mod Lines
 pub mod Words
 pub mod Fields
 pub mod TypeRows
+pub mod EntryRows
 pub mod IdRows
 pub mod TableRows
+pub mod Laws

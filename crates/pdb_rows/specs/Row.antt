@@ -1,7 +1,6 @@
 -- What a row shows, apart from where its bytes lie: a name, a word or another text is the list of its
 -- bytes.
 use Rattle.std.specs.Prelude.{ℕ, ℤ, Bool, List, map}
-use Rattle.pdb_base.specs.declared.raw_string.RawString.{RawString}
 use Rattle.pdb_rows.specs.declared.row.Field.{Field}
 use Rattle.pdb_rows.specs.declared.row.Row.{Row}
 use Rattle.pdb_rows.specs.declared.row.Value.{Value}

@@ -1,6 +1,6 @@
 -- The rows of section headers, of records of OMAP tables and of frames, whose fields are called as those
 -- of their types.
-use Rattle.std.specs.Prelude.{ℕ, List, [], ◌∷◌, codes, Option, Some, None}
+use Rattle.std.specs.Prelude.{ℕ, [], ◌∷◌, codes, Option, Some, None}
 use Rattle.pdb_frames.specs.FrameNumbers as frames
 use Rattle.pdb_frames.specs.declared.frame_data.FrameData.{FrameData}
 use Rattle.pdb_space.specs.Omap.{Mapping}
@@ -37,7 +37,7 @@ omap_row mapping =
 
 -- the place of a frame's program in the string table, if it has one
 abbrev pub program_place : Option StringRef → ShownValue
-program_place (Some place) = hexadecimal place.0
+program_place (Some place) = hexadecimal place
 program_place None = absent
 
 -- a frame

@@ -1,7 +1,7 @@
 -- The fields that are shown of types, behind their index and leaf. They are called as the fields of the
 -- types are; a flag word is told by the words of the flags that are set, and by fields of their own for
 -- the numbers in it.
-use Rattle.std.specs.Prelude.{ℕ, List, [], ◌∷◌, length, map, codes, Option, Some, None}
+use Rattle.std.specs.Prelude.{ℕ, List, [], ◌∷◌, length, map, codes, Option, Some}
 use Rattle.std.specs.Option.{option_map}
 use Rattle.pdb_base.specs.declared.index.TypeIndex.{TypeIndex}
 use Rattle.pdb_base.specs.declared.variant.Variant.{Variant}
@@ -33,7 +33,7 @@ use Rattle.pdb_rows.specs.Row.{ShownValue, ShownRow, number, signed, flag, text,
 use Rattle.pdb_rows.specs.Words.{access_word, field_words, function_words, indirection_word, kind_word, mode_word, modifier_words, pointer_words, primitive_word, property_words}
 
 -- a type without a record
-abbrev pub primitive_fields : PrimitiveType → ShownRow
+unfoldable pub primitive_fields : PrimitiveType → ShownRow
 primitive_fields type =
     (codes "primitive_kind", text (primitive_word type.kind))
     ∷ (codes "indirection", optional_text (option_map indirection_word type.indirection))

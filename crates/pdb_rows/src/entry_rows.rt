@@ -1,9 +1,15 @@
 //! The entries of lists as rows, which have no index.
 
+ghost use Rattle.std.specs.Prelude.{◌≡◌, IfErr, IfOk};
+ghost use Rattle.pdb_values.specs.TypeView.{type_value};
+ghost use Rattle.pdb_rows.specs.EntryRows.{base_class_leaf, class_leaf, field_row, leaf_of, virtual_base_leaf};
+ghost use Rattle.pdb_rows.specs.Row.{row_shown};
+ghost use Rattle.pdb_rows.specs.TypeRows.{listed_method_fields};
+
 use crate::head::Head;
 use crate::row::Row;
 use crate::type_rows::{headed_row, listed_method_row};
-use pdb_base::Result;
+use pdb_base::{Error, Result};
 use pdb_records::constants::{
     LF_ARGLIST, LF_ARRAY, LF_BCLASS, LF_BINTERFACE, LF_BITFIELD, LF_CLASS, LF_ENUM, LF_ENUMERATE,
     LF_FIELDLIST, LF_INTERFACE, LF_IVBCLASS, LF_MEMBER, LF_METHOD, LF_METHODLIST, LF_MFUNCTION,
@@ -14,7 +20,9 @@ use pdb_values::{BaseClassType, ClassKind, MethodListEntry, TypeData, VirtualBas
 use std::alloc::Global;
 
 /// The leaf of a class of this kind.
-fn class_leaf(kind: ClassKind) -> u16 {
+fn class_leaf(kind: ClassKind) -> u16
+    ensures { result ≡ class_leaf kind }
+{
     match kind {
         ClassKind::Class => LF_CLASS,
         ClassKind::Struct => LF_STRUCTURE,
@@ -23,7 +31,9 @@ fn class_leaf(kind: ClassKind) -> u16 {
 }
 
 /// The leaf of a base class.
-fn base_class_leaf(base: BaseClassType) -> u16 {
+fn base_class_leaf(base: BaseClassType) -> u16
+    ensures { result ≡ base_class_leaf base.kind }
+{
     match base.kind {
         ClassKind::Interface => LF_BINTERFACE,
         _ => LF_BCLASS,
@@ -31,12 +41,16 @@ fn base_class_leaf(base: BaseClassType) -> u16 {
 }
 
 /// The leaf of a virtual base class.
-fn virtual_base_leaf(base: VirtualBaseClassType) -> u16 {
+fn virtual_base_leaf(base: VirtualBaseClassType) -> u16
+    ensures { result ≡ virtual_base_leaf base.direct }
+{
     if base.direct { LF_VBCLASS } else { LF_IVBCLASS }
 }
 
 /// The leaf by which records of today say what this says.
-fn leaf_of(data: &TypeData<'_>) -> u16 {
+fn leaf_of(data: &TypeData<'_>) -> u16
+    ensures { result ≡ leaf_of (type_value «data».now) }
+{
     match data {
         TypeData::Primitive(_) => LF_NULL,
         TypeData::Class(class) => class_leaf(class.kind),
@@ -68,7 +82,11 @@ fn leaf_of(data: &TypeData<'_>) -> u16 {
 ///
 /// # Errors
 /// `OutOfMemory` if memory is refused.
-pub fn field_row<'t>(alloc: Global, data: &TypeData<'t>) -> Result<Row<'t>> {
+#[tactic(auto, unfolding(crate::specs::EntryRows::field_row))]
+pub fn field_row<'t>(alloc: Global, data: &TypeData<'t>) -> Result<Row<'t>>
+    ensures ok { IfOk result (λ row. row_shown row ≡ field_row (type_value «data».now)) }
+    ensures want { IfErr result (λ e. e ≡ Error.OutOfMemory) }
+{
     let leaf = leaf_of(data);
     headed_row(alloc, Head { index: None, leaf }, data)
 }
@@ -77,6 +95,9 @@ pub fn field_row<'t>(alloc: Global, data: &TypeData<'t>) -> Result<Row<'t>> {
 ///
 /// # Errors
 /// `OutOfMemory` if memory is refused.
-pub fn method_row<'t>(alloc: Global, method: MethodListEntry) -> Result<Row<'t>> {
+pub fn method_row<'t>(alloc: Global, method: MethodListEntry) -> Result<Row<'t>>
+    ensures ok { IfOk result (λ row. row_shown row ≡ listed_method_fields method) }
+    ensures want { IfErr result (λ e. e ≡ Error.OutOfMemory) }
+{
     listed_method_row(alloc, method)
 }

@@ -1,14 +1,21 @@
 //! Frames as rows.
 
+ghost use Rattle.std.specs.Prelude.{◌≡◌, IfErr, IfOk};
+ghost use Rattle.pdb_frames.specs.FrameNumbers.{kind_text};
+ghost use Rattle.pdb_rows.specs.Row.{row_shown, value_shown};
+ghost use Rattle.pdb_rows.specs.TableRows.{frame_row, program_place};
+
 use crate::head::{field, optional_number};
 use crate::row::{Row, Value};
-use pdb_base::Result;
+use pdb_base::{Error, Result};
 use pdb_frames::{FrameData, FrameType};
 use pdb_space::StringRef;
 use std::alloc::Global;
 
 /// The name of a kind of frame, as it is printed.
-fn frame_word(kind: FrameType) -> &'static str {
+fn frame_word(kind: FrameType) -> &'static str
+    ensures { result.now ≡ kind_text kind }
+{
     match kind {
         FrameType::FPO => "fpo",
         FrameType::Trap => "trap",
@@ -20,7 +27,9 @@ fn frame_word(kind: FrameType) -> &'static str {
 }
 
 /// The place of a frame's program in the string table, if it has one.
-fn program<'t>(place: Option<StringRef>) -> Value<'t> {
+fn program<'t>(place: Option<StringRef>) -> Value<'t>
+    ensures { value_shown result ≡ program_place place }
+{
     match place {
         Some(place) => Value::Hexadecimal(place.0),
         None => Value::Absent,
@@ -31,7 +40,11 @@ fn program<'t>(place: Option<StringRef>) -> Value<'t> {
 ///
 /// # Errors
 /// `OutOfMemory` if memory is refused.
-pub fn frame_row<'t>(alloc: Global, frame: &FrameData) -> Result<Row<'t>> {
+#[tactic(auto, unfolding(crate::specs::TableRows::frame_row))]
+pub fn frame_row<'t>(alloc: Global, frame: &FrameData) -> Result<Row<'t>>
+    ensures ok { IfOk result (λ row. row_shown row ≡ frame_row frame.now) }
+    ensures want { IfErr result (λ e. e ≡ Error.OutOfMemory) }
+{
     let fields = vec![in alloc;
         field("code_start", Value::Hexadecimal(frame.code_start.0)),
         field("code_size", Value::Number(frame.code_size as u64)),

@@ -1,8 +1,15 @@
 //! Ids as rows.
 
+ghost use Rattle.std.specs.Prelude.{◌≡◌, IfErr, IfOk};
+ghost use Rattle.pdb_values.specs.IdValue.{build_arguments, function_value, id_value, member_function_value, string_value, text_parts};
+ghost use Rattle.pdb_rows.specs.Fields.{headed};
+ghost use Rattle.pdb_rows.specs.IdRows.{build_info_fields, function_fields, id_row, member_function_fields, source_fields, source_file, source_module, string_fields, string_list_fields};
+ghost use Rattle.pdb_rows.specs.Row.{row_shown, value_shown};
+
 use crate::head::{Head, field, optional_id, type_index};
+use crate::lists::{id_numbers, type_numbers};
 use crate::row::{Row, Value};
-use pdb_base::Result;
+use pdb_base::{Error, Result};
 use pdb_values::{
     BuildInfoId, FunctionId, IdData, MemberFunctionId, StringId, StringListId,
     UserDefinedTypeSourceFileRef, UserDefinedTypeSourceId,
@@ -10,7 +17,11 @@ use pdb_values::{
 use std::alloc::Global;
 
 /// The row of a function.
-fn function_row<'t>(alloc: Global, head: Head, id: &FunctionId<'t>) -> Result<Row<'t>> {
+#[tactic(auto, unfolding(crate::specs::IdRows::function_fields))]
+fn function_row<'t>(alloc: Global, head: Head, id: &FunctionId<'t>) -> Result<Row<'t>>
+    ensures ok { IfOk result (λ row. row_shown row ≡ headed head.index head.leaf (function_fields (function_value id.now))) }
+    ensures want { IfErr result (λ e. e ≡ Error.OutOfMemory) }
+{
     let fields = vec![in alloc;
         head.index(),
         head.kind(),
@@ -22,11 +33,11 @@ fn function_row<'t>(alloc: Global, head: Head, id: &FunctionId<'t>) -> Result<Ro
 }
 
 /// The row of a method.
-fn member_function_row<'t>(
-    alloc: Global,
-    head: Head,
-    id: &MemberFunctionId<'t>,
-) -> Result<Row<'t>> {
+#[tactic(auto, unfolding(crate::specs::IdRows::member_function_fields))]
+fn member_function_row<'t>(alloc: Global, head: Head, id: &MemberFunctionId<'t>) -> Result<Row<'t>>
+    ensures ok { IfOk result (λ row. row_shown row ≡ headed head.index head.leaf (member_function_fields (member_function_value id.now))) }
+    ensures want { IfErr result (λ e. e ≡ Error.OutOfMemory) }
+{
     let fields = vec![in alloc;
         head.index(),
         head.kind(),
@@ -38,11 +49,12 @@ fn member_function_row<'t>(
 }
 
 /// The row of what a module was built with.
-fn build_info_row<'t>(alloc: Global, head: Head, id: &BuildInfoId) -> Result<Row<'t>> {
-    let mut arguments = Vec::with_capacity(alloc, id.arguments.len())?;
-    for index in &id.arguments {
-        arguments.push(index.0)?;
-    }
+#[tactic(auto, unfolding(crate::specs::IdRows::build_info_fields))]
+fn build_info_row<'t>(alloc: Global, head: Head, id: &BuildInfoId) -> Result<Row<'t>>
+    ensures ok { IfOk result (λ row. row_shown row ≡ headed head.index head.leaf (build_info_fields (build_arguments id.now))) }
+    ensures want { IfErr result (λ e. e ≡ Error.OutOfMemory) }
+{
+    let arguments = id_numbers(alloc, &id.arguments)?;
     let fields = vec![in alloc;
         head.index(),
         head.kind(),
@@ -52,11 +64,12 @@ fn build_info_row<'t>(alloc: Global, head: Head, id: &BuildInfoId) -> Result<Row
 }
 
 /// The row of the parts of a text.
-fn string_list_row<'t>(alloc: Global, head: Head, id: &StringListId) -> Result<Row<'t>> {
-    let mut substrings = Vec::with_capacity(alloc, id.substrings.len())?;
-    for index in &id.substrings {
-        substrings.push(index.0)?;
-    }
+#[tactic(auto, unfolding(crate::specs::IdRows::string_list_fields))]
+fn string_list_row<'t>(alloc: Global, head: Head, id: &StringListId) -> Result<Row<'t>>
+    ensures ok { IfOk result (λ row. row_shown row ≡ headed head.index head.leaf (string_list_fields (text_parts id.now))) }
+    ensures want { IfErr result (λ e. e ≡ Error.OutOfMemory) }
+{
+    let substrings = type_numbers(alloc, &id.substrings)?;
     let fields = vec![in alloc;
         head.index(),
         head.kind(),
@@ -66,7 +79,11 @@ fn string_list_row<'t>(alloc: Global, head: Head, id: &StringListId) -> Result<R
 }
 
 /// The row of a text.
-fn string_row<'t>(alloc: Global, head: Head, id: &StringId<'t>) -> Result<Row<'t>> {
+#[tactic(auto, unfolding(crate::specs::IdRows::string_fields))]
+fn string_row<'t>(alloc: Global, head: Head, id: &StringId<'t>) -> Result<Row<'t>>
+    ensures ok { IfOk result (λ row. row_shown row ≡ headed head.index head.leaf (string_fields (string_value id.now))) }
+    ensures want { IfErr result (λ e. e ≡ Error.OutOfMemory) }
+{
     let fields = vec![in alloc;
         head.index(),
         head.kind(),
@@ -77,7 +94,9 @@ fn string_row<'t>(alloc: Global, head: Head, id: &StringId<'t>) -> Result<Row<'t
 }
 
 /// The number of the module whose file it is, if the file is named in the string table.
-fn module<'t>(file: UserDefinedTypeSourceFileRef) -> Value<'t> {
+fn source_module<'t>(file: UserDefinedTypeSourceFileRef) -> Value<'t>
+    ensures { value_shown result ≡ source_module file }
+{
     match file {
         UserDefinedTypeSourceFileRef::Local(_) => Value::Absent,
         UserDefinedTypeSourceFileRef::Remote(module, _) => Value::Number(module as u64),
@@ -85,7 +104,9 @@ fn module<'t>(file: UserDefinedTypeSourceFileRef) -> Value<'t> {
 }
 
 /// The id of the file's name, or its place in the string table.
-fn source_file<'t>(file: UserDefinedTypeSourceFileRef) -> Value<'t> {
+fn source_file<'t>(file: UserDefinedTypeSourceFileRef) -> Value<'t>
+    ensures { value_shown result ≡ source_file file }
+{
     match file {
         UserDefinedTypeSourceFileRef::Local(id) => Value::Hexadecimal(id.0),
         UserDefinedTypeSourceFileRef::Remote(_, place) => Value::Hexadecimal(place.0),
@@ -93,13 +114,17 @@ fn source_file<'t>(file: UserDefinedTypeSourceFileRef) -> Value<'t> {
 }
 
 /// The row of where a type is declared.
-fn source_row<'t>(alloc: Global, head: Head, id: &UserDefinedTypeSourceId) -> Result<Row<'t>> {
+#[tactic(auto, unfolding(crate::specs::IdRows::source_fields))]
+fn source_row<'t>(alloc: Global, head: Head, id: &UserDefinedTypeSourceId) -> Result<Row<'t>>
+    ensures ok { IfOk result (λ row. row_shown row ≡ headed head.index head.leaf (source_fields id.now)) }
+    ensures want { IfErr result (λ e. e ≡ Error.OutOfMemory) }
+{
     let fields = vec![in alloc;
         head.index(),
         head.kind(),
         field("udt", type_index(id.udt)),
         field("source_file", source_file(id.source_file)),
-        field("module", module(id.source_file)),
+        field("module", source_module(id.source_file)),
         field("line", Value::Number(id.line as u64)),
     ]?;
     Ok(Row { fields })
@@ -109,7 +134,11 @@ fn source_row<'t>(alloc: Global, head: Head, id: &UserDefinedTypeSourceId) -> Re
 ///
 /// # Errors
 /// `OutOfMemory` if memory is refused.
-pub fn id_row<'t>(alloc: Global, index: u32, leaf: u16, data: &IdData<'t>) -> Result<Row<'t>> {
+#[tactic(auto, unfolding(crate::specs::IdRows::id_row))]
+pub fn id_row<'t>(alloc: Global, index: u32, leaf: u16, data: &IdData<'t>) -> Result<Row<'t>>
+    ensures ok { IfOk result (λ row. row_shown row ≡ id_row index leaf (id_value «data».now)) }
+    ensures want { IfErr result (λ e. e ≡ Error.OutOfMemory) }
+{
     let index = Some(index);
     let head = Head { index, leaf };
     match data {

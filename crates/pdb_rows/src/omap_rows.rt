@@ -1,8 +1,12 @@
 //! Records of OMAP tables as rows.
 
+ghost use Rattle.std.specs.Prelude.{◌≡◌, IfErr, IfOk};
+ghost use Rattle.pdb_rows.specs.Row.{row_shown};
+ghost use Rattle.pdb_rows.specs.TableRows.{omap_row};
+
 use crate::head::field;
 use crate::row::{Row, Value};
-use pdb_base::Result;
+use pdb_base::{Error, Result};
 use pdb_space::OMAPRecord;
 use std::alloc::Global;
 
@@ -10,15 +14,19 @@ use std::alloc::Global;
 ///
 /// # Errors
 /// `OutOfMemory` if memory is refused.
-pub fn omap_row<'t>(alloc: Global, record: OMAPRecord) -> Result<Row<'t>> {
+#[tactic(auto, unfolding(crate::specs::TableRows::omap_row))]
+pub fn omap_row<'t>(alloc: Global, mapping: OMAPRecord) -> Result<Row<'t>>
+    ensures ok { IfOk result (λ row. row_shown row ≡ omap_row mapping) }
+    ensures want { IfErr result (λ e. e ≡ Error.OutOfMemory) }
+{
     let fields = vec![in alloc;
         field(
             "source_address",
-            Value::Hexadecimal(record.source_address()),
+            Value::Hexadecimal(mapping.source_address()),
         ),
         field(
             "target_address",
-            Value::Hexadecimal(record.target_address()),
+            Value::Hexadecimal(mapping.target_address()),
         ),
     ]?;
     Ok(Row { fields })

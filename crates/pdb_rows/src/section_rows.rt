@@ -1,14 +1,22 @@
 //! Headers of sections as rows.
 
+ghost use Rattle.std.specs.Prelude.{◌≡◌, IfErr, IfOk};
+ghost use Rattle.pdb_space.specs.SectionHeader.{section_name};
+ghost use Rattle.pdb_rows.specs.Fields.{optional_number};
+ghost use Rattle.pdb_rows.specs.Row.{row_shown, value_shown};
+ghost use Rattle.pdb_rows.specs.TableRows.{section_row};
+
 use crate::head::field;
 use crate::row::{Row, Value};
 use crate::words::section_words;
-use pdb_base::{RawString, Result};
+use pdb_base::{Error, RawString, Result};
 use pdb_space::ImageSectionHeader;
 use std::alloc::Global;
 
 /// The bytes of a section's name: those before the first NUL, or all eight.
-fn name_bytes(header: &ImageSectionHeader) -> &[u8] {
+fn name_bytes(header: &ImageSectionHeader) -> &[u8]
+    ensures { result.now ≡ section_name header.now }
+{
     match header.name.iter().position(|byte| *byte == 0) {
         Some(end) => &header.name[..end],
         None => &header.name,
@@ -16,7 +24,9 @@ fn name_bytes(header: &ImageSectionHeader) -> &[u8] {
 }
 
 /// The multiple at which a section begins, if it states one.
-fn alignment<'t>(multiple: Option<u16>) -> Value<'t> {
+fn alignment<'t>(multiple: Option<u16>) -> Value<'t>
+    ensures { value_shown result ≡ optional_number multiple }
+{
     match multiple {
         Some(multiple) => Value::Number(multiple as u64),
         None => Value::Absent,
@@ -27,7 +37,11 @@ fn alignment<'t>(multiple: Option<u16>) -> Value<'t> {
 ///
 /// # Errors
 /// `OutOfMemory` if memory is refused.
-pub fn section_row(alloc: Global, number: u32, header: &ImageSectionHeader) -> Result<Row<'_>> {
+#[tactic(auto, unfolding(crate::specs::TableRows::section_row))]
+pub fn section_row(alloc: Global, number: u32, header: &ImageSectionHeader) -> Result<Row<'_>>
+    ensures ok { IfOk result (λ row. row_shown row ≡ section_row number header.now) }
+    ensures want { IfErr result (λ e. e ≡ Error.OutOfMemory) }
+{
     let name = RawString::from(name_bytes(header));
     let characteristics = section_words(alloc, header.characteristics)?;
     let fields = vec![in alloc;

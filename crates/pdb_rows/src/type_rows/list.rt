@@ -11,6 +11,7 @@ ghost use Rattle.pdb_rows.specs.Row.{row_shown};
 ghost use Rattle.pdb_rows.specs.TypeRows.{argument_list_fields, array_fields, method_list_fields, table_shape_fields, type_fields};
 
 use crate::head::{Head, field, optional_number, optional_type, type_index};
+use crate::lists::{byte_numbers, copied_numbers, method_numbers, type_numbers};
 use crate::row::{Row, Value};
 use pdb_base::{Error, Result};
 use pdb_values::{ArgumentList, ArrayType, FieldList, MethodList, VirtualTableShapeType};
@@ -22,7 +23,7 @@ pub(crate) fn array_row<'t>(alloc: Global, head: Head, array: &ArrayType) -> Res
     ensures ok { IfOk result (λ row. row_shown row ≡ headed head.index head.leaf (array_fields (array_value array.now))) }
     ensures want { IfErr result (λ e. e ≡ Error.OutOfMemory) }
 {
-    let dimensions = Vec::from_slice(alloc, array.dimensions.as_slice())?;
+    let dimensions = copied_numbers(alloc, &array.dimensions)?;
     let fields = vec![in alloc;
         head.index(),
         head.kind(),
@@ -43,7 +44,7 @@ pub(crate) fn field_list_row<'t>(alloc: Global, head: Head, list: &FieldList<'_>
     let fields = vec![in alloc;
         head.index(),
         head.kind(),
-        field("count", Value::Number(list.fields.len() as u64)),
+        field("count", Value::Number(list.fields.as_slice().len() as u64)),
         field("continuation", optional_type(list.continuation)),
     ]?;
     Ok(Row { fields })
@@ -59,10 +60,7 @@ pub(crate) fn argument_list_row<'t>(
     ensures ok { IfOk result (λ row. row_shown row ≡ headed head.index head.leaf (argument_list_fields (argument_types list.now))) }
     ensures want { IfErr result (λ e. e ≡ Error.OutOfMemory) }
 {
-    let mut arguments = Vec::with_capacity(alloc, list.arguments.len())?;
-    for index in &list.arguments {
-        arguments.push(index.0)?;
-    }
+    let arguments = type_numbers(alloc, &list.arguments)?;
     let fields = vec![in alloc;
         head.index(),
         head.kind(),
@@ -77,15 +75,13 @@ pub(crate) fn method_list_row<'t>(alloc: Global, head: Head, list: &MethodList) 
     ensures ok { IfOk result (λ row. row_shown row ≡ headed head.index head.leaf (method_list_fields (listed_methods list.now))) }
     ensures want { IfErr result (λ e. e ≡ Error.OutOfMemory) }
 {
-    let mut methods = Vec::with_capacity(alloc, list.methods.len())?;
-    for method in &list.methods {
-        methods.push(method.method_type.0)?;
-    }
+    let methods = list.methods.as_slice();
+    let numbers = method_numbers(alloc, methods)?;
     let fields = vec![in alloc;
         head.index(),
         head.kind(),
-        field("count", Value::Number(list.methods.len() as u64)),
-        field("methods", Value::Indexes(methods)),
+        field("count", Value::Number(methods.len() as u64)),
+        field("methods", Value::Indexes(numbers)),
     ]?;
     Ok(Row { fields })
 }
@@ -100,10 +96,7 @@ pub(crate) fn table_shape_row<'t>(
     ensures ok { IfOk result (λ row. row_shown row ≡ headed head.index head.leaf (table_shape_fields (table_shape_value shape.entry))) }
     ensures want { IfErr result (λ e. e ≡ Error.OutOfMemory) }
 {
-    let mut descriptors = Vec::with_capacity(alloc, shape.descriptors.len())?;
-    for byte in shape.descriptors {
-        descriptors.push(*byte as u32)?;
-    }
+    let descriptors = byte_numbers(alloc, shape.descriptors)?;
     let fields = vec![in alloc;
         head.index(),
         head.kind(),

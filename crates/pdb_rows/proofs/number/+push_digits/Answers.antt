@@ -1,5 +1,5 @@
 -- The digits in front, and the last.
-use Rattle.std.proofs.Common.{◌≡◌, ℕ, ◌/◌, ◌%◌, false, List, [], ◌∷◌, ◌++◌, sym, ap, ◌∙◌, arith, append_assoc}
+use Rattle.std.proofs.Common.{ℕ, ◌/◌, ◌%◌, false, List, [], ◌∷◌, ◌++◌, sym, ap, ◌∙◌, arith, append_assoc}
 use Rattle.std.specs.Fmt.{digits, digit_glyph}
 use Rattle.pdb_rows.proofs.Digits.{hexadecimal_more}
 use Rattle.pdb_rows.proofs.number.+push_digits.Goals as goal

@@ -1,0 +1,51 @@
+//! Tables of ids.
+
+use crate::line::push_id;
+use pdb_base::{FallibleIterator, IdIndex, Result};
+use pdb_container::look_up;
+use pdb_msf::Stream;
+use pdb_rows::{Form, id_row, push_fields};
+use pdb_tpi::IdInformation;
+use std::alloc::Global;
+use std::io::Write;
+
+/// Writes a line for each id of the table that a stream is, in the order of the table. A record that is
+/// refused has a line that says why. No more than one record and its line are held in memory.
+///
+/// # Errors
+/// What the table refuses, before anything is written; the fault at which the table stops, behind the
+/// lines of the ids before it; `IoError` if the writer fails, where a part of a line may then stand; and
+/// `OutOfMemory` if memory is refused, behind the lines so far.
+pub fn ids<W: Write>(alloc: Global, stream: Stream, form: Form, out: &mut W) -> Result<()> {
+    let table = IdInformation::parse(stream)?;
+    let mut items = table.iter();
+    let mut line = Vec::new(alloc);
+    while let Some(item) = items.next()? {
+        line.clear();
+        push_id(alloc, form, &item, &mut line)?;
+        out.write_all(&line)?;
+    }
+    Ok(())
+}
+
+/// Writes the id of an index in full.
+///
+/// # Errors
+/// What the table, the look-up or the record refuses, before anything is written; `IoError` if the writer
+/// fails, where a part of a line may then stand; and `OutOfMemory` if memory is refused.
+pub fn id_at<W: Write>(
+    alloc: Global,
+    stream: Stream,
+    index: u32,
+    form: Form,
+    out: &mut W,
+) -> Result<()> {
+    let table = IdInformation::parse(stream)?;
+    let item = look_up(alloc, &table, IdIndex(index))?;
+    let value = item.parse(alloc)?;
+    let row = id_row(alloc, index, item.raw_kind(), &value)?;
+    let mut lines = Vec::new(alloc);
+    push_fields(form, &row, &mut lines)?;
+    out.write_all(&lines)?;
+    Ok(())
+}

@@ -1,0 +1,51 @@
+//! The line of an item of a table.
+
+use crate::refused::push_refused;
+use pdb_base::{Error, IdIndex, Result, TypeIndex};
+use pdb_rows::{Form, id_row, push_row, type_row};
+use pdb_tpi::Item;
+use std::alloc::Global;
+
+/// Adds the line of a type.
+///
+/// # Errors
+/// `OutOfMemory` if memory is refused.
+pub(crate) fn push_type(
+    alloc: Global,
+    form: Form,
+    item: &Item<'_, TypeIndex>,
+    line: &mut Vec<u8>,
+) -> Result<()> {
+    let index = item.index().0;
+    let leaf = item.raw_kind();
+    match item.parse(alloc) {
+        Ok(value) => {
+            let row = type_row(alloc, index, leaf, &value)?;
+            push_row(form, &row, line)
+        }
+        Err(Error::OutOfMemory) => Err(Error::OutOfMemory),
+        Err(fault) => push_refused(alloc, form, index, leaf, &fault, line),
+    }
+}
+
+/// Adds the line of an id.
+///
+/// # Errors
+/// `OutOfMemory` if memory is refused.
+pub(crate) fn push_id(
+    alloc: Global,
+    form: Form,
+    item: &Item<'_, IdIndex>,
+    line: &mut Vec<u8>,
+) -> Result<()> {
+    let index = item.index().0;
+    let leaf = item.raw_kind();
+    match item.parse(alloc) {
+        Ok(value) => {
+            let row = id_row(alloc, index, leaf, &value)?;
+            push_row(form, &row, line)
+        }
+        Err(Error::OutOfMemory) => Err(Error::OutOfMemory),
+        Err(fault) => push_refused(alloc, form, index, leaf, &fault, line),
+    }
+}

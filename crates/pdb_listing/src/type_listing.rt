@@ -1,0 +1,59 @@
+//! Tables of types.
+
+use crate::line::push_type;
+use crate::members::push_members;
+use pdb_base::{FallibleIterator, Result, TypeIndex};
+use pdb_container::look_up;
+use pdb_msf::Stream;
+use pdb_rows::{Form, push_fields, type_row};
+use pdb_tpi::TypeInformation;
+use std::alloc::Global;
+use std::io::Write;
+
+/// Writes a line for each type of the table that a stream is, in the order of the table. A record that is
+/// refused has a line that says why. No more than one record and its line are held in memory.
+///
+/// # Errors
+/// What the table refuses, before anything is written; the fault at which the table stops, behind the
+/// lines of the types before it; `IoError` if the writer fails, where a part of a line may then stand; and
+/// `OutOfMemory` if memory is refused, behind the lines so far.
+pub fn types<W: Write>(alloc: Global, stream: Stream, form: Form, out: &mut W) -> Result<()> {
+    let table = TypeInformation::parse(stream)?;
+    let mut items = table.iter();
+    let mut line = Vec::new(alloc);
+    while let Some(item) = items.next()? {
+        line.clear();
+        push_type(alloc, form, &item, &mut line)?;
+        out.write_all(&line)?;
+    }
+    Ok(())
+}
+
+/// Writes the type of an index in full, and then a line for each of its members: the fields of a class, a
+/// union, an enumeration or a list of fields, through all lists in which they stand, or the methods of a
+/// list.
+///
+/// # Errors
+/// What the table, the look-up or the record refuses, before anything is written; what the lists of fields
+/// refuse, behind the type itself; `IoError` if the writer fails, where a part of a line may then stand;
+/// and `OutOfMemory` if memory is refused.
+pub fn type_at<W: Write>(
+    alloc: Global,
+    stream: Stream,
+    index: u32,
+    form: Form,
+    out: &mut W,
+) -> Result<()> {
+    let table = TypeInformation::parse(stream)?;
+    let index = TypeIndex(index);
+    let item = look_up(alloc, &table, index)?;
+    let value = item.parse(alloc)?;
+    let row = type_row(alloc, index.0, item.raw_kind(), &value)?;
+    let mut lines = Vec::new(alloc);
+    push_fields(form, &row, &mut lines)?;
+    out.write_all(&lines)?;
+    lines.clear();
+    push_members(alloc, form, &table, index, &value, &mut lines)?;
+    out.write_all(&lines)?;
+    Ok(())
+}

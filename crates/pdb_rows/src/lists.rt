@@ -1,0 +1,58 @@
+//! Lists of numbers that rows show.
+
+ghost use Rattle.std.specs.Prelude.{◌≡◌, map, IfErr, IfOk};
+
+use pdb_base::{Error, IdIndex, Result, TypeIndex};
+use pdb_values::MethodListEntry;
+use std::alloc::Global;
+
+/// The numbers of types' indexes.
+pub(crate) fn type_numbers(alloc: Global, indexes: &[TypeIndex]) -> Result<Vec<u32>>
+    ensures ok { IfOk result (λ numbers. numbers.items ≡ map (λ index. index.0) indexes.now) }
+    ensures want { IfErr result (λ e. e ≡ Error.OutOfMemory) }
+{
+    let numbers = indexes.iter().map(|index| index.0).collect(alloc)?;
+    Ok(numbers)
+}
+
+/// The numbers of ids' indexes.
+pub(crate) fn id_numbers(alloc: Global, indexes: &[IdIndex]) -> Result<Vec<u32>>
+    ensures ok { IfOk result (λ numbers. numbers.items ≡ map (λ index. index.0) indexes.now) }
+    ensures want { IfErr result (λ e. e ≡ Error.OutOfMemory) }
+{
+    let numbers = indexes.iter().map(|index| index.0).collect(alloc)?;
+    Ok(numbers)
+}
+
+/// The numbers of methods' types.
+pub(crate) fn method_numbers(alloc: Global, methods: &[MethodListEntry]) -> Result<Vec<u32>>
+    ensures ok { IfOk result (λ numbers. numbers.items ≡ map (λ method. method.method_type.0) methods.now) }
+    ensures want { IfErr result (λ e. e ≡ Error.OutOfMemory) }
+{
+    let numbers = methods
+        .iter()
+        .map(|method| method.method_type.0)
+        .collect(alloc)?;
+    Ok(numbers)
+}
+
+/// Bytes as numbers.
+pub(crate) fn byte_numbers(alloc: Global, bytes: &[u8]) -> Result<Vec<u32>>
+    ensures ok { IfOk result (λ numbers. numbers.items ≡ bytes.now) }
+    ensures want { IfErr result (λ e. e ≡ Error.OutOfMemory) }
+{
+    let mut numbers = Vec::with_capacity(alloc, bytes.len())?;
+    for byte in bytes {
+        numbers.push(*byte as u32)?;
+    }
+    Ok(numbers)
+}
+
+/// A copy of numbers.
+pub(crate) fn copied_numbers(alloc: Global, numbers: &[u32]) -> Result<Vec<u32>>
+    ensures ok { IfOk result (λ copies. copies.items ≡ numbers.now) }
+    ensures want { IfErr result (λ e. e ≡ Error.OutOfMemory) }
+{
+    let copies = Vec::from_slice(alloc, numbers)?;
+    Ok(copies)
+}
