@@ -6,8 +6,9 @@ mod help;
 mod listed;
 mod process;
 mod served;
+#[cfg(test)]
+mod tests;
 mod words;
-
 
 pub use listed::list;
 pub use process::program;
