@@ -1,5 +1,8 @@
 //! Tables of ids.
 
+ghost use Rattle.pdb_listing.specs.Lines.{id_line, id_shown};
+ghost use Rattle.pdb_listing.specs.Listed.{IsListed, IsShown, IsWalked};
+
 use crate::line::push_id;
 use pdb_base::{FallibleIterator, IdIndex, Result};
 use pdb_container::look_up;
@@ -9,15 +12,10 @@ use pdb_tpi::IdInformation;
 use std::alloc::Global;
 use std::io::Write;
 
-/// Writes a line for each id of the table that a stream is, in the order of the table. A record that is
-/// refused has a line that says why. No more than one record and its line are held in memory.
-///
-/// # Errors
-/// What the table refuses, before anything is written; the fault at which the table stops, behind the
-/// lines of the ids before it; `IoError` if the writer fails, where a part of a line may then stand; and
-/// `OutOfMemory` if memory is refused, behind the lines so far.
-pub fn ids<W: Write>(alloc: Global, stream: Stream, form: Form, out: &mut W) -> Result<()> {
-    let table = IdInformation::parse(stream)?;
+/// Writes a line for each id of a table.
+fn list_ids<W: Write>(alloc: Global, table: &IdInformation, form: Form, out: &mut W) -> Result<()>
+    ensures { IsWalked (id_line form) table.now (W.contents out.old) (W.contents out.new) result }
+{
     let mut items = table.iter();
     let mut line = Vec::new(alloc);
     while let Some(item) = items.next()? {
@@ -26,6 +24,20 @@ pub fn ids<W: Write>(alloc: Global, stream: Stream, form: Form, out: &mut W) -> 
         out.write_all(&line)?;
     }
     Ok(())
+}
+
+/// Writes a line for each id of the table that a stream is, in the order of the table. A record that is
+/// refused has a line that says why. No more than one record and its line are held in memory.
+///
+/// # Errors
+/// What the table refuses, before anything is written; the fault at which the table stops, behind the
+/// lines of the ids before it; `IoError` if the writer fails, where a part of a line may then stand; and
+/// `OutOfMemory` if memory is refused, behind the lines so far.
+pub fn ids<W: Write>(alloc: Global, stream: Stream, form: Form, out: &mut W) -> Result<()>
+    ensures { IsListed (id_line form) stream (W.contents out.old) (W.contents out.new) result }
+{
+    let table = IdInformation::parse(stream)?;
+    list_ids(alloc, &table, form, out)
 }
 
 /// Writes the id of an index in full.
@@ -39,7 +51,9 @@ pub fn id_at<W: Write>(
     index: u32,
     form: Form,
     out: &mut W,
-) -> Result<()> {
+) -> Result<()>
+    ensures { IsShown (id_shown form index) stream (W.contents out.old) (W.contents out.new) result }
+{
     let table = IdInformation::parse(stream)?;
     let item = look_up(alloc, &table, IdIndex(index))?;
     let value = item.parse(alloc)?;

@@ -1,5 +1,8 @@
 //! The line of an item of a table.
 
+ghost use Rattle.std.specs.Prelude.{◌≡◌, ◌++◌, IfErr, OnOk};
+ghost use Rattle.pdb_listing.specs.Lines.{id_line, type_line};
+
 use crate::refused::push_refused;
 use pdb_base::{Error, IdIndex, Result, TypeIndex};
 use pdb_rows::{Form, id_row, push_row, type_row};
@@ -10,12 +13,16 @@ use std::alloc::Global;
 ///
 /// # Errors
 /// `OutOfMemory` if memory is refused.
+#[tactic(auto, unfolding(crate::specs::Lines::type_line))]
 pub(crate) fn push_type(
     alloc: Global,
     form: Form,
     item: &Item<'_, TypeIndex>,
     line: &mut Vec<u8>,
-) -> Result<()> {
+) -> Result<()>
+    ensures ok { OnOk result (line.new.items ≡ line.old.items ++ type_line form item.now.index.0 item.now.bytes.now) }
+    ensures want { IfErr result (λ e. e ≡ Error.OutOfMemory) }
+{
     let index = item.index().0;
     let leaf = item.raw_kind();
     match item.parse(alloc) {
@@ -32,12 +39,16 @@ pub(crate) fn push_type(
 ///
 /// # Errors
 /// `OutOfMemory` if memory is refused.
+#[tactic(auto, unfolding(crate::specs::Lines::id_line))]
 pub(crate) fn push_id(
     alloc: Global,
     form: Form,
     item: &Item<'_, IdIndex>,
     line: &mut Vec<u8>,
-) -> Result<()> {
+) -> Result<()>
+    ensures ok { OnOk result (line.new.items ≡ line.old.items ++ id_line form item.now.index.0 item.now.bytes.now) }
+    ensures want { IfErr result (λ e. e ≡ Error.OutOfMemory) }
+{
     let index = item.index().0;
     let leaf = item.raw_kind();
     match item.parse(alloc) {

@@ -1,7 +1,17 @@
 //! The members of a type: the fields of a class, a union or an enumeration, through all lists in which
 //! they stand, and the methods of a list.
 
-use pdb_base::{Result, TypeIndex};
+ghost use Rattle.std.specs.Prelude.{◌≡◌, ◌++◌, IfErr, OnOk};
+ghost use Rattle.std.specs.List.{flat_map};
+ghost use Rattle.std.specs.Option.{option_map};
+ghost use Rattle.pdb_listing.specs.Lines.{field_lines, list_of_fields, member_lines};
+ghost use Rattle.pdb_listing.specs.Listed.{Pushes};
+ghost use Rattle.pdb_rows.specs.EntryRows.{field_row};
+ghost use Rattle.pdb_rows.specs.Lines.{row_text};
+ghost use Rattle.pdb_rows.specs.TypeRows.{listed_method_fields};
+ghost use Rattle.pdb_values.specs.TypeView.{type_value};
+
+use pdb_base::{Error, Result, TypeIndex};
 use pdb_container::look_up_fields;
 use pdb_rows::{Form, field_row, method_row, push_row};
 use pdb_tpi::TypeInformation;
@@ -9,12 +19,16 @@ use pdb_values::{MethodListEntry, TypeData};
 use std::alloc::Global;
 
 /// Adds a line for each field.
+#[tactic(auto, using(pdb_rows::proofs::Separated::one_more))]
 fn push_entries(
     alloc: Global,
     form: Form,
     fields: &[TypeData<'_>],
     lines: &mut Vec<u8>,
-) -> Result<()> {
+) -> Result<()>
+    ensures ok { OnOk result (lines.new.items ≡ lines.old.items ++ flat_map (λ field. row_text form (field_row (type_value field))) fields.now) }
+    ensures want { IfErr result (λ e. e ≡ Error.OutOfMemory) }
+{
     for field in fields {
         let row = field_row(alloc, field)?;
         push_row(form, &row, lines)?;
@@ -23,12 +37,16 @@ fn push_entries(
 }
 
 /// Adds a line for each method.
+#[tactic(auto, using(pdb_rows::proofs::Separated::one_more))]
 fn push_methods(
     alloc: Global,
     form: Form,
     methods: &[MethodListEntry],
     lines: &mut Vec<u8>,
-) -> Result<()> {
+) -> Result<()>
+    ensures ok { OnOk result (lines.new.items ≡ lines.old.items ++ flat_map (λ method. row_text form (listed_method_fields method)) methods.now) }
+    ensures want { IfErr result (λ e. e ≡ Error.OutOfMemory) }
+{
     for method in methods {
         let row = method_row(alloc, *method)?;
         push_row(form, &row, lines)?;
@@ -36,9 +54,27 @@ fn push_methods(
     Ok(())
 }
 
+/// Adds a line for each field of a list, through all lists in which it goes on.
+#[tactic(auto, unfolding(crate::specs::Lines::field_lines))]
+fn push_list(
+    alloc: Global,
+    form: Form,
+    table: &TypeInformation,
+    list: TypeIndex,
+    lines: &mut Vec<u8>,
+) -> Result<()>
+    ensures { Pushes result lines.old.items lines.new.items (field_lines form table.now list.0) }
+{
+    let fields = look_up_fields(alloc, table, list)?;
+    push_entries(alloc, form, fields.as_slice(), lines)?;
+    Ok(())
+}
+
 /// The list in which the fields of a type begin: the type itself if it is a list of fields, and the list
 /// that a class, a union or an enumeration names.
-fn list_of_fields(index: TypeIndex, value: &TypeData<'_>) -> Option<TypeIndex> {
+fn list_of_fields(index: TypeIndex, value: &TypeData<'_>) -> Option<TypeIndex>
+    ensures { option_map (λ list. list.0) result ≡ list_of_fields index.0 (type_value value.now) }
+{
     match value {
         TypeData::Class(class) => class.fields,
         TypeData::Union(union_type) => Some(union_type.fields),
@@ -59,15 +95,14 @@ pub(crate) fn push_members(
     index: TypeIndex,
     value: &TypeData<'_>,
     lines: &mut Vec<u8>,
-) -> Result<()> {
+) -> Result<()>
+    ensures { Pushes result lines.old.items lines.new.items (member_lines form table.now index.0 (type_value value.now)) }
+{
     if let TypeData::MethodList(list) = value {
         return push_methods(alloc, form, &list.methods, lines);
     }
     match list_of_fields(index, value) {
-        Some(list) => {
-            let fields = look_up_fields(alloc, table, list)?;
-            push_entries(alloc, form, &fields, lines)
-        }
+        Some(list) => push_list(alloc, form, table, list, lines),
         None => Ok(()),
     }
 }

@@ -1,5 +1,8 @@
 //! Tables of types.
 
+ghost use Rattle.pdb_listing.specs.Lines.{type_line, type_shown};
+ghost use Rattle.pdb_listing.specs.Listed.{IsListed, IsShown, IsWalked};
+
 use crate::line::push_type;
 use crate::members::push_members;
 use pdb_base::{FallibleIterator, Result, TypeIndex};
@@ -10,15 +13,15 @@ use pdb_tpi::TypeInformation;
 use std::alloc::Global;
 use std::io::Write;
 
-/// Writes a line for each type of the table that a stream is, in the order of the table. A record that is
-/// refused has a line that says why. No more than one record and its line are held in memory.
-///
-/// # Errors
-/// What the table refuses, before anything is written; the fault at which the table stops, behind the
-/// lines of the types before it; `IoError` if the writer fails, where a part of a line may then stand; and
-/// `OutOfMemory` if memory is refused, behind the lines so far.
-pub fn types<W: Write>(alloc: Global, stream: Stream, form: Form, out: &mut W) -> Result<()> {
-    let table = TypeInformation::parse(stream)?;
+/// Writes a line for each type of a table.
+fn list_types<W: Write>(
+    alloc: Global,
+    table: &TypeInformation,
+    form: Form,
+    out: &mut W,
+) -> Result<()>
+    ensures { IsWalked (type_line form) table.now (W.contents out.old) (W.contents out.new) result }
+{
     let mut items = table.iter();
     let mut line = Vec::new(alloc);
     while let Some(item) = items.next()? {
@@ -27,6 +30,20 @@ pub fn types<W: Write>(alloc: Global, stream: Stream, form: Form, out: &mut W) -
         out.write_all(&line)?;
     }
     Ok(())
+}
+
+/// Writes a line for each type of the table that a stream is, in the order of the table. A record that is
+/// refused has a line that says why. No more than one record and its line are held in memory.
+///
+/// # Errors
+/// What the table refuses, before anything is written; the fault at which the table stops, behind the
+/// lines of the types before it; `IoError` if the writer fails, where a part of a line may then stand; and
+/// `OutOfMemory` if memory is refused, behind the lines so far.
+pub fn types<W: Write>(alloc: Global, stream: Stream, form: Form, out: &mut W) -> Result<()>
+    ensures { IsListed (type_line form) stream (W.contents out.old) (W.contents out.new) result }
+{
+    let table = TypeInformation::parse(stream)?;
+    list_types(alloc, &table, form, out)
 }
 
 /// Writes the type of an index in full, and then a line for each of its members: the fields of a class, a
@@ -43,17 +60,18 @@ pub fn type_at<W: Write>(
     index: u32,
     form: Form,
     out: &mut W,
-) -> Result<()> {
+) -> Result<()>
+    ensures { IsShown (type_shown form index) stream (W.contents out.old) (W.contents out.new) result }
+{
     let table = TypeInformation::parse(stream)?;
-    let index = TypeIndex(index);
-    let item = look_up(alloc, &table, index)?;
+    let item = look_up(alloc, &table, TypeIndex(index))?;
     let value = item.parse(alloc)?;
-    let row = type_row(alloc, index.0, item.raw_kind(), &value)?;
+    let row = type_row(alloc, index, item.raw_kind(), &value)?;
     let mut lines = Vec::new(alloc);
     push_fields(form, &row, &mut lines)?;
     out.write_all(&lines)?;
     lines.clear();
-    push_members(alloc, form, &table, index, &value, &mut lines)?;
+    push_members(alloc, form, &table, TypeIndex(index), &value, &mut lines)?;
     out.write_all(&lines)?;
     Ok(())
 }

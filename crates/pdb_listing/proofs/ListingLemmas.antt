@@ -1,0 +1,130 @@
+-- What stands on a writer after each step of a walk.
+use Rattle.std.proofs.Common.{◌≡◌, ◌⊎◌, inl, inr, ℕ, zero, suc, ◌+◌, ◌-◌, ◌≤◌, ◌<◌, List, [], ◌∷◌, ◌++◌, length, take, get_or, Option, Some, None, Ok, Err, refl, sym, ap, subst, ◌∙◌, arith, append_assoc}
+use Rattle.std.specs.List.{slice_get}
+use Rattle.std.specs.Io.KnownBytes.{Appends}
+use Rattle.std.proofs.KnownBytes.{Appends-nil, Appends-trans}
+use Rattle.std.proofs.lemmas.List.{append-nil, take_all, take_more, length-take}
+use Rattle.std.proofs.lemmas.Option.{slice_get_cases}
+use Rattle.pdb_base.proofs.Collected.{ok_is}
+use Rattle.pdb_listing.specs.Lines.{lines_from}
+use Rattle.pdb_base.specs.declared.error.Error.{Error}
+use Rattle.pdb_base.specs.declared.error.Error.TheVariants.{OutOfMemory}
+use Rattle.pdb_listing.specs.Listed.{IsWalked, all_lines, lacking, lines_of, stopped, whole}
+use Rattle.pdb_tpi.proofs.StepLemmas.{step_err, step_gives, step_none, step_some}
+use Rattle.pdb_tpi.proofs.WalkLemmas.{nth_some}
+use Rattle.pdb_tpi.specs.Steps.{Stand, walk, walk_rest, place_of, IsStep}
+use Rattle.pdb_tpi.specs.Walk.{fault_of}
+use Rattle.pdb_tpi.specs.Table.{Table}
+
+-- the line of an item by its index and bytes
+abbrev pub Line : Type 0
+Line = ℕ → List ℕ → List ℕ
+
+-- one item more
+lines_more : (line : Line) (index : ℕ) (items : List (List ℕ)) (item : List ℕ) → lines_from line index (items ++ item ∷ []) ≡ lines_from line index items ++ line (index + length items) item
+lines_more line index [] item = append-nil (line index item) ∙ ap (λ (i : ℕ). line i item) (omega arith)
+lines_more line index (first ∷ items) item =
+    let at : suc index + length items ≡ index + length (first ∷ items) = omega arith in
+    ap (λ (rest : List ℕ). line index first ++ rest) (lines_more line (suc index) items item)
+    ∙ sym (append_assoc (line index first) (lines_from line (suc index) items) (line (suc index + length items) item))
+    ∙ ap (λ (i : ℕ). (line index first ++ lines_from line (suc index) items) ++ line i item) at
+
+-- an iterator stands in a table, and the lines of the items before it stand behind what stood there
+pub record IsSoFar (line : Line) (table : Table) (stand : Stand) (out out' : Option (List ℕ)) : Type 0 where
+  pub same : stand.table ≡ table
+  pub least : table.header.minimum_index ≤ stand.index
+  pub lines : Appends out out' (lines_of line table (stand.index - table.header.minimum_index))
+
+-- before the first item nothing was written
+pub so_far_first : (line : Line) (table : Table) (stand : Stand) (out : Option (List ℕ)) → stand ≡ record { table = table; index = table.header.minimum_index } → IsSoFar line table stand out out
+so_far_first line table stand out is =
+    let first : Stand = record { table = table; index = table.header.minimum_index } in
+    let none : 0 ≡ table.header.minimum_index - table.header.minimum_index = omega arith in
+    let here : IsSoFar line table first out out = record {
+      same = refl;
+      least = omega arith;
+      lines = subst (λ (count : ℕ). Appends out out (lines_of line table count)) none (Appends-nil out);
+    } in
+    subst (λ (s : Stand). IsSoFar line table s out out) (sym is) here
+
+some_is : {A : Type 0} (x y : A) → Some x ≡ Some y → x ≡ y
+some_is x y e = cc
+
+-- the item that a step gives is the next of the walk
+step_item : {X : Type 0} (seen : X → ℕ × List ℕ) (old : Stand) (x : X) (new : Stand) → IsStep seen old (Ok (Some x)) new
+    → (place_of old < length (walk old.table)) × (get_or (walk old.table) (place_of old) (seen x).1 ≡ (seen x).1) × ((seen x).0 ≡ old.index)
+step_item {X} seen old x new step = elim ((slice_get_cases (walk old.table) (place_of old)).1) [
+  | inl here ↦
+      let moved : Stand = record old { index = old.index + 1 } in
+      let next : ℕ × List ℕ = (old.index, here.0) in
+      let given : Option (ℕ × List ℕ) × Stand = (Some next, moved) in
+      let taken : Option (ℕ × List ℕ) × Stand = (Some (seen x), new) in
+      let is : given ≡ taken = ok_is given taken (sym (step_gives old here.0 (nth_some old.table (place_of old) here.0 here.2)) ∙ step.gives) in
+      let pair : next ≡ seen x = some_is next (seen x) (ap (λ (p : Option (ℕ × List ℕ) × Stand). p.0) is) in
+      let item : here.0 ≡ (seen x).1 = ap (λ (p : ℕ × List ℕ). p.1) pair in
+      (here.1, subst (λ (bytes : List ℕ). get_or (walk old.table) (place_of old) bytes ≡ bytes) item here.3, sym (ap (λ (p : ℕ × List ℕ). p.0) pair))
+  | inr past ↦ let within = (step_some seen old x new step).0 in let beyond = past.0 in absurd (omega arith)
+]
+
+-- one item more stands there
+more_here : {X : Type 0} (seen : X → ℕ × List ℕ) (line : Line) (old new : Stand) (x : X) (out mid out' : Option (List ℕ)) → IsSoFar line old.table old out mid → IsStep seen old (Ok (Some x)) new
+    → Appends mid out' (line (seen x).0 (seen x).1) → IsSoFar line old.table new out out'
+more_here {X} seen line old new x out mid out' so step appends =
+    let table = old.table in
+    let items = walk table in
+    let minimum = table.header.minimum_index in
+    let count = place_of old in
+    let given = step_item seen old x new step in
+    let moved = step_some seen old x new step in
+    let next : new.index ≡ old.index + 1 = ap (λ (s : Stand). s.index) moved.1 in
+    let least = so.least in
+    let counted : count + 1 ≡ new.index - minimum = omega arith in
+    let within : count < length items = given.0 in
+    let long : length (take count items) ≡ count = simp length-take (omega arith) in
+    let at : minimum + length (take count items) ≡ (seen x).0 = let index = given.2 in omega arith in
+    let all : lines_of line table (count + 1) ≡ lines_of line table count ++ line (seen x).0 (seen x).1 =
+    ap (lines_from line minimum) (take_more items count (seen x).1 within)
+    ∙ lines_more line minimum (take count items) (get_or items count (seen x).1)
+    ∙ ap (λ (i : ℕ). lines_from line minimum (take count items) ++ line i (get_or items count (seen x).1)) at
+    ∙ ap (λ (bytes : List ℕ). lines_from line minimum (take count items) ++ line (seen x).0 bytes) given.1 in
+    let whole : Appends out out' (lines_of line table count ++ line (seen x).0 (seen x).1) = Appends-trans out mid out' (lines_of line table count) (line (seen x).0 (seen x).1) so.lines appends in
+    record {
+      same = step.stays;
+      least = omega arith;
+      lines = subst (λ (n : ℕ). Appends out out' (lines_of line table n)) counted (subst (Appends out out') (sym all) whole);
+    }
+
+pub so_far_more : {X : Type 0} (seen : X → ℕ × List ℕ) (line : Line) (table : Table) (old new : Stand) (x : X) (out mid out' : Option (List ℕ)) → IsSoFar line table old out mid → IsStep seen old (Ok (Some x)) new
+    → Appends mid out' (line (seen x).0 (seen x).1) → IsSoFar line table new out out'
+so_far_more {X} seen line table old new x out mid out' so step appends =
+    subst (λ (t : Table). IsSoFar line t old out mid → IsSoFar line t new out out') so.same (λ here. more_here seen line old new x out mid out' here step appends) so
+
+-- where no item is left, the lines of all stand there
+pub so_far_whole : (line : Line) (table : Table) (stand : Stand) (out out' : Option (List ℕ)) → IsSoFar line table stand out out' → length (walk stand.table) ≤ place_of stand → Appends out out' (all_lines line table)
+so_far_whole line table stand out out' so past =
+    let here = subst (λ (t : Table). length (walk t) ≤ stand.index - t.header.minimum_index) so.same past in
+    subst (λ (items : List (List ℕ)). Appends out out' (lines_from line table.header.minimum_index items)) (take_all (stand.index - table.header.minimum_index) (walk table) here) so.lines
+
+-- ---- how a walk ends
+
+-- at the end of the table all lines stand there
+pub ends_whole : {X : Type 0} (seen : X → ℕ × List ℕ) (line : Line) (table : Table) (old new : Stand) (out out' : Option (List ℕ)) → IsSoFar line table old out out' → IsStep seen old (Ok None) new → IsWalked line table out out' (Ok tt)
+ends_whole seen line table old new out out' so step =
+    let ended = step_none seen old new step in
+    whole (ap walk_rest (sym so.same) ∙ ended.1) (so_far_whole line table old out out' so ended.0)
+
+-- and at the fault at which it stops
+pub ends_stopped : {X : Type 0} (seen : X → ℕ × List ℕ) (line : Line) (table : Table) (old new : Stand) (fault : Error) (out out' : Option (List ℕ)) → IsSoFar line table old out out' → IsStep seen old (Err fault) new → IsWalked line table out out' (Err fault)
+ends_stopped seen line table old new fault out out' so step =
+    let ended = step_err seen old new fault step in
+    stopped fault (ap (λ (t : Table). fault_of (walk_rest t)) (sym so.same) ∙ ended.1) (so_far_whole line table old out out' so ended.0)
+
+-- where memory is refused, the lines so far stand there
+pub ends_lacking : (line : Line) (table : Table) (stand : Stand) (fault : Error) (out out' : Option (List ℕ)) → IsSoFar line table stand out out' → fault ≡ OutOfMemory → IsWalked line table out out' (Err fault)
+ends_lacking line table stand fault out out' so want =
+    let all : IsWalked line table out out' (Err OutOfMemory) = lacking (stand.index - table.header.minimum_index) so.lines in
+    subst (λ (e : Error). IsWalked line table out out' (Err e)) (sym want) all
+
+-- the line that was put together in a cleared buffer stands there
+pub line_written : (mid out' : Option (List ℕ)) (cleared filled written text : List ℕ) → cleared ≡ [] → filled ≡ cleared ++ text → written ≡ filled → Appends mid out' written → Appends mid out' text
+line_written mid out' cleared filled written text none fill write appends = subst (Appends mid out') (write ∙ fill ∙ ap (λ (front : List ℕ). front ++ text) none) appends

@@ -1,0 +1,56 @@
+-- What stands on a writer behind a listing, and why it ended.
+use Rattle.std.specs.Prelude.{◌≡◌, ◌⊎◌, ℕ, List, [], ◌++◌, take, Option, Result, Ok, Err}
+use Rattle.std.specs.Io.KnownBytes.{Appends, Keeps}
+use Rattle.std.specs.declared.io.Error as io
+use Rattle.pdb_base.specs.Answer.{Answer, ◌>>=◌}
+use Rattle.pdb_base.specs.Refusal.{refusal_of}
+use Rattle.pdb_base.specs.declared.error.Error.{Error}
+use Rattle.pdb_base.specs.declared.error.Error.TheVariants.{IoError, OutOfMemory}
+use Rattle.pdb_listing.specs.Lines.{lines_from}
+use Rattle.pdb_tpi.specs.Steps.{walk, walk_rest}
+use Rattle.pdb_tpi.specs.Table.{Table, table_of}
+use Rattle.pdb_tpi.specs.Walk.{fault_of}
+
+-- the lines of the first so many items of a table
+abbrev pub lines_of : (ℕ → List ℕ → List ℕ) → Table → ℕ → List ℕ
+lines_of line table count = lines_from line table.header.minimum_index (take count (walk table))
+
+-- the lines of all items of a table
+abbrev pub all_lines : (ℕ → List ℕ → List ℕ) → Table → List ℕ
+all_lines line table = lines_from line table.header.minimum_index (walk table)
+
+-- Lines were added to others: those that are meant, or none since they are refused so, or memory was refused.
+abbrev pub Pushes : Result (Unit {0}) Error → List ℕ → List ℕ → Answer (List ℕ) → Type 0
+Pushes (Ok done) old new meant = (added : List ℕ) × (meant ≡ Ok added) × (new ≡ old ++ added)
+Pushes (Err fault) old new meant = (meant ≡ Err (refusal_of fault)) ⊎ (fault ≡ OutOfMemory)
+
+-- A listing of a table, by the line of an item:
+--   whole    the lines of all items stand there, and no byte is left behind them
+--   stopped  the lines of all items stand there, and the fault is the one at which the walk stops
+--   lacking  memory was refused, behind the lines of some first items
+--   cut      the writer failed
+pub data IsWalked (line : ℕ → List ℕ → List ℕ) (table : Table) (out out' : Option (List ℕ)) : Result (Unit {0}) Error → Type 0 where
+  whole : walk_rest table ≡ [] → Appends out out' (all_lines line table) → IsWalked line table out out' (Ok tt)
+  stopped : (fault : Error) → fault_of (walk_rest table) ≡ refusal_of fault → Appends out out' (all_lines line table) → IsWalked line table out out' (Err fault)
+  lacking : (count : ℕ) → Appends out out' (lines_of line table count) → IsWalked line table out out' (Err OutOfMemory)
+  cut : (cause : io.Error) → IsWalked line table out out' (Err (IoError cause))
+
+-- A listing of the table that a stream is, or the stream is refused as a table, and nothing was written.
+pub data IsListed (line : ℕ → List ℕ → List ℕ) (stream : List ℕ) (out out' : Option (List ℕ)) (result : Result (Unit {0}) Error) : Type 0 where
+  walked : (table : Table) → table_of stream ≡ Ok table → IsWalked line table out out' result → IsListed line stream out out' result
+  refused : (fault : Error) → result ≡ Err fault → table_of stream ≡ Err (refusal_of fault) → Keeps out out' → IsListed line stream out out' result
+
+-- One record in full, and then its members, of the table that a stream is:
+--   whole    both stand there
+--   stopped  the record stands there, and the fault is that of its members
+--   refused  the table, the look-up or the record is refused, and nothing was written
+--   unread   memory was refused, and nothing was written
+--   lacking  memory was refused behind the record
+--   cut      the writer failed
+pub data IsShown (shown : Table → Answer (List ℕ × Answer (List ℕ))) (stream : List ℕ) (out out' : Option (List ℕ)) : Result (Unit {0}) Error → Type 0 where
+  whole : (record_text members : List ℕ) → (table_of stream >>= shown) ≡ Ok (record_text, Ok members) → Appends out out' (record_text ++ members) → IsShown shown stream out out' (Ok tt)
+  stopped : (record_text : List ℕ) (fault : Error) → (table_of stream >>= shown) ≡ Ok (record_text, Err (refusal_of fault)) → Appends out out' record_text → IsShown shown stream out out' (Err fault)
+  refused : (fault : Error) → (table_of stream >>= shown) ≡ Err (refusal_of fault) → Keeps out out' → IsShown shown stream out out' (Err fault)
+  unread : Keeps out out' → IsShown shown stream out out' (Err OutOfMemory)
+  lacking : (record_text : List ℕ) (members : Answer (List ℕ)) → (table_of stream >>= shown) ≡ Ok (record_text, members) → Appends out out' record_text → IsShown shown stream out out' (Err OutOfMemory)
+  cut : (cause : io.Error) → IsShown shown stream out out' (Err (IoError cause))
