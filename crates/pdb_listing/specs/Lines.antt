@@ -14,7 +14,7 @@ use Rattle.pdb_rows.specs.TypeRows.{listed_method_fields, type_row}
 use Rattle.pdb_tpi.specs.Chain.{fields_of}
 use Rattle.pdb_tpi.specs.Finder.{item_of}
 use Rattle.pdb_tpi.specs.Record.{kind_of, type_of, id_of}
-use Rattle.pdb_tpi.specs.Table.{Table}
+use Rattle.pdb_tpi.specs.Table.{Table, table_of}
 use Rattle.pdb_values.specs.IdValue.{IdValue}
 use Rattle.pdb_values.specs.TypeValue as values
 use Rattle.pdb_values.specs.TypeValue.{TypeValue, PlainValue}
@@ -96,3 +96,10 @@ id_shown form index table = do
   item ← item_of table index
   value ← id_of item
   Ok (full_text form (id_row index (kind_of item) value), Ok [])
+
+-- the same of the table that a stream is
+unfoldable pub type_at : Form → ℕ → List ℕ → Answer (List ℕ × Answer (List ℕ))
+type_at form index stream = table_of stream >>= type_shown form index
+
+unfoldable pub id_at : Form → ℕ → List ℕ → Answer (List ℕ × Answer (List ℕ))
+id_at form index stream = table_of stream >>= id_shown form index

@@ -2,7 +2,7 @@
 use Rattle.std.specs.Prelude.{◌≡◌, ◌⊎◌, ℕ, List, [], ◌++◌, take, Option, Result, Ok, Err}
 use Rattle.std.specs.Io.KnownBytes.{Appends, Keeps}
 use Rattle.std.specs.declared.io.Error as io
-use Rattle.pdb_base.specs.Answer.{Answer, ◌>>=◌}
+use Rattle.pdb_base.specs.Answer.{Answer}
 use Rattle.pdb_base.specs.Refusal.{refusal_of}
 use Rattle.pdb_base.specs.declared.error.Error.{Error}
 use Rattle.pdb_base.specs.declared.error.Error.TheVariants.{IoError, OutOfMemory}
@@ -40,17 +40,17 @@ pub data IsListed (line : ℕ → List ℕ → List ℕ) (stream : List ℕ) (ou
   walked : (table : Table) → table_of stream ≡ Ok table → IsWalked line table out out' result → IsListed line stream out out' result
   refused : (fault : Error) → result ≡ Err fault → table_of stream ≡ Err (refusal_of fault) → Keeps out out' → IsListed line stream out out' result
 
--- One record in full, and then its members, of the table that a stream is:
---   whole    both stand there
---   stopped  the record stands there, and the fault is that of its members
---   refused  the table, the look-up or the record is refused, and nothing was written
---   unread   memory was refused, and nothing was written
---   lacking  memory was refused behind the record
---   cut      the writer failed
-pub data IsShown (shown : Table → Answer (List ℕ × Answer (List ℕ))) (stream : List ℕ) (out out' : Option (List ℕ)) : Result (Unit {0}) Error → Type 0 where
-  whole : (record_text members : List ℕ) → (table_of stream >>= shown) ≡ Ok (record_text, Ok members) → Appends out out' (record_text ++ members) → IsShown shown stream out out' (Ok tt)
-  stopped : (record_text : List ℕ) (fault : Error) → (table_of stream >>= shown) ≡ Ok (record_text, Err (refusal_of fault)) → Appends out out' record_text → IsShown shown stream out out' (Err fault)
-  refused : (fault : Error) → (table_of stream >>= shown) ≡ Err (refusal_of fault) → Keeps out out' → IsShown shown stream out out' (Err fault)
-  unread : Keeps out out' → IsShown shown stream out out' (Err OutOfMemory)
-  lacking : (record_text : List ℕ) (members : Answer (List ℕ)) → (table_of stream >>= shown) ≡ Ok (record_text, members) → Appends out out' record_text → IsShown shown stream out out' (Err OutOfMemory)
-  cut : (cause : io.Error) → IsShown shown stream out out' (Err (IoError cause))
+-- One record in full, and then its members, as they are meant:
+--   whole_shown    both stand there
+--   stopped_shown  the record stands there, and the fault is that of its members
+--   refused_shown  the table, the look-up or the record is refused, and nothing was written
+--   unread_shown   memory was refused, and nothing was written
+--   lacking_shown  memory was refused behind the record
+--   cut_shown      the writer failed
+pub data IsShown (meant : Answer (List ℕ × Answer (List ℕ))) (out out' : Option (List ℕ)) : Result (Unit {0}) Error → Type 0 where
+  whole_shown : (text members : List ℕ) → meant ≡ Ok (text, Ok members) → Appends out out' (text ++ members) → IsShown meant out out' (Ok tt)
+  stopped_shown : (text : List ℕ) (fault : Error) → meant ≡ Ok (text, Err (refusal_of fault)) → Appends out out' text → IsShown meant out out' (Err fault)
+  refused_shown : (fault : Error) → meant ≡ Err (refusal_of fault) → Keeps out out' → IsShown meant out out' (Err fault)
+  unread_shown : Keeps out out' → IsShown meant out out' (Err OutOfMemory)
+  lacking_shown : (text : List ℕ) (members : Answer (List ℕ)) → meant ≡ Ok (text, members) → Appends out out' text → IsShown meant out out' (Err OutOfMemory)
+  cut_shown : (cause : io.Error) → IsShown meant out out' (Err (IoError cause))

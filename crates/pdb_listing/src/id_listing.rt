@@ -1,6 +1,6 @@
 //! Tables of ids.
 
-ghost use Rattle.pdb_listing.specs.Lines.{id_line, id_shown};
+ghost use Rattle.pdb_listing.specs.Lines.{id_at, id_line, id_shown};
 ghost use Rattle.pdb_listing.specs.Listed.{IsListed, IsShown, IsWalked};
 
 use crate::line::push_id;
@@ -40,6 +40,25 @@ pub fn ids<W: Write>(alloc: Global, stream: Stream, form: Form, out: &mut W) -> 
     list_ids(alloc, &table, form, out)
 }
 
+/// Writes the id of an index of a table in full.
+fn show_id<W: Write>(
+    alloc: Global,
+    table: &IdInformation,
+    index: u32,
+    form: Form,
+    out: &mut W,
+) -> Result<()>
+    ensures { IsShown (id_shown form index table.now) (W.contents out.old) (W.contents out.new) result }
+{
+    let item = look_up(alloc, table, IdIndex(index))?;
+    let value = item.parse(alloc)?;
+    let row = id_row(alloc, index, item.raw_kind(), &value)?;
+    let mut text = Vec::new(alloc);
+    push_fields(form, &row, &mut text)?;
+    out.write_all(&text)?;
+    Ok(())
+}
+
 /// Writes the id of an index in full.
 ///
 /// # Errors
@@ -52,14 +71,8 @@ pub fn id_at<W: Write>(
     form: Form,
     out: &mut W,
 ) -> Result<()>
-    ensures { IsShown (id_shown form index) stream (W.contents out.old) (W.contents out.new) result }
+    ensures { IsShown (id_at form index stream) (W.contents out.old) (W.contents out.new) result }
 {
     let table = IdInformation::parse(stream)?;
-    let item = look_up(alloc, &table, IdIndex(index))?;
-    let value = item.parse(alloc)?;
-    let row = id_row(alloc, index, item.raw_kind(), &value)?;
-    let mut lines = Vec::new(alloc);
-    push_fields(form, &row, &mut lines)?;
-    out.write_all(&lines)?;
-    Ok(())
+    show_id(alloc, &table, index, form, out)
 }

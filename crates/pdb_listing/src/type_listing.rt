@@ -1,6 +1,6 @@
 //! Tables of types.
 
-ghost use Rattle.pdb_listing.specs.Lines.{type_line, type_shown};
+ghost use Rattle.pdb_listing.specs.Lines.{type_at, type_line, type_shown};
 ghost use Rattle.pdb_listing.specs.Listed.{IsListed, IsShown, IsWalked};
 
 use crate::line::push_type;
@@ -46,6 +46,28 @@ pub fn types<W: Write>(alloc: Global, stream: Stream, form: Form, out: &mut W) -
     list_types(alloc, &table, form, out)
 }
 
+/// Writes the type of an index of a table in full, and then a line for each of its members.
+fn show_type<W: Write>(
+    alloc: Global,
+    table: &TypeInformation,
+    index: u32,
+    form: Form,
+    out: &mut W,
+) -> Result<()>
+    ensures { IsShown (type_shown form index table.now) (W.contents out.old) (W.contents out.new) result }
+{
+    let item = look_up(alloc, table, TypeIndex(index))?;
+    let value = item.parse(alloc)?;
+    let row = type_row(alloc, index, item.raw_kind(), &value)?;
+    let mut text = Vec::new(alloc);
+    push_fields(form, &row, &mut text)?;
+    out.write_all(&text)?;
+    let mut lines = Vec::new(alloc);
+    push_members(alloc, form, table, TypeIndex(index), &value, &mut lines)?;
+    out.write_all(&lines)?;
+    Ok(())
+}
+
 /// Writes the type of an index in full, and then a line for each of its members: the fields of a class, a
 /// union, an enumeration or a list of fields, through all lists in which they stand, or the methods of a
 /// list.
@@ -61,17 +83,8 @@ pub fn type_at<W: Write>(
     form: Form,
     out: &mut W,
 ) -> Result<()>
-    ensures { IsShown (type_shown form index) stream (W.contents out.old) (W.contents out.new) result }
+    ensures { IsShown (type_at form index stream) (W.contents out.old) (W.contents out.new) result }
 {
     let table = TypeInformation::parse(stream)?;
-    let item = look_up(alloc, &table, TypeIndex(index))?;
-    let value = item.parse(alloc)?;
-    let row = type_row(alloc, index, item.raw_kind(), &value)?;
-    let mut lines = Vec::new(alloc);
-    push_fields(form, &row, &mut lines)?;
-    out.write_all(&lines)?;
-    lines.clear();
-    push_members(alloc, form, &table, TypeIndex(index), &value, &mut lines)?;
-    out.write_all(&lines)?;
-    Ok(())
+    show_type(alloc, &table, index, form, out)
 }

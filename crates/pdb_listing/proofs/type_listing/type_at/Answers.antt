@@ -1,0 +1,13 @@
+-- What the table shows, or its refusal.
+use Rattle.pdb_base.proofs.Refused.{passed_on}
+use Rattle.pdb_listing.proofs.ShownLemmas.{refuses_table, shows_table}
+use Rattle.pdb_listing.specs.Lines.{type_at}
+use Rattle.pdb_listing.proofs.type_listing.type_at.Goals as goal
+
+pub returns-in_err-table : goal.returns-in_err-table
+unfolding type_at
+returns-in_err-table g c = rw (passed_on _ _ c.from_residual.ensures.1) (refuses_table _ _ _ _ c.in_err-table.ensures)
+
+pub returns : goal.returns
+unfolding type_at
+returns g c = shows_table _ _ _ _ _ _ c.in_ok-table.ensures c.show_type.ensures
