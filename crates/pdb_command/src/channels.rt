@@ -79,7 +79,7 @@ fn show<O: Write, E: Write>(outcome: &Outcome, out: &mut O, err: &mut E) -> io::
 }
 
 /// Tells a fault on the channel of errors.
-fn tell<E: Write>(alloc: Global, fault: &Error, err: &mut E) -> Ended
+pub fn tell<E: Write>(alloc: Global, fault: &Error, err: &mut E) -> Ended
     ensures { IsTold fault.now (E.contents err.old) (E.contents err.new) result }
 {
     let told = match error_line(alloc, fault) {

@@ -13,7 +13,10 @@ mod refusal;
 mod tests;
 mod words;
 
-pub use channels::{Ended, serve};
+pub use arguments::{texts_of, words_of};
+pub use channels::{Ended, serve, tell};
 pub use input::read_all;
 pub use outcome::{Outcome, act, usage};
-pub use process::program;
+pub use lines::reply_lines;
+pub use process::{Errors, program};
+pub use words::{number, query};

@@ -7,8 +7,9 @@ use std::{env, io};
 
 /// The channel of errors of a process as a writer of text.
 #[derive(Drop)]
-struct Errors<'a, P> {
-    process: &'a P,
+pub struct Errors<'a, P> {
+    /// The process.
+    pub process: &'a P,
 }
 
 impl<P: Eprint> Write for Errors<'_, P> {

@@ -26,7 +26,7 @@ fn spelled(digits: &[u8], base: u32, most: usize) -> Option<u32>
 
 /// The number that a word spells, in decimal or, after `0x`, in hexadecimal digits.
 #[tactic(auto, unfolding(crate::specs::Words::number_of))]
-fn number(word: &str) -> Option<u32>
+pub fn number(word: &str) -> Option<u32>
     ensures { result ≡ number_of word.now }
 {
     let bytes = word.as_bytes();

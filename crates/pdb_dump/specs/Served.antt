@@ -1,0 +1,48 @@
+-- What the program does with a command and an input, and how it ends.
+use Rattle.std.specs.Prelude.{◌≡◌, ◌⊎◌, ℕ, List, Option, Result, Ok, Err, IfSome}
+use Rattle.std.specs.Io.KnownBytes.{Keeps}
+use Rattle.std.specs.declared.io.ErrorKind.TheVariants as kinds
+use Rattle.std.specs.IoError.{error_kind}
+use Rattle.pdb_base.specs.declared.error.Error.{Error}
+use Rattle.pdb_base.specs.declared.error.Error.TheVariants.{IoError}
+use Rattle.pdb_command.specs.Channels.{IsTold, IsUnread}
+use Rattle.pdb_command.specs.declared.channels.Ended.{Ended}
+use Rattle.pdb_rows.specs.declared.form.Form.{Form}
+use Rattle.pdb_tables.specs.Listing.{IsListed}
+use Rattle.pdb_dump.specs.Listed.{listing_of}
+use Rattle.pdb_dump.specs.declared.words.Command.{Command}
+
+-- What a command lists of the file that an input had is listed: of its bytes where they are known.
+pub record IsListedOf (form : Form) (command : Command) (had old new : Option (List ℕ)) (result : Result (Unit {0}) Error) : Type 0 where
+  pub file : List ℕ
+  pub whole : IfSome had (λ bytes. file ≡ bytes)
+  pub listed : IsListed (listing_of form command file) old new result
+
+-- The input is not read, and nothing is written.
+pub record IsNotRead (old new : Option (List ℕ)) (result : Result (Unit {0}) Error) : Type 0 where
+  pub fault : Error
+  pub is_fault : result ≡ Err fault
+  pub unread : IsUnread fault
+  pub kept : Keeps old new
+
+-- who reads the output has closed it
+abbrev pub IsClosed : Error → Type 0
+IsClosed (IoError cause) = error_kind cause ≡ kinds.BrokenPipe
+IsClosed other = ⊥
+
+-- status 0, and nothing is told
+pub record IsQuiet (old new : Option (List ℕ)) (ended : Ended) : Type 0 where
+  pub status : ended.status ≡ 0
+  pub kept : Keeps old new
+
+-- How the program ends: quietly where all was listed, or where who reads it has closed the output, and
+-- else it tells the fault, with status 1.
+abbrev pub IsEnded : Result (Unit {0}) Error → Option (List ℕ) → Option (List ℕ) → Ended → Type 0
+IsEnded (Ok done) old new ended = IsQuiet old new ended
+IsEnded (Err fault) old new ended = (IsClosed fault → IsQuiet old new ended) × ((IsClosed fault → ⊥) → IsTold fault old new ended)
+
+-- What the program did with a command and an input: what it listed on the output, and how it ended.
+pub record IsServed (form : Form) (command : Command) (had out out' err err' : Option (List ℕ)) (ended : Ended) : Type 0 where
+  pub result : Result (Unit {0}) Error
+  pub listed : IsListedOf form command had out out' result ⊎ IsNotRead out out' result
+  pub ends : IsEnded result err err' ended

@@ -1,0 +1,56 @@
+//! How the program is called.
+
+use crate::words::Verb;
+
+/// How the program is called, with all its commands.
+pub const HELP: &str = "\
+pdbdump FILE [COMMAND ..] [--json]   shows what a program database holds
+
+FILE is a path, or `-` for standard input. Without a command it is summary.
+
+  summary              its pages, and its streams with their roles and names
+  names [S]            each name of the string table, with its offset
+  sections [S]         each section header
+  omap [S]             each record of an OMAP table, and whether they are in order
+  frames [OLD [NEW]]   each frame; a stream that is absent is `-`
+
+S, OLD and NEW are the numbers of streams, in decimal, or in hexadecimal after 0x. A stream that isn't
+given is found by its role. With --json each line is one object of JSON. `pdbdump COMMAND --help` tells
+of one command.
+";
+
+/// How a command is called.
+pub fn usage_of(verb: Verb) -> &'static str {
+    match verb {
+        Verb::Summary => "pdbdump FILE summary",
+        Verb::Names => "pdbdump FILE names [S]",
+        Verb::Sections => "pdbdump FILE sections [S]",
+        Verb::Omap => "pdbdump FILE omap [S]",
+        Verb::Frames => "pdbdump FILE frames [OLD [NEW]]",
+    }
+}
+
+/// What a command shows.
+pub fn meaning_of(verb: Verb) -> &'static str {
+    match verb {
+        Verb::Summary => {
+            "The size and number of the file's pages and its size in bytes; then a line for each stream: its number,
+its size in bytes, its role and its name. A part that is refused is told in a line of its own."
+        }
+        Verb::Names => {
+            "Each name of the string table in stream S, or in the stream named /names, with its offset."
+        }
+        Verb::Sections => {
+            "Each section header in stream S, or in the stream of that role: its number, its name, its address and
+size in memory, its place and size in the file, and its flags by name."
+        }
+        Verb::Omap => {
+            "Each record of the OMAP table in stream S, or in the one that leads from the image as it is loaded to
+the original one; and then whether their sources never fall."
+        }
+        Verb::Frames => {
+            "Each frame, by its start, of the file's own streams, or of stream OLD of the older format and stream NEW
+of the newer, each of which may be `-`."
+        }
+    }
+}

@@ -1,0 +1,115 @@
+//! The program on the channels of its process.
+
+use crate::help::{HELP, meaning_of, usage_of};
+use crate::served::serve;
+use crate::words::{Command, Misuse, any_is, asked_of_file, first_verb, plain_words};
+use pdb_command::{Ended, Errors, tell, texts_of, words_of};
+use pdb_container::{Error, Result};
+use pdb_rows::Form;
+use std::io::{BufWriter, ErrorKind};
+use std::rt::{Env, Files};
+use std::{env, fs, io};
+
+/// How many bytes of output are gathered before they are written.
+const BUFFER_SIZE: usize = 65_536;
+
+/// The status of a call whose words ask nothing.
+const MISUSED: u8 = 2;
+
+/// Prints how the program is called, or one command.
+fn print_help<P: Print>(process: &P, words: &[&str]) -> Result<u8> {
+    match first_verb(words) {
+        Some(verb) => {
+            let usage = usage_of(verb);
+            let meaning = meaning_of(verb);
+            println!(process; "{usage}\n\n{meaning}")?;
+        }
+        None => print!(process; "{HELP}")?,
+    }
+    Ok(0)
+}
+
+/// Tells why words ask nothing of a file.
+fn tell_misuse<P: Eprint + AllocGlobal>(process: &P, misuse: Misuse, words: &[&str]) -> Result<u8> {
+    let mut told = String::new(process.alloc());
+    for word in words {
+        told.push_str(" ")?;
+        told.push_str(word)?;
+    }
+    match misuse {
+        Misuse::NoCommand => {
+            eprintln!(process; "pdbdump: no command is called so:{told}\n\n{HELP}")?;
+        }
+        Misuse::Arguments(verb) => {
+            let usage = usage_of(verb);
+            eprintln!(process; "pdbdump: these words ask nothing:{told}\nusage: {usage}")?;
+        }
+    }
+    Ok(MISUSED)
+}
+
+/// Lists what a command asks of the file of a path, or of standard input if that is `-`.
+fn list_file<P: Files + Input + Print + Eprint + AllocGlobal>(
+    process: &P,
+    path: &str,
+    command: Command,
+    form: Form,
+) -> Result<Ended> {
+    let alloc = process.alloc();
+    let mut out = BufWriter::with_capacity(alloc, BUFFER_SIZE, io::writer(process))?;
+    let mut err = Errors { process };
+    if path == "-" {
+        let mut input = process.reader();
+        return Ok(serve(alloc, command, form, &mut input, &mut out, &mut err));
+    }
+    match fs::open(process, path) {
+        Ok(mut input) => Ok(serve(alloc, command, form, &mut input, &mut out, &mut err)),
+        Err(fault) => Ok(tell(alloc, &Error::from(fault), &mut err)),
+    }
+}
+
+/// What the program does with the words behind its name, and the status that it ends with.
+fn call<P: Files + Input + Print + Eprint + AllocGlobal>(process: &P, words: &[&str]) -> Result<u8> {
+    if any_is(words, "--help") {
+        return print_help(process, words);
+    }
+    let form = if any_is(words, "--json") {
+        Form::Json
+    } else {
+        Form::Text
+    };
+    let plain = plain_words(process.alloc(), words)?;
+    let Some((path, words)) = plain.split_first() else {
+        eprint!(process; "{HELP}")?;
+        return Ok(MISUSED);
+    };
+    match asked_of_file(words) {
+        Ok(command) => Ok(list_file(process, path, command, form)?.status),
+        Err(misuse) => tell_misuse(process, misuse, words),
+    }
+}
+
+/// Reads the words of a call, and does what they ask.
+fn attempt<P: Env + Files + Input + Print + Eprint + AllocGlobal>(process: &P) -> Result<u8> {
+    match env::args(process) {
+        Ok(arguments) => {
+            let words = words_of(process.alloc(), arguments)?;
+            let texts = texts_of(process.alloc(), &words)?;
+            call(process, &texts)
+        }
+        Err(error) if error.kind() == ErrorKind::InvalidData => {
+            eprint!(process; "{HELP}")?;
+            Ok(MISUSED)
+        }
+        Err(error) => Err(Error::from(error)),
+    }
+}
+
+/// What the program does with the words, the files and the channels of its process, and the status that it
+/// ends with: 0 if all was listed, 1 if something was refused, 2 if the words ask nothing.
+pub fn program<P: Env + Files + Input + Print + Eprint + AllocGlobal>(process: &P) -> u8 {
+    match attempt(process) {
+        Ok(status) => status,
+        Err(fault) => tell(process.alloc(), &fault, &mut Errors { process }).status,
+    }
+}

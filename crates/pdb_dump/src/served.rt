@@ -1,0 +1,69 @@
+//! The program between its channels: what it reads, what it writes, and how it ends.
+
+ghost use Rattle.std.specs.Prelude.{◌≡◌, ◌↔◌, ◌⊎◌, IsTrue};
+ghost use Rattle.pdb_dump.specs.Served.{IsClosed, IsEnded, IsListedOf, IsNotRead, IsQuiet, IsServed};
+
+use crate::listed::list;
+use crate::words::Command;
+use pdb_command::{Ended, read_all, tell};
+use pdb_container::{Error, Result};
+use pdb_rows::Form;
+use std::alloc::Global;
+use std::io::{ErrorKind, Read, Write};
+
+/// Reads an input and lists what a command asks of it. What was written is handed on in any case.
+fn read_and_list<I: Read, O: Write>(
+    alloc: Global,
+    command: Command,
+    form: Form,
+    input: &mut I,
+    out: &mut O,
+) -> Result<()>
+    ensures { IsListedOf form command (I.remaining input.old) (O.contents out.old) (O.contents out.new) result ⊎ IsNotRead (O.contents out.old) (O.contents out.new) result }
+{
+    let file = read_all(alloc, input)?;
+    let listed = list(alloc, file, command, form, out);
+    let flushed = out.flush();
+    listed?;
+    flushed?;
+    Ok(())
+}
+
+/// Whether who reads the output has closed it.
+fn is_closed(fault: &Error) -> bool
+    ensures { IsTrue result ↔ IsClosed fault.now }
+{
+    match fault {
+        Error::IoError(cause) => cause.kind() == ErrorKind::BrokenPipe,
+        _ => false,
+    }
+}
+
+/// Ends the program, which tells a fault unless it is that the output was closed.
+fn end<E: Write>(alloc: Global, listed: Result<()>, err: &mut E) -> Ended
+    ensures { IsEnded listed (E.contents err.old) (E.contents err.new) result }
+{
+    match listed {
+        Err(fault) if !is_closed(&fault) => tell(alloc, &fault, err),
+        _ => Ended {
+            status: 0,
+            told: Ok(()),
+        },
+    }
+}
+
+/// Lists on the output what a command asks of the file that an input is. A fault is told on the channel
+/// of errors, behind what was listed before it.
+pub fn serve<I: Read, O: Write, E: Write>(
+    alloc: Global,
+    command: Command,
+    form: Form,
+    input: &mut I,
+    out: &mut O,
+    err: &mut E,
+) -> Ended
+    ensures { IsServed form command (I.remaining input.old) (O.contents out.old) (O.contents out.new) (E.contents err.old) (E.contents err.new) result }
+{
+    let listed = read_and_list(alloc, command, form, input, out);
+    end(alloc, listed, err)
+}

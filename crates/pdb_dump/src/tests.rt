@@ -1,0 +1,123 @@
+//! What is listed of small files, row by row: S1 with other bytes as its stream 3.
+
+use crate::{any_is, asked_of_file, list, plain_words};
+use pdb_container::Result;
+use pdb_rows::Form;
+use pdb_vectors::s1_with;
+use std::alloc::Global;
+use std::test::Fail;
+
+/// A row: the words behind the file, the bytes of stream 3, what is listed, and the text of the refusal.
+type Listed = (&'static [&'static str], &'static [u8], &'static str, &'static str);
+
+/// A section header, and the first byte of another.
+const SECTION: &[u8] = b".text\0\0\0\x85\0\0\0\0\x10\0\0\0\x02\0\0\0\x04\0\0\0\0\0\0\0\0\0\0\0\0\0\0\x20\0\0\x60.";
+
+/// Two OMAP records, of which the second has the lower source.
+const OMAP: &[u8] = b"\0\x20\0\0\0\x10\0\0\0\x10\0\0\0\0\0\0";
+
+/// A string table of two names, the first of which is empty, with a byte behind the last NUL.
+const NAMES: &[u8] = b"\xfe\xef\xfe\xef\x01\0\0\0\x05\0\0\0\0a\"\0b";
+
+/// A record of the older frame format: 16 bytes of code at 0x1000, a local variable, two parameters.
+const FRAME: &[u8] = b"\0\x10\0\0\x10\0\0\0\x01\0\0\0\x02\0\x05\x13";
+
+const LISTED: &[Listed] = &[
+    (
+        &[],
+        b"hello",
+        "page_size=512 pages=8 bytes=4096\npart=roles refused=Unimplemented PDB feature: ancient DBI header\n\
+        part=names refused=UnexpectedEof\nstream=0 bytes=0\nstream=1 bytes=600 role=pdb_information\n\
+        stream=3 bytes=5 role=debug_information\ntable=2 refused=The requested stream (2) is not stored in this file\n\
+        table=4 refused=The requested stream (4) is not stored in this file\n",
+        "",
+    ),
+    (
+        &["sections", "3"],
+        SECTION,
+        "1 .text virtual_address=0x1000 virtual_size=133 pointer_to_raw_data=0x400 size_of_raw_data=512 \
+        pointer_to_relocations=0x0 number_of_relocations=0 pointer_to_line_numbers=0x0 number_of_line_numbers=0 \
+        characteristics=[executable,execute,read]\n",
+        "UnexpectedEof",
+    ),
+    (
+        &["omap", "3"],
+        OMAP,
+        "source_address=0x2000 target_address=0x1000\nsource_address=0x1000 target_address=0x0\nis_sorted=false\n",
+        "",
+    ),
+    (
+        &["omap", "0x3", "--json"],
+        b"\0\x20\0\0\0\x10\0\0",
+        "{\"source_address\":8192,\"target_address\":4096}\n{\"is_sorted\":true}\n",
+        "",
+    ),
+    (
+        &["omap", "3"],
+        b"hello",
+        "",
+        "OMAP stream has an invalid length or alignment for its records",
+    ),
+    (&["names", "3"], NAMES, "offset=0x0 \noffset=0x1 a\"\n", ""),
+    (
+        &["names", "3", "--json"],
+        NAMES,
+        "{\"offset\":0,\"name\":\"\"}\n{\"offset\":1,\"name\":\"a\\\"\"}\n",
+        "",
+    ),
+    (
+        &["frames", "3"],
+        FRAME,
+        "code_start=0x1000 code_size=16 locals_size=4 params_size=8 prolog_size=5 saved_regs_size=12 ty=fpo \
+        has_structured_eh=false has_cpp_eh=false is_function_start=false uses_base_pointer=true\n",
+        "",
+    ),
+    (&["frames", "-", "-"], FRAME, "", ""),
+    (
+        &["frames", "-", "2"],
+        FRAME,
+        "",
+        "The requested stream (2) is not stored in this file",
+    ),
+    (
+        &["sections"],
+        b"hello",
+        "",
+        "Unimplemented PDB feature: ancient DBI header",
+    ),
+];
+
+/// The form that words ask for.
+fn form_of(words: &[&str]) -> Form {
+    if any_is(words, "--json") {
+        Form::Json
+    } else {
+        Form::Text
+    }
+}
+
+/// Whether the words ask for this of S1 with these bytes as its stream 3.
+fn lists(alloc: Global, row: &Listed) -> Result<bool> {
+    let (words, stream, lines, refusal) = *row;
+    let plain = plain_words(alloc, words)?;
+    let Ok(command) = asked_of_file(&plain) else {
+        return Ok(false);
+    };
+    let file = s1_with(alloc, stream)?;
+    let mut out = Vec::new(alloc);
+    let is_told = match list(alloc, file, command, form_of(words), &mut out) {
+        Ok(()) => refusal.is_empty(),
+        Err(error) => error.to_string(alloc)?.as_str() == refusal,
+    };
+    Ok(is_told && out.as_slice() == lines.as_bytes())
+}
+
+#[test]
+fn listed(rt: HostRuntime) -> std::result::Result<(), Fail> {
+    for row in LISTED {
+        let (words, _, lines, _) = row;
+        let is_listed = lists(rt.alloc(), row)?;
+        assert!(rt; is_listed, "{words:?} {lines}");
+    }
+    Ok(())
+}

@@ -1,0 +1,30 @@
+-- The lines of streams from a number on.
+use Rattle.std.proofs.Common.{◌≡◌, ℕ, suc, ◌+◌, ◌-◌, ◌<◌, ◌≤◌, List, [], ◌∷◌, ◌++◌, refl, ap, arith}
+use Rattle.std.specs.List.{flat_map, range_with_len}
+use Rattle.pdb_msf.specs.Header.{Head}
+use Rattle.pdb_roles.specs.StreamNames.{Named}
+use Rattle.pdb_roles.specs.declared.debug_header.DBIExtraStreams.{DBIExtraStreams}
+use Rattle.pdb_rows.specs.declared.form.Form.{Form}
+use Rattle.pdb_summary.specs.Streams.{stream_line, stream_lines}
+
+-- what is made of the numbers from one on, up to below another
+unfoldable pub made_from : (ℕ → List ℕ) → ℕ → ℕ → List ℕ
+made_from line end n = flat_map line (range_with_len n (end - n))
+
+pub made_next : (line : ℕ → List ℕ) (end n : ℕ) → n < end → made_from line end n ≡ line n ++ made_from line end (n + 1)
+unfolding made_from
+made_next line end n within =
+    let left : end - n ≡ suc (end - (n + 1)) = omega (arith, within) in
+    rw left refl
+
+pub made_end : (line : ℕ → List ℕ) (end n : ℕ) → end ≤ n → made_from line end n ≡ []
+unfolding made_from
+made_end line end n over =
+    let none : end - n ≡ 0 = omega (arith, over) in
+    rw none refl
+
+-- the lines of all streams are those from 0 on
+pub lines_from_first : (form : Form) (roles : DBIExtraStreams) (names : List Named) (file : List ℕ) (head : Head)
+    → stream_lines form roles names file head ≡ made_from (stream_line form roles names file head) 0xffff 0
+unfolding stream_lines made_from
+lines_from_first form roles names file head = refl

@@ -1,0 +1,187 @@
+-- What a walk has counted, step after step.
+use Rattle.std.proofs.Common.{◌≡◌, inl, inr, ℕ, zero, suc, ◌+◌, ◌-◌, ◌^◌, ◌<◌, ◌≤◌, ◌==◌, Bool, true, false, cond, List, [], ◌∷◌, length, get_or, set, drop, Option, Some, None, Ok, Err, refl, sym, ap, subst, ◌∙◌, arith, drop-cons, zero-add}
+use Rattle.std.specs.Prelude.{count_by, slice_index_or, slice_set, replicate}
+use Rattle.std.specs.List.{fold, slice_get}
+use Rattle.std.specs.Option.{option_map_or}
+use Rattle.std.specs.Result.{result_ok}
+use Rattle.std.proofs.lemmas.Bool.{cases_Bool, eqb-true, eqb-false, eq-eqb, ne_eqb, cases_lt}
+use Rattle.std.proofs.lemmas.List.{get_or-set_same, get_or-set_other, get_or-replicate}
+use Rattle.std.proofs.Math.ListN.{drop_of_length-le}
+use Rattle.std.proofs.lemmas.List.Sums.{count_by-le-length}
+use Rattle.std.proofs.lemmas.Option.{slice_get_cases, slice_get_past, slice_get-get_or}
+use Rattle.pdb_base.specs.declared.error.Error.{Error}
+use Rattle.pdb_base.specs.Refusal.{Refusal, refusal_of}
+use Rattle.pdb_base.specs.Answer.{Answer}
+use Rattle.pdb_base.proofs.Collected.{ok_is, ok_is_no_err, err_is}
+use Rattle.pdb_tpi.specs.Record.{kind_of}
+use Rattle.pdb_tpi.specs.Steps.{Stand, IsStep, body, items_left, place_of, room, step_of, stopped, walk, walk_rest}
+use Rattle.pdb_tpi.specs.Table.{Table}
+use Rattle.pdb_tpi.specs.Walk.{behind, fault_of, first_item, items}
+use Rattle.pdb_tpi.proofs.StepLemmas.{step_err, step_gives, step_none, step_some, step_stops}
+use Rattle.pdb_tpi.proofs.WalkLemmas.{nth_some}
+use Rattle.pdb_summary.specs.Kinds.{count_of, stop_of}
+
+-- ---- how many items there can be
+
+items_few_by : (limit : ℕ) (bytes : List ℕ) (first : Option (List ℕ)) → ((more : List ℕ) → length (items limit more) ≤ limit)
+    → length (option_map_or (λ item. item ∷ items limit (behind item bytes)) first []) ≤ suc limit
+items_few_by limit bytes None few = omega arith
+items_few_by limit bytes (Some item) few = let here = few (behind item bytes) in omega (arith, here)
+
+items_few : (limit : ℕ) (bytes : List ℕ) → length (items limit bytes) ≤ limit
+unfolding items
+items_few zero bytes = omega arith
+items_few (suc limit) bytes = items_few_by limit bytes (result_ok (first_item bytes)) (items_few limit)
+
+room_few : (least : ℕ) → 2 ^ 32 - least ≤ 2 ^ 32
+room_few least = omega arith
+
+-- a table has no more items than 32 bits can number
+pub walk_few : (table : Table) → length (walk table) ≤ 2 ^ 32
+unfolding walk
+walk_few table =
+    let few = items_few (room table) (body table) in
+    let most = room_few table.header.minimum_index in
+    omega (arith, few, most)
+
+-- ---- a step
+
+-- the items that an iterator still has to give
+unfoldable pub left : Stand → List (List ℕ)
+left stand = drop (place_of stand) (walk stand.table)
+
+some_same : {A : Type 0} {x y : A} → Some x ≡ Some y → x ≡ y
+some_same e = cc
+
+-- the item that a step gives is the first of those that are left
+pub left_first : {X : Type 0} (seen : X → ℕ × List ℕ) (old : Stand) (x : X) (new : Stand) → old.table.header.minimum_index ≤ old.index → IsStep seen old (Ok (Some x)) new → left old ≡ (seen x).1 ∷ left new
+unfolding left
+left_first seen old x new base step = elim ((slice_get_cases (walk old.table) (place_of old)).1) [
+  | inl here ↦
+      let moved : Stand = record old { index = old.index + 1 } in
+      let is : (Some (old.index, here.0), moved) ≡ (Some (seen x), new) = ok_is (Some (old.index, here.0), moved) (Some (seen x), new) (sym (step_gives old here.0 (nth_some old.table (place_of old) here.0 here.2)) ∙ step.gives) in
+      let item : here.0 ≡ (seen x).1 = ap (λ (p : ℕ × List ℕ). p.1) (some_same (ap (λ (p : Option (ℕ × List ℕ) × Stand). p.0) is)) in
+      let at : get_or (walk old.table) (place_of old) [] ≡ here.0 = sym (some_same (sym here.2 ∙ slice_get-get_or (walk old.table) (place_of old) [] here.1)) in
+      let next : old.index + 1 - old.table.header.minimum_index ≡ suc (place_of old) = omega (arith, base) in
+      drop-cons (walk old.table) (place_of old) [] here.1
+      ∙ ap (λ (i : List ℕ). i ∷ drop (suc (place_of old)) (walk old.table)) (at ∙ item)
+      ∙ ap (λ (n : ℕ). (seen x).1 ∷ drop n (walk old.table)) (sym next)
+      ∙ ap (λ (s : Stand). (seen x).1 ∷ drop (place_of s) (walk s.table)) (ap (λ (p : Option (ℕ × List ℕ) × Stand). p.1) is)
+  | inr past ↦ absurd (omega (arith, (step_some seen old x new step).0, past.0))
+]
+
+pub left_none : (stand : Stand) → length (walk stand.table) ≤ place_of stand → left stand ≡ []
+unfolding left
+left_none stand past = drop_of_length-le (walk stand.table) past
+
+-- ---- counts
+
+-- So much is counted of a table's records as an iterator gave.
+pub record IsCounting (table : Table) (stand : Stand) (counts : List ℕ) (records : ℕ) : Type 0 where
+  pub same : stand.table ≡ table
+  pub base : table.header.minimum_index ≤ stand.index
+  pub kinds : length counts ≡ 0x10000
+  pub each : (leaf : ℕ) → leaf < 0x10000 → slice_index_or counts leaf 0 + count_of (left stand) leaf ≡ count_of (walk table) leaf
+  pub all : records + length (left stand) ≡ length (walk table)
+
+pub counting_none : (table : Table) (stand : Stand) (counts : List ℕ) → stand ≡ record { table = table; index = table.header.minimum_index } → length counts ≡ 0x10000
+    → ((leaf : ℕ) → leaf < 0x10000 → slice_index_or counts leaf 0 ≡ 0) → IsCounting table stand counts 0
+unfolding left
+counting_none table stand counts first kinds zeros =
+    let none : table.header.minimum_index - table.header.minimum_index ≡ 0 = omega arith in
+    rw first (record {
+      same = refl;
+      base = omega arith;
+      kinds = kinds;
+      each = λ leaf within. rw (zeros leaf within, none) (zero-add (count_of (walk table) leaf));
+      all = rw none (zero-add (length (walk table)));
+    })
+
+-- one count more has room
+pub room_more : (table : Table) (stand : Stand) (counts : List ℕ) (records leaf : ℕ) → leaf < 0x10000 → IsCounting table stand counts records → slice_index_or counts leaf 0 + 1 < 2 ^ 64
+room_more table stand counts records leaf within counting =
+    let each = counting.each leaf within in
+    let few = count_by-le-length (λ item. kind_of item == leaf) (walk table) in
+    let most = walk_few table in
+    omega (arith, each, few, most)
+
+pub room_records : (table : Table) (stand : Stand) (counts : List ℕ) (records : ℕ) → IsCounting table stand counts records → records + 1 < 2 ^ 64
+room_records table stand counts records counting =
+    let most = walk_few table in
+    omega (arith, counting.all, most)
+
+fold_from : {X : Type 0} (p : X → Bool) (n : ℕ) (xs : List X) → fold (λ a x. a + cond (p x) 1 0) n xs ≡ n + count_by p xs
+fold_from p n [] = omega arith
+fold_from p n (x ∷ xs) =
+    let here : fold (λ a y. a + cond (p y) 1 0) (n + cond (p x) 1 0) xs ≡ n + cond (p x) 1 0 + count_by p xs = fold_from p (n + cond (p x) 1 0) xs in
+    let whole : count_by p (x ∷ xs) ≡ 0 + cond (p x) 1 0 + count_by p xs = fold_from p (0 + cond (p x) 1 0) xs in
+    omega (arith, here, whole)
+
+count_first : (item : List ℕ) (others : List (List ℕ)) (leaf : ℕ) → count_of (item ∷ others) leaf ≡ cond (kind_of item == leaf) 1 0 + count_of others leaf
+count_first item others leaf =
+    fold_from (λ i. kind_of i == leaf) (0 + cond (kind_of item == leaf) 1 0) others
+    ∙ ap (λ (n : ℕ). n + count_of others leaf) (zero-add (cond (kind_of item == leaf) 1 0))
+
+each_more : (counts : List ℕ) (item : List ℕ) (others : List (List ℕ)) (kind leaf whole : ℕ) → kind ≡ kind_of item → kind < length counts
+    → slice_index_or counts leaf 0 + count_of (item ∷ others) leaf ≡ whole
+    → slice_index_or (slice_set counts kind (slice_index_or counts kind 0 + 1)) leaf 0 + count_of others leaf ≡ whole
+each_more counts item others kind leaf whole is within before = elim (cases_Bool (kind_of item == leaf)) [
+  | inl same ↦
+      let here : kind ≡ leaf = is ∙ eqb-true (kind_of item) leaf same in
+      let one : count_of (item ∷ others) leaf ≡ 1 + count_of others leaf = count_first item others leaf ∙ rw same refl in
+      let noted : slice_index_or (slice_set counts leaf (slice_index_or counts leaf 0 + 1)) leaf 0 ≡ slice_index_or counts leaf 0 + 1 =
+      get_or-set_same counts leaf (slice_index_or counts leaf 0 + 1) 0 (subst (λ (k : ℕ). k < length counts) here within) in
+      let at : slice_index_or (slice_set counts kind (slice_index_or counts kind 0 + 1)) leaf 0 ≡ slice_index_or counts leaf 0 + 1 =
+      ap (λ (k : ℕ). slice_index_or (slice_set counts k (slice_index_or counts k 0 + 1)) leaf 0) here ∙ noted in
+      omega (arith, at, one, before)
+  | inr other ↦
+      let apart : leaf ≡ kind → ⊥ = λ e. eqb-false (kind_of item) leaf other (sym is ∙ sym e) in
+      let none : count_of (item ∷ others) leaf ≡ 0 + count_of others leaf = count_first item others leaf ∙ rw other refl in
+      let kept : slice_index_or (slice_set counts kind (slice_index_or counts kind 0 + 1)) leaf 0 ≡ slice_index_or counts leaf 0 =
+      get_or-set_other counts kind leaf (slice_index_or counts kind 0 + 1) 0 apart in
+      omega (arith, kept, none, before)
+]
+
+-- one record more
+pub counting_more : {X : Type 0} (seen : X → ℕ × List ℕ) (table : Table) (old : Stand) (x : X) (new : Stand) (counts more : List ℕ) (records kind : ℕ) → IsStep seen old (Ok (Some x)) new
+    → IsCounting table old counts records → kind ≡ kind_of (seen x).1 → kind < 0x10000 → more ≡ slice_set counts kind (slice_index_or counts kind 0 + 1) → length more ≡ 0x10000
+    → IsCounting table new more (records + 1)
+counting_more seen table old x new counts more records kind step counting is within noted kinds =
+    let moved = (step_some seen old x new step).1 in
+    let base : old.table.header.minimum_index ≤ old.index = subst (λ (t : Table). t.header.minimum_index ≤ old.index) (sym counting.same) counting.base in
+    let first = left_first seen old x new base step in
+    let kept : new.table ≡ old.table = step.stays in
+    let next : new.index ≡ old.index + 1 = ap (λ (s : Stand). s.index) moved in
+    record {
+      same = kept ∙ counting.same;
+      base = omega (arith, counting.base, next);
+      kinds = kinds;
+      each = λ leaf small. rw noted (each_more counts (seen x).1 (left new) kind leaf (count_of (walk table) leaf) is (omega (arith, within, counting.kinds))
+          (ap (λ (rest : List (List ℕ)). slice_index_or counts leaf 0 + count_of rest leaf) (sym first) ∙ counting.each leaf small));
+      all = let one : length (left old) ≡ suc (length (left new)) = ap length first in omega (arith, one, counting.all);
+    }
+
+-- ---- the end
+
+-- all is counted where none is left
+pub counted_all : (table : Table) (stand : Stand) (counts : List ℕ) (records : ℕ) → IsCounting table stand counts records → length (walk stand.table) ≤ place_of stand
+    → ((leaf : ℕ) → leaf < 0x10000 → slice_index_or counts leaf 0 ≡ count_of (walk table) leaf) × (records ≡ length (walk table))
+counted_all table stand counts records counting past =
+    let none = left_none stand past in (
+      λ leaf within. let each = counting.each leaf within in let no : count_of (left stand) leaf ≡ 0 = ap (λ (rest : List (List ℕ)). count_of rest leaf) none in omega (arith, each, no),
+      (let no : length (left stand) ≡ 0 = ap length none in omega (arith, counting.all, no)),
+    )
+
+stop_at : (stand : Stand) (rest : List ℕ) (fault : Refusal) → stopped stand rest ≡ Err fault → stop_of rest ≡ Some fault
+stop_at stand [] fault e = let none : Option (ℕ × List ℕ) = None in absurd (ok_is_no_err (none, stand) fault e)
+stop_at stand (byte ∷ rest) fault e = ap (λ (f : Refusal). Some f) (err_is {A = Option (ℕ × List ℕ) × Stand} (fault_of (byte ∷ rest)) fault e)
+
+-- the fault of a step that is refused is that at which the walk stops
+pub stops_with : {X : Type 0} (seen : X → ℕ × List ℕ) (table : Table) (old new : Stand) (e : Error) → old.table ≡ table → IsStep seen old (Err e) new → stop_of (walk_rest table) ≡ Some (refusal_of e)
+stops_with seen table old new e same step =
+    let past = slice_get_past (walk old.table) (place_of old) (step_err seen old new e step).0 in
+    ap (λ (t : Table). stop_of (walk_rest t)) (sym same) ∙ stop_at old (walk_rest old.table) (refusal_of e) (sym (step_stops old past) ∙ step.gives)
+
+-- where a step gives nothing the walk does not stop
+pub stops_not : {X : Type 0} (seen : X → ℕ × List ℕ) (table : Table) (old new : Stand) → old.table ≡ table → IsStep seen old (Ok None) new → stop_of (walk_rest table) ≡ None
+stops_not seen table old new same step = ap (λ (t : Table). stop_of (walk_rest t)) (sym same) ∙ ap stop_of (step_none seen old new step).1

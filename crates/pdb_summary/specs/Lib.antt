@@ -1,0 +1,5 @@
+pub mod Refused
+pub mod Streams
+pub mod Kinds
+pub mod Tally
+pub mod Summary

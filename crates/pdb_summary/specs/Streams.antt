@@ -1,0 +1,74 @@
+-- What a summary says of each stream.
+use Rattle.std.specs.Prelude.{ℕ, ◌==◌, Bool, false, if◌then◌else◌, List, [], ◌∷◌, ◌++◌, length, codes, Option, Some, None, Ok, Err}
+use Rattle.std.specs.Option.{option_map, option_map_or}
+use Rattle.std.specs.List.{find, flat_map, range_with_len}
+use Rattle.pdb_base.specs.Answer.{Answer}
+use Rattle.pdb_base.specs.Index.{stream_number}
+use Rattle.pdb_base.specs.Refusal.{Refusal, stream_not_found}
+use Rattle.pdb_base.specs.declared.index.StreamIndex.{StreamIndex}
+use Rattle.pdb_msf.specs.File.{stream_of}
+use Rattle.pdb_msf.specs.Header.{Head}
+use Rattle.pdb_roles.specs.StreamNames.{Named}
+use Rattle.pdb_roles.specs.declared.debug_header.DBIExtraStreams.{DBIExtraStreams}
+use Rattle.pdb_rows.specs.declared.form.Form.{Form}
+use Rattle.pdb_rows.specs.Lines.{row_text}
+use Rattle.pdb_rows.specs.Row.{ShownRow, ShownValue, number, text, absent}
+use Rattle.pdb_summary.specs.Refused.{refused_line}
+use Rattle.pdb_summary.specs.declared.refused.Part.TheVariants as parts
+
+-- whether an index names the stream of a number
+abbrev pub is_of : StreamIndex → ℕ → Bool
+is_of index n = option_map_or (λ m. m == n) (stream_number index.0) false
+
+-- the role of a stream that the debug header lists, the first where it has several
+unfoldable pub listed_role : DBIExtraStreams → ℕ → Option (List ℕ)
+listed_role roles n =
+    if is_of roles.fpo n then Some (codes "fpo")
+    else if is_of roles.exception n then Some (codes "exception")
+    else if is_of roles.fixup n then Some (codes "fixup")
+    else if is_of roles.omap_to_src n then Some (codes "omap_to_src")
+    else if is_of roles.omap_from_src n then Some (codes "omap_from_src")
+    else if is_of roles.section_headers n then Some (codes "section_headers")
+    else if is_of roles.token_rid_map n then Some (codes "token_rid_map")
+    else if is_of roles.xdata n then Some (codes "xdata")
+    else if is_of roles.pdata n then Some (codes "pdata")
+    else if is_of roles.framedata n then Some (codes "framedata")
+    else if is_of roles.original_section_headers n then Some (codes "original_section_headers")
+    else None
+
+-- the role of a stream: the first four after the old directory have theirs by their numbers
+unfoldable pub role_of : DBIExtraStreams → ℕ → Option (List ℕ)
+role_of roles n =
+    if n == 1 then Some (codes "pdb_information")
+    else if n == 2 then Some (codes "types")
+    else if n == 3 then Some (codes "debug_information")
+    else if n == 4 then Some (codes "ids")
+    else listed_role roles n
+
+-- the first name of a stream
+abbrev pub name_of : List Named → ℕ → Option (List ℕ)
+name_of names n = option_map (λ named. named.name) (find (λ named. named.stream == n) names)
+
+-- a text, if there is one
+abbrev pub text_shown : Option (List ℕ) → ShownValue
+text_shown (Some bytes) = text bytes
+text_shown None = absent
+
+-- a stream: its number, its size in bytes, its role and its name
+abbrev pub stream_shown : ℕ → ℕ → Option (List ℕ) → Option (List ℕ) → ShownRow
+stream_shown n size role name =
+    (codes "stream", number n) ∷ (codes "bytes", number size) ∷ (codes "role", text_shown role) ∷ (codes "name", text_shown name) ∷ []
+
+-- what is said of the stream of a number: nothing where there is none
+abbrev pub said_of : Form → DBIExtraStreams → List Named → ℕ → Answer (List ℕ) → List ℕ
+said_of form roles names n (Ok stream) = row_text form (stream_shown n (length stream) (role_of roles n) (name_of names n))
+said_of form roles names n (Err (stream_not_found m)) = []
+said_of form roles names n (Err refusal) = refused_line form (parts.Stream n) refusal
+
+-- the line of stream n of a file
+unfoldable pub stream_line : Form → DBIExtraStreams → List Named → List ℕ → Head → ℕ → List ℕ
+stream_line form roles names file head n = said_of form roles names n (stream_of file head n None)
+
+-- the lines of all streams that a number of 16 bits can name
+unfoldable pub stream_lines : Form → DBIExtraStreams → List Named → List ℕ → Head → List ℕ
+stream_lines form roles names file head = flat_map (stream_line form roles names file head) (range_with_len 0 0xffff)

@@ -1,0 +1,92 @@
+-- What a file is made of.
+use Rattle.std.specs.Prelude.{ℕ, List, [], ◌∷◌, ◌++◌, length, drop, codes, Ok, Err}
+use Rattle.pdb_base.specs.Answer.{Answer, ◌>>=◌}
+use Rattle.pdb_base.specs.Reading.{number_at}
+use Rattle.pdb_base.specs.declared.index.StreamIndex.{StreamIndex}
+use Rattle.pdb_base.specs.Index.{no_stream}
+use Rattle.pdb_msf.specs.Directory.{directory_of}
+use Rattle.pdb_msf.specs.Header.{Head}
+use Rattle.pdb_roles.specs.File.{file_information, file_roles}
+use Rattle.pdb_roles.specs.StreamNames.{Named, stream_names_of}
+use Rattle.pdb_roles.specs.declared.debug_header.DBIExtraStreams.{DBIExtraStreams}
+use Rattle.pdb_rows.specs.declared.form.Form.{Form}
+use Rattle.pdb_rows.specs.Lines.{row_text}
+use Rattle.pdb_rows.specs.Row.{ShownRow, number}
+use Rattle.pdb_summary.specs.Refused.{refused_line}
+use Rattle.pdb_summary.specs.Kinds.{table_part}
+use Rattle.pdb_summary.specs.Streams.{stream_lines}
+use Rattle.pdb_summary.specs.declared.refused.Part.{Part}
+use Rattle.pdb_summary.specs.declared.refused.Part.TheVariants as parts
+use Rattle.pdb_tables.specs.Listing.{Listing, whole}
+
+-- the size of a page and how many pages are used, as they stand in the header from byte 32 on, with the
+-- number of the map of free pages between them
+unfoldable pub pages_of : List ℕ → Answer (ℕ × ℕ)
+pages_of file = do
+  page_size ← number_at 4 (drop 32 file)
+  free_page_map ← number_at 4 page_size.1
+  pages_used ← number_at 4 free_page_map.1
+  Ok (page_size.0, pages_used.0)
+
+-- a file: the size of its pages, how many it uses, and its size, in bytes
+abbrev pub pages_shown : ℕ × ℕ → ℕ → ShownRow
+pages_shown pages size = (codes "page_size", number pages.0) ∷ (codes "pages", number pages.1) ∷ (codes "bytes", number size) ∷ []
+
+-- what a part says, or in its place what it says where it is empty
+abbrev pub said_or : {A : Type 0} → A → Answer A → A
+said_or empty (Ok said) = said
+said_or empty (Err refusal) = empty
+
+-- that a part is refused, if it is
+abbrev pub told : {A : Type 0} → Form → Part → Answer A → List ℕ
+told form part (Ok said) = []
+told form part (Err refusal) = refused_line form part refusal
+
+-- no stream has a role
+abbrev pub none : StreamIndex
+none = record { 0 = no_stream }
+
+abbrev pub no_roles : DBIExtraStreams
+no_roles = record {
+  fpo = none; exception = none; fixup = none; omap_to_src = none; omap_from_src = none; section_headers = none;
+  token_rid_map = none; xdata = none; pdata = none; framedata = none; original_section_headers = none;
+}
+
+-- the streams that have names
+unfoldable pub names_of : List ℕ → Head → Answer (List Named)
+names_of file head = file_information file head >>= stream_names_of
+
+-- the streams of a file, behind what is refused of their roles and names
+unfoldable pub streams_part : Form → List ℕ → Head → List ℕ
+streams_part form file head =
+    told form parts.Roles (file_roles file head)
+    ++ (told form parts.Names (names_of file head)
+    ++ stream_lines form (said_or no_roles (file_roles file head)) (said_or [] (names_of file head)) file head)
+
+-- the tables of types and of ids
+unfoldable pub tables_part : Form → List ℕ → Head → List ℕ
+tables_part form file head = table_part form 2 file head ++ table_part form 4 file head
+
+-- whether the directory of a file is read
+unfoldable pub directory_read : List ℕ → Head → Answer (Unit {0})
+directory_read file head = directory_of file head >>= λ directory. Ok tt
+
+-- all parts of a file whose directory is read, and else that it is refused
+abbrev pub parts_by : Form → List ℕ → Head → Answer (Unit {0}) → List ℕ
+parts_by form file head (Ok done) = streams_part form file head ++ tables_part form file head
+parts_by form file head (Err refusal) = refused_line form parts.Directory refusal
+
+unfoldable pub parts_lines : Form → List ℕ → Head → List ℕ
+parts_lines form file head = parts_by form file head (directory_read file head)
+
+-- the line of a file, or that its header is refused
+abbrev pub pages_by : Form → ℕ → Answer (ℕ × ℕ) → List ℕ
+pages_by form size (Ok pages) = row_text form (pages_shown pages size)
+pages_by form size (Err refusal) = refused_line form parts.Header refusal
+
+unfoldable pub pages_line : Form → List ℕ → List ℕ
+pages_line form file = pages_by form (length file) (pages_of file)
+
+-- the summary of a file
+abbrev pub summary_listing : Form → List ℕ → Head → Listing
+summary_listing form file head = whole (pages_line form file ++ parts_lines form file head)

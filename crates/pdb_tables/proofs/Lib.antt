@@ -1,0 +1,3 @@
+pub mod WrittenLemmas
+pub mod TableLemmas
+pub mod ListedLemmas

@@ -1,0 +1,54 @@
+-- What is listed of a file's tables, whose streams are given by their numbers or found by their roles.
+use Rattle.std.specs.Prelude.{ℕ, List, [], Option, Some, None, Ok}
+use Rattle.pdb_base.specs.Answer.{Answer, ◌>>=◌}
+use Rattle.pdb_base.specs.Index.{stream_number}
+use Rattle.pdb_msf.specs.File.{stream_of}
+use Rattle.pdb_msf.specs.Header.{Head}
+use Rattle.pdb_space.specs.StringTable.{names_of}
+use Rattle.pdb_frames.specs.Table.{table_of}
+use Rattle.pdb_roles.specs.File.{file_frame_table, file_roles, file_string_table, stream_numbered}
+use Rattle.pdb_rows.specs.declared.form.Form.{Form}
+use Rattle.pdb_tables.specs.Listing.{Listing, whole, listed_of}
+use Rattle.pdb_tables.specs.Tables.{sections_listing, omap_listing, frames_listing, name_lines, all_names}
+
+-- the number of the stream of section headers: the one that is given, or that of the role
+unfoldable pub section_number : List ℕ → Head → Option ℕ → Answer (Option ℕ)
+section_number file head (Some number) = Ok (Some number)
+section_number file head None = file_roles file head >>= λ roles. Ok (stream_number roles.section_headers.0)
+
+-- the number of the stream of OMAP records: the one that is given, or that of the role by which addresses
+-- of the image as it is loaded lead to the original one
+unfoldable pub omap_number : List ℕ → Head → Option ℕ → Answer (Option ℕ)
+omap_number file head (Some number) = Ok (Some number)
+omap_number file head None = file_roles file head >>= λ roles. Ok (stream_number roles.omap_to_src.0)
+
+-- what is listed of a stream; where there is none, nothing
+abbrev pub stream_listing : (List ℕ → Listing) → Option (List ℕ) → Listing
+stream_listing listing (Some stream) = listing stream
+stream_listing listing None = whole []
+
+-- the section headers of a file
+unfoldable pub file_sections : Form → List ℕ → Head → Option ℕ → Listing
+file_sections form file head given = listed_of (stream_listing (sections_listing form)) (section_number file head given >>= stream_numbered file head)
+
+-- the OMAP records of a file
+unfoldable pub file_omap : Form → List ℕ → Head → Option ℕ → Listing
+file_omap form file head given = listed_of (stream_listing (omap_listing form)) (omap_number file head given >>= stream_numbered file head)
+
+-- the string table in the stream that is given, or in the one named `/names`
+unfoldable pub names_in : List ℕ → Head → Option ℕ → Answer (List ℕ)
+names_in file head (Some number) = stream_of file head number None >>= names_of
+names_in file head None = file_string_table file head
+
+-- the names of a file
+unfoldable pub file_names : Form → List ℕ → Head → Option ℕ → Listing
+file_names form file head given = listed_of (λ names. whole (name_lines form (all_names names))) (names_in file head given)
+
+-- the frames of a file, by the roles of its streams
+unfoldable pub file_frames : Form → List ℕ → Head → Listing
+file_frames form file head = listed_of (frames_listing form) (file_frame_table file head)
+
+-- the frames of two streams, each of which may be absent
+unfoldable pub frames_in : Form → List ℕ → Head → Option ℕ → Option ℕ → Listing
+frames_in form file head old new =
+    listed_of (frames_listing form) (stream_numbered file head old >>= λ o. stream_numbered file head new >>= λ n. table_of o n)

@@ -1,0 +1,141 @@
+//! The tables of a file. A stream that isn't given is found by its role or its name, and a role that has no
+//! stream lists nothing.
+
+ghost use Rattle.std.specs.Prelude.{◌≡◌};
+ghost use Rattle.pdb_base.specs.Answer.{AnswersUnless};
+ghost use Rattle.pdb_msf.specs.Source.{HasFailed, IsKept};
+ghost use Rattle.pdb_tables.specs.Files.{file_frames, file_names, file_omap, file_sections, frames_in, names_in};
+ghost use Rattle.pdb_tables.specs.Listing.{IsListed};
+
+use crate::frames::write_frames;
+use crate::names::write_table;
+use crate::omap::write_omap;
+use crate::sections::write_sections;
+use crate::streams::{numbered, omap_number, section_number};
+use pdb_base::Result;
+use pdb_frames::FrameTable;
+use pdb_msf::{BigMSF, Msf, Source};
+use pdb_roles::{frame_table, string_table};
+use pdb_rows::Form;
+use pdb_space::StringTable;
+use std::alloc::Global;
+use std::io::Write;
+
+/// Lists the section headers in a stream, or in the one that has their role.
+///
+/// # Errors
+/// If no stream is given, what `extra_streams` refuses. What `Msf::get` refuses of the stream.
+/// `UnexpectedEof`, behind the lines of the whole headers, if the last one is cut. `IoError` if the
+/// writer fails, and `OutOfMemory` if memory is refused.
+#[tactic(auto, unfolding(crate::specs::Files::file_sections), using(crate::proofs::ListedLemmas::refused_listed))]
+pub fn list_sections<S: Source + Drop, W: Write>(
+    alloc: Global,
+    mut file: BigMSF<S>,
+    stream: Option<u32>,
+    form: Form,
+    out: &mut W,
+) -> Result<()>
+    ensures { IsListed (file_sections form (S.state file.source).bytes file.head stream) (W.contents out.old) (W.contents out.new) result }
+{
+    let number = section_number(alloc, &mut file, stream)?;
+    match numbered(alloc, &mut file, number)? {
+        Some(stream) => write_sections(alloc, &stream, form, out),
+        None => Ok(()),
+    }
+}
+
+/// Lists the records of the OMAP table in a stream, or in the one that leads from the image as it is
+/// loaded to the original one, and behind them whether their sources never fall.
+///
+/// # Errors
+/// If no stream is given, what `extra_streams` refuses. What `Msf::get` refuses of the stream.
+/// `InvalidStreamLength` if its length is no multiple of eight. `IoError` if the writer fails, and
+/// `OutOfMemory` if memory is refused.
+#[tactic(auto, unfolding(crate::specs::Files::file_omap), using(crate::proofs::ListedLemmas::refused_listed))]
+pub fn list_omap<S: Source + Drop, W: Write>(
+    alloc: Global,
+    mut file: BigMSF<S>,
+    stream: Option<u32>,
+    form: Form,
+    out: &mut W,
+) -> Result<()>
+    ensures { IsListed (file_omap form (S.state file.source).bytes file.head stream) (W.contents out.old) (W.contents out.new) result }
+{
+    let number = omap_number(alloc, &mut file, stream)?;
+    match numbered(alloc, &mut file, number)? {
+        Some(stream) => write_omap(alloc, stream, form, out),
+        None => Ok(()),
+    }
+}
+
+/// The string table in a stream, or the one that the stream named `/names` holds.
+#[tactic(auto, unfolding(crate::specs::Files::names_in))]
+fn names_in<S: Source>(alloc: Global, file: &mut BigMSF<S>, stream: Option<u32>) -> Result<StringTable>
+    ensures names { AnswersUnless (HasFailed (S.state file.old.source) (S.state file.new.source)) (λ names. names) result
+        (names_in (S.state file.old.source).bytes file.old.head stream) }
+{
+    match stream {
+        Some(number) => StringTable::parse(file.get(alloc, number, None)?),
+        None => string_table(alloc, file),
+    }
+}
+
+/// Lists the names of the string table in a stream, or in the one named `/names`.
+///
+/// # Errors
+/// If no stream is given, what `string_table` refuses, and else what `Msf::get` refuses of the stream and
+/// `StringTable::parse` of its bytes. `IoError` if the writer fails, and `OutOfMemory` if memory is
+/// refused.
+#[tactic(auto, unfolding(crate::specs::Files::file_names), using(crate::proofs::ListedLemmas::refused_listed))]
+pub fn list_names<S: Source + Drop, W: Write>(
+    alloc: Global,
+    mut file: BigMSF<S>,
+    stream: Option<u32>,
+    form: Form,
+    out: &mut W,
+) -> Result<()>
+    ensures { IsListed (file_names form (S.state file.source).bytes file.head stream) (W.contents out.old) (W.contents out.new) result }
+{
+    let table = names_in(alloc, &mut file, stream)?;
+    write_table(alloc, &table, form, out)
+}
+
+/// Lists the frames of a file, by their starts.
+///
+/// # Errors
+/// What `frame_table` refuses. `IoError` if the writer fails, and `OutOfMemory` if memory is refused.
+#[tactic(auto, unfolding(crate::specs::Files::file_frames), using(crate::proofs::ListedLemmas::refused_listed))]
+pub fn list_frames<S: Source + Drop, W: Write>(
+    alloc: Global,
+    mut file: BigMSF<S>,
+    form: Form,
+    out: &mut W,
+) -> Result<()>
+    ensures { IsListed (file_frames form (S.state file.source).bytes file.head) (W.contents out.old) (W.contents out.new) result }
+{
+    let table = frame_table(alloc, &mut file)?;
+    write_frames(alloc, &table, form, out)
+}
+
+/// Lists the frames of two streams, each of which may be absent: of records of the older format, and of
+/// the newer.
+///
+/// # Errors
+/// What `Msf::get` refuses of the streams, the older first, and then what `FrameTable::parse` refuses.
+/// `IoError` if the writer fails, and `OutOfMemory` if memory is refused.
+#[tactic(auto, unfolding(crate::specs::Files::frames_in), using(crate::proofs::ListedLemmas::refused_listed))]
+pub fn list_frames_in<S: Source + Drop, W: Write>(
+    alloc: Global,
+    mut file: BigMSF<S>,
+    old: Option<u32>,
+    new: Option<u32>,
+    form: Form,
+    out: &mut W,
+) -> Result<()>
+    ensures { IsListed (frames_in form (S.state file.source).bytes file.head old new) (W.contents out.old) (W.contents out.new) result }
+{
+    let old = numbered(alloc, &mut file, old)?;
+    let new = numbered(alloc, &mut file, new)?;
+    let table = FrameTable::parse(old, new)?;
+    write_frames(alloc, &table, form, out)
+}

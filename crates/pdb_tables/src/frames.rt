@@ -1,0 +1,34 @@
+//! The frames of frame tables.
+
+ghost use Rattle.std.specs.Prelude.{◌≡◌};
+ghost use Rattle.pdb_tables.specs.Listing.{IsListed};
+ghost use Rattle.pdb_tables.specs.Tables.{frames_listing};
+
+use crate::written::write_row;
+use pdb_base::{FallibleIterator, Result};
+use pdb_frames::FrameTable;
+use pdb_rows::{Form, frame_row};
+use std::alloc::Global;
+use std::io::Write;
+
+/// Lists the frames of a table, by their starts. Of an old and a new record that start at one address the
+/// new one is listed.
+///
+/// # Errors
+/// `IoError` if the writer fails, and `OutOfMemory` if memory is refused.
+pub fn write_frames<W: Write>(
+    alloc: Global,
+    table: &FrameTable,
+    form: Form,
+    out: &mut W,
+) -> Result<()>
+    ensures { IsListed (frames_listing form table.now) (W.contents out.old) (W.contents out.new) result }
+{
+    let mut line = Vec::new(alloc);
+    let mut frames = table.iter();
+    while let Ok(Some(frame)) = frames.next() {
+        let row = frame_row(alloc, &frame)?;
+        write_row(form, &row, &mut line, out)?;
+    }
+    Ok(())
+}

@@ -1,0 +1,58 @@
+//! The names of string tables.
+
+ghost use Rattle.std.specs.Prelude.{◌≡◌, IfOk, IfErr};
+ghost use Rattle.pdb_rows.specs.Row.{row_shown};
+ghost use Rattle.pdb_tables.specs.Listing.{IsListed, whole};
+ghost use Rattle.pdb_tables.specs.Tables.{all_names, name_lines, name_shown, next_place};
+
+use crate::written::write_row;
+use pdb_base::{Error, RawString, Result};
+use pdb_rows::{Field, Form, Row, Value};
+use pdb_space::{StringRef, StringTable};
+use std::alloc::Global;
+use std::io::Write;
+
+/// Where the next name begins behind one of this place and size, if 32 bits hold that.
+fn next_place(place: u32, size: usize) -> Option<u32>
+    ensures { result ≡ next_place place size }
+{
+    let size = u32::try_from(size).ok()?;
+    place.checked_add(size)?.checked_add(1)
+}
+
+/// A name as a row.
+fn name_row<'t>(alloc: Global, place: u32, name: RawString<'t>) -> Result<Row<'t>>
+    ensures ok { IfOk result (λ row. row_shown row ≡ name_shown (place, name.entry.0.now)) }
+    ensures want { IfErr result (λ e. e ≡ Error.OutOfMemory) }
+{
+    let mut fields = Vec::with_capacity(alloc, 2)?;
+    fields.push(Field {
+        name: "offset",
+        value: Value::Hexadecimal(place),
+    })?;
+    fields.push(Field {
+        name: "name",
+        value: Value::Text(name),
+    })?;
+    Ok(Row { fields })
+}
+
+/// Writes the names of a table.
+pub(crate) fn write_table<W: Write>(alloc: Global, table: &StringTable, form: Form, out: &mut W) -> Result<()>
+    ensures { IsListed (whole (name_lines form (all_names table.now))) (W.contents out.old) (W.contents out.new) result }
+{
+    let mut line = Vec::new(alloc);
+    let mut place = 0;
+    for _ in 0..u32::MAX {
+        let Ok(name) = table.get(StringRef(place)) else {
+            return Ok(());
+        };
+        let row = name_row(alloc, place, name)?;
+        write_row(form, &row, &mut line, out)?;
+        let Some(next) = next_place(place, name.len()) else {
+            return Ok(());
+        };
+        place = next;
+    }
+    Ok(())
+}

@@ -1,0 +1,70 @@
+//! The records of OMAP tables.
+
+ghost use Rattle.std.specs.Prelude.{◌≡◌, IfOk, IfErr, OnOk};
+ghost use Rattle.std.specs.Io.KnownBytes.{Appends};
+ghost use Rattle.pdb_rows.specs.Row.{row_shown};
+ghost use Rattle.pdb_tables.specs.Listing.{IsCut, IsListed, whole};
+ghost use Rattle.pdb_tables.specs.Tables.{omap_all, omap_lines, omap_listing, order_shown, rises};
+
+use crate::written::write_row;
+use pdb_base::{Error, Result};
+use pdb_msf::Stream;
+use pdb_rows::{Field, Form, Row, Value, omap_row};
+use pdb_space::OMAPTable;
+use std::alloc::Global;
+use std::io::Write;
+
+/// Writes the records of a table.
+fn write_records<W: Write>(alloc: Global, table: &OMAPTable, form: Form, out: &mut W) -> Result<()>
+    ensures lines { OnOk result (Appends (W.contents out.old) (W.contents out.new) (omap_lines form table.now)) }
+    ensures cut { IfErr result IsCut }
+{
+    let mut line = Vec::new(alloc);
+    for record in table.records() {
+        let row = omap_row(alloc, record)?;
+        write_row(form, &row, &mut line, out)?;
+    }
+    Ok(())
+}
+
+/// Whether no record's source is below that of the one before.
+fn is_sorted(table: &OMAPTable) -> bool
+    ensures { result ≡ rises 0 table.now }
+{
+    table.is_sorted()
+}
+
+/// What is said of a whole table.
+fn order_row<'t>(alloc: Global, is_sorted: bool) -> Result<Row<'t>>
+    ensures ok { IfOk result (λ row. row_shown row ≡ order_shown is_sorted) }
+    ensures want { IfErr result (λ e. e ≡ Error.OutOfMemory) }
+{
+    let mut fields = Vec::new(alloc);
+    fields.push(Field {
+        name: "is_sorted",
+        value: Value::Flag(is_sorted),
+    })?;
+    Ok(Row { fields })
+}
+
+/// Writes a table, and behind its records what is said of them all.
+fn write_table<W: Write>(alloc: Global, table: &OMAPTable, form: Form, out: &mut W) -> Result<()>
+    ensures { IsListed (whole (omap_all form table.now)) (W.contents out.old) (W.contents out.new) result }
+{
+    write_records(alloc, table, form, out)?;
+    let row = order_row(alloc, is_sorted(table))?;
+    write_row(form, &row, &mut Vec::new(alloc), out)
+}
+
+/// Lists the records of the OMAP table that a stream is, and behind them whether their sources never
+/// fall.
+///
+/// # Errors
+/// `InvalidStreamLength` if the stream's length is no multiple of eight. `IoError` if the writer fails,
+/// and `OutOfMemory` if memory is refused.
+pub fn write_omap<W: Write>(alloc: Global, stream: Stream, form: Form, out: &mut W) -> Result<()>
+    ensures { IsListed (omap_listing form stream) (W.contents out.old) (W.contents out.new) result }
+{
+    let table = OMAPTable::parse(stream)?;
+    write_table(alloc, &table, form, out)
+}

@@ -1,0 +1,45 @@
+//! The headers of sections.
+
+ghost use Rattle.std.specs.Prelude.{◌≡◌};
+ghost use Rattle.pdb_tables.specs.Listing.{IsListed};
+ghost use Rattle.pdb_tables.specs.Tables.{sections_listing};
+
+use crate::written::write_row;
+use pdb_base::{Error, Result};
+use pdb_msf::Stream;
+use pdb_rows::{Form, section_row};
+use pdb_space::ImageSectionHeader;
+use std::alloc::Global;
+use std::io::Write;
+
+/// How many bytes a header has.
+const HEADER_SIZE: usize = 40;
+
+/// Lists the section headers that a stream holds, forty bytes each, numbered from 1.
+///
+/// # Errors
+/// `UnexpectedEof`, behind the lines of the whole headers, if the last one is cut. `IoError` if the
+/// writer fails, and `OutOfMemory` if memory is refused.
+#[tactic(auto, unfolding(crate::specs::Tables::sections_listing))]
+pub fn write_sections<W: Write>(
+    alloc: Global,
+    stream: &Stream,
+    form: Form,
+    out: &mut W,
+) -> Result<()>
+    ensures { IsListed (sections_listing form stream.now) (W.contents out.old) (W.contents out.new) result }
+{
+    let mut line = Vec::new(alloc);
+    let mut buffer = stream.parse_buffer();
+    let size = stream.as_slice().len();
+    for place in 0..size / HEADER_SIZE {
+        let header = ImageSectionHeader::parse(&mut buffer)?;
+        let row = section_row(alloc, place as u32 + 1, &header)?;
+        write_row(form, &row, &mut line, out)?;
+    }
+    if size % HEADER_SIZE == 0 {
+        Ok(())
+    } else {
+        Err(Error::UnexpectedEof)
+    }
+}

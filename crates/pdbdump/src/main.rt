@@ -1,0 +1,9 @@
+//! Shows what a program database holds: its streams, names, sections, moved addresses and frames, a line
+//! each, as text or as JSON. `pdbdump --help` says how it is called.
+#![tactic(auto)]
+
+use std::process::ExitCode;
+
+fn main(rt: HostRuntime) -> ExitCode {
+    ExitCode::from(pdb_dump::program(&rt))
+}
