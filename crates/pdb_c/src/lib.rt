@@ -1,0 +1,7 @@
+//! The library for programs in other languages.
+#![tactic(auto)]
+
+mod content;
+mod held;
+mod names;
+mod parts;
