@@ -1,1 +1,4 @@
+pub mod Copied
+pub mod Fault
+pub mod Handle
 pub mod Held

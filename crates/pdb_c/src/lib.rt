@@ -2,6 +2,10 @@
 #![tactic(auto)]
 
 mod content;
+mod copied;
+mod fault;
+mod handle;
 mod held;
 mod names;
 mod parts;
+mod refusals;

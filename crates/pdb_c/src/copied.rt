@@ -1,0 +1,27 @@
+//! Answers that are copied into a caller's array.
+
+ghost use Rattle.std.specs.Prelude.{◌≡◌};
+ghost use Rattle.pdb_c.specs.Copied.{written};
+
+use crate::fault::{FINE, Fault, TOO_SMALL};
+
+/// Copies bytes to the front of a caller's array, and says how many they are.
+pub fn copy_out(bytes: &[u8], room: &mut [u8], length: &mut usize) -> Fault
+    ensures { record { fault = result; length = length.new; room = room.new } ≡ written room.old bytes.now }
+{
+    *length = bytes.len();
+    if room.len() < bytes.len() {
+        return Fault::status(TOO_SMALL);
+    }
+    room[..bytes.len()].copy_from_slice(bytes);
+    Fault::status(FINE)
+}
+
+/// Writes nothing.
+pub fn copy_nothing(fault: Fault, length: &mut usize) -> Fault
+    ensures fault { result ≡ fault }
+    ensures length { length.new ≡ 0 }
+{
+    *length = 0;
+    fault
+}
