@@ -1,5 +1,5 @@
 -- The machine values of what a handle holds: a pointer and the allocator, which takes no bytes.
-use mathlib.Core.List.{List, [], ◌∷◌}
+use mathlib.Core.List.{[], ◌∷◌}
 use mathlib.Core.Path.{◌≡◌, refl}
 use mathlib.Core.Bool.{false≢true}
 use lib.Dec.{T, lit<}

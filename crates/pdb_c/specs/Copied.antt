@@ -1,7 +1,6 @@
 -- What is written of an answer into a caller's array.
-use Rattle.std.specs.Prelude.{◌≡◌, ◌⊎◌, ℕ, List, ◌++◌, length, drop, nat_lt, if◌then◌else◌, Option, Some, None, Ok, Err}
+use Rattle.std.specs.Prelude.{ℕ, List, ◌++◌, length, drop, nat_lt, if◌then◌else◌, Option, Some, None, Ok, Err}
 use Rattle.pdb_base.specs.Answer.{Answer}
-use Rattle.pdb_base.specs.Refusal.{out_of_memory}
 use Rattle.pdb_c.specs.declared.fault.Fault.{Fault}
 use Rattle.pdb_c.specs.Fault.{fine, fault_of, not_open, too_small}
 

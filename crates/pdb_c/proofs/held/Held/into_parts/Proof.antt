@@ -1,5 +1,5 @@
 -- A pointer to what nobody sees becomes a pointer to the content again, since there is one.
-use mathlib.Core.Path.{◌≡◌, refl}
+use mathlib.Core.Path.{refl}
 use mathlib.Core.List.{[], ◌∷◌}
 use base.Logic.{id⊢}
 use base.Fml.{ftrue}
@@ -12,7 +12,7 @@ use denote.Exit.{yes}
 use denote.Signature.{plain}
 use denote.Steps.{nothing, heard}
 use denote.Triple.Walked.{Stays, walk_of, says, stay_dropped, Goes-dropped, ends_at}
-use Rattle.std.specs.Prelude.{Option, Some, IsSome}
+use Rattle.std.specs.Prelude.{Option, IsSome}
 use Rattle.pdb_c.specs.declared.content.Content.{Content}
 use Rattle.std.proofs.raw_atomic.Walks.{proved}
 use Rattle.pdb_c.specs.contracts.held.Held as held

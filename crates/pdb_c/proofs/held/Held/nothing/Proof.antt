@@ -2,12 +2,10 @@
 use mathlib.Core.Path.{refl}
 use mathlib.Core.List.{List, [], ◌∷◌}
 use mir.Val.{Val}
-use lib.Dec.{lit<}
-use base.Logic.{id⊢}
 use base.Fml.{ftrue}
-use types.Kit.{‵, ◌⊛◌, ◌$◌, ◌∵◌, !, qed, done, move, keep, use1, split, join, fsplit, fjoin, fpack, feq_i, suffices}
+use types.Kit.{‵, ◌⊛◌, ◌$◌, ◌∵◌, !, qed, done, move, keep, split, join, fjoin, fpack, feq_i, suffices}
 use types.Part.{agg}
-use types.Run.{enter, lit, of_opd, no_more, and_then, returns}
+use types.Run.{enter, lit, no_more, and_then, returns}
 use types.ByLocal.{alloc_all, pass_all, free_all, look_at, get, sets}
 use denote.Exit.{yes}
 use denote.RattleType.{Valss}
