@@ -1,1 +1,2 @@
 mod HeldSteps
+mod StatusLaws

@@ -2,7 +2,7 @@
 use Rattle.std.specs.Prelude.{ℕ, List, ◌++◌, length, drop, nat_lt, if◌then◌else◌, Option, Some, None, Ok, Err}
 use Rattle.pdb_base.specs.Answer.{Answer}
 use Rattle.pdb_c.specs.declared.fault.Fault.{Fault}
-use Rattle.pdb_c.specs.Fault.{fine, fault_of, not_open, too_small}
+use Rattle.pdb_c.specs.Fault.{fine, fault_of, no_text, not_open, too_small}
 
 -- how a call ended, how many items its answer has, and the caller's array afterwards
 pub record Copied : Type 0 where
@@ -31,3 +31,12 @@ copied room (Err refusal) = untouched (fault_of refusal) room
 abbrev pub copied_of : {A : Type 0} → List ℕ → (A → Answer (List ℕ)) → Option A → Copied
 copied_of room answer (Some held) = copied room (answer held)
 copied_of room answer None = untouched not_open room
+
+-- a text, if there is one
+abbrev pub text_copied : List ℕ → Option (List ℕ) → Copied
+text_copied room (Some text) = written room text
+text_copied room None = untouched no_text room
+
+-- What is meant was written; or memory was refused, and nothing was.
+abbrev pub CopiesOrLacks : Copied → List ℕ → Copied → Type 0
+CopiesOrLacks copied room meant = (copied ≡ meant) ⊎ (copied ≡ untouched (fault_of out_of_memory) room)

@@ -2,3 +2,4 @@ pub mod Copied
 pub mod Fault
 pub mod Handle
 pub mod Held
+pub mod Told
