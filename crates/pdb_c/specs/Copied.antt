@@ -1,6 +1,7 @@
 -- What is written of an answer into a caller's array.
-use Rattle.std.specs.Prelude.{ℕ, List, ◌++◌, length, drop, nat_lt, if◌then◌else◌, Option, Some, None, Ok, Err}
+use Rattle.std.specs.Prelude.{◌≡◌, ◌⊎◌, ℕ, List, ◌++◌, length, drop, nat_lt, if◌then◌else◌, Option, Some, None, Ok, Err}
 use Rattle.pdb_base.specs.Answer.{Answer}
+use Rattle.pdb_base.specs.Refusal.{out_of_memory}
 use Rattle.pdb_c.specs.declared.fault.Fault.{Fault}
 use Rattle.pdb_c.specs.Fault.{fine, fault_of, no_text, not_open, too_small}
 
@@ -39,4 +40,4 @@ text_copied room None = untouched no_text room
 
 -- What is meant was written; or memory was refused, and nothing was.
 abbrev pub CopiesOrLacks : Copied → List ℕ → Copied → Type 0
-CopiesOrLacks copied room meant = (copied ≡ meant) ⊎ (copied ≡ untouched (fault_of out_of_memory) room)
+CopiesOrLacks done room meant = (done ≡ meant) ⊎ (done ≡ untouched (fault_of out_of_memory) room)
