@@ -1,5 +1,6 @@
 pub mod Copied
 pub mod Fault
+pub mod File
 pub mod Handle
 pub mod Held
 pub mod Told

@@ -27,6 +27,9 @@ fn kind_of(content: &Content) -> u32
 {
     match content {
         Content::Names(_) => 1,
+        Content::Omap(_) => 2,
+        Content::Addresses(_) => 3,
+        Content::Frames(_) => 4,
     }
 }
 

@@ -4,6 +4,7 @@
 mod content;
 mod copied;
 mod fault;
+mod file;
 mod handle;
 mod held;
 pub mod laws;

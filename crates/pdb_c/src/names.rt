@@ -78,6 +78,7 @@ pub extern "C" fn pdb_names_get(
     };
     let told = match &*content {
         Content::Names(table) => name_at(table, offset, room, length),
+        _ => copy_nothing(Fault::status(NOT_OPEN), length),
     };
     names.put(content);
     told.tell(fault)
