@@ -31,6 +31,10 @@ too_long = record { status = 103; first = 0; second = 0 }
 abbrev pub no_text : Fault
 no_text = record { status = 104; first = 0; second = 0 }
 
+-- what is asked for is nowhere
+abbrev pub nowhere : Fault
+nowhere = record { status = 105; first = 0; second = 0 }
+
 -- ---- texts within refusals
 
 -- the place of a text among others, counted from that number on; 0 where it is not among them

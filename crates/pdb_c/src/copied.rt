@@ -8,15 +8,15 @@ use crate::fault::{FINE, Fault, TOO_SMALL};
 use pdb_base::Result;
 use pdb_msf::Stream;
 
-/// Copies bytes to the front of a caller's array, and says how many they are.
-pub fn copy_out(bytes: &[u8], room: &mut [u8], length: &mut usize) -> Fault
-    ensures { record { fault = result; length = length.new; room = room.new } ≡ written room.old bytes.now }
+/// Copies items to the front of a caller's array, and says how many they are.
+pub fn copy_out<T: Copy>(items: &[T], room: &mut [T], length: &mut usize) -> Fault
+    ensures { record { fault = result; length = length.new; room = room.new } ≡ written room.old items.now }
 {
-    *length = bytes.len();
-    if room.len() < bytes.len() {
+    *length = items.len();
+    if room.len() < items.len() {
         return Fault::status(TOO_SMALL);
     }
-    room[..bytes.len()].copy_from_slice(bytes);
+    room[..items.len()].copy_from_slice(items);
     Fault::status(FINE)
 }
 

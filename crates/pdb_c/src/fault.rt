@@ -55,3 +55,6 @@ pub const TOO_LONG: u32 = 103;
 
 /// The caller's fault is none that a call tells, or has no text of the library.
 pub const NO_TEXT: u32 = 104;
+
+/// What is asked for is nowhere.
+pub const NOWHERE: u32 = 105;
