@@ -4,4 +4,5 @@ pub mod File
 pub mod Found
 pub mod Handle
 pub mod Held
+pub mod Place
 pub mod Told

@@ -1,6 +1,7 @@
 //! The library for programs in other languages.
 #![tactic(auto)]
 
+mod addresses;
 mod content;
 mod copied;
 mod fault;
@@ -12,6 +13,7 @@ pub mod laws;
 mod names;
 mod omap;
 mod parts;
+mod place;
 mod refusals;
 mod text;
 mod told;
