@@ -2,7 +2,9 @@ pub mod Copied
 pub mod Fault
 pub mod File
 pub mod Found
+pub mod Frame
 pub mod Handle
 pub mod Held
 pub mod Place
+pub mod Roles
 pub mod Told

@@ -17,7 +17,7 @@ use pdb_roles::{address_map, frame_table, named_stream, string_table};
 use std::alloc::Global;
 
 /// Opens a file over the caller's bytes.
-fn opened<'f>(alloc: Global, file: &'f [u8]) -> Result<BigMSF<&'f [u8]>>
+pub fn opened<'f>(alloc: Global, file: &'f [u8]) -> Result<BigMSF<&'f [u8]>>
     ensures head { Answers (λ file. file.head) result (opened file.now) }
     ensures bytes { IfOk result (λ opened. opened.source.now ≡ file.now) }
 {
