@@ -1,2 +1,3 @@
 mod HeldSteps
+mod PlacesLemmas
 mod StatusLaws

@@ -6,5 +6,6 @@ pub mod Frame
 pub mod Handle
 pub mod Held
 pub mod Place
+pub mod Places
 pub mod Roles
 pub mod Told

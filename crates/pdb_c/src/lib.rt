@@ -16,6 +16,7 @@ mod names;
 mod omap;
 mod parts;
 mod place;
+mod places;
 mod refusals;
 mod roles;
 mod text;
