@@ -34,7 +34,7 @@ snoc_length (y ∷ ys) x = omega (arith, snoc_length ys x)
 pub walked_more : (table : Table) (stand next : Stand) (positions more : List ℕ) (position : ℕ) → IsWalkedTo table stand positions → IsPlace stand.table stand.index position → next ≡ record stand { index = stand.index + 1 } → more ≡ positions ++ position ∷ [] → IsWalkedTo table next more
 walked_more table stand next positions more position walked place moved grown =
     let here : IsPlace table (table.header.minimum_index + length positions) position =
-        subst (λ (i : ℕ). IsPlace table i position) walked.index (subst (λ (t : Table). IsPlace t stand.index position) walked.same place) in
+    subst (λ (i : ℕ). IsPlace table i position) walked.index (subst (λ (t : Table). IsPlace t stand.index position) walked.same place) in
     let are : ArePositions table (positions ++ position ∷ []) = record { each = snoc_each (λ (n v : ℕ). IsPlace table (table.header.minimum_index + n) v) positions position walked.are.each here } in
     record {
       same = ap (λ (s : Stand). s.table) moved ∙ walked.same;

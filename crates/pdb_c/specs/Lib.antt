@@ -8,4 +8,5 @@ pub mod Held
 pub mod Place
 pub mod Places
 pub mod Roles
+pub mod Row
 pub mod Told

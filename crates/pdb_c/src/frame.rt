@@ -57,7 +57,7 @@ fn kind_number(kind: FrameType) -> u32
 }
 
 /// A test as a number.
-fn flag(test: bool) -> u32
+pub fn flag(test: bool) -> u32
     ensures { result ≡ flag test }
 {
     if test { 1 } else { 0 }

@@ -19,5 +19,6 @@ mod place;
 mod places;
 mod refusals;
 mod roles;
+mod row;
 mod text;
 mod told;
