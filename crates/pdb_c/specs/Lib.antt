@@ -7,6 +7,7 @@ pub mod Handle
 pub mod Held
 pub mod Place
 pub mod Places
+pub mod Records
 pub mod Roles
 pub mod Row
 pub mod Told
