@@ -1,11 +1,12 @@
 //! What the record of a type says.
 
-ghost use Rattle.std.specs.Prelude.{◌≡◌, map, ℕ};
+ghost use Rattle.std.specs.Prelude.{◌≡◌, map, Ok};
+ghost use Rattle.std.specs.Option.{option_map};
 ghost use Rattle.pdb_base.specs.Answer.{Answers};
 ghost use Rattle.pdb_values.specs.TypeView.{type_value};
 ghost use Rattle.pdb_tpi.specs.Record.{type_of};
-ghost use Rattle.pdb_c.specs.Copied.{CopiesOrLacks, copied};
-ghost use Rattle.pdb_c.specs.Records.{arguments_of, name_copied, type_name};
+ghost use Rattle.pdb_c.specs.Copied.{CopiesOrLacks};
+ghost use Rattle.pdb_c.specs.Records.{arguments_in, arguments_of, if_copied, type_name};
 ghost use Rattle.pdb_c.specs.Roles.{IsAnswered};
 ghost use Rattle.pdb_c.specs.Row.{row_of};
 
@@ -60,7 +61,7 @@ pub extern "C" fn pdb_type_name(
     fault: &mut Fault,
 ) -> u32
     ensures answer { CopiesOrLacks (record { fault = fault.new; length = length.new; room = room.new }) room.old
-        (name_copied room.old (type_name index bytes.now)) }
+        (if_copied room.old (type_name index bytes.now)) }
     ensures status { result ≡ fault.new.status }
 {
     let value = match type_in(alloc, bytes, index) {
@@ -70,5 +71,55 @@ pub extern "C" fn pdb_type_name(
     match value.name() {
         Some(name) => copy_out(name.as_bytes(), room, length).tell(fault),
         None => copy_nothing(Fault::status(NOWHERE), length).tell(fault),
+    }
+}
+
+/// The numbers of indexes.
+fn numbers_of(alloc: Global, indexes: &[TypeIndex]) -> Result<Vec<u32>>
+    ensures { Answers (λ numbers. numbers.items) result (Ok (map (λ index. index.0) indexes.now)) }
+{
+    let mut numbers = Vec::new(alloc);
+    for index in indexes {
+        numbers.push(index.0)?;
+    }
+    Ok(numbers)
+}
+
+/// The types of the arguments that a type lists, if it is a list of arguments.
+fn arguments_in(alloc: Global, value: &TypeData<'_>) -> Result<Option<Vec<u32>>>
+    ensures { Answers (option_map (λ list. list.items)) result (Ok (arguments_in (type_value value.now))) }
+{
+    match value {
+        TypeData::ArgumentList(list) => Ok(Some(numbers_of(alloc, &list.arguments)?)),
+        _ => Ok(None),
+    }
+}
+
+/// The types of the arguments that a record lists.
+fn arguments_of(alloc: Global, bytes: &[u8], index: u32) -> Result<Option<Vec<u32>>>
+    ensures { Answers (option_map (λ list. list.items)) result (arguments_of index bytes.now) }
+{
+    let value = type_in(alloc, bytes, index)?;
+    arguments_in(alloc, &value)
+}
+
+/// Copies the types of the arguments that a record lists.
+#[unsafe(no_mangle)]
+pub extern "C" fn pdb_type_arguments(
+    alloc: Global,
+    bytes: &[u8],
+    index: u32,
+    room: &mut [u32],
+    length: &mut usize,
+    fault: &mut Fault,
+) -> u32
+    ensures answer { CopiesOrLacks (record { fault = fault.new; length = length.new; room = room.new }) room.old
+        (if_copied room.old (arguments_of index bytes.now)) }
+    ensures status { result ≡ fault.new.status }
+{
+    match arguments_of(alloc, bytes, index) {
+        Ok(Some(arguments)) => copy_out(&arguments, room, length).tell(fault),
+        Ok(None) => copy_nothing(Fault::status(NOWHERE), length).tell(fault),
+        Err(error) => copy_nothing(Fault::of(&error), length).tell(fault),
     }
 }
