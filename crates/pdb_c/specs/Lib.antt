@@ -5,6 +5,7 @@ pub mod Found
 pub mod Frame
 pub mod Handle
 pub mod Held
+pub mod Ids
 pub mod Listing
 pub mod Place
 pub mod Places

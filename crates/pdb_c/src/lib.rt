@@ -12,6 +12,7 @@ mod frame;
 mod frames;
 mod handle;
 mod held;
+mod ids;
 pub mod laws;
 mod names;
 mod omap;

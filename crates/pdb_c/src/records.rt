@@ -75,7 +75,7 @@ pub extern "C" fn pdb_type_name(
 }
 
 /// The numbers of indexes.
-fn numbers_of(alloc: Global, indexes: &[TypeIndex]) -> Result<Vec<u32>>
+pub fn numbers_of(alloc: Global, indexes: &[TypeIndex]) -> Result<Vec<u32>>
     ensures { Answers (λ numbers. numbers.items) result (Ok (map (λ index. index.0) indexes.now)) }
 {
     let mut numbers = Vec::new(alloc);

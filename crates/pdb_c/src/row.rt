@@ -42,20 +42,20 @@ pub struct Row {
 /// The numbers that a record has.
 #[derive(Clone, Copy)]
 pub struct Numbers {
-    kind: Option<u32>,
-    attributes: Option<u32>,
-    properties: Option<u32>,
-    count: Option<u32>,
-    type_index: Option<u32>,
-    second_index: Option<u32>,
-    third_index: Option<u32>,
-    list_index: Option<u32>,
-    extra: Option<u32>,
-    number: Option<u64>,
+    pub kind: Option<u32>,
+    pub attributes: Option<u32>,
+    pub properties: Option<u32>,
+    pub count: Option<u32>,
+    pub type_index: Option<u32>,
+    pub second_index: Option<u32>,
+    pub third_index: Option<u32>,
+    pub list_index: Option<u32>,
+    pub extra: Option<u32>,
+    pub number: Option<u64>,
 }
 
 /// No numbers.
-const NO_NUMBERS: Numbers = Numbers {
+pub const NO_NUMBERS: Numbers = Numbers {
     kind: None,
     attributes: None,
     properties: None,
@@ -312,7 +312,7 @@ fn stands(numbers: &Numbers) -> u32
 impl Row {
     /// The row of a shape and its numbers.
     #[tactic(auto, unfolding(crate::specs::Row::row))]
-    fn of(shape: u32, numbers: &Numbers) -> Row
+    pub fn of(shape: u32, numbers: &Numbers) -> Row
         ensures { result ≡ row shape numbers.now }
     {
         Row {
