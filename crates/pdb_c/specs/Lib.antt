@@ -9,7 +9,9 @@ pub mod Ids
 pub mod Listing
 pub mod Place
 pub mod Places
+pub mod Ranges
 pub mod Records
 pub mod Roles
 pub mod Row
+pub mod Sections
 pub mod Told
