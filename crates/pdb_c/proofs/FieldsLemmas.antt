@@ -6,7 +6,7 @@ use Rattle.pdb_values.specs.declared.type_data.TypeData.{TypeData, fold-roll-Typ
 use Rattle.pdb_values.specs.declared.type_data.TypeData.TheVariants as variants
 use Rattle.pdb_values.specs.declared.type_data.TypeData.TheVariants.{rolls-FieldList}
 use Rattle.pdb_values.specs.declared.type_data.TypeData.TheOpen.{TypeData-F}
-use Rattle.pdb_values.specs.TypeValue.{TypeValue, values_in}
+use Rattle.pdb_values.specs.TypeValue.{TypeValue}
 use Rattle.pdb_values.specs.TypeView.{type_value, field_list_value, view_step, list_step}
 use Rattle.pdb_values.proofs.FieldLemmas as fields
 use Rattle.pdb_c.specs.declared.fields.FieldRow.{FieldRow}

@@ -1,5 +1,5 @@
 -- What is told of what may be nowhere.
-use Rattle.std.specs.Prelude.{◌≡◌, ◌⊎◌, Option, Some, None}
+use Rattle.std.specs.Prelude.{◌≡◌, Option, Some, None}
 use Rattle.pdb_c.specs.declared.fault.Fault.{Fault}
 use Rattle.pdb_c.specs.Fault.{fine, not_open, nowhere}
 

@@ -3,7 +3,6 @@ use Rattle.std.specs.Prelude.{ℕ, List, map, Option, Some, None, Ok}
 use Rattle.std.specs.Option.{option_map}
 use Rattle.pdb_base.specs.Answer.{Answer, ◌>>=◌}
 use Rattle.pdb_base.specs.declared.index.IdIndex.{IdIndex}
-use Rattle.pdb_values.specs.declared.source_id.UserDefinedTypeSourceId.{UserDefinedTypeSourceId}
 use Rattle.pdb_values.specs.declared.source_id.UserDefinedTypeSourceFileRef.{UserDefinedTypeSourceFileRef}
 use Rattle.pdb_values.specs.declared.source_id.UserDefinedTypeSourceFileRef.TheVariants as files
 use Rattle.pdb_values.specs.IdValue as ids

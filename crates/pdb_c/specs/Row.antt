@@ -1,5 +1,5 @@
 -- What a record of a type says, as a caller sees it: a row of numbers, of which each shape has some.
-use Rattle.std.specs.Prelude.{ℕ, ◌+◌, ◌*◌, Bool, true, false, is_some, unwrap_or, int_lt, pos, unsigned_abs, Option, Some, None}
+use Rattle.std.specs.Prelude.{ℕ, ◌+◌, ◌*◌, Bool, false, is_some, unwrap_or, int_lt, pos, unsigned_abs, Option, Some, None}
 use Rattle.std.specs.Option.{option_map}
 use Rattle.pdb_base.specs.declared.index.TypeIndex.{TypeIndex}
 use Rattle.pdb_base.specs.declared.variant.Variant.{Variant}

@@ -1,5 +1,5 @@
 -- Which refusal a fault tells, so that each can be told apart and shown as text.
-use Rattle.std.specs.Prelude.{◌≡◌, ℕ, zero, suc, ◌-◌, ◌<◌, ◌^◌, ◌==◌, ◌&&◌, nat_lt, Bool, if◌then◌else◌, ⊤, List, [], ◌∷◌, Contains, slice_get, Option, Some, None, option_map}
+use Rattle.std.specs.Prelude.{◌≡◌, ℕ, zero, suc, ◌<◌, ◌^◌, ◌==◌, ◌&&◌, nat_lt, if◌then◌else◌, ⊤, List, [], ◌∷◌, Contains, slice_get, Option, Some, None, option_map}
 use Rattle.std.specs.declared.io.ErrorKind.{ErrorKind}
 use Rattle.std.specs.declared.io.ErrorKind.TheVariants as kinds
 use Rattle.pdb_base.specs.Refusal.{Refusal, unrecognized_file_format, stream_name_not_found, unexpected_eof, global_symbols_not_found, symbol_too_short, type_too_short, address_map_not_found, lines_not_found, invalid_compressed_annotation, out_of_memory, page_reference_out_of_range, invalid_page_size, stream_not_found, unimplemented_symbol_kind, type_not_found, unimplemented_type_kind, not_a_cross_module_ref, cross_module_ref_not_found, unexpected_numeric_prefix, unimplemented_debug_subsection, unimplemented_file_checksum_kind, invalid_file_checksum_offset, unknown_binary_annotation, type_not_indexed, invalid_stream_length, unimplemented_feature, invalid_type_information_header, io_error}

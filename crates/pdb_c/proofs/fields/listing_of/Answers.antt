@@ -1,4 +1,4 @@
-use Rattle.std.proofs.Common.{ap, sym}
+use Rattle.std.proofs.Common.{ap}
 use Rattle.std.specs.Prelude.{Ok}
 use Rattle.pdb_c.proofs.FieldsLemmas.{listed}
 use Rattle.pdb_c.proofs.fields.listing_of.Goals as goal

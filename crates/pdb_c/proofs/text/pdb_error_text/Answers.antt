@@ -1,5 +1,5 @@
 -- The text of the refusal that is told.
-use Rattle.std.proofs.Common.{◌≡◌, ◌∙◌, ap, sym, subst, Option, List, ℕ}
+use Rattle.std.proofs.Common.{◌∙◌, ap, sym, subst, Option}
 use Rattle.std.specs.Option.{option_map}
 use Rattle.pdb_base.specs.Refusal.{Refusal, refusal_of}
 use Rattle.pdb_c.specs.Copied.{CopiesOrLacks, text_copied}
