@@ -8,7 +8,7 @@ mod fields;
 mod file;
 mod information;
 pub mod laws;
-mod section_headers;
+pub mod section_headers;
 mod stream_names;
 
 pub use dbi_header::DBIHeader;

@@ -65,7 +65,7 @@ impl<'t, I: ItemIndex> ItemIter<'t, I> {
     }
 
     /// The index of the item before which the iterator stands, and the position at which that begins.
-    pub(crate) fn place(&self) -> (u64, usize)
+    pub fn place(&self) -> (u64, usize)
         ensures index { result.0 ≡ self.now.index }
         ensures place { IsPlace self.now.table self.now.index result.1 }
     {

@@ -1,0 +1,4 @@
+mod FieldsLemmas
+mod HeldSteps
+mod PlacesLemmas
+mod StatusLaws

@@ -1,0 +1,31 @@
+-- What a file of the caller's says.
+use Rattle.std.specs.Prelude.{ℕ, List, Some}
+use Rattle.pdb_base.specs.Answer.{Answer, ◌>>=◌}
+use Rattle.pdb_msf.specs.Header.{Head, opened}
+use Rattle.pdb_msf.specs.File.{stream_of}
+use Rattle.pdb_roles.specs.File.{file_address_map, file_frame_table, file_named_stream, file_string_table}
+use Rattle.pdb_c.specs.declared.content.Content.{Content}
+use Rattle.pdb_c.specs.declared.content.Content.TheVariants as contents
+use Rattle.pdb_c.specs.Handle.{held_as}
+
+-- what a file says, once its header is read
+abbrev pub said : {A : Type 0} → (List ℕ → Head → Answer A) → List ℕ → Answer A
+said says file = opened file >>= λ head. says file head
+
+-- the bytes of a stream, at most so many
+abbrev pub stream_said : ℕ → ℕ → List ℕ → Answer (List ℕ)
+stream_said number limit file = said (λ bytes head. stream_of bytes head number (Some limit)) file
+
+-- the bytes of the first stream of a name
+abbrev pub named_stream_said : List ℕ → List ℕ → Answer (List ℕ)
+named_stream_said name file = said (λ bytes head. file_named_stream bytes head name) file
+
+-- its string table, its address map and its frame table, as what a handle holds
+abbrev pub names_said : List ℕ → Answer Content
+names_said file = held_as contents.Names (said file_string_table file)
+
+abbrev pub addresses_said : List ℕ → Answer Content
+addresses_said file = held_as contents.Addresses (said file_address_map file)
+
+abbrev pub frames_said : List ℕ → Answer Content
+frames_said file = held_as contents.Frames (said file_frame_table file)

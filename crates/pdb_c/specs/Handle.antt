@@ -1,0 +1,65 @@
+-- What a handle holds, and what opening it comes to.
+use Rattle.std.specs.Prelude.{◌≡◌, ◌⊎◌, ◌<◌, ◌≤◌, ℕ, List, length, Option, Some, None, Ok, Err}
+use Rattle.pdb_base.specs.Answer.{Answer}
+use Rattle.pdb_base.specs.Refusal.{out_of_memory}
+use Rattle.pdb_frames.specs.Table.{Frames}
+use Rattle.pdb_space.specs.Conversions.{Arrangement}
+use Rattle.pdb_space.specs.Omap.{Mapping}
+use Rattle.pdb_c.specs.declared.content.Content.{Content}
+use Rattle.pdb_c.specs.declared.content.Content.TheVariants as contents
+use Rattle.pdb_c.specs.declared.fault.Fault.{Fault}
+use Rattle.pdb_c.specs.Fault.{fine, fault_of, already_open, too_long}
+
+-- the number of what a handle holds: 0 where it holds nothing
+abbrev pub kind_of : Option Content → ℕ
+kind_of None = 0
+kind_of (Some (contents.Names names)) = 1
+kind_of (Some (contents.Omap table)) = 2
+kind_of (Some (contents.Addresses map)) = 3
+kind_of (Some (contents.Frames table)) = 4
+
+-- what an answer says, as the content of a handle
+abbrev pub held_as : {A : Type 0} → (A → Content) → Answer A → Answer Content
+held_as content (Ok value) = Ok (content value)
+held_as content (Err refusal) = Err refusal
+
+-- Memory was refused, and nothing is held.
+abbrev pub Lacks : Fault → Option Content → Type 0
+Lacks fault now = (fault ≡ fault_of out_of_memory) × (now ≡ None)
+
+-- What is meant is held, or the refusal that is meant is told and nothing is held; or memory was refused.
+abbrev pub OpensTo : Answer Content → Fault → Option Content → Type 0
+OpensTo (Ok content) fault now = ((fault ≡ fine) × (now ≡ Some content)) ⊎ Lacks fault now
+OpensTo (Err refusal) fault now = ((fault ≡ fault_of refusal) × (now ≡ None)) ⊎ Lacks fault now
+
+-- A handle that holds nothing is opened to what is meant. One that holds something is told to be open and
+-- holds it still.
+abbrev pub Opens : Option Content → Answer Content → Fault → Option Content → Type 0
+Opens None meant fault now = OpensTo meant fault now
+Opens (Some held) meant fault now = (fault ≡ already_open) × (now ≡ Some held)
+
+-- The same of what a stream of the caller's says, which has to be shorter than the longest that there is.
+abbrev pub OpensStream : List ℕ → Option Content → Answer Content → Fault → Option Content → Type 0
+OpensStream stream None meant fault now =
+    (length stream < 0xffffffff → OpensTo meant fault now) × (0xffffffff ≤ length stream → (fault ≡ too_long) × (now ≡ None))
+OpensStream stream (Some held) meant fault now = (fault ≡ already_open) × (now ≡ Some held)
+
+-- the names that a handle holds, if it holds names
+abbrev pub names_held : Option Content → Option (List ℕ)
+names_held (Some (contents.Names names)) = Some names
+names_held held = None
+
+-- the OMAP table that it holds
+abbrev pub omap_held : Option Content → Option (List Mapping)
+omap_held (Some (contents.Omap table)) = Some table
+omap_held held = None
+
+-- the address map that it holds
+abbrev pub addresses_held : Option Content → Option Arrangement
+addresses_held (Some (contents.Addresses map)) = Some map
+addresses_held held = None
+
+-- the frame table that it holds
+abbrev pub frames_held : Option Content → Option Frames
+frames_held (Some (contents.Frames table)) = Some table
+frames_held held = None

@@ -1,0 +1,14 @@
+-- What a handle's pointer owns.
+use Rattle.std.specs.Prelude.{Option, None, Some}
+use Rattle.std.specs.Box.Ownership.{box_owns}
+use Rattle.std_heap.specs.declared.Global.{Global}
+use Rattle.std_heap.specs.contracts.GlobalAllocator.TheImpl.{ghosts}
+use Rattle.pdb_c.specs.declared.content.Content.{Content}
+use Rattle.pdb_c.specs.contracts.content.Content.{the_row}
+use denote.RawPtr.{Ptr}
+use base.Fml.{Fml, ftrue}
+
+-- the content, and the right to free its block; nothing where there is no content
+abbrev pub owned : Global → Ptr → Option Content → Fml
+owned alloc p None = ftrue
+owned alloc p (Some content) = box_owns (ghosts.dealloc_token alloc) the_row p content

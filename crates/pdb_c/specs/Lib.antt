@@ -1,0 +1,17 @@
+pub mod Copied
+pub mod Fault
+pub mod File
+pub mod Found
+pub mod Frame
+pub mod Handle
+pub mod Held
+pub mod Ids
+pub mod Listing
+pub mod Place
+pub mod Places
+pub mod Ranges
+pub mod Records
+pub mod Roles
+pub mod Row
+pub mod Sections
+pub mod Told

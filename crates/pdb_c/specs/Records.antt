@@ -1,0 +1,86 @@
+-- What the record of a type says, as a caller sees it: its row, its name and its lists.
+use Rattle.std.specs.Prelude.{◌≡◌, ◌⊎◌, ℕ, ◌||◌, nat_lt, if◌then◌else◌, is_some, unwrap_or, List, [], ◌++◌, length, drop, map, Option, Some, None, Ok, Err}
+use Rattle.std.specs.List.{flat_map}
+use Rattle.pdb_base.specs.Answer.{Answer, ◌>>=◌}
+use Rattle.pdb_base.specs.Refusal.{out_of_memory}
+use Rattle.pdb_values.specs.TypeValue.{TypeValue, argument_list, field_list, name_of, values_in}
+use Rattle.pdb_tpi.specs.Record.{type_of}
+use Rattle.pdb_c.specs.declared.fault.Fault.{Fault}
+use Rattle.pdb_c.specs.declared.fields.FieldRow.{FieldRow}
+use Rattle.pdb_c.specs.Copied.{Copied, untouched, written}
+use Rattle.pdb_c.specs.Fault.{fine, fault_of, nowhere, too_small}
+use Rattle.pdb_c.specs.Frame.{flag}
+use Rattle.pdb_c.specs.Row.{row_of}
+
+-- what is written of a list that there may not be
+abbrev pub if_copied : List ℕ → Answer (Option (List ℕ)) → Copied ℕ
+if_copied room (Ok (Some name)) = written room name
+if_copied room (Ok None) = untouched nowhere room
+if_copied room (Err refusal) = untouched (fault_of refusal) room
+
+-- the name of the type of an index that a record says
+abbrev pub type_name : ℕ → List ℕ → Answer (Option (List ℕ))
+type_name index bytes = type_of index bytes >>= λ value. Ok (name_of value)
+
+-- the types of the arguments that a type lists, if it is a list of arguments
+abbrev pub arguments_in : TypeValue → Option (List ℕ)
+arguments_in (argument_list arguments) = Some (map (λ index. index.0) arguments)
+arguments_in value = None
+
+abbrev pub arguments_of : ℕ → List ℕ → Answer (Option (List ℕ))
+arguments_of index bytes = type_of index bytes >>= λ value. Ok (arguments_in value)
+
+-- the fields that a type lists, if it is a list of fields
+abbrev pub fields_in : TypeValue → Option (List TypeValue)
+fields_in (field_list fields continuation) = Some (values_in fields)
+fields_in value = None
+
+abbrev pub fields_of_record : ℕ → List ℕ → Answer (Option (List TypeValue))
+fields_of_record index bytes = type_of index bytes >>= λ value. Ok (fields_in value)
+
+-- the bytes of a field's name, none where it has no name
+abbrev pub name_bytes : TypeValue → List ℕ
+name_bytes value = unwrap_or (name_of value) []
+
+-- a field for the caller
+abbrev pub field_row : TypeValue → FieldRow
+field_row value = record { row = row_of value; has_name = flag (is_some (name_of value)); name_length = length (name_bytes value) }
+
+-- fields for the caller, and their names one behind another
+pub record Listing : Type 0 where
+  pub rows : List FieldRow
+  pub names : List ℕ
+
+abbrev pub listing : List TypeValue → Listing
+listing fields = record { rows = map field_row fields; names = flat_map name_bytes fields }
+
+-- how a call ended that writes fields and their names, how many of both there are, and the caller's arrays
+-- afterwards
+pub record Fielded : Type 0 where
+  pub fault : Fault
+  pub rows : List FieldRow
+  pub count : ℕ
+  pub names : List ℕ
+  pub size : ℕ
+
+-- nothing is written
+abbrev pub unfielded : Fault → List FieldRow → List ℕ → Fielded
+unfielded fault rows names = record { fault = fault; rows = rows; count = 0; names = names; size = 0 }
+
+-- Rows and names at the fronts of the arrays, the names one behind another. Where there is no room for all of
+-- either, nothing is written, and it is told how many there are.
+abbrev pub fielded : List FieldRow → List ℕ → List FieldRow → List ℕ → Fielded
+fielded rows names told bytes =
+    if nat_lt (length rows) (length told) || nat_lt (length names) (length bytes)
+    then record { fault = too_small; rows = rows; count = length told; names = names; size = length bytes }
+    else record { fault = fine; rows = told ++ drop (length told) rows; count = length told; names = bytes ++ drop (length bytes) names; size = length bytes }
+
+-- the fields that are meant, or what tells their refusal
+abbrev pub fields_told : List FieldRow → List ℕ → Answer (Option (List TypeValue)) → Fielded
+fields_told rows names (Ok (Some fields)) = fielded rows names (map field_row fields) (flat_map name_bytes fields)
+fields_told rows names (Ok None) = unfielded nowhere rows names
+fields_told rows names (Err refusal) = unfielded (fault_of refusal) rows names
+
+-- What is meant was written; or memory was refused, and nothing was.
+abbrev pub FieldsOrLacks : Fielded → List FieldRow → List ℕ → Fielded → Type 0
+FieldsOrLacks done rows names meant = (done ≡ meant) ⊎ (done ≡ unfielded (fault_of out_of_memory) rows names)

@@ -1,0 +1,20 @@
+//! What can stand behind a handle.
+
+use pdb_frames::FrameTable;
+use pdb_space::{AddressMap, OMAPTable, StringTable};
+
+/// What a handle holds.
+#[derive(Drop)]
+pub enum Content {
+    /// The names of a string table.
+    Names(StringTable),
+
+    /// The records of an OMAP table.
+    Omap(OMAPTable),
+
+    /// The sections of an image before and after a tool rearranged it, and the tables that lead across.
+    Addresses(AddressMap),
+
+    /// The frames of a program.
+    Frames(FrameTable),
+}

@@ -1,0 +1,41 @@
+//! Answers that are copied into a caller's array.
+
+ghost use Rattle.std.specs.Prelude.{◌≡◌, ℕ, List};
+ghost use Rattle.pdb_base.specs.Answer.{Answer, Answers};
+ghost use Rattle.pdb_c.specs.Copied.{CopiesOrLacks, copied, written};
+
+use crate::fault::{FINE, Fault, TOO_SMALL};
+use pdb_base::Result;
+use pdb_msf::Stream;
+
+/// Copies items to the front of a caller's array, and says how many they are.
+pub fn copy_out<T: Copy>(items: &[T], room: &mut [T], length: &mut usize) -> Fault
+    ensures { record { fault = result; length = length.new; room = room.new } ≡ written room.old items.now }
+{
+    *length = items.len();
+    if room.len() < items.len() {
+        return Fault::status(TOO_SMALL);
+    }
+    room[..items.len()].copy_from_slice(items);
+    Fault::status(FINE)
+}
+
+/// Writes nothing.
+pub fn copy_nothing(fault: Fault, length: &mut usize) -> Fault
+    ensures fault { result ≡ fault }
+    ensures length { length.new ≡ 0 }
+{
+    *length = 0;
+    fault
+}
+
+/// Copies the bytes of a stream, or tells why there is none.
+pub fn copy_stream(answer: Result<Stream>, room: &mut [u8], length: &mut usize) -> Fault
+    ensures { (meant : Answer (List ℕ)) → Answers (λ stream. stream) answer meant
+        → CopiesOrLacks (record { fault = result; length = length.new; room = room.new }) room.old (copied room.old meant) }
+{
+    match answer {
+        Ok(stream) => copy_out(stream.as_slice(), room, length),
+        Err(error) => copy_nothing(Fault::of(&error), length),
+    }
+}

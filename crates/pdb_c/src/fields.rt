@@ -1,0 +1,157 @@
+//! Lists of fields.
+
+ghost use Rattle.std.specs.Prelude.{◌≡◌, map, Ok, IfOk, IfErr};
+ghost use Rattle.std.specs.List.{flat_map};
+ghost use Rattle.std.specs.Option.{option_map};
+ghost use Rattle.pdb_base.specs.Answer.{Answers};
+ghost use Rattle.pdb_values.specs.TypeView.{type_value};
+ghost use Rattle.pdb_c.specs.Records.{FieldsOrLacks, field_row, fielded, fields_in, fields_of_record, fields_told, listing, name_bytes};
+ghost use Rattle.pdb_c.specs.Listing.{listing_view};
+
+use crate::fault::{FINE, Fault, NOWHERE, TOO_SMALL};
+use crate::frame::flag;
+use crate::records::type_in;
+use crate::row::Row;
+use pdb_base::{Error, Result};
+use pdb_values::TypeData;
+use std::alloc::Global;
+
+/// A field of a class, a union or an enumeration: its numbers, and how long its name is.
+#[repr(C)]
+#[derive(Clone, Copy)]
+pub struct FieldRow {
+    /// The numbers.
+    pub row: Row,
+    /// How many bytes its name has, 0 where it has none.
+    pub name_length: usize,
+    /// Whether it has a name, as 0 or 1.
+    pub has_name: u32,
+}
+
+/// Fields and the bytes of their names.
+#[derive(Drop)]
+struct Listing {
+    rows: Vec<FieldRow>,
+    names: Vec<u8>,
+}
+
+/// The bytes of a field's name.
+fn name_bytes<'t>(field: &TypeData<'t>) -> &'t [u8]
+    ensures { result.now ≡ name_bytes (type_value field.now) }
+{
+    match field.name() {
+        Some(name) => name.as_bytes(),
+        None => &[],
+    }
+}
+
+/// A field for the caller.
+fn field_row(field: &TypeData<'_>) -> FieldRow
+    ensures { result ≡ field_row (type_value field.now) }
+{
+    FieldRow {
+        row: Row::of_type(field),
+        name_length: name_bytes(field).len(),
+        has_name: flag(field.name().is_some()),
+    }
+}
+
+/// Fields, and their names one behind another.
+fn shown(alloc: Global, fields: &[TypeData<'_>]) -> Result<Listing>
+    ensures rows { IfOk result (λ shown. shown.rows.items ≡ map (λ field. field_row (type_value field)) fields.now) }
+    ensures names { IfOk result (λ shown. shown.names.items ≡ flat_map (λ field. name_bytes (type_value field)) fields.now) }
+    ensures want { IfErr result (λ e. e ≡ Error.OutOfMemory) }
+{
+    let mut rows = Vec::with_capacity(alloc, fields.len())?;
+    let mut names = Vec::new(alloc);
+    for field in fields {
+        rows.push(field_row(field))?;
+        names.extend_from_slice(name_bytes(field))?;
+    }
+    Ok(Listing { rows, names })
+}
+
+/// Writes rows and names to the fronts of the caller's arrays, where both have room for all of them.
+fn write_listing(
+    listing: &Listing,
+    rows: &mut [FieldRow],
+    count: &mut usize,
+    names: &mut [u8],
+    size: &mut usize,
+) -> Fault
+    ensures { record { fault = result; rows = rows.new; count = count.new; names = names.new; size = size.new }
+        ≡ fielded rows.old names.old listing.now.rows.items listing.now.names.items }
+{
+    *count = listing.rows.len();
+    *size = listing.names.len();
+    if rows.len() < listing.rows.len() || names.len() < listing.names.len() {
+        return Fault::status(TOO_SMALL);
+    }
+    rows[..listing.rows.len()].copy_from_slice(&listing.rows);
+    names[..listing.names.len()].copy_from_slice(&listing.names);
+    Fault::status(FINE)
+}
+
+/// Writes no field.
+fn write_nothing(fault: Fault, count: &mut usize, size: &mut usize) -> Fault
+    ensures fault { result ≡ fault }
+    ensures count { count.new ≡ 0 }
+    ensures size { size.new ≡ 0 }
+{
+    *count = 0;
+    *size = 0;
+    fault
+}
+
+/// The fields that a type lists, for the caller, if it is a list of fields.
+#[tactic(auto, using(pdb_values::proofs::FieldLemmas::listed))]
+fn listing_of(alloc: Global, value: &TypeData<'_>) -> Result<Option<Listing>>
+    ensures { Answers (option_map listing_view) result (Ok (option_map listing (fields_in (type_value value.now)))) }
+{
+    match value {
+        TypeData::FieldList(list) => Ok(Some(shown(alloc, &list.fields)?)),
+        _ => Ok(None),
+    }
+}
+
+/// Writes the fields of a type, if it is a list of fields.
+fn write_fields(
+    alloc: Global,
+    value: &TypeData<'_>,
+    rows: &mut [FieldRow],
+    count: &mut usize,
+    names: &mut [u8],
+    size: &mut usize,
+) -> Fault
+    ensures { FieldsOrLacks (record { fault = result; rows = rows.new; count = count.new; names = names.new; size = size.new })
+        rows.old names.old (fields_told rows.old names.old (Ok (fields_in (type_value value.now)))) }
+{
+    match listing_of(alloc, value) {
+        Ok(Some(listing)) => write_listing(&listing, rows, count, names, size),
+        Ok(None) => write_nothing(Fault::status(NOWHERE), count, size),
+        Err(error) => write_nothing(Fault::of(&error), count, size),
+    }
+}
+
+/// Writes the fields that the record of a list of fields has, and the bytes of their names, one name
+/// behind another.
+#[unsafe(no_mangle)]
+pub extern "C" fn pdb_type_fields(
+    alloc: Global,
+    bytes: &[u8],
+    index: u32,
+    rows: &mut [FieldRow],
+    count: &mut usize,
+    names: &mut [u8],
+    size: &mut usize,
+    fault: &mut Fault,
+) -> u32
+    ensures answer { FieldsOrLacks (record { fault = fault.new; rows = rows.new; count = count.new; names = names.new; size = size.new })
+        rows.old names.old (fields_told rows.old names.old (fields_of_record index bytes.now)) }
+    ensures status { result ≡ fault.new.status }
+{
+    match type_in(alloc, bytes, index) {
+        Ok(value) => write_fields(alloc, &value, rows, count, names, size).tell(fault),
+        Err(error) => write_nothing(Fault::of(&error), count, size).tell(fault),
+    }
+}

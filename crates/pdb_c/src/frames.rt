@@ -1,0 +1,62 @@
+//! Frames of a program.
+
+ghost use Rattle.std.specs.Prelude.{◌≡◌, IfSome, IfNone, slice_get, List};
+ghost use Rattle.std.specs.Option.{option_map};
+ghost use Rattle.pdb_frames.specs.Table.{BeginsSomewhere, StartsIncrease, merge_from};
+ghost use Rattle.pdb_frames.specs.declared.frame_data.FrameData.{FrameData as Described};
+ghost use Rattle.pdb_c.specs.Found.{found, not_held};
+ghost use Rattle.pdb_c.specs.Frame.{frame_of};
+ghost use Rattle.pdb_c.specs.Handle.{frames_held};
+
+use crate::content::Content;
+use crate::fault::{Fault, NOT_OPEN};
+use crate::found::tell_found;
+use crate::frame::Frame;
+use crate::handle::Handle;
+use pdb_base::FallibleIterator;
+use pdb_frames::FrameTable;
+use pdb_space::PdbInternalRva;
+use std::alloc::Global;
+
+/// The first frame of a table from an address on.
+fn first_from(table: &FrameTable, address: u32) -> Option<Frame>
+    ensures exact { StartsIncrease table.now → result ≡ option_map frame_of (slice_get (merge_from address table.now) 0) }
+    ensures somewhere { (frames : List Described) × BeginsSomewhere table.now frames × (result ≡ option_map frame_of (slice_get frames 0)) }
+{
+    let mut frames = table.iter_at_rva(PdbInternalRva(address));
+    let Ok(first) = frames.next() else {
+        unreachable!();
+    };
+    match first {
+        Some(frame) => Some(Frame::of(&frame)),
+        None => None,
+    }
+}
+
+/// Gives the frame at an address of the original image: the first from there on.
+#[unsafe(no_mangle)]
+pub extern "C" fn pdb_frames_at(
+    alloc: Global,
+    frames: &mut Handle,
+    address: u32,
+    frame: &mut Frame,
+    fault: &mut Fault,
+) -> u32
+    ensures exact { IfSome (frames_held frames.old.held.content) (λ table. StartsIncrease table
+        → record { fault = fault.new; value = frame.new } ≡ found frame.old (option_map frame_of (slice_get (merge_from address table) 0))) }
+    ensures somewhere { IfSome (frames_held frames.old.held.content) (λ table. (some : List Described) × BeginsSomewhere table some
+        × (record { fault = fault.new; value = frame.new } ≡ found frame.old (option_map frame_of (slice_get some 0)))) }
+    ensures closed { IfNone (frames_held frames.old.held.content) (record { fault = fault.new; value = frame.new } ≡ not_held frame.old) }
+    ensures kept { frames.new.held.content ≡ frames.old.held.content }
+    ensures status { result ≡ fault.new.status }
+{
+    let Some(content) = frames.take(alloc) else {
+        return Fault::status(NOT_OPEN).tell(fault);
+    };
+    let told = match &*content {
+        Content::Frames(table) => tell_found(first_from(table, address), frame),
+        _ => Fault::status(NOT_OPEN),
+    };
+    frames.put(content);
+    told.tell(fault)
+}

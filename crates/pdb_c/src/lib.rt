@@ -1,0 +1,29 @@
+//! The library for programs in other languages.
+#![tactic(auto)]
+
+mod addresses;
+mod content;
+mod copied;
+mod fault;
+mod fields;
+mod file;
+mod found;
+mod frame;
+mod frames;
+mod handle;
+mod held;
+mod ids;
+pub mod laws;
+mod names;
+mod omap;
+mod parts;
+mod place;
+mod places;
+mod ranges;
+mod records;
+mod refusals;
+mod roles;
+mod row;
+mod sections;
+mod text;
+mod told;

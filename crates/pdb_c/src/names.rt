@@ -1,0 +1,93 @@
+//! String tables.
+
+ghost use Rattle.std.specs.Prelude.{◌≡◌, ◌<◌, length, None};
+ghost use Rattle.pdb_base.specs.Answer.{Answers};
+ghost use Rattle.pdb_space.specs.StringTable.{name_of, names_of};
+ghost use Rattle.pdb_c.specs.declared.content.Content.TheVariants.{Names};
+ghost use Rattle.pdb_c.specs.Copied.{copied, copied_of};
+ghost use Rattle.pdb_c.specs.Handle.{OpensStream, held_as, names_held};
+
+use crate::content::Content;
+use crate::copied::{copy_nothing, copy_out};
+use crate::fault::{ALREADY_OPEN, Fault, NOT_OPEN, TOO_LONG};
+use crate::handle::Handle;
+use pdb_base::Result;
+use pdb_msf::Stream;
+use pdb_space::{StringRef, StringTable};
+use std::alloc::Global;
+
+/// The string table in a stream.
+fn names_in(alloc: Global, stream: &[u8]) -> Result<Content>
+    requires { length stream.now < 0xffffffff }
+    ensures { Answers (λ content. content) result (held_as Names (names_of stream.now)) }
+{
+    let bytes = stream.to_vec(alloc)?;
+    let names = StringTable::parse(Stream::new(bytes))?;
+    Ok(Content::Names(names))
+}
+
+/// Opens the string table in a stream, which is copied.
+#[unsafe(no_mangle)]
+pub extern "C" fn pdb_names_open(
+    alloc: Global,
+    stream: &[u8],
+    names: &mut Handle,
+    fault: &mut Fault,
+) -> u32
+    ensures opens { OpensStream stream.now names.old.held.content
+        (held_as Names (names_of stream.now)) fault.new names.new.held.content }
+    ensures status { result ≡ fault.new.status }
+{
+    if names.is_open() {
+        return Fault::status(ALREADY_OPEN).tell(fault);
+    }
+    if stream.len() >= 0xffff_ffff {
+        return Fault::status(TOO_LONG).tell(fault);
+    }
+    let opened = names_in(alloc, stream);
+    names.open(alloc, opened).tell(fault)
+}
+
+/// Copies a name out of a table.
+fn name_at(names: &StringTable, offset: u32, room: &mut [u8], length: &mut usize) -> Fault
+    ensures { record { fault = result; length = length.new; room = room.new } ≡ copied room.old (name_of names.now offset) }
+{
+    match names.get(StringRef(offset)) {
+        Ok(name) => copy_out(name.as_bytes(), room, length),
+        Err(error) => copy_nothing(Fault::of(&error), length),
+    }
+}
+
+/// Copies the name at an offset into the caller's array, without its NUL.
+#[unsafe(no_mangle)]
+pub extern "C" fn pdb_names_get(
+    alloc: Global,
+    names: &mut Handle,
+    offset: u32,
+    room: &mut [u8],
+    length: &mut usize,
+    fault: &mut Fault,
+) -> u32
+    ensures answer { record { fault = fault.new; length = length.new; room = room.new }
+        ≡ copied_of room.old (λ names. name_of names offset) (names_held names.old.held.content) }
+    ensures kept { names.new.held.content ≡ names.old.held.content }
+    ensures status { result ≡ fault.new.status }
+{
+    let Some(content) = names.take(alloc) else {
+        return copy_nothing(Fault::status(NOT_OPEN), length).tell(fault);
+    };
+    let told = match &*content {
+        Content::Names(table) => name_at(table, offset, room, length),
+        _ => copy_nothing(Fault::status(NOT_OPEN), length),
+    };
+    names.put(content);
+    told.tell(fault)
+}
+
+/// Closes a handle and frees what it held. One that holds nothing stays as it is.
+#[unsafe(no_mangle)]
+pub extern "C" fn pdb_close(alloc: Global, handle: &mut Handle)
+    ensures { handle.new.held.content ≡ None }
+{
+    let _content = handle.take(alloc);
+}

@@ -1,0 +1,38 @@
+//! Places in sections, as a caller sees them.
+
+ghost use Rattle.std.specs.Prelude.{◌≡◌};
+ghost use Rattle.pdb_c.specs.Place.{place_of};
+
+use pdb_space::{PdbInternalSectionOffset, SectionOffset};
+
+/// A place in a section of an image.
+#[repr(C)]
+#[derive(Clone, Copy)]
+pub struct Place {
+    /// How many bytes the place lies behind the section's start.
+    pub offset: u32,
+    /// The section, counted from 1.
+    pub section: u32,
+}
+
+impl Place {
+    /// A place of the image as it is loaded.
+    pub fn of_loaded(place: SectionOffset) -> Place
+        ensures { result ≡ place_of place }
+    {
+        Place {
+            offset: place.offset,
+            section: place.section as u32,
+        }
+    }
+
+    /// A place of the original image.
+    pub fn of_internal(place: PdbInternalSectionOffset) -> Place
+        ensures { result ≡ place_of place }
+    {
+        Place {
+            offset: place.offset,
+            section: place.section as u32,
+        }
+    }
+}

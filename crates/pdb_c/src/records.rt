@@ -1,0 +1,125 @@
+//! What the record of a type says.
+
+ghost use Rattle.std.specs.Prelude.{◌≡◌, map, Ok};
+ghost use Rattle.std.specs.Option.{option_map};
+ghost use Rattle.pdb_base.specs.Answer.{Answers};
+ghost use Rattle.pdb_values.specs.TypeView.{type_value};
+ghost use Rattle.pdb_tpi.specs.Record.{type_of};
+ghost use Rattle.pdb_c.specs.Copied.{CopiesOrLacks};
+ghost use Rattle.pdb_c.specs.Records.{arguments_in, arguments_of, if_copied, type_name};
+ghost use Rattle.pdb_c.specs.Roles.{IsAnswered};
+ghost use Rattle.pdb_c.specs.Row.{row_of};
+
+use crate::copied::{copy_nothing, copy_out};
+use crate::fault::{FINE, Fault, NOWHERE};
+use crate::row::Row;
+use pdb_base::{Error, Result, TypeIndex};
+use pdb_records::parse_type_data;
+use pdb_values::{TypeData, type_data_for_primitive};
+use std::alloc::Global;
+
+/// The type of an index that a record says. An index below 0x1000 is that of a primitive type.
+#[tactic(auto, unfolding(pdb_tpi::specs::Record::type_of))]
+pub fn type_in<'t>(alloc: Global, bytes: &'t [u8], index: u32) -> Result<TypeData<'t>>
+    ensures { Answers type_value result (type_of index bytes.now) }
+{
+    if index < 0x1000 {
+        return type_data_for_primitive(TypeIndex(index));
+    }
+    parse_type_data(alloc, bytes)
+}
+
+/// Writes the numbers that the record of a type says.
+#[unsafe(no_mangle)]
+pub extern "C" fn pdb_type_row(
+    alloc: Global,
+    bytes: &[u8],
+    index: u32,
+    row: &mut Row,
+    fault: &mut Fault,
+) -> u32
+    ensures answer { IsAnswered (λ value. row_of value) (type_of index bytes.now) row.old fault.new row.new }
+    ensures status { result ≡ fault.new.status }
+{
+    match type_in(alloc, bytes, index) {
+        Ok(value) => {
+            *row = Row::of_type(&value);
+            Fault::status(FINE).tell(fault)
+        }
+        Err(error) => Fault::of(&error).tell(fault),
+    }
+}
+
+/// Copies the name that the record of a type says.
+#[unsafe(no_mangle)]
+pub extern "C" fn pdb_type_name(
+    alloc: Global,
+    bytes: &[u8],
+    index: u32,
+    room: &mut [u8],
+    length: &mut usize,
+    fault: &mut Fault,
+) -> u32
+    ensures answer { CopiesOrLacks (record { fault = fault.new; length = length.new; room = room.new }) room.old
+        (if_copied room.old (type_name index bytes.now)) }
+    ensures status { result ≡ fault.new.status }
+{
+    let value = match type_in(alloc, bytes, index) {
+        Ok(value) => value,
+        Err(error) => return copy_nothing(Fault::of(&error), length).tell(fault),
+    };
+    match value.name() {
+        Some(name) => copy_out(name.as_bytes(), room, length).tell(fault),
+        None => copy_nothing(Fault::status(NOWHERE), length).tell(fault),
+    }
+}
+
+/// The numbers of indexes.
+pub fn numbers_of(alloc: Global, indexes: &[TypeIndex]) -> Result<Vec<u32>>
+    ensures { Answers (λ numbers. numbers.items) result (Ok (map (λ index. index.0) indexes.now)) }
+{
+    let mut numbers = Vec::new(alloc);
+    for index in indexes {
+        numbers.push(index.0)?;
+    }
+    Ok(numbers)
+}
+
+/// The types of the arguments that a type lists, if it is a list of arguments.
+fn arguments_in(alloc: Global, value: &TypeData<'_>) -> Result<Option<Vec<u32>>>
+    ensures { Answers (option_map (λ list. list.items)) result (Ok (arguments_in (type_value value.now))) }
+{
+    match value {
+        TypeData::ArgumentList(list) => Ok(Some(numbers_of(alloc, &list.arguments)?)),
+        _ => Ok(None),
+    }
+}
+
+/// The types of the arguments that a record lists.
+fn arguments_of(alloc: Global, bytes: &[u8], index: u32) -> Result<Option<Vec<u32>>>
+    ensures { Answers (option_map (λ list. list.items)) result (arguments_of index bytes.now) }
+{
+    let value = type_in(alloc, bytes, index)?;
+    arguments_in(alloc, &value)
+}
+
+/// Copies the types of the arguments that a record lists.
+#[unsafe(no_mangle)]
+pub extern "C" fn pdb_type_arguments(
+    alloc: Global,
+    bytes: &[u8],
+    index: u32,
+    room: &mut [u32],
+    length: &mut usize,
+    fault: &mut Fault,
+) -> u32
+    ensures answer { CopiesOrLacks (record { fault = fault.new; length = length.new; room = room.new }) room.old
+        (if_copied room.old (arguments_of index bytes.now)) }
+    ensures status { result ≡ fault.new.status }
+{
+    match arguments_of(alloc, bytes, index) {
+        Ok(Some(arguments)) => copy_out(&arguments, room, length).tell(fault),
+        Ok(None) => copy_nothing(Fault::status(NOWHERE), length).tell(fault),
+        Err(error) => copy_nothing(Fault::of(&error), length).tell(fault),
+    }
+}

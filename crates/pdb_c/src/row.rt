@@ -1,0 +1,340 @@
+//! What a record says, as a row of numbers.
+
+ghost use Rattle.std.specs.Prelude.{◌≡◌, ◌+◌, ◌*◌, ◌≤◌};
+ghost use Rattle.pdb_values.specs.TypeView.{type_value};
+ghost use Rattle.pdb_c.specs.Frame.{flag};
+ghost use Rattle.pdb_c.specs.Row.{bit, class_kind, index_in, is_negative, magnitude, no_numbers, numbers_of, row, row_of, shape_of};
+
+use crate::frame::flag;
+use pdb_base::{TypeIndex, Variant};
+use pdb_values::{ClassKind, TypeData};
+
+/// What a record of a type says beside names and lists. Each shape has some of the numbers.
+#[repr(C)]
+#[derive(Clone, Copy)]
+pub struct Row {
+    /// The size of a class or a union, the offset of a member or a base class, of a virtual base class that of the pointer to its table, or how far an enumeration's value is from 0.
+    pub number: u64,
+    /// Which shape the record has, by the numbers of `pdb_shape`.
+    pub shape: u32,
+    /// Which of the numbers below, and the one above, stand: bit 0 for `kind`, 1 for `attributes`, and so on, bit 8 for `extra` and bit 9 for `number`. The others are 0.
+    pub stands: u32,
+    /// Of a class or a base class 0 for a class, 1 for a structure, 2 for an interface; of a virtual base class whether it is a direct one; of an enumeration's value whether it is below 0; of a type with modifiers 1 for const, 2 for volatile, 4 for unaligned, added up.
+    pub kind: u32,
+    /// The word of a member's, a function's or a pointer's attributes.
+    pub attributes: u32,
+    /// The word of the properties of a class, a union or an enumeration.
+    pub properties: u32,
+    /// How many members, values, parameters, methods or functions there are, or how many bits a bit field has.
+    pub count: u32,
+    /// The type that is pointed at, modified or held; the type of a member, an element, a method; the base class; the type that a function returns.
+    pub type_index: u32,
+    /// The class of a method or of a pointer to a member, the pointer to a virtual base class's table, the type by which an array is indexed, or the list of a class's base classes.
+    pub second_index: u32,
+    /// The type of a method's `this`, or the shape of a class's table of virtual functions.
+    pub third_index: u32,
+    /// The list of fields, of arguments or of methods, or the list in which a list of fields goes on.
+    pub list_index: u32,
+    /// The place of a method in the table of virtual functions, how `this` is adjusted, the place of a virtual base class in its table, an array's stride, or the lowest bit of a bit field.
+    pub extra: u32,
+}
+
+/// The numbers that a record has.
+#[derive(Clone, Copy)]
+pub struct Numbers {
+    pub kind: Option<u32>,
+    pub attributes: Option<u32>,
+    pub properties: Option<u32>,
+    pub count: Option<u32>,
+    pub type_index: Option<u32>,
+    pub second_index: Option<u32>,
+    pub third_index: Option<u32>,
+    pub list_index: Option<u32>,
+    pub extra: Option<u32>,
+    pub number: Option<u64>,
+}
+
+/// No numbers.
+pub const NO_NUMBERS: Numbers = Numbers {
+    kind: None,
+    attributes: None,
+    properties: None,
+    count: None,
+    type_index: None,
+    second_index: None,
+    third_index: None,
+    list_index: None,
+    extra: None,
+    number: None,
+};
+
+/// The number of a kind of class.
+fn class_kind(kind: ClassKind) -> u32
+    ensures { result ≡ class_kind kind }
+{
+    match kind {
+        ClassKind::Class => 0,
+        ClassKind::Struct => 1,
+        ClassKind::Interface => 2,
+    }
+}
+
+/// The number of an index that may be none.
+fn index_in(index: Option<TypeIndex>) -> Option<u32>
+    ensures { result ≡ index_in index }
+{
+    match index {
+        Some(index) => Some(index.0),
+        None => None,
+    }
+}
+
+/// Whether a number is below 0.
+fn is_negative(value: Variant) -> bool
+    ensures { result ≡ is_negative value }
+{
+    match value {
+        Variant::I8(n) => n < 0,
+        Variant::I16(n) => n < 0,
+        Variant::I32(n) => n < 0,
+        Variant::I64(n) => n < 0,
+        _ => false,
+    }
+}
+
+/// How far a number is from 0.
+fn magnitude(value: Variant) -> u64
+    ensures { result ≡ magnitude value }
+{
+    match value {
+        Variant::U8(n) => n as u64,
+        Variant::U16(n) => n as u64,
+        Variant::U32(n) => n as u64,
+        Variant::U64(n) => n,
+        Variant::I8(n) => n.unsigned_abs() as u64,
+        Variant::I16(n) => n.unsigned_abs() as u64,
+        Variant::I32(n) => n.unsigned_abs() as u64,
+        Variant::I64(n) => n.unsigned_abs(),
+    }
+}
+
+/// The number of a type's shape.
+fn shape_of(value: &TypeData<'_>) -> u32
+    ensures { result ≡ shape_of (type_value value.now) }
+{
+    match value {
+        TypeData::Primitive(_) => 0,
+        TypeData::Class(_) => 1,
+        TypeData::Member(_) => 2,
+        TypeData::MemberFunction(_) => 3,
+        TypeData::OverloadedMethod(_) => 4,
+        TypeData::Method(_) => 5,
+        TypeData::StaticMember(_) => 6,
+        TypeData::Nested(_) => 7,
+        TypeData::BaseClass(_) => 8,
+        TypeData::VirtualBaseClass(_) => 9,
+        TypeData::VirtualFunctionTablePointer(_) => 10,
+        TypeData::Procedure(_) => 11,
+        TypeData::Pointer(_) => 12,
+        TypeData::Modifier(_) => 13,
+        TypeData::Enumeration(_) => 14,
+        TypeData::Enumerate(_) => 15,
+        TypeData::Array(_) => 16,
+        TypeData::Union(_) => 17,
+        TypeData::Bitfield(_) => 18,
+        TypeData::FieldList(_) => 19,
+        TypeData::ArgumentList(_) => 20,
+        TypeData::MethodList(_) => 21,
+        TypeData::VirtualTableShape(_) => 22,
+    }
+}
+
+/// The numbers of a type.
+fn numbers_of(value: &TypeData<'_>) -> Numbers
+    ensures { result ≡ numbers_of (type_value value.now) }
+{
+    match value {
+        TypeData::Primitive(_) => NO_NUMBERS,
+        TypeData::Class(v) => Numbers {
+            kind: Some(class_kind(v.kind)),
+            properties: Some(v.properties.bits() as u32),
+            count: Some(v.count as u32),
+            second_index: index_in(v.derived_from),
+            third_index: index_in(v.vtable_shape),
+            list_index: index_in(v.fields),
+            number: Some(v.size),
+            ..NO_NUMBERS
+        },
+        TypeData::Member(v) => Numbers {
+            attributes: Some(v.attributes.bits() as u32),
+            type_index: Some(v.field_type.0),
+            number: Some(v.offset),
+            ..NO_NUMBERS
+        },
+        TypeData::MemberFunction(v) => Numbers {
+            attributes: Some(v.attributes.bits() as u32),
+            count: Some(v.parameter_count as u32),
+            type_index: Some(v.return_type.0),
+            second_index: Some(v.class_type.0),
+            third_index: index_in(v.this_pointer_type),
+            list_index: Some(v.argument_list.0),
+            extra: Some(v.this_adjustment),
+            ..NO_NUMBERS
+        },
+        TypeData::OverloadedMethod(v) => Numbers {
+            count: Some(v.count as u32),
+            list_index: Some(v.method_list.0),
+            ..NO_NUMBERS
+        },
+        TypeData::Method(v) => Numbers {
+            attributes: Some(v.attributes.bits() as u32),
+            type_index: Some(v.method_type.0),
+            extra: v.vtable_offset,
+            ..NO_NUMBERS
+        },
+        TypeData::StaticMember(v) => Numbers {
+            attributes: Some(v.attributes.bits() as u32),
+            type_index: Some(v.field_type.0),
+            ..NO_NUMBERS
+        },
+        TypeData::Nested(v) => Numbers {
+            attributes: Some(v.attributes.bits() as u32),
+            type_index: Some(v.nested_type.0),
+            ..NO_NUMBERS
+        },
+        TypeData::BaseClass(v) => Numbers {
+            kind: Some(class_kind(v.kind)),
+            attributes: Some(v.attributes.bits() as u32),
+            type_index: Some(v.base_class.0),
+            number: Some(v.offset as u64),
+            ..NO_NUMBERS
+        },
+        TypeData::VirtualBaseClass(v) => Numbers {
+            kind: Some(flag(v.direct)),
+            attributes: Some(v.attributes.bits() as u32),
+            type_index: Some(v.base_class.0),
+            second_index: Some(v.base_pointer.0),
+            number: Some(v.base_pointer_offset as u64),
+            extra: Some(v.virtual_base_offset),
+            ..NO_NUMBERS
+        },
+        TypeData::VirtualFunctionTablePointer(v) => Numbers {
+            type_index: Some(v.table.0),
+            ..NO_NUMBERS
+        },
+        TypeData::Procedure(v) => Numbers {
+            attributes: Some(v.attributes.bits() as u32),
+            count: Some(v.parameter_count as u32),
+            type_index: index_in(v.return_type),
+            list_index: Some(v.argument_list.0),
+            ..NO_NUMBERS
+        },
+        TypeData::Pointer(v) => Numbers {
+            attributes: Some(v.attributes.bits()),
+            type_index: Some(v.underlying_type.0),
+            second_index: index_in(v.containing_class),
+            ..NO_NUMBERS
+        },
+        TypeData::Modifier(v) => Numbers {
+            kind: Some(flag(v.constant) + 2 * flag(v.volatile) + 4 * flag(v.unaligned)),
+            type_index: Some(v.underlying_type.0),
+            ..NO_NUMBERS
+        },
+        TypeData::Enumeration(v) => Numbers {
+            properties: Some(v.properties.bits() as u32),
+            count: Some(v.count as u32),
+            type_index: Some(v.underlying_type.0),
+            list_index: Some(v.fields.0),
+            ..NO_NUMBERS
+        },
+        TypeData::Enumerate(v) => Numbers {
+            kind: Some(flag(is_negative(v.value))),
+            attributes: Some(v.attributes.bits() as u32),
+            number: Some(magnitude(v.value)),
+            ..NO_NUMBERS
+        },
+        TypeData::Array(v) => Numbers {
+            type_index: Some(v.element_type.0),
+            second_index: Some(v.indexing_type.0),
+            extra: v.stride,
+            ..NO_NUMBERS
+        },
+        TypeData::Union(v) => Numbers {
+            properties: Some(v.properties.bits() as u32),
+            count: Some(v.count as u32),
+            list_index: Some(v.fields.0),
+            number: Some(v.size),
+            ..NO_NUMBERS
+        },
+        TypeData::Bitfield(v) => Numbers {
+            count: Some(v.length as u32),
+            type_index: Some(v.underlying_type.0),
+            extra: Some(v.position as u32),
+            ..NO_NUMBERS
+        },
+        TypeData::FieldList(v) => Numbers {
+            list_index: index_in(v.continuation),
+            ..NO_NUMBERS
+        },
+        TypeData::ArgumentList(_) => NO_NUMBERS,
+        TypeData::MethodList(_) => NO_NUMBERS,
+        TypeData::VirtualTableShape(v) => Numbers {
+            count: Some(v.count as u32),
+            ..NO_NUMBERS
+        },
+    }
+}
+
+/// A bit where a number stands.
+fn bit(weight: u32, stands: bool) -> u32
+    requires { weight ≤ 512 }
+    ensures { result ≡ weight * flag stands }
+{
+    weight * flag(stands)
+}
+
+/// Which numbers stand.
+fn stands(numbers: &Numbers) -> u32
+    ensures { result ≡ bit 1 numbers.now.kind + bit 2 numbers.now.attributes + bit 4 numbers.now.properties + bit 8 numbers.now.count + bit 16 numbers.now.type_index + bit 32 numbers.now.second_index + bit 64 numbers.now.third_index + bit 128 numbers.now.list_index + bit 256 numbers.now.extra + bit 512 numbers.now.number }
+{
+    bit(1, numbers.kind.is_some())
+        + bit(2, numbers.attributes.is_some())
+        + bit(4, numbers.properties.is_some())
+        + bit(8, numbers.count.is_some())
+        + bit(16, numbers.type_index.is_some())
+        + bit(32, numbers.second_index.is_some())
+        + bit(64, numbers.third_index.is_some())
+        + bit(128, numbers.list_index.is_some())
+        + bit(256, numbers.extra.is_some())
+        + bit(512, numbers.number.is_some())
+}
+
+impl Row {
+    /// The row of a shape and its numbers.
+    #[tactic(auto, unfolding(crate::specs::Row::row))]
+    pub fn of(shape: u32, numbers: &Numbers) -> Row
+        ensures { result ≡ row shape numbers.now }
+    {
+        Row {
+            number: numbers.number.unwrap_or(0),
+            shape,
+            stands: stands(numbers),
+            kind: numbers.kind.unwrap_or(0),
+            attributes: numbers.attributes.unwrap_or(0),
+            properties: numbers.properties.unwrap_or(0),
+            count: numbers.count.unwrap_or(0),
+            type_index: numbers.type_index.unwrap_or(0),
+            second_index: numbers.second_index.unwrap_or(0),
+            third_index: numbers.third_index.unwrap_or(0),
+            list_index: numbers.list_index.unwrap_or(0),
+            extra: numbers.extra.unwrap_or(0),
+        }
+    }
+
+    /// The row of a type.
+    pub fn of_type(value: &TypeData<'_>) -> Row
+        ensures { result ≡ row_of (type_value value.now) }
+    {
+        Row::of(shape_of(value), &numbers_of(value))
+    }
+}

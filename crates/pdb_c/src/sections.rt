@@ -1,0 +1,104 @@
+//! The sections of an image.
+
+ghost use Rattle.std.specs.Prelude.{◌≡◌, ◌<◌, ◌≤◌, length, map, Ok};
+ghost use Rattle.pdb_base.specs.Answer.{Answers};
+ghost use Rattle.pdb_c.specs.Copied.{CopiesOrLacks, copied, untouched};
+ghost use Rattle.pdb_c.specs.Fault.{too_long};
+ghost use Rattle.pdb_c.specs.Sections.{section_of, sections_in};
+
+use crate::copied::{copy_nothing, copy_out};
+use crate::fault::{Fault, TOO_LONG};
+use pdb_base::Result;
+use pdb_msf::Stream;
+use pdb_roles::section_headers::section_headers;
+use pdb_space::ImageSectionHeader;
+use std::alloc::Global;
+
+/// The header of a section: where it lies in memory and in the file, and what it is for.
+#[repr(C)]
+#[derive(Clone, Copy)]
+pub struct Section {
+    /// The name, with NULs behind it where it is shorter than eight bytes.
+    pub name: [u8; 8],
+    /// How many bytes the section takes in memory.
+    pub virtual_size: u32,
+    /// The address of the section's first byte, in bytes from the image's base.
+    pub virtual_address: u32,
+    /// How many bytes of the file hold the section.
+    pub size_of_raw_data: u32,
+    /// The place of those bytes in the file.
+    pub pointer_to_raw_data: u32,
+    /// The place in the file of the section's relocations.
+    pub pointer_to_relocations: u32,
+    /// The place in the file of the section's line numbers.
+    pub pointer_to_line_numbers: u32,
+    /// How many relocations there are.
+    pub number_of_relocations: u16,
+    /// How many line numbers there are.
+    pub number_of_line_numbers: u16,
+    /// What the section is for, as the PE format numbers the bits.
+    pub characteristics: u32,
+}
+
+/// A section for the caller.
+fn section_of(header: &ImageSectionHeader) -> Section
+    ensures { result ≡ section_of header.now }
+{
+    Section {
+        name: header.name,
+        virtual_size: header.virtual_size,
+        virtual_address: header.virtual_address,
+        size_of_raw_data: header.size_of_raw_data,
+        pointer_to_raw_data: header.pointer_to_raw_data,
+        pointer_to_relocations: header.pointer_to_relocations,
+        pointer_to_line_numbers: header.pointer_to_line_numbers,
+        number_of_relocations: header.number_of_relocations,
+        number_of_line_numbers: header.number_of_line_numbers,
+        characteristics: header.characteristics.0,
+    }
+}
+
+/// Sections for the caller.
+fn sections_of(alloc: Global, headers: &[ImageSectionHeader]) -> Result<Vec<Section>>
+    ensures { Answers (λ sections. sections.items) result (Ok (map section_of headers.now)) }
+{
+    let mut sections = Vec::new(alloc);
+    for header in headers {
+        sections.push(section_of(header))?;
+    }
+    Ok(sections)
+}
+
+/// The sections that a stream holds.
+fn sections_in(alloc: Global, stream: &[u8]) -> Result<Vec<Section>>
+    requires { length stream.now < 0xffffffff }
+    ensures { Answers (λ sections. sections.items) result (sections_in stream.now) }
+{
+    let bytes = stream.to_vec(alloc)?;
+    let headers = section_headers(alloc, &Stream::new(bytes))?;
+    sections_of(alloc, &headers)
+}
+
+/// Writes the headers of the sections that a stream holds.
+#[unsafe(no_mangle)]
+pub extern "C" fn pdb_sections(
+    alloc: Global,
+    stream: &[u8],
+    room: &mut [Section],
+    count: &mut usize,
+    fault: &mut Fault,
+) -> u32
+    ensures answer { length stream.now < 0xffffffff
+        → CopiesOrLacks (record { fault = fault.new; length = count.new; room = room.new }) room.old (copied room.old (sections_in stream.now)) }
+    ensures long { 0xffffffff ≤ length stream.now
+        → record { fault = fault.new; length = count.new; room = room.new } ≡ untouched too_long room.old }
+    ensures status { result ≡ fault.new.status }
+{
+    if stream.len() >= 0xffff_ffff {
+        return copy_nothing(Fault::status(TOO_LONG), count).tell(fault);
+    }
+    match sections_in(alloc, stream) {
+        Ok(sections) => copy_out(&sections, room, count).tell(fault),
+        Err(error) => copy_nothing(Fault::of(&error), count).tell(fault),
+    }
+}

@@ -1,0 +1,265 @@
+/* Answers the questions of the program pdbq through the library for C, and prints the same lines.
+ *
+ * cc pdbq.c $(pkg-config --cflags --libs pdb_container)
+ * ./a.out FILE stream N | type S I | id S I | name S O | ranges S A B | fields S I
+ */
+#include <inttypes.h>
+#include <pdb_container.h>
+#include <stdio.h>
+#include <stdlib.h>
+#include <string.h>
+
+/* Bytes, and how many there are. */
+typedef struct bytes {
+    uint8_t *at;
+    size_t length;
+} bytes;
+
+/* A table in a stream: where its items stand. */
+typedef struct table {
+    bytes stream;
+    uint32_t *positions;
+    size_t count;
+    pdb_table facts;
+} table;
+
+static const pdb_fault no_memory = {PDB_OUT_OF_MEMORY, 0, 0};
+
+/* Memory for so many items, at least one; it is all zero. */
+static void *room_for(size_t count, size_t size) { return calloc(count ? count : 1, size); }
+
+/* The fault that a call told, as its status. */
+static uint32_t told(pdb_fault *fault, pdb_fault what) {
+    *fault = what;
+    return what.status;
+}
+
+static uint32_t read_file(const char *path, bytes *file, pdb_fault *fault) {
+    FILE *in = fopen(path, "rb");
+    if (!in) return told(fault, (pdb_fault){PDB_IO_ERROR, 0, 0});
+    size_t room = 0;
+    uint32_t status = told(fault, (pdb_fault){PDB_OK, 0, 0});
+    for (size_t got = 1; got && !status;) {
+        if (file->length == room) {
+            uint8_t *more = realloc(file->at, room = room ? 2 * room : 4096);
+            if (!more) status = told(fault, no_memory);
+            else file->at = more;
+        }
+        if (!status) file->length += got = fread(file->at + file->length, 1, room - file->length, in);
+    }
+    fclose(in);
+    return status;
+}
+
+/* A stream, into memory of the size that it turns out to need. */
+static uint32_t read_stream(bytes file, uint32_t number, bytes *stream, pdb_fault *fault) {
+    uint8_t none[1];
+    uint32_t status = pdb_file_stream(file.at, file.length, number, SIZE_MAX, none, 0, &stream->length, fault);
+    if (status != PDB_TOO_SMALL) return status;
+    stream->at = room_for(stream->length, 1);
+    if (!stream->at) return told(fault, no_memory);
+    return pdb_file_stream(file.at, file.length, number, SIZE_MAX, stream->at, stream->length, &stream->length, fault);
+}
+
+static uint32_t read_table(bytes file, uint32_t number, table *table, pdb_fault *fault) {
+    uint32_t none[1], status = read_stream(file, number, &table->stream, fault);
+    const uint8_t *at = table->stream.at ? table->stream.at : (const uint8_t *)"";
+    if (status) return status;
+    status = pdb_table_positions(at, table->stream.length, none, 0, &table->count, &table->facts, fault);
+    if (status != PDB_TOO_SMALL) return status;
+    table->positions = room_for(table->count, sizeof *table->positions);
+    if (!table->positions) return told(fault, no_memory);
+    return pdb_table_positions(at, table->stream.length, table->positions, table->count, &table->count, &table->facts, fault);
+}
+
+/* The record of an index. A primitive type has none; its bytes are ff ff. */
+static uint32_t find(const table *table, uint32_t index, bytes *record, pdb_fault *fault) {
+    static uint8_t primitive[] = {0xff, 0xff};
+    uint32_t first = table->facts.first_index;
+    if (index < first) {
+        *record = (bytes){primitive, 2};
+        return told(fault, (pdb_fault){PDB_OK, 0, 0});
+    }
+    if (index >= table->facts.maximum_index) return told(fault, (pdb_fault){PDB_TYPE_NOT_FOUND, index, 0});
+    if (index - first >= table->count)
+        return told(fault, table->facts.stop.status ? table->facts.stop : (pdb_fault){PDB_UNEXPECTED_EOF, 0, 0});
+    const uint8_t *at = table->stream.at + table->positions[index - first];
+    *record = (bytes){(uint8_t *)at + 2, at[0] | at[1] << 8};
+    return told(fault, (pdb_fault){PDB_OK, 0, 0});
+}
+
+/* ---- what is printed */
+
+static uint32_t print_stream(bytes file, uint32_t number, pdb_fault *fault) {
+    bytes stream = {0};
+    uint32_t status = read_stream(file, number, &stream, fault);
+    for (size_t i = 0; !status && i < stream.length; i++)
+        printf(i % 32 == 31 || i + 1 == stream.length ? "%02x\n" : "%02x", stream.at[i]);
+    free(stream.at);
+    return status;
+}
+
+/* A name, and what is asked for it. */
+typedef struct named {
+    bytes record;
+    pdb_handle *names;
+    uint32_t index;
+} named;
+
+typedef uint32_t copy(const named *of, uint8_t *room, size_t size, size_t *length, pdb_fault *fault);
+
+static uint32_t type_name(const named *of, uint8_t *room, size_t size, size_t *length, pdb_fault *fault) {
+    return pdb_type_name(of->record.at, of->record.length, of->index, room, size, length, fault);
+}
+
+static uint32_t id_name(const named *of, uint8_t *room, size_t size, size_t *length, pdb_fault *fault) {
+    return pdb_id_name(of->record.at, of->record.length, room, size, length, fault);
+}
+
+static uint32_t name_at(const named *of, uint8_t *room, size_t size, size_t *length, pdb_fault *fault) {
+    return pdb_names_get(of->names, of->index, room, size, length, fault);
+}
+
+/* Asks how long a name is, and then for it. */
+static uint32_t read_name(copy *copy, const named *of, bytes *name, pdb_fault *fault) {
+    uint8_t none[1];
+    uint32_t status = copy(of, none, 0, &name->length, fault);
+    if (status != PDB_TOO_SMALL) return status;
+    name->at = room_for(name->length, 1);
+    return name->at ? copy(of, name->at, name->length, &name->length, fault) : told(fault, no_memory);
+}
+
+static uint32_t print_record(bytes file, uint32_t number, uint32_t index, int is_type, pdb_fault *fault) {
+    table table = {0};
+    bytes record = {0}, name = {0};
+    uint32_t status = read_table(file, number, &table, fault);
+    if (!status) status = find(&table, index, &record, fault);
+    if (!status) {
+        named of = {record, NULL, index};
+        status = read_name(is_type ? type_name : id_name, &of, &name, fault);
+        if (!status || status == PDB_NOWHERE) {
+            printf("0x%" PRIx32 " 0x%04x ", index, (unsigned)(record.at[0] | record.at[1] << 8));
+            if (status) printf("-\n");
+            else printf("%.*s\n", (int)name.length, name.at ? (char *)name.at : "");
+            status = PDB_OK;
+        }
+    }
+    free(name.at);
+    free(table.positions);
+    free(table.stream.at);
+    return status;
+}
+
+static uint32_t print_name(bytes file, uint32_t number, uint32_t offset, pdb_fault *fault) {
+    pdb_handle names = {0};
+    bytes stream = {0}, name = {0};
+    uint32_t status = read_stream(file, number, &stream, fault);
+    if (!status) status = pdb_names_open(stream.at ? stream.at : (const uint8_t *)"", stream.length, &names, fault);
+    if (!status) {
+        named of = {{NULL, 0}, &names, offset};
+        status = read_name(name_at, &of, &name, fault);
+        if (!status) printf("%.*s\n", (int)name.length, name.at ? (char *)name.at : "");
+    }
+    pdb_close(&names);
+    free(name.at);
+    free(stream.at);
+    return status;
+}
+
+static uint32_t print_ranges(bytes file, uint32_t number, uint32_t start, uint32_t end, pdb_fault *fault) {
+    pdb_handle omap = {0};
+    bytes stream = {0};
+    pdb_span none[1], *spans = NULL;
+    size_t count = 0;
+    uint32_t status = read_stream(file, number, &stream, fault);
+    if (!status) status = pdb_omap_open(stream.at ? stream.at : (const uint8_t *)"", stream.length, &omap, fault);
+    if (!status) status = pdb_omap_ranges(&omap, start, end, none, 0, &count, fault);
+    if (status == PDB_TOO_SMALL) {
+        spans = room_for(count, sizeof *spans);
+        status = spans ? pdb_omap_ranges(&omap, start, end, spans, count, &count, fault) : told(fault, no_memory);
+    }
+    for (size_t i = 0; !status && i < count; i++) printf("0x%" PRIx32 "..0x%" PRIx32 "\n", spans[i].start, spans[i].end);
+    pdb_close(&omap);
+    free(spans);
+    free(stream.at);
+    return status;
+}
+
+/* The fields of one list, and the list in which it goes on; 0 if in none. */
+static uint32_t print_list(const table *table, uint32_t index, uint32_t *next, bytes *out, pdb_fault *fault) {
+    bytes record = {0};
+    pdb_row row = {0};
+    static pdb_field none[1];
+    pdb_field *fields = NULL;
+    uint8_t no_name[1], *names = NULL;
+    size_t count = 0, size = 0;
+    uint32_t status = find(table, index, &record, fault);
+    if (status) return status;
+    uint32_t kind = record.at[0] | record.at[1] << 8;
+    if (kind != 0x1203) return told(fault, (pdb_fault){PDB_UNIMPLEMENTED_TYPE_KIND, kind, 0});
+    status = pdb_type_row(record.at, record.length, index, &row, fault);
+    if (!status) status = pdb_type_fields(record.at, record.length, index, none, 0, &count, no_name, 0, &size, fault);
+    if (status == PDB_TOO_SMALL) {
+        fields = room_for(count, sizeof *fields);
+        names = room_for(size, 1);
+        status = fields && names ? pdb_type_fields(record.at, record.length, index, fields, count, &count, names, size, &size, fault)
+                                 : told(fault, no_memory);
+    }
+    uint8_t *more = status ? NULL : realloc(out->at, out->length + size + 2 * count + 1);
+    if (!status && !more) status = told(fault, no_memory);
+    if (more) out->at = more;
+    for (size_t i = 0, from = 0; !status && i < count; from += fields[i++].name_length) {
+        if (!fields[i].has_name) out->at[out->length++] = '-';
+        memcpy(out->at + out->length, names + from, fields[i].name_length);
+        out->length += fields[i].name_length;
+        out->at[out->length++] = '\n';
+    }
+    free(fields);
+    free(names);
+    *next = row.stands & PDB_LIST_INDEX ? row.list_index : 0;
+    if (!status && row.stands & PDB_LIST_INDEX && row.list_index >= index)
+        status = told(fault, (pdb_fault){PDB_UNIMPLEMENTED_FEATURE, 9, 0});
+    return status;
+}
+
+static uint32_t print_fields(bytes file, uint32_t number, uint32_t index, pdb_fault *fault) {
+    table table = {0};
+    bytes out = {0};
+    uint32_t status = read_table(file, number, &table, fault), next = index;
+    for (int more = 1; !status && more; more = next != 0) status = print_list(&table, next, &next, &out, fault);
+    if (!status && out.length) fwrite(out.at, 1, out.length, stdout);
+    free(out.at);
+    free(table.positions);
+    free(table.stream.at);
+    return status;
+}
+
+/* The text of a refusal on a line of standard error. */
+static void print_fault(const pdb_fault *about) {
+    uint8_t room[200];
+    size_t length;
+    pdb_fault fault;
+    if (pdb_error_text(about, room, sizeof room, &length, &fault) == PDB_OK) fprintf(stderr, "%.*s\n", (int)length, (char *)room);
+    else if (about->status == PDB_IO_ERROR) fprintf(stderr, "IO error while reading PDB\n");
+    else fprintf(stderr, about->status == PDB_OUT_OF_MEMORY ? "OutOfMemory\n" : "status %" PRIu32 "\n", about->status);
+}
+
+static uint32_t number_of(const char *word) { return (uint32_t)strtoul(word, NULL, 0); }
+
+int main(int count, char **words) {
+    bytes file = {0};
+    pdb_fault fault = {0};
+    const char *verb = count > 2 ? words[2] : "";
+    uint32_t status = 1, a = count > 3 ? number_of(words[3]) : 0, b = count > 4 ? number_of(words[4]) : 0;
+    if (count < 4 || read_file(words[1], &file, &fault)) fault.status = fault.status ? fault.status : PDB_NO_TEXT;
+    else if (!strcmp(verb, "stream")) status = print_stream(file, a, &fault);
+    else if (!strcmp(verb, "type")) status = print_record(file, a, b, 1, &fault);
+    else if (!strcmp(verb, "id")) status = print_record(file, a, b, 0, &fault);
+    else if (!strcmp(verb, "name")) status = print_name(file, a, b, &fault);
+    else if (!strcmp(verb, "ranges")) status = print_ranges(file, a, b, count > 5 ? number_of(words[5]) : 0, &fault);
+    else if (!strcmp(verb, "fields")) status = print_fields(file, a, b, &fault);
+    else fault.status = PDB_NO_TEXT;
+    if (status) print_fault(&fault);
+    free(file.at);
+    return status != PDB_OK;
+}

@@ -1,0 +1,251 @@
+//! A small safe wrapper over the library for C.
+
+use std::ffi::c_void;
+use std::fmt;
+
+/// How a call ended.
+#[repr(C)]
+#[derive(Clone, Copy, Default)]
+pub struct Fault {
+    pub status: u32,
+    pub first: u32,
+    pub second: u32,
+}
+
+/// What the library refused, in its own words.
+#[derive(Debug)]
+pub struct Refused(pub String);
+
+impl fmt::Display for Refused {
+    fn fmt(&self, f: &mut fmt::Formatter<'_>) -> fmt::Result {
+        f.write_str(&self.0)
+    }
+}
+
+impl std::error::Error for Refused {}
+
+/// What a record says beside names and lists.
+#[repr(C)]
+#[derive(Clone, Copy, Default)]
+pub struct Row {
+    pub number: u64,
+    pub shape: u32,
+    pub stands: u32,
+    pub kind: u32,
+    pub attributes: u32,
+    pub properties: u32,
+    pub count: u32,
+    pub type_index: u32,
+    pub second_index: u32,
+    pub third_index: u32,
+    pub list_index: u32,
+    pub extra: u32,
+}
+
+#[repr(C)]
+#[derive(Clone, Copy, Default)]
+struct RawField {
+    row: Row,
+    name_length: usize,
+    has_name: u32,
+}
+
+#[repr(C)]
+#[derive(Clone, Copy, Default)]
+struct Facts {
+    first_index: u32,
+    maximum_index: u32,
+    stop: Fault,
+}
+
+#[repr(C)]
+struct Handle {
+    held: *mut c_void,
+    kind: u32,
+}
+
+pub const CLASS: u32 = 1;
+pub const MEMBER: u32 = 2;
+pub const LIST_INDEX: u32 = 128;
+
+const OK: u32 = 0;
+const TOO_SMALL: u32 = 102;
+const NOWHERE: u32 = 105;
+
+#[link(name = "pdb_container")]
+extern "C" {
+    fn pdb_error_text(about: *const Fault, room: *mut u8, size: usize, length: *mut usize, fault: *mut Fault) -> u32;
+    fn pdb_close(handle: *mut Handle);
+    fn pdb_file_stream(file: *const u8, len: usize, number: u32, limit: usize, room: *mut u8, size: usize, length: *mut usize, fault: *mut Fault) -> u32;
+    fn pdb_file_names(file: *const u8, len: usize, names: *mut Handle, fault: *mut Fault) -> u32;
+    fn pdb_names_get(names: *mut Handle, offset: u32, room: *mut u8, size: usize, length: *mut usize, fault: *mut Fault) -> u32;
+    fn pdb_table_positions(stream: *const u8, len: usize, positions: *mut u32, size: usize, count: *mut usize, facts: *mut Facts, fault: *mut Fault) -> u32;
+    fn pdb_type_row(record: *const u8, len: usize, index: u32, row: *mut Row, fault: *mut Fault) -> u32;
+    fn pdb_type_name(record: *const u8, len: usize, index: u32, room: *mut u8, size: usize, length: *mut usize, fault: *mut Fault) -> u32;
+    fn pdb_type_fields(record: *const u8, len: usize, index: u32, rows: *mut RawField, size: usize, count: *mut usize, names: *mut u8, room: usize, bytes: *mut usize, fault: *mut Fault) -> u32;
+}
+
+fn refused(about: &Fault) -> Refused {
+    let (mut room, mut length, mut fault) = ([0; 200], 0, Fault::default());
+    // SAFETY: each pointer is to a value of its own, and the length is the array's.
+    let status = unsafe { pdb_error_text(about, room.as_mut_ptr(), room.len(), &mut length, &mut fault) };
+    match status {
+        OK => Refused(String::from_utf8_lossy(&room[..length]).into_owned()),
+        _ => Refused(format!("status {}", about.status)),
+    }
+}
+
+/// What a call copies into an array, which has the address, the length and the place for a count of it: asks
+/// how much it is, and then for it; None where it tells that there is nothing.
+fn answer<T: Clone + Default>(mut call: impl FnMut(*mut T, usize, &mut usize, &mut Fault) -> u32) -> Result<Option<Vec<T>>, Refused> {
+    let (mut count, mut fault) = (0, Fault::default());
+    let mut room = vec![T::default(); 1];
+    match call(room.as_mut_ptr(), 0, &mut count, &mut fault) {
+        OK => return Ok(Some(Vec::new())),
+        NOWHERE => return Ok(None),
+        TOO_SMALL => room.resize(count, T::default()),
+        _ => return Err(refused(&fault)),
+    }
+    match call(room.as_mut_ptr(), room.len(), &mut count, &mut fault) {
+        OK => Ok(Some(room)),
+        _ => Err(refused(&fault)),
+    }
+}
+
+/// The bytes of a stream.
+pub fn stream(file: &[u8], number: u32) -> Result<Vec<u8>, Refused> {
+    // SAFETY: the slice and the array of `answer` are as long as they say, and apart.
+    let bytes = answer(|room, size, count, fault| unsafe {
+        pdb_file_stream(file.as_ptr(), file.len(), number, usize::MAX, room, size, count, fault)
+    })?;
+    Ok(bytes.unwrap_or_default())
+}
+
+/// The string table of a file.
+pub struct Names(Handle);
+
+impl Names {
+    pub fn open(file: &[u8]) -> Result<Names, Refused> {
+        let mut names = Names(Handle { held: std::ptr::null_mut(), kind: 0 });
+        let mut fault = Fault::default();
+        // SAFETY: the handle is all zero, and stays with this value.
+        match unsafe { pdb_file_names(file.as_ptr(), file.len(), &mut names.0, &mut fault) } {
+            OK => Ok(names),
+            _ => Err(refused(&fault)),
+        }
+    }
+
+    /// The bytes of the name at an offset.
+    pub fn get(&mut self, offset: u32) -> Result<Vec<u8>, Refused> {
+        let names = &mut self.0;
+        // SAFETY: the handle is asked by one call at a time, since it is borrowed.
+        let name = answer(|room, size, count, fault| unsafe { pdb_names_get(names, offset, room, size, count, fault) })?;
+        Ok(name.unwrap_or_default())
+    }
+}
+
+impl Drop for Names {
+    fn drop(&mut self) {
+        // SAFETY: the handle is this value's own.
+        unsafe { pdb_close(&mut self.0) }
+    }
+}
+
+/// A field of a class, with its name.
+pub struct Field {
+    pub row: Row,
+    pub name: String,
+}
+
+/// The table of types of a file.
+pub struct Types {
+    stream: Vec<u8>,
+    positions: Vec<u32>,
+    first: u32,
+}
+
+impl Types {
+    pub fn open(file: &[u8]) -> Result<Types, Refused> {
+        let (stream, mut facts) = (stream(file, 2)?, Facts::default());
+        // SAFETY: as above.
+        let positions = answer(|room, size, count, fault| unsafe {
+            pdb_table_positions(stream.as_ptr(), stream.len(), room, size, count, &mut facts, fault)
+        })?;
+        let positions = positions.unwrap_or_default();
+        Ok(Types { stream, positions, first: facts.first_index })
+    }
+
+    pub fn indexes(&self) -> std::ops::Range<u32> {
+        self.first..self.first + self.positions.len() as u32
+    }
+
+    /// The record of an index, none for one that the table does not have.
+    fn record(&self, index: u32) -> &[u8] {
+        let Some(at) = index.checked_sub(self.first).and_then(|place| self.positions.get(place as usize)) else {
+            return &[];
+        };
+        let bytes = &self.stream[*at as usize..];
+        &bytes[2..2 + u16::from_le_bytes([bytes[0], bytes[1]]) as usize]
+    }
+
+    pub fn row(&self, index: u32) -> Result<Row, Refused> {
+        let (record, mut row, mut fault) = (self.record(index), Row::default(), Fault::default());
+        // SAFETY: as above.
+        match unsafe { pdb_type_row(record.as_ptr(), record.len(), index, &mut row, &mut fault) } {
+            OK => Ok(row),
+            _ => Err(refused(&fault)),
+        }
+    }
+
+    pub fn name(&self, index: u32) -> Result<Option<String>, Refused> {
+        let record = self.record(index);
+        // SAFETY: as above.
+        let name = answer(|room, size, count, fault| unsafe {
+            pdb_type_name(record.as_ptr(), record.len(), index, room, size, count, fault)
+        })?;
+        Ok(name.map(|name| String::from_utf8_lossy(&name).into_owned()))
+    }
+
+    fn listed(&self, index: u32) -> Result<Vec<Field>, Refused> {
+        let (record, mut fault) = (self.record(index), Fault::default());
+        let (mut rows, mut names) = (vec![RawField::default(); 1], vec![0; 1]);
+        let (mut count, mut bytes) = (0, 0);
+        // SAFETY: as above; both arrays are as long as they say.
+        let mut call = |rows: &mut [RawField], size, names: &mut [u8], room| unsafe {
+            let status = pdb_type_fields(record.as_ptr(), record.len(), index, rows.as_mut_ptr(), size, &mut count, names.as_mut_ptr(), room, &mut bytes, &mut fault);
+            (status, count, bytes, fault)
+        };
+        let (status, count, bytes, fault) = call(&mut rows, 0, &mut names, 0);
+        if status != OK && status != TOO_SMALL {
+            return Err(refused(&fault));
+        }
+        rows.resize(count.max(1), RawField::default());
+        names.resize(bytes.max(1), 0);
+        let (status, _, _, fault) = call(&mut rows, count, &mut names, bytes);
+        if status != OK {
+            return Err(refused(&fault));
+        }
+        let mut from = 0;
+        Ok(rows[..count]
+            .iter()
+            .map(|field| {
+                let name = String::from_utf8_lossy(&names[from..from + field.name_length]).into_owned();
+                from += field.name_length;
+                Field { row: field.row, name }
+            })
+            .collect())
+    }
+
+    /// The fields of a list and of those in which it goes on.
+    pub fn fields(&self, mut index: u32) -> Result<Vec<Field>, Refused> {
+        let mut all = Vec::new();
+        loop {
+            all.extend(self.listed(index)?);
+            let row = self.row(index)?;
+            if row.stands & LIST_INDEX == 0 || row.list_index >= index {
+                return Ok(all);
+            }
+            index = row.list_index;
+        }
+    }
+}
