@@ -286,18 +286,37 @@ fn sections(alloc: Global, section: ImageSectionHeader) -> Result<Vec<ImageSecti
     Ok(sections)
 }
 
-/// Whether addresses, names and frames are answered as ever, where `calls` says that they are asked for.
-fn is_space(alloc: Global, calls: bool) -> Result<bool> {
+/// Whether names are found as ever, where `calls` says that they are asked for, as below.
+fn has_names(alloc: Global, calls: bool) -> Result<bool> {
     let names = StringTable::parse(stream_of(alloc, NAMES)?)?;
+    Ok(!calls || is_named(&names))
+}
+
+fn has_moved(alloc: Global, calls: bool) -> Result<bool> {
     let omap = OMAPTable::parse(stream_of(alloc, OMAP)?)?;
+    Ok(!calls || is_moved_so(&omap))
+}
+
+fn has_frames(alloc: Global, calls: bool) -> Result<bool> {
     let frames = FrameTable::parse(None, Some(stream_of(alloc, FRAMES)?))?;
+    Ok(!calls || are_frames(&frames))
+}
+
+fn has_places(alloc: Global, calls: bool) -> Result<bool> {
     let section = ImageSectionHeader::parse(&mut ParseBuffer::from(SECTION))?;
     let map = AddressMap::new(settled!(sections(alloc, section))?, None, None, None);
-    if !calls {
-        return Ok(true);
-    }
-    let moved = is_moved_so(&omap) && is_placed(&map) && section.name() == ".data";
-    Ok(is_named(&names) && moved && are_frames(&frames))
+    Ok(!calls || (is_placed(&map) && section.name() == ".data"))
+}
+
+/// Whether names, addresses and frames are answered as ever. A function each: one that holds all is long
+/// in the proof.
+fn is_space(alloc: Global, calls: bool) -> Result<bool> {
+    Ok(
+        has_names(alloc, calls)?
+            && has_moved(alloc, calls)?
+            && has_frames(alloc, calls)?
+            && has_places(alloc, calls)?,
+    )
 }
 
 /// Whether all is answered as ever, where `calls` says that it is asked.

@@ -1,6 +1,6 @@
 //! What a file says by the roles and the names of its streams.
 
-use pdb_base::{Error, FallibleIterator, Result as Answer};
+use pdb_base::{FallibleIterator, Result as Answer};
 use pdb_frames::{FrameDataIter, FrameTable};
 use pdb_msf::{BigMSF, open_msf};
 use pdb_roles::{
@@ -397,19 +397,53 @@ fn frame_tables(rt: HostRuntime) -> Result<(), Fail> {
     Ok(())
 }
 
+/// The bytes of the stream of a name, or the text of the refusal.
+fn named_or_refused(alloc: Global, file: &mut BigMSF<Vec<u8>>, name: &[u8]) -> Answer<Vec<u8>> {
+    match named_stream(alloc, file, name) {
+        Ok(stream) => Ok(stream.into_bytes()),
+        Err(error) => Ok(error.to_string(alloc)?.into_bytes()),
+    }
+}
+
+/// The first name of the string table.
+fn first_name(alloc: Global, file: &mut BigMSF<Vec<u8>>) -> Answer<Vec<u8>> {
+    let table = string_table(alloc, file)?;
+    Ok(Vec::from_slice(alloc, table.get(StringRef(1))?.as_bytes())?)
+}
+
+/// The age of the file.
+fn age(alloc: Global, file: &mut BigMSF<Vec<u8>>) -> Answer<u32> {
+    Ok(pdb_information(alloc, file)?.age)
+}
+
+/// Whether the file has frames of the older format.
+fn has_old_frames(alloc: Global, file: &mut BigMSF<Vec<u8>>) -> Answer<bool> {
+    Ok(extra_streams(alloc, file)?.fpo.is_some())
+}
+
+/// Whether the file's age is 1, and it has no frames of the older format.
+fn is_told(alloc: Global, file: &mut BigMSF<Vec<u8>>) -> Answer<bool> {
+    Ok(age(alloc, file)? == 1 && !has_old_frames(alloc, file)?)
+}
+
+/// Names of streams, and the bytes of each or the text of its refusal.
+const NAMED: &[(&[u8], &[u8])] = &[
+    (
+        b"/a",
+        b"The requested stream (2) is not stored in this file",
+    ),
+    (b"/b", b"StreamNameNotFound"),
+    (b"/names", NAMES),
+];
+
 #[test]
 fn named(rt: HostRuntime) -> Result<(), Fail> {
     let mut file = file(rt.alloc(), &[])?;
-    let absent = named_stream(rt.alloc(), &mut file, b"/a");
-    assert!(rt; matches!(absent, Err(Error::StreamNotFound(2))));
-    let unknown = named_stream(rt.alloc(), &mut file, b"/b");
-    assert!(rt; matches!(unknown, Err(Error::StreamNameNotFound)));
-
-    let names = named_stream(rt.alloc(), &mut file, b"/names")?;
-    assert!(rt; names.as_slice() == NAMES);
-    let table = string_table(rt.alloc(), &mut file)?;
-    assert!(rt; table.get(StringRef(1))?.as_bytes() == b"foo".as_slice());
-    assert!(rt; pdb_information(rt.alloc(), &mut file)?.age == 1);
-    assert!(rt; extra_streams(rt.alloc(), &mut file)?.fpo.is_none());
+    for (name, want) in NAMED {
+        let found = named_or_refused(rt.alloc(), &mut file, name)?;
+        assert!(rt; found.as_slice() == *want, "{name:?}");
+    }
+    assert!(rt; first_name(rt.alloc(), &mut file)?.as_slice() == b"foo".as_slice());
+    assert!(rt; is_told(rt.alloc(), &mut file)?);
     Ok(())
 }
