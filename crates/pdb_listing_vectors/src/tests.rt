@@ -1,0 +1,4 @@
+//! The rows, a file a topic.
+
+mod listings;
+mod rows;

@@ -1,0 +1,227 @@
+//! Tables as lines, and records in full. Each expected text is written from the definitions.
+
+use pdb_listing::{id_at, ids, type_at, types};
+use pdb_msf::Stream;
+use pdb_rows::Form;
+use pdb_vectors::item_table;
+use std::alloc::Global;
+use std::test::Fail;
+
+/// The records of a table of types, from index 0x1000 on.
+const TYPES: [&[u8]; 16] = [
+    // a structure with a second name
+    b"\x05\x15\x01\x00\x00\x02\x09\x10\x00\x00\x00\x00\x00\x00\x00\x00\x00\x00\x04\x00S\x00.?AUS@@\x00",
+    // a union whose name has a line feed, a quote and a backslash
+    b"\x06\x15\x00\x00\x80\x00\x00\x00\x00\x00\x00\x00a\x0a\"b\\\x00",
+    // an enumeration whose name has an escape, a byte that is no character, and U+009B
+    b"\x07\x15\x02\x00\x00\x00t\x00\x00\x00\x09\x10\x00\x00\x1b[2J\xff\xc2\x9b\x00",
+    // a const pointer
+    b"\x02\x10\x00\x10\x00\x00\x0c\x04\x00\x00",
+    // const and volatile
+    b"\x01\x10\x00\x10\x00\x00\x03\x00",
+    // a function
+    b"\x08\x10t\x00\x00\x00\x00\x02\x02\x00\x06\x10\x00\x00",
+    // its arguments
+    b"\x01\x12\x02\x00\x00\x00t\x00\x00\x00\x03\x10\x00\x00",
+    // a method
+    b"\x09\x10\x03\x00\x00\x00\x00\x10\x00\x00\x03\x10\x00\x00\x0b\x00\x00\x00\x06\x10\x00\x00\x00\x00\x00\x00",
+    // an array
+    b"\x03\x15t\x00\x00\x00#\x00\x00\x00(\x00\x00",
+    // a list of fields, an entry of each kind
+    b"\x03\x12\x0d\x15\x03\x00t\x00\x00\x00\x00\x00x\x00\x0e\x15\x01\x00t\x00\x00\x00y\x00\x10\x15\x00\x00\x00\x10\x00\x00N\x00\x0f\x15\x02\x00\x0a\x10\x00\x00f\x00\x11\x15\x13\x00\x07\x10\x00\x00\x08\x00\x00\x00g\x00\x00\x14\x03\x00\x00\x10\x00\x00\x10\x00\x01\x14\x02\x00\x00\x10\x00\x00\x03\x10\x00\x00\x08\x00\x01\x00\x09\x14\x00\x00\x03\x10\x00\x00\x02\x15\x03\x00\x01\x80\xff\xffE\x00",
+    // a list of methods
+    b"\x06\x12\x13\x00\x00\x00\x07\x10\x00\x00\x08\x00\x00\x00\x03\x00\x00\x00\x07\x10\x00\x00",
+    // bits
+    b"\x05\x12u\x00\x00\x00\x03\x05",
+    // the shape of a table
+    b"\x0a\x00\x03\x00U\x05",
+    // a leaf that is not read
+    b"\x0e\x00\x00\x00",
+    // a number that is no leaf
+    b"4\x12",
+    // a structure that is cut
+    b"\x05\x15\x01\x00",
+];
+
+/// The records of a table of ids.
+const IDS: [&[u8]; 8] = [
+    // a function
+    b"\x01\x16\x00\x00\x00\x00\x05\x10\x00\x00main\x00",
+    // a method
+    b"\x02\x16\x00\x10\x00\x00\x07\x10\x00\x00f\x00",
+    // what a module was built with
+    b"\x03\x16\x02\x00\x04\x10\x00\x00\x04\x10\x00\x00",
+    // parts of a text
+    b"\x04\x16\x01\x00\x00\x00\x04\x10\x00\x00",
+    // a text
+    b"\x05\x16\x00\x00\x00\x00C:\\a.c\x00",
+    // where a type is declared
+    b"\x06\x16\x00\x10\x00\x00\x04\x10\x00\x00\x07\x00\x00\x00",
+    // the same with its module
+    b"\x07\x16\x00\x10\x00\x00 \x00\x00\x00\x08\x00\x00\x00\x02\x00",
+    // a leaf of types
+    b"\x05\x15\x00\x00",
+];
+
+/// The lines of the types.
+const TYPE_LINES: &str =
+    r#"0x1000 LF_STRUCTURE S count=1 properties=[has_unique_name] fields=0x1009 size=4 unique_name=.?AUS@@
+0x1001 LF_UNION a\n"b\ count=0 properties=[forward_reference] fields=0x0 size=0
+0x1002 LF_ENUM \u001b[2J�\u009b count=2 underlying_type=0x74 fields=0x1009
+0x1003 LF_POINTER underlying_type=0x1000 pointer_kind=Ptr64 pointer_mode=Pointer attributes=[is_const] size=8
+0x1004 LF_MODIFIER underlying_type=0x1000 modifiers=[constant,volatile]
+0x1005 LF_PROCEDURE return_type=0x74 calling_convention=0 attributes=[is_constructor] parameter_count=2 argument_list=0x1006
+0x1006 LF_ARGLIST arguments=[0x74,0x1003]
+0x1007 LF_MFUNCTION return_type=0x3 class_type=0x1000 this_pointer_type=0x1003 calling_convention=11 parameter_count=0 argument_list=0x1006 this_adjustment=0
+0x1008 LF_ARRAY element_type=0x74 indexing_type=0x23 dimensions=[40]
+0x1009 LF_FIELDLIST count=9
+0x100a LF_METHODLIST count=2 methods=[0x1007,0x1007]
+0x100b LF_BITFIELD underlying_type=0x75 length=3 position=5
+0x100c LF_VTSHAPE count=3 descriptors=[0x55,0x5]
+0x100d LF_LABEL error=Support for types of kind 0x000e is not implemented
+0x100e 0x1234 error=Support for types of kind 0x1234 is not implemented
+0x100f LF_STRUCTURE error=UnexpectedEof
+"#;
+
+/// The lines of the ids in JSON.
+const ID_OBJECTS: &str = r#"{"index":4096,"kind":"LF_FUNC_ID","name":"main","function_type":4101}
+{"index":4097,"kind":"LF_MFUNC_ID","name":"f","parent":4096,"function_type":4103}
+{"index":4098,"kind":"LF_BUILDINFO","arguments":[4100,4100]}
+{"index":4099,"kind":"LF_SUBSTR_LIST","substrings":[4100]}
+{"index":4100,"kind":"LF_STRING_ID","name":"C:\\a.c"}
+{"index":4101,"kind":"LF_UDT_SRC_LINE","udt":4096,"source_file":4100,"line":7}
+{"index":4102,"kind":"LF_UDT_MOD_SRC_LINE","udt":4096,"source_file":32,"module":2,"line":8}
+{"index":4103,"kind":"LF_STRUCTURE","error":"Support for types of kind 0x1505 is not implemented"}
+"#;
+
+/// The structure in full, with its fields.
+const STRUCTURE: &str = r#"index: 0x1000
+kind: LF_STRUCTURE
+name: S
+count: 1
+properties: [has_unique_name]
+fields: 0x1009
+size: 4
+unique_name: .?AUS@@
+LF_MEMBER x access=public field_type=0x74 offset=0
+LF_STMEMBER y access=private field_type=0x74
+LF_NESTTYPE N nested_type=0x1000
+LF_METHOD f count=2 method_list=0x100a
+LF_ONEMETHOD g access=public attributes=[is_intro_virtual] method_type=0x1007 vtable_offset=8
+LF_BCLASS access=public base_class=0x1000 offset=16
+LF_VBCLASS direct=true access=protected base_class=0x1000 base_pointer=0x1003 base_pointer_offset=8 virtual_base_offset=1
+LF_VFUNCTAB table=0x1003
+LF_ENUMERATE E access=public value=-1
+"#;
+
+/// The list of methods in full.
+const METHODS: &str = r#"index: 0x100a
+kind: LF_METHODLIST
+count: 2
+methods: [0x1007,0x1007]
+access=public attributes=[is_intro_virtual] method_type=0x1007 vtable_offset=8
+access=public method_type=0x1007
+"#;
+
+/// A primitive type in full.
+const PRIMITIVE: &str = r#"index: 0x674
+kind: 0xffff
+primitive_kind: I32
+indirection: Near64
+"#;
+
+/// The text in full.
+const TEXT: &str = r#"index: 0x1004
+kind: LF_STRING_ID
+name: C:\a.c
+"#;
+
+/// The union in JSON.
+const UNION: &str =
+    r#"{"index":4097,"kind":"LF_UNION","name":"a\n\"b\\","count":0,"properties":["forward_reference"],"fields":0,"size":0}
+"#;
+
+/// The stream of a table of these records.
+fn stream_of(alloc: Global, records: &[&[u8]]) -> Result<Stream, Fail> {
+    let mut items = Vec::new(alloc);
+    for record in records {
+        let len = u16::try_from(record.len()).ok().unwrap_or(0);
+        items.extend_from_slice(&len.to_le_bytes())?;
+        items.extend_from_slice(record)?;
+    }
+    let bytes = item_table(alloc, 56, 0x1000, 0x1010, &items)?;
+    if bytes.len() >= 0xffff_ffff {
+        return Err("too long".into());
+    }
+    Ok(Stream::new(bytes))
+}
+
+/// The lines of the types.
+fn type_lines(alloc: Global, form: Form, records: &[&[u8]]) -> Result<Vec<u8>, Fail> {
+    let mut out = Vec::new(alloc);
+    types(alloc, stream_of(alloc, records)?, form, &mut out)?;
+    Ok(out)
+}
+
+/// The lines of the ids.
+fn id_lines(alloc: Global, form: Form, records: &[&[u8]]) -> Result<Vec<u8>, Fail> {
+    let mut out = Vec::new(alloc);
+    ids(alloc, stream_of(alloc, records)?, form, &mut out)?;
+    Ok(out)
+}
+
+/// A type in full.
+fn shown_type(alloc: Global, form: Form, index: u32) -> Result<Vec<u8>, Fail> {
+    let mut out = Vec::new(alloc);
+    type_at(alloc, stream_of(alloc, &TYPES)?, index, form, &mut out)?;
+    Ok(out)
+}
+
+/// An id in full.
+fn shown_id(alloc: Global, form: Form, index: u32) -> Result<Vec<u8>, Fail> {
+    let mut out = Vec::new(alloc);
+    id_at(alloc, stream_of(alloc, &IDS)?, index, form, &mut out)?;
+    Ok(out)
+}
+
+#[test]
+fn lines(rt: HostRuntime) -> Result<(), Fail> {
+    let all = type_lines(rt.alloc(), Form::Text, &TYPES)?;
+    assert_eq!(rt; all.as_slice(), TYPE_LINES.as_bytes());
+    let all = id_lines(rt.alloc(), Form::Json, &IDS)?;
+    assert_eq!(rt; all.as_slice(), ID_OBJECTS.as_bytes());
+    Ok(())
+}
+
+#[test]
+fn records(rt: HostRuntime) -> Result<(), Fail> {
+    let all = shown_type(rt.alloc(), Form::Text, 0x1000)?;
+    assert_eq!(rt; all.as_slice(), STRUCTURE.as_bytes());
+    let all = shown_type(rt.alloc(), Form::Text, 0x100a)?;
+    assert_eq!(rt; all.as_slice(), METHODS.as_bytes());
+    let all = shown_type(rt.alloc(), Form::Text, 0x674)?;
+    assert_eq!(rt; all.as_slice(), PRIMITIVE.as_bytes());
+    let all = shown_id(rt.alloc(), Form::Text, 0x1004)?;
+    assert_eq!(rt; all.as_slice(), TEXT.as_bytes());
+    Ok(())
+}
+
+/// A fault of the walk ends it behind the lines that came before, and one of the list of a type's fields
+/// behind the type.
+#[test]
+fn faults(rt: HostRuntime) -> Result<(), Fail> {
+    let mut out = Vec::new(rt.alloc());
+    let stream = stream_of(rt.alloc(), &[&[1, 0x10, 0, 0x10, 0, 0, 3, 0], &[7]])?;
+    let stopped = types(rt.alloc(), stream, Form::Text, &mut out);
+    assert_eq!(rt;
+        out.as_slice(),
+        b"0x1000 LF_MODIFIER underlying_type=0x1000 modifiers=[constant,volatile]\n".as_slice()
+    );
+    assert!(rt; matches!(stopped, Err(pdb_base::Error::TypeTooShort)));
+    let mut out = Vec::new(rt.alloc());
+    let stream = stream_of(rt.alloc(), &TYPES)?;
+    let stopped = type_at(rt.alloc(), stream, 0x1001, Form::Json, &mut out);
+    assert_eq!(rt; out.as_slice(), UNION.as_bytes());
+    assert!(rt; stopped.is_err());
+    Ok(())
+}
