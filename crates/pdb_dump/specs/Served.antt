@@ -1,6 +1,7 @@
 -- What the program does with a command and an input, and how it ends.
 use Rattle.std.specs.Prelude.{◌≡◌, ◌⊎◌, ℕ, List, Option, Result, Ok, Err, IfSome}
 use Rattle.std.specs.Io.KnownBytes.{Keeps}
+use Rattle.std.specs.declared.io.Error as io
 use Rattle.std.specs.declared.io.ErrorKind.TheVariants as kinds
 use Rattle.std.specs.IoError.{error_kind}
 use Rattle.pdb_base.specs.declared.error.Error.{Error}
@@ -8,15 +9,14 @@ use Rattle.pdb_base.specs.declared.error.Error.TheVariants.{IoError}
 use Rattle.pdb_command.specs.Channels.{IsTold, IsUnread}
 use Rattle.pdb_command.specs.declared.channels.Ended.{Ended}
 use Rattle.pdb_rows.specs.declared.form.Form.{Form}
-use Rattle.pdb_tables.specs.Listing.{IsListed}
-use Rattle.pdb_dump.specs.Listed.{listing_of}
+use Rattle.pdb_dump.specs.Listed.{Does}
 use Rattle.pdb_dump.specs.declared.words.Command.{Command}
 
 -- What a command lists of the file that an input had is listed: of its bytes where they are known.
 pub record IsListedOf (form : Form) (command : Command) (had old new : Option (List ℕ)) (result : Result (Unit {0}) Error) : Type 0 where
   pub file : List ℕ
   pub whole : IfSome had (λ bytes. file ≡ bytes)
-  pub listed : IsListed (listing_of form command file) old new result
+  pub does : Does form command file old new result
 
 -- The input is not read, and nothing is written.
 pub record IsNotRead (old new : Option (List ℕ)) (result : Result (Unit {0}) Error) : Type 0 where
@@ -41,8 +41,18 @@ abbrev pub IsEnded : Result (Unit {0}) Error → Option (List ℕ) → Option (L
 IsEnded (Ok done) old new ended = IsQuiet old new ended
 IsEnded (Err fault) old new ended = (IsClosed fault → IsQuiet old new ended) × ((IsClosed fault → ⊥) → IsTold fault old new ended)
 
--- What the program did with a command and an input: what it listed on the output, and how it ended.
+-- how listing went, and then handing on what was written: the first fault
+abbrev pub joined : Result (Unit {0}) Error → Result (Unit {0}) io.Error → Result (Unit {0}) Error
+joined (Err fault) flushed = Err fault
+joined (Ok done) (Err cause) = Err (IoError cause)
+joined (Ok done) (Ok flushed) = Ok tt
+
+-- What the program did with a command and an input: what it listed on the output, that this was handed on,
+-- and how it ended.
 pub record IsServed (form : Form) (command : Command) (had out out' err err' : Option (List ℕ)) (ended : Ended) : Type 0 where
+  pub written : Option (List ℕ)
   pub result : Result (Unit {0}) Error
-  pub listed : IsListedOf form command had out out' result ⊎ IsNotRead out out' result
-  pub ends : IsEnded result err err' ended
+  pub listed : IsListedOf form command had out written result ⊎ IsNotRead out written result
+  pub kept : Keeps written out'
+  pub flushed : Result (Unit {0}) io.Error
+  pub ends : IsEnded (joined result flushed) err err' ended

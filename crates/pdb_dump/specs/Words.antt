@@ -17,6 +17,8 @@ plain_words words = filter (λ word. not (same word (codes "--json"))) words
 abbrev pub verb_of : List ℕ → Option Verb
 verb_of word =
     if same word (codes "summary") then Some verbs.Summary
+    else if same word (codes "types") then Some verbs.Types
+    else if same word (codes "ids") then Some verbs.Ids
     else if same word (codes "names") then Some verbs.Names
     else if same word (codes "sections") then Some verbs.Sections
     else if same word (codes "omap") then Some verbs.Omap
@@ -34,6 +36,15 @@ one_stream [] = Some None
 one_stream (stream ∷ []) = option_map (λ s. Some s) (number_of stream)
 one_stream _ = None
 
+-- `[S] [--index I]`: a stream that may be given, and the index of the only record
+unfoldable pub records_asked : List (List ℕ) → Option (Option ℕ × Option ℕ)
+records_asked [] = Some (None, None)
+records_asked (stream ∷ []) = option_map (λ s. (Some s, None)) (number_of stream)
+records_asked (word ∷ index ∷ []) = if same word (codes "--index") then option_map (λ i. (None, Some i)) (number_of index) else None
+records_asked (stream ∷ word ∷ index ∷ []) =
+    if same word (codes "--index") then option_and_then (λ s. option_map (λ i. (Some s, Some i)) (number_of index)) (number_of stream) else None
+records_asked _ = None
+
 -- `-` is an absent stream, and any other word a stream's number
 unfoldable pub argument_of : List ℕ → Option (Option ℕ)
 argument_of word = if same word (codes "-") then Some None else option_map (λ stream. Some stream) (number_of word)
@@ -49,6 +60,8 @@ frames_asked _ = None
 abbrev pub asked : Verb → List (List ℕ) → Option Command
 asked verbs.Summary [] = Some commands.Summary
 asked verbs.Summary (word ∷ words) = None
+asked verbs.Types words = option_map (λ two. commands.Types two.0 two.1) (records_asked words)
+asked verbs.Ids words = option_map (λ two. commands.Ids two.0 two.1) (records_asked words)
 asked verbs.Names words = option_map (λ stream. commands.Names stream) (one_stream words)
 asked verbs.Sections words = option_map (λ stream. commands.Sections stream) (one_stream words)
 asked verbs.Omap words = option_map (λ stream. commands.Omap stream) (one_stream words)

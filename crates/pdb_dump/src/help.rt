@@ -8,14 +8,16 @@ pdbdump FILE [COMMAND ..] [--json]   shows what a program database holds
 
 FILE is a path, or `-` for standard input. Without a command it is summary.
 
-  summary              its pages, and its streams with their roles and names
-  names [S]            each name of the string table, with its offset
-  sections [S]         each section header
-  omap [S]             each record of an OMAP table, and whether they are in order
-  frames [OLD [NEW]]   each frame; a stream that is absent is `-`
+  summary                 its pages, and its streams with their roles and names
+  types [S] [--index I]   each type: its index, kind and name, and what it is made of
+  ids [S] [--index I]     each id
+  names [S]               each name of the string table, with its offset
+  sections [S]            each section header
+  omap [S]                each record of an OMAP table, and whether they are in order
+  frames [OLD [NEW]]      each frame; a stream that is absent is `-`
 
-S, OLD and NEW are the numbers of streams, in decimal, or in hexadecimal after 0x. A stream that isn't
-given is found by its role. With --json each line is one object of JSON. `pdbdump COMMAND --help` tells
+S, OLD and NEW are the numbers of streams and I is an index, in decimal, or in hexadecimal after 0x. A
+stream that isn't given is found by its role. With --index I only that record is shown, in full. With --json each line is one object of JSON. `pdbdump COMMAND --help` tells
 of one command.
 ";
 
@@ -23,6 +25,8 @@ of one command.
 pub fn usage_of(verb: Verb) -> &'static str {
     match verb {
         Verb::Summary => "pdbdump FILE summary",
+        Verb::Types => "pdbdump FILE types [S] [--index I]",
+        Verb::Ids => "pdbdump FILE ids [S] [--index I]",
         Verb::Names => "pdbdump FILE names [S]",
         Verb::Sections => "pdbdump FILE sections [S]",
         Verb::Omap => "pdbdump FILE omap [S]",
@@ -36,6 +40,14 @@ pub fn meaning_of(verb: Verb) -> &'static str {
         Verb::Summary => {
             "The size and number of the file's pages and its size in bytes; then a line for each stream: its number,
 its size in bytes, its role and its name. A part that is refused is told in a line of its own."
+        }
+        Verb::Types => {
+            "Each type of the table in stream S, or in stream 2: its index, its kind and its name, and what it is made
+of. With --index I only the type of that index, with a line for each field, and the fields of its list."
+        }
+        Verb::Ids => {
+            "Each id of the table in stream S, or in stream 4: its index, its kind and its name, and what it refers
+to. With --index I only the id of that index, with a line for each field."
         }
         Verb::Names => {
             "Each name of the string table in stream S, or in the stream named /names, with its offset."

@@ -1,16 +1,62 @@
 //! What a command lists of a file.
 
-ghost use Rattle.std.specs.Prelude.{◌≡◌};
-ghost use Rattle.pdb_dump.specs.Listed.{listing_in, listing_of};
-ghost use Rattle.pdb_tables.specs.Listing.{IsListed};
+ghost use Rattle.std.specs.Prelude.{◌≡◌, unwrap_or};
+ghost use Rattle.pdb_dump.specs.Listed.{AreIds, AreTypes, Does, DoesIn, IsListedIn};
 
 use crate::words::Command;
-use pdb_container::{BigMSF, Result, open_msf};
+use pdb_container::{BigMSF, Msf, Result, open_msf};
+use pdb_listing::{id_at, ids, type_at, types};
 use pdb_rows::Form;
 use pdb_summary::list_summary;
 use pdb_tables::{list_frames, list_frames_in, list_names, list_omap, list_sections};
 use std::alloc::Global;
 use std::io::Write;
+
+/// The number of the stream of types, if none is given.
+const TYPE_STREAM: u32 = 2;
+
+/// The number of the stream of ids, if none is given.
+const ID_STREAM: u32 = 4;
+
+/// Lists the types of the table in a stream, or the one of an index.
+fn list_types<W: Write>(
+    alloc: Global,
+    file: &mut BigMSF<Vec<u8>>,
+    number: u32,
+    index: Option<u32>,
+    form: Form,
+    out: &mut W,
+) -> Result<()>
+    ensures { IsListedIn (AreTypes form index) file.old.source.items file.old.head number (W.contents out.old) (W.contents out.new) result }
+{
+    match file.get(alloc, number, None) {
+        Ok(stream) => match index {
+            Some(index) => type_at(alloc, stream, index, form, out),
+            None => types(alloc, stream, form, out),
+        },
+        Err(fault) => Err(fault),
+    }
+}
+
+/// Lists the ids of the table in a stream, or the one of an index.
+fn list_ids<W: Write>(
+    alloc: Global,
+    file: &mut BigMSF<Vec<u8>>,
+    number: u32,
+    index: Option<u32>,
+    form: Form,
+    out: &mut W,
+) -> Result<()>
+    ensures { IsListedIn (AreIds form index) file.old.source.items file.old.head number (W.contents out.old) (W.contents out.new) result }
+{
+    match file.get(alloc, number, None) {
+        Ok(stream) => match index {
+            Some(index) => id_at(alloc, stream, index, form, out),
+            None => ids(alloc, stream, form, out),
+        },
+        Err(fault) => Err(fault),
+    }
+}
 
 /// Lists what a command asks of a file that was opened.
 fn list_opened<W: Write>(
@@ -20,10 +66,18 @@ fn list_opened<W: Write>(
     form: Form,
     out: &mut W,
 ) -> Result<()>
-    ensures { IsListed (listing_in form command file.source.items file.head) (W.contents out.old) (W.contents out.new) result }
+    ensures { DoesIn form command file.source.items file.head (W.contents out.old) (W.contents out.new) result }
 {
     match command {
         Command::Summary => list_summary(alloc, &mut file, form, out),
+        Command::Types { stream, index } => {
+            let number = stream.unwrap_or(TYPE_STREAM);
+            list_types(alloc, &mut file, number, index, form, out)
+        }
+        Command::Ids { stream, index } => {
+            let number = stream.unwrap_or(ID_STREAM);
+            list_ids(alloc, &mut file, number, index, form, out)
+        }
         Command::Names { stream } => list_names(alloc, file, stream, form, out),
         Command::Sections { stream } => list_sections(alloc, file, stream, form, out),
         Command::Omap { stream } => list_omap(alloc, file, stream, form, out),
@@ -37,7 +91,6 @@ fn list_opened<W: Write>(
 /// # Errors
 /// What `open_msf` refuses, and then what the command does, behind the lines up to the first fault.
 /// `IoError` if the writer fails, and `OutOfMemory` if memory is refused.
-#[tactic(auto, unfolding(crate::specs::Listed::listing_of), using(pdb_tables::proofs::ListedLemmas::refused_listed))]
 pub fn list<W: Write>(
     alloc: Global,
     file: Vec<u8>,
@@ -45,8 +98,10 @@ pub fn list<W: Write>(
     form: Form,
     out: &mut W,
 ) -> Result<()>
-    ensures { IsListed (listing_of form command file.items) (W.contents out.old) (W.contents out.new) result }
+    ensures { Does form command file.items (W.contents out.old) (W.contents out.new) result }
 {
-    let file = open_msf(alloc, file)?;
-    list_opened(alloc, file, command, form, out)
+    match open_msf(alloc, file) {
+        Ok(file) => list_opened(alloc, file, command, form, out),
+        Err(fault) => Err(fault),
+    }
 }

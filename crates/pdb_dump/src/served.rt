@@ -1,7 +1,7 @@
 //! The program between its channels: what it reads, what it writes, and how it ends.
 
 ghost use Rattle.std.specs.Prelude.{◌≡◌, ◌↔◌, ◌⊎◌, IsTrue};
-ghost use Rattle.pdb_dump.specs.Served.{IsClosed, IsEnded, IsListedOf, IsNotRead, IsQuiet, IsServed};
+ghost use Rattle.pdb_dump.specs.Served.{IsClosed, IsEnded, IsListedOf, IsNotRead, IsServed, joined};
 
 use crate::listed::list;
 use crate::words::Command;
@@ -9,9 +9,10 @@ use pdb_command::{Ended, read_all, tell};
 use pdb_container::{Error, Result};
 use pdb_rows::Form;
 use std::alloc::Global;
+use std::io;
 use std::io::{ErrorKind, Read, Write};
 
-/// Reads an input and lists what a command asks of it. What was written is handed on in any case.
+/// Reads an input and lists what a command asks of it.
 fn read_and_list<I: Read, O: Write>(
     alloc: Global,
     command: Command,
@@ -22,11 +23,18 @@ fn read_and_list<I: Read, O: Write>(
     ensures { IsListedOf form command (I.remaining input.old) (O.contents out.old) (O.contents out.new) result ⊎ IsNotRead (O.contents out.old) (O.contents out.new) result }
 {
     let file = read_all(alloc, input)?;
-    let listed = list(alloc, file, command, form, out);
-    let flushed = out.flush();
-    listed?;
-    flushed?;
-    Ok(())
+    list(alloc, file, command, form, out)
+}
+
+/// How listing went, and then handing on what was written.
+fn joined(listed: Result<()>, flushed: io::Result<()>) -> Result<()>
+    ensures { result ≡ joined listed flushed }
+{
+    match (listed, flushed) {
+        (Err(fault), _) => Err(fault),
+        (Ok(()), Err(cause)) => Err(Error::IoError(cause)),
+        (Ok(()), Ok(())) => Ok(()),
+    }
 }
 
 /// Whether who reads the output has closed it.
@@ -65,5 +73,6 @@ pub fn serve<I: Read, O: Write, E: Write>(
     ensures { IsServed form command (I.remaining input.old) (O.contents out.old) (O.contents out.new) (E.contents err.old) (E.contents err.new) result }
 {
     let listed = read_and_list(alloc, command, form, input, out);
-    end(alloc, listed, err)
+    let flushed = out.flush();
+    end(alloc, joined(listed, flushed), err)
 }

@@ -3,7 +3,7 @@
 ghost use Rattle.std.specs.Prelude.{◌≡◌, map, IfErr, IfOk};
 ghost use Rattle.std.specs.List.{list_any};
 ghost use Rattle.pdb_command.specs.Words.{same};
-ghost use Rattle.pdb_dump.specs.Words.{argument_of, asked, command_of, first_verb, frames_asked, one_stream, plain_words, verb_of};
+ghost use Rattle.pdb_dump.specs.Words.{argument_of, asked, command_of, first_verb, frames_asked, one_stream, plain_words, records_asked, verb_of};
 
 use pdb_command::number;
 use pdb_container::Error;
@@ -14,6 +14,10 @@ use std::alloc::Global;
 pub enum Verb {
     /// `summary`: what the file is made of.
     Summary,
+    /// `types`: the records of a table of types.
+    Types,
+    /// `ids`: the records of a table of ids.
+    Ids,
     /// `names`: the names of a string table.
     Names,
     /// `sections`: the headers of sections.
@@ -29,6 +33,20 @@ pub enum Verb {
 pub enum Command {
     /// What the file is made of.
     Summary,
+    /// Each type of a table in the stream, or in stream 2; or only the one of an index.
+    Types {
+        /// The number of the stream.
+        stream: Option<u32>,
+        /// The index of the only type.
+        index: Option<u32>,
+    },
+    /// Each id of a table in the stream, or in stream 4; or only the one of an index.
+    Ids {
+        /// The number of the stream.
+        stream: Option<u32>,
+        /// The index of the only id.
+        index: Option<u32>,
+    },
     /// Each name of the string table in the stream.
     Names {
         /// The number of the stream.
@@ -96,6 +114,8 @@ pub fn verb_named(word: &str) -> Option<Verb>
 {
     match word {
         "summary" => Some(Verb::Summary),
+        "types" => Some(Verb::Types),
+        "ids" => Some(Verb::Ids),
         "names" => Some(Verb::Names),
         "sections" => Some(Verb::Sections),
         "omap" => Some(Verb::Omap),
@@ -124,6 +144,36 @@ fn one_stream(words: &[&str]) -> Option<Option<u32>>
         [stream] => {
             let stream = number(stream)?;
             Some(Some(stream))
+        }
+        _ => None,
+    }
+}
+
+/// The stream and the index that words may give: `[S] [--index I]`.
+#[tactic(auto, unfolding(crate::specs::Words::records_asked))]
+fn records_asked(words: &[&str]) -> Option<(Option<u32>, Option<u32>)>
+    ensures { result ≡ records_asked (map (λ word. word.now) words.now) }
+{
+    match words {
+        [] => Some((None, None)),
+        [stream] => {
+            let stream = number(stream)?;
+            Some((Some(stream), None))
+        }
+        [option, index] => {
+            if *option != "--index" {
+                return None;
+            }
+            let index = number(index)?;
+            Some((None, Some(index)))
+        }
+        [stream, option, index] => {
+            if *option != "--index" {
+                return None;
+            }
+            let stream = number(stream)?;
+            let index = number(index)?;
+            Some((Some(stream), Some(index)))
         }
         _ => None,
     }
@@ -168,6 +218,14 @@ fn asked(verb: Verb, words: &[&str]) -> Option<Command>
     match verb {
         Verb::Summary if words.is_empty() => Some(Command::Summary),
         Verb::Summary => None,
+        Verb::Types => {
+            let (stream, index) = records_asked(words)?;
+            Some(Command::Types { stream, index })
+        }
+        Verb::Ids => {
+            let (stream, index) = records_asked(words)?;
+            Some(Command::Ids { stream, index })
+        }
         Verb::Names => {
             let stream = one_stream(words)?;
             Some(Command::Names { stream })
