@@ -239,9 +239,11 @@ static void print_fault(const pdb_fault *about) {
     uint8_t room[200];
     size_t length;
     pdb_fault fault;
-    if (pdb_error_text(about, room, sizeof room, &length, &fault) == PDB_OK) fprintf(stderr, "%.*s\n", (int)length, (char *)room);
+    uint32_t status = pdb_error_text(about, room, sizeof room, &length, &fault);
+    if (status == PDB_OK) fprintf(stderr, "%.*s\n", (int)length, (char *)room);
+    else if (status == PDB_OUT_OF_MEMORY) fprintf(stderr, "OutOfMemory\n");
     else if (about->status == PDB_IO_ERROR) fprintf(stderr, "IO error while reading PDB\n");
-    else fprintf(stderr, about->status == PDB_OUT_OF_MEMORY ? "OutOfMemory\n" : "status %" PRIu32 "\n", about->status);
+    else fprintf(stderr, "status %" PRIu32 "\n", about->status);
 }
 
 static uint32_t number_of(const char *word) { return (uint32_t)strtoul(word, NULL, 0); }
