@@ -1,11 +1,6 @@
 -- What both walks over the parts of a box speak of, at any type of the value and any allocator.
 use mathlib.Core.List.{[], ◌∷◌}
 use mir.Syntax.{Args, Dict, a_type, dcons, dnil}
-use seplogic.Ra.Ura.{Ura}
-use base.Fml.{ftrue, flft}
-use contract.BorrowLft.{◌⊑◌}
-use contract.Monad.{fact}
-use types.Kit.{Item, ‵, raw, ◌⊛◌}
 use denote.Param.{bounded}
 use denote.RattleType.{RattleType}
 use Rattle.std_alloc.proofs.BoxSteps.Form.{Bx, R, P}

@@ -2,7 +2,6 @@
 use mathlib.Core.Path.{◌≡◌, refl, sym, subst, ap}
 use mathlib.Core.List.{List, [], ◌∷◌, ◌++◌}
 use lib.Dec.{T}
-use seplogic.Ra.Ura.{Ura}
 use mir.Syntax.{Fn, Body, place, copy, assign, rv_opd, seq, return}
 use mir.MapTy.{inst_fn}
 use mir.Val.{Val, vptr, has_ty, WT}

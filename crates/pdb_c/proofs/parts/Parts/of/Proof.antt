@@ -1,7 +1,6 @@
 -- The pointer and the allocator come out of the box together with what it owned, and go into the parts.
 use mathlib.Core.Path.{◌≡◌, refl, sym, subst, ap, ◌∙◌}
 use mathlib.Core.List.{List, [], ◌∷◌, ◌++◌}
-use seplogic.Ra.Ura.{Ura}
 use mir.Syntax.{Fn, Dict}
 use mir.MapTy.{inst_fn}
 use mir.Raw.{raw as bare}
@@ -33,7 +32,6 @@ use Rattle.std_alloc.specs.Box.Ownership.{box_owns}
 use Rattle.std_alloc.proofs.BoxSteps.Form.{Bx, D, τ, R, P, B, word, box_typed}
 use Rattle.std_alloc.proofs.BoxSteps.Steps.{box_out, box_in}
 use Rattle.std_alloc.specs.contracts.boxed.Box.into_raw_with_allocator as into_raw
-use Rattle.std_alloc.proofs.boxed.Box.into_raw_with_allocator.Symbol as into_raw_symbol
 use Rattle.std_alloc.proofs.boxed.Box.into_raw_with_allocator.Met as into_raw_met
 use Rattle.pdb_c.specs.contracts.parts.Parts.of as f
 use Rattle.pdb_c.proofs.parts.Parts.of.Statement.{statement}
