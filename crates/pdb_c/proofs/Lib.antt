@@ -1,4 +1,5 @@
 mod FieldsLemmas
 mod HeldSteps
+mod PartsSteps
 mod PlacesLemmas
 mod StatusLaws
