@@ -1,11 +1,11 @@
 -- What stands on a writer at each exit of showing one record.
 use Rattle.std.proofs.Common.{◌≡◌, ◌⊎◌, inl, inr, ℕ, List, [], ◌++◌, Option, Result, Ok, Err, refl, sym, ap, subst, ◌∙◌}
 use Rattle.std.proofs.lemmas.List.{append-nil}
-use Rattle.std.specs.Io.KnownBytes.{Appends, Keeps}
+use Rattle.std.specs.Io.KnownBytes.{Appends}
 use Rattle.std.proofs.KnownBytes.{Appends-trans, Keeps-refl}
-use Rattle.pdb_base.proofs.Collected.{err, ok}
+use Rattle.pdb_base.proofs.Collected.{ok}
 use Rattle.pdb_base.specs.Answer.{Answer, ◌>>=◌}
-use Rattle.pdb_base.specs.Refusal.{Refusal, refusal_of}
+use Rattle.pdb_base.specs.Refusal.{refusal_of}
 use Rattle.pdb_base.specs.declared.error.Error.{Error}
 use Rattle.pdb_base.specs.declared.error.Error.TheVariants.{OutOfMemory}
 use Rattle.pdb_listing.specs.Lines.{id_shown, member_lines, type_shown}

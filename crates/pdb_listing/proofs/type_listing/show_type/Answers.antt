@@ -1,5 +1,5 @@
 -- What stands there at each exit.
-use Rattle.std.proofs.Common.{ℕ, ap}
+use Rattle.std.proofs.Common.{ap}
 use Rattle.pdb_base.proofs.Refused.{passed_on}
 use Rattle.pdb_base.specs.declared.error.Error.TheVariants.{IoError}
 use Rattle.pdb_base.specs.declared.index.TypeIndex.{TypeIndex}
