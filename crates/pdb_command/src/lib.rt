@@ -16,7 +16,7 @@ mod words;
 pub use arguments::{texts_of, words_of};
 pub use channels::{Ended, serve, tell};
 pub use input::read_all;
-pub use outcome::{Outcome, act, usage};
 pub use lines::reply_lines;
+pub use outcome::{Outcome, act, usage};
 pub use process::{Errors, program};
 pub use words::{number, query};

@@ -13,4 +13,6 @@ mod words;
 pub use listed::list;
 pub use process::program;
 pub use served::serve;
-pub use words::{Command, Misuse, Verb, any_is, asked_of_file, first_verb, plain_words, verb_named};
+pub use words::{
+    Command, Misuse, Verb, any_is, asked_of_file, first_verb, plain_words, verb_named,
+};

@@ -69,7 +69,10 @@ fn list_file<P: Files + Input + Print + Eprint + AllocGlobal>(
 }
 
 /// What the program does with the words behind its name, and the status that it ends with.
-fn call<P: Files + Input + Print + Eprint + AllocGlobal>(process: &P, words: &[&str]) -> Result<u8> {
+fn call<P: Files + Input + Print + Eprint + AllocGlobal>(
+    process: &P,
+    words: &[&str],
+) -> Result<u8> {
     if any_is(words, "--help") {
         return print_help(process, words);
     }

@@ -8,10 +8,16 @@ use std::alloc::Global;
 use std::test::Fail;
 
 /// A row: the words behind the file, the bytes of stream 3, what is listed, and the text of the refusal.
-type Listed = (&'static [&'static str], &'static [u8], &'static str, &'static str);
+type Listed = (
+    &'static [&'static str],
+    &'static [u8],
+    &'static str,
+    &'static str,
+);
 
 /// A section header, and the first byte of another.
-const SECTION: &[u8] = b".text\0\0\0\x85\0\0\0\0\x10\0\0\0\x02\0\0\0\x04\0\0\0\0\0\0\0\0\0\0\0\0\0\0\x20\0\0\x60.";
+const SECTION: &[u8] =
+    b".text\0\0\0\x85\0\0\0\0\x10\0\0\0\x02\0\0\0\x04\0\0\0\0\0\0\0\0\0\0\0\0\0\0\x20\0\0\x60.";
 
 /// Two OMAP records, of which the second has the lower source.
 const OMAP: &[u8] = b"\0\x20\0\0\0\x10\0\0\0\x10\0\0\0\0\0\0";

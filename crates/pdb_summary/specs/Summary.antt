@@ -48,8 +48,17 @@ none = record { 0 = no_stream }
 
 abbrev pub no_roles : DBIExtraStreams
 no_roles = record {
-  fpo = none; exception = none; fixup = none; omap_to_src = none; omap_from_src = none; section_headers = none;
-  token_rid_map = none; xdata = none; pdata = none; framedata = none; original_section_headers = none;
+  fpo = none;
+  exception = none;
+  fixup = none;
+  omap_to_src = none;
+  omap_from_src = none;
+  section_headers = none;
+  token_rid_map = none;
+  xdata = none;
+  pdata = none;
+  framedata = none;
+  original_section_headers = none;
 }
 
 -- the streams that have names

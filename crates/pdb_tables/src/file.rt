@@ -70,7 +70,11 @@ pub fn list_omap<S: Source + Drop, W: Write>(
 
 /// The string table in a stream, or the one that the stream named `/names` holds.
 #[tactic(auto, unfolding(crate::specs::Files::names_in))]
-fn names_in<S: Source>(alloc: Global, file: &mut BigMSF<S>, stream: Option<u32>) -> Result<StringTable>
+fn names_in<S: Source>(
+    alloc: Global,
+    file: &mut BigMSF<S>,
+    stream: Option<u32>,
+) -> Result<StringTable>
     ensures names { AnswersUnless (HasFailed (S.state file.old.source) (S.state file.new.source)) (λ names. names) result
         (names_in (S.state file.old.source).bytes file.old.head stream) }
 {

@@ -38,7 +38,12 @@ fn name_row<'t>(alloc: Global, place: u32, name: RawString<'t>) -> Result<Row<'t
 }
 
 /// Writes the names of a table.
-pub(crate) fn write_table<W: Write>(alloc: Global, table: &StringTable, form: Form, out: &mut W) -> Result<()>
+pub(crate) fn write_table<W: Write>(
+    alloc: Global,
+    table: &StringTable,
+    form: Form,
+    out: &mut W,
+) -> Result<()>
     ensures { IsListed (whole (name_lines form (all_names table.now))) (W.contents out.old) (W.contents out.new) result }
 {
     let mut line = Vec::new(alloc);

@@ -15,12 +15,7 @@ use std::io::Write;
 /// # Errors
 /// `IoError` if the writer fails, which may then have got a part of the line. `OutOfMemory` if memory is
 /// refused.
-pub fn write_row<W: Write>(
-    form: Form,
-    row: &Row<'_>,
-    line: &mut Vec<u8>,
-    out: &mut W,
-) -> Result<()>
+pub fn write_row<W: Write>(form: Form, row: &Row<'_>, line: &mut Vec<u8>, out: &mut W) -> Result<()>
     ensures line { OnOk result (Appends (W.contents out.old) (W.contents out.new) (row_text form (row_shown row.now))) }
     ensures cut { IfErr result IsCut }
 {

@@ -1,4 +1,4 @@
-use Rattle.std.proofs.Common.{◌≡◌, ◌<◌, ◌≤◌, length, sym, ap, ◌∙◌, arith, inl}
+use Rattle.std.proofs.Common.{◌<◌, ◌≤◌, length, sym, ap, arith, inl}
 use Rattle.pdb_base.specs.Place.{left}
 use Rattle.pdb_roles.proofs.HeaderLemmas.{header_refused}
 use Rattle.pdb_tables.specs.Tables.{sections_listing}
@@ -24,8 +24,7 @@ loop-place-preserved g c =
 pub returns-then-size-eq0 : goal.returns-then-size-eq0
 unfolding sections_listing
 returns-then-size-eq0 g c =
-    let short : length (left c.loop-place.buffer) < 40 = omega (arith, c.loop-place.invariant.rest, c.loop-place-test.false, ap length c.as_slice-size.ensures.bytes) in
-    (
+    let short : length (left c.loop-place.buffer) < 40 = omega (arith, c.loop-place.invariant.rest, c.loop-place-test.false, ap length c.as_slice-size.ensures.bytes) in (
       whole_end c.args.stream.now (ap length (sym c.as_slice-size.ensures.bytes)) c.if-size-eq0.true,
       written_all _ _ _ _ (no_section c.args.form _ _ short) c.loop-place.invariant.written,
     )
