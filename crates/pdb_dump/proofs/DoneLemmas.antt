@@ -1,10 +1,10 @@
 -- Why nothing was listed.
-use Rattle.std.proofs.Common.{◌≡◌, ℕ, List, [], ◌⊎◌, inl, inr, Option, None, Ok, Err, ap}
+use Rattle.std.proofs.Common.{◌≡◌, [], ◌⊎◌, inl, inr, None, Ok, Err, ap}
 use Rattle.pdb_base.specs.declared.error.Error.{Error}
 use Rattle.pdb_base.specs.Answer.{Answer, RefusesUnless}
 use Rattle.pdb_base.specs.Refusal.{Refusal, refusal_of}
 use Rattle.pdb_base.proofs.Collected.{err, err_is, ok_is_no_err}
-use Rattle.pdb_tables.specs.Listing.{Listing, IsCut, whole}
+use Rattle.pdb_tables.specs.Listing.{IsCut, whole}
 use Rattle.pdb_tables.proofs.ListedLemmas.{refused_listed}
 
 -- the refusal that is meant, or a fault of a channel or want of memory

@@ -1,5 +1,5 @@
 -- The lines of streams from a number on.
-use Rattle.std.proofs.Common.{◌≡◌, ℕ, suc, ◌+◌, ◌-◌, ◌<◌, ◌≤◌, List, [], ◌∷◌, ◌++◌, refl, ap, arith}
+use Rattle.std.proofs.Common.{◌≡◌, ℕ, suc, ◌+◌, ◌-◌, ◌<◌, ◌≤◌, List, [], ◌++◌, refl, arith}
 use Rattle.std.specs.List.{flat_map, range_with_len}
 use Rattle.pdb_msf.specs.Header.{Head}
 use Rattle.pdb_roles.specs.StreamNames.{Named}

@@ -1,10 +1,10 @@
 -- What a summary says of each stream.
-use Rattle.std.specs.Prelude.{ℕ, ◌==◌, Bool, false, if◌then◌else◌, List, [], ◌∷◌, ◌++◌, length, codes, Option, Some, None, Ok, Err}
+use Rattle.std.specs.Prelude.{ℕ, ◌==◌, Bool, false, if◌then◌else◌, List, [], ◌∷◌, length, codes, Option, Some, None, Ok, Err}
 use Rattle.std.specs.Option.{option_map, option_map_or}
 use Rattle.std.specs.List.{find, flat_map, range_with_len}
 use Rattle.pdb_base.specs.Answer.{Answer}
 use Rattle.pdb_base.specs.Index.{stream_number}
-use Rattle.pdb_base.specs.Refusal.{Refusal, stream_not_found}
+use Rattle.pdb_base.specs.Refusal.{stream_not_found}
 use Rattle.pdb_base.specs.declared.index.StreamIndex.{StreamIndex}
 use Rattle.pdb_msf.specs.File.{stream_of}
 use Rattle.pdb_msf.specs.Header.{Head}

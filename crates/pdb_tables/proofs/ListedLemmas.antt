@@ -4,7 +4,6 @@ use Rattle.std.proofs.KnownBytes.{Appends-nil}
 use Rattle.pdb_base.specs.declared.error.Error.{Error}
 use Rattle.pdb_base.specs.declared.error.Error.TheVariants as errors
 use Rattle.pdb_base.specs.Answer.{Answer, RefusesUnless, IsOtherFault}
-use Rattle.pdb_base.specs.Refusal.{refusal_of}
 use Rattle.pdb_tables.specs.Listing.{Listing, IsCut, IsListed, listed_of}
 
 other_is_cut : (e : Error) → IsOtherFault e → IsCut e

@@ -1,10 +1,8 @@
 -- The lines of tables, of which the first is written first.
 use Rattle.std.proofs.Common.{◌≡◌, ℕ, ◌+◌, ◌-◌, ◌<◌, ◌≤◌, ◌%◌, ◌==◌, ◌&&◌, ◌↔◌, Bool, IsTrue, zero, suc, leb, inl, inr, true, false, eq-eqb, List, [], ◌∷◌, ◌++◌, length, drop, Option, Some, None, Result, Ok, Err, refl, sym, ap, ◌∙◌, arith}
 use Rattle.std.proofs.lemmas.Bool.{ne_eqb, cases_Bool, false≢true, and_from, le-leb}
-use Rattle.std.specs.Option.{option_map_or}
-use Rattle.std.specs.Result.{result_ok}
 use Rattle.std.specs.List.{slice_get}
-use Rattle.pdb_base.specs.Answer.{Answer, required}
+use Rattle.pdb_base.specs.Answer.{required}
 use Rattle.pdb_base.specs.Records.{spelled}
 use Rattle.pdb_base.specs.Refusal.{Refusal, unexpected_eof}
 use Rattle.pdb_base.proofs.RecordLemmas.{spelled_none}

@@ -1,4 +1,4 @@
-use Rattle.std.proofs.Common.{◌≡◌, sym, arith}
+use Rattle.std.proofs.Common.{sym, arith}
 use Rattle.pdb_tpi.proofs.StepLemmas.{step_err, step_none}
 use Rattle.pdb_summary.proofs.TallyLemmas.{counting_none, counting_more, counted_all, room_more, room_records, stops_with, stops_not}
 use Rattle.pdb_summary.proofs.kinds.count_records.Goals as goal

@@ -1,5 +1,5 @@
 -- The kinds behind the next one are ranked.
-use Rattle.std.proofs.Common.{◌≡◌, ◌-◌, length}
+use Rattle.std.proofs.Common.{◌≡◌, ◌-◌}
 use Rattle.std.specs.Prelude.{slice_index_or}
 use Rattle.pdb_summary.specs.Kinds.{ranked}
 use Rattle.pdb_summary.proofs.kinds.rank.Given as goal

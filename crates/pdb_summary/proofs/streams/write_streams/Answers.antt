@@ -1,4 +1,4 @@
-use Rattle.std.proofs.Common.{◌≡◌, ℕ, List, refl, sym, ap, subst, ◌∙◌, map}
+use Rattle.std.proofs.Common.{◌≡◌, ℕ, List, refl, ap, subst, ◌∙◌, map}
 use Rattle.std.specs.Io.KnownBytes.{Appends}
 use Rattle.pdb_msf.specs.Header.{Head}
 use Rattle.pdb_roles.specs.StreamNames.{named_view}

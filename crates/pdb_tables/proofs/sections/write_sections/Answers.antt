@@ -1,4 +1,4 @@
-use Rattle.std.proofs.Common.{◌≡◌, ◌<◌, ◌≤◌, length, sym, ap, ◌∙◌, arith, inl}
+use Rattle.std.proofs.Common.{◌<◌, ◌≤◌, length, sym, ap, arith, inl}
 use Rattle.pdb_base.specs.Place.{left}
 use Rattle.pdb_roles.proofs.HeaderLemmas.{header_refused}
 use Rattle.pdb_tables.specs.Tables.{sections_listing}
