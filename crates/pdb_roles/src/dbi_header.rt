@@ -84,9 +84,9 @@ impl DBIHeader {
     ///
     /// # Errors
     /// In this order:
-    /// - `UnexpectedEof` where the stream has fewer than four bytes;
-    /// - `UnimplementedFeature("ancient DBI header")` where these are not the signature;
-    /// - `UnexpectedEof` where the stream has fewer than the header's 64 bytes.
+    /// - `UnexpectedEof` if the stream has fewer than four bytes;
+    /// - `UnimplementedFeature("ancient DBI header")` if these are not the signature;
+    /// - `UnexpectedEof` if the stream has fewer than the header's 64 bytes.
     pub fn parse(stream: &Stream) -> Result<Self>
         ensures { Gives (λ header. header) result (dbi_header_of stream.now) }
     {

@@ -12,7 +12,7 @@ use pdb_msf::Stream;
 /// How many bytes the numbers have that are given a role.
 const ROLES_SIZE: usize = 22;
 
-/// The streams of eleven roles, each of which names none where the file has no such stream. A default
+/// The streams of eleven roles, each of which names none if the file has no such stream. A default
 /// one names none at all.
 #[derive(Clone, Copy, Debug, Default, PartialEq, Eq)]
 pub struct DBIExtraStreams {
@@ -46,7 +46,7 @@ pub struct DBIExtraStreams {
     /// Frames in the newer format.
     pub framedata: StreamIndex,
 
-    /// The headers of the sections of the original image, where a tool has rearranged it.
+    /// The headers of the sections of the original image, if a tool has rearranged it.
     pub original_section_headers: StreamIndex,
 }
 
@@ -76,7 +76,7 @@ fn size_before(header: &DBIHeader) -> usize
         + header.ec_substream_size as usize
 }
 
-/// The debug header in stream 3, which is empty where the stream is.
+/// The debug header in stream 3, which is empty if the stream is.
 #[tactic(auto, unfolding(crate::specs::DebugHeader::debug_header_behind))]
 fn debug_header(stream: &[u8]) -> Result<&[u8]>
     ensures { Gives (λ list. list.now) result (debug_header_of stream.now) }
@@ -98,7 +98,7 @@ impl DBIExtraStreams {
     /// is as long as the header says.
     ///
     /// # Errors
-    /// What `DBIHeader::parse` refuses, `UnexpectedEof` where the stream ends before the debug header
+    /// What `DBIHeader::parse` refuses, `UnexpectedEof` if the stream ends before the debug header
     /// does, and what `parse` refuses.
     #[tactic(auto, unfolding(crate::specs::DebugHeader::extra_streams_of))]
     pub fn new(stream: &Stream) -> Result<Self>
@@ -112,7 +112,7 @@ impl DBIExtraStreams {
     /// first eleven are those of the roles in their order. A role behind the last number has no stream.
     ///
     /// # Errors
-    /// `UnexpectedEof` where one of the first eleven numbers is cut in half.
+    /// `UnexpectedEof` if one of the first eleven numbers is cut in half.
     #[tactic(auto, unfolding(crate::specs::DebugHeader::extra_streams))]
     pub fn parse(list: &[u8]) -> Result<Self>
         ensures { Gives (λ roles. roles) result (extra_streams list.now) }

@@ -154,8 +154,8 @@ fn rearranged<S: Source>(
 /// # Errors
 /// The first refusal of stream 3 and its roles, as `extra_streams` says it, of the section headers, of
 /// the original ones, of OMAP to source, and of OMAP from source. Of each that is a stream, it is what
-/// `Msf::get` refuses of it, or else `UnexpectedEof` where a section header is cut, or
-/// `InvalidStreamLength` where an OMAP record is. `OutOfMemory` where memory is refused.
+/// `Msf::get` refuses of it, or else `UnexpectedEof` if a section header is cut, or
+/// `InvalidStreamLength` if an OMAP record is. `OutOfMemory` if memory is refused.
 #[tactic(auto, unfolding(crate::specs::File::file_address_map))]
 pub fn address_map<S: Source>(alloc: Global, file: &mut BigMSF<S>) -> Result<AddressMap>
     ensures map { AnswersUnless (HasFailed (S.state file.old.source) (S.state file.new.source)) (λ map. map) result
@@ -208,8 +208,8 @@ fn number_named<S: Source>(alloc: Global, file: &mut BigMSF<S>, name: &[u8]) -> 
 ///
 /// # Errors
 /// The first refusal of stream 1, as `pdb_information` says it, of the names, as
-/// `PDBInformation::stream_names` does, and of the stream: `StreamNameNotFound` where no stream has the
-/// name, or where the first that has it is none, and else what `Msf::get` refuses of its number.
+/// `PDBInformation::stream_names` does, and of the stream: `StreamNameNotFound` if no stream has the
+/// name, or if the first that has it is none, and else what `Msf::get` refuses of its number.
 #[tactic(auto, unfolding(crate::specs::File::file_named_stream))]
 pub fn named_stream<S: Source>(alloc: Global, file: &mut BigMSF<S>, name: &[u8]) -> Result<Stream>
     ensures stream { AnswersUnless (HasFailed (S.state file.old.source) (S.state file.new.source)) (λ stream. stream) result

@@ -42,7 +42,7 @@ impl PDBInformation {
     /// `u32` that says how many bytes the names take, and the names and what is behind them.
     ///
     /// # Errors
-    /// `UnexpectedEof` where the stream ends before the names.
+    /// `UnexpectedEof` if the stream ends before the names.
     #[tactic(auto, unfolding(crate::specs::Information::information_of, crate::specs::Information::information))]
     pub fn parse(stream: Stream) -> Result<Self>
         ensures { Gives (λ information. information) result (information_of stream) }

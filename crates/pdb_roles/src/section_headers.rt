@@ -15,7 +15,7 @@ const HEADER_SIZE: usize = 40;
 /// The headers that a stream holds, forty bytes each.
 ///
 /// # Errors
-/// `UnexpectedEof` where the last header is cut, before memory is asked for, and `OutOfMemory` where
+/// `UnexpectedEof` if the last header is cut, before memory is asked for, and `OutOfMemory` if
 /// memory is refused.
 #[tactic(auto, unfolding(crate::specs::SectionHeaders::section_headers_of))]
 pub fn section_headers(alloc: Global, stream: &Stream) -> Result<Vec<ImageSectionHeader>>

@@ -25,7 +25,7 @@ pub struct StreamName<'n> {
     /// The name.
     pub name: RawString<'n>,
 
-    /// The stream. It is none where the file says a number of 65,535 or more.
+    /// The stream. It is none if the file says a number of 65,535 or more.
     pub stream_id: StreamIndex,
 }
 
@@ -55,7 +55,7 @@ impl<'n> StreamNames<'n> {
     /// The number of the first stream of a name.
     ///
     /// # Errors
-    /// `StreamNameNotFound` where no stream has the name, and where the first that has it is none.
+    /// `StreamNameNotFound` if no stream has the name, and if the first that has it is none.
     #[tactic(auto, unfolding(crate::specs::StreamNames::number_named))]
     pub fn number(&self, name: &[u8]) -> Result<u32>
         ensures { Gives (λ number. number) result (number_named name.now self.now) }
@@ -159,8 +159,8 @@ impl PDBInformation {
     /// says: a `u32` offset of a name among the names, and the `u32` number of its stream.
     ///
     /// # Errors
-    /// `UnexpectedEof` where the stream ends before the entries do, or where no NUL stands among the
-    /// names at or after an offset. `OutOfMemory` where memory is refused, which is asked for only once
+    /// `UnexpectedEof` if the stream ends before the entries do, or if no NUL stands among the
+    /// names at or after an offset. `OutOfMemory` if memory is refused, which is asked for only once
     /// all entries are there.
     #[tactic(auto, unfolding(crate::specs::StreamNames::stream_names_of))]
     pub fn stream_names(&self, alloc: Global) -> Result<StreamNames<'_>>
