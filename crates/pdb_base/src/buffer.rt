@@ -90,7 +90,7 @@ impl<'b> ParseBuffer<'b> {
     /// Takes the next `count` bytes, which borrow from the slice.
     ///
     /// # Errors
-    /// `UnexpectedEof` where fewer are left.
+    /// `UnexpectedEof` if fewer are left.
     #[inline(always)]
     #[tactic(auto, unfolding(crate::specs::Reading::front_at))]
     pub fn take(&mut self, count: usize) -> Result<&'b [u8]>
@@ -116,7 +116,7 @@ impl<'b> ParseBuffer<'b> {
     /// Goes forward to the next position that is a multiple of `alignment`; stays at one that is.
     ///
     /// # Errors
-    /// `UnexpectedEof` where that is past the end.
+    /// `UnexpectedEof` if that is past the end.
     #[tactic(auto, unfolding(crate::specs::Place::aligned), using(crate::proofs::MultipleLemmas::next_multiple))]
     pub fn align(&mut self, alignment: usize) -> Result<()>
         requires { alignment ≢ 0 }
@@ -134,7 +134,7 @@ impl<'b> ParseBuffer<'b> {
     /// Cuts the slice to its first `len` bytes. A position behind them moves to the new end.
     ///
     /// # Errors
-    /// `UnexpectedEof` where the slice has fewer bytes.
+    /// `UnexpectedEof` if the slice has fewer bytes.
     #[tactic(auto, unfolding(crate::specs::Place::cut))]
     pub fn truncate(&mut self, len: usize) -> Result<()>
         ensures place { Gives (λ _. self.new) result (cut len self.old) }
@@ -177,7 +177,7 @@ impl<'b> ParseBuffer<'b> {
     /// Reads a `u8`.
     ///
     /// # Errors
-    /// `UnexpectedEof` where no byte is left.
+    /// `UnexpectedEof` if no byte is left.
     #[inline(always)]
     #[tactic(auto, unfolding(crate::specs::Reading::number_at, crate::specs::Reading::front_at))]
     pub fn parse_u8(&mut self) -> Result<u8>
@@ -191,7 +191,7 @@ impl<'b> ParseBuffer<'b> {
     /// Reads a `u16`, its lowest byte first.
     ///
     /// # Errors
-    /// `UnexpectedEof` where fewer than two bytes are left.
+    /// `UnexpectedEof` if fewer than two bytes are left.
     #[inline(always)]
     #[tactic(auto, unfolding(crate::specs::Reading::number_at, crate::specs::Reading::front_at))]
     pub fn parse_u16(&mut self) -> Result<u16>
@@ -205,7 +205,7 @@ impl<'b> ParseBuffer<'b> {
     /// Reads a `u32`, its lowest byte first.
     ///
     /// # Errors
-    /// `UnexpectedEof` where fewer than four bytes are left.
+    /// `UnexpectedEof` if fewer than four bytes are left.
     #[inline(always)]
     #[tactic(auto, unfolding(crate::specs::Reading::number_at, crate::specs::Reading::front_at))]
     pub fn parse_u32(&mut self) -> Result<u32>
@@ -219,7 +219,7 @@ impl<'b> ParseBuffer<'b> {
     /// Reads a `u64`, its lowest byte first.
     ///
     /// # Errors
-    /// `UnexpectedEof` where fewer than eight bytes are left.
+    /// `UnexpectedEof` if fewer than eight bytes are left.
     #[inline(always)]
     #[tactic(auto, unfolding(crate::specs::Reading::number_at, crate::specs::Reading::front_at))]
     pub fn parse_u64(&mut self) -> Result<u64>
@@ -233,7 +233,7 @@ impl<'b> ParseBuffer<'b> {
     /// Reads an `i16`, its lowest byte first.
     ///
     /// # Errors
-    /// `UnexpectedEof` where fewer than two bytes are left.
+    /// `UnexpectedEof` if fewer than two bytes are left.
     #[inline(always)]
     #[tactic(auto, unfolding(crate::specs::Reading::signed_at, crate::specs::Reading::number_at, crate::specs::Reading::front_at))]
     pub fn parse_i16(&mut self) -> Result<i16>
@@ -247,7 +247,7 @@ impl<'b> ParseBuffer<'b> {
     /// Reads an `i32`, its lowest byte first.
     ///
     /// # Errors
-    /// `UnexpectedEof` where fewer than four bytes are left.
+    /// `UnexpectedEof` if fewer than four bytes are left.
     #[inline(always)]
     #[tactic(auto, unfolding(crate::specs::Reading::signed_at, crate::specs::Reading::number_at, crate::specs::Reading::front_at))]
     pub fn parse_i32(&mut self) -> Result<i32>
@@ -261,7 +261,7 @@ impl<'b> ParseBuffer<'b> {
     /// Reads an `i64`, its lowest byte first.
     ///
     /// # Errors
-    /// `UnexpectedEof` where fewer than eight bytes are left.
+    /// `UnexpectedEof` if fewer than eight bytes are left.
     #[inline(always)]
     #[tactic(auto, unfolding(crate::specs::Reading::signed_at, crate::specs::Reading::number_at, crate::specs::Reading::front_at))]
     pub fn parse_i64(&mut self) -> Result<i64>
@@ -275,7 +275,7 @@ impl<'b> ParseBuffer<'b> {
     /// The next `u8`, without reading it.
     ///
     /// # Errors
-    /// `UnexpectedEof` where no byte is left.
+    /// `UnexpectedEof` if no byte is left.
     #[tactic(auto, unfolding(crate::specs::Reading::peeked))]
     pub fn peek_u8(&self) -> Result<u8>
         ensures { Gives (λ number. number) result (peeked 1 (left self.now)) }
@@ -286,7 +286,7 @@ impl<'b> ParseBuffer<'b> {
     /// The next `u16`, its lowest byte first, without reading it.
     ///
     /// # Errors
-    /// `UnexpectedEof` where fewer than two bytes are left.
+    /// `UnexpectedEof` if fewer than two bytes are left.
     #[tactic(auto, unfolding(crate::specs::Reading::peeked))]
     pub fn peek_u16(&self) -> Result<u16>
         ensures { Gives (λ number. number) result (peeked 2 (left self.now)) }
@@ -297,7 +297,7 @@ impl<'b> ParseBuffer<'b> {
     /// Reads the text up to the next NUL, and passes by the NUL.
     ///
     /// # Errors
-    /// `UnexpectedEof` where no NUL is left.
+    /// `UnexpectedEof` if no NUL is left.
     #[inline(always)]
     #[tactic(auto, using(crate::proofs::TextLemmas::text_found, crate::proofs::TextLemmas::text_cut))]
     pub fn parse_cstring(&mut self) -> Result<RawString<'b>>
@@ -316,7 +316,7 @@ impl<'b> ParseBuffer<'b> {
     /// Reads the text behind a `u8` that says its length.
     ///
     /// # Errors
-    /// `UnexpectedEof` where no byte is left, or fewer than the length says. A length byte that was
+    /// `UnexpectedEof` if no byte is left, or fewer than the length says. A length byte that was
     /// there is then read, and nothing else.
     #[inline(always)]
     #[tactic(auto, unfolding(crate::specs::Reading::counted_at))]

@@ -18,7 +18,7 @@ impl<'b> ParseBuffer<'b> {
     /// `u32`, 0x800a a `u64`, as `LF_CHAR`, `LF_USHORT`, `LF_ULONG` and `LF_UQUADWORD` in cvinfo.h.
     ///
     /// # Errors
-    /// `UnexpectedNumericPrefix` where any other prefix stands there, and `UnexpectedEof` where the
+    /// `UnexpectedNumericPrefix` if any other prefix stands there, and `UnexpectedEof` if the
     /// bytes end before the number does.
     #[inline(always)]
     #[tactic(auto, unfolding(crate::specs::Numeric::num_at, crate::specs::Numeric::numeral_at), using(crate::proofs::NumericLemmas::stays))]
@@ -42,7 +42,7 @@ impl<'b> ParseBuffer<'b> {
     /// prefix.
     ///
     /// # Errors
-    /// `UnexpectedNumericPrefix` where any other prefix stands there, and `UnexpectedEof` where the
+    /// `UnexpectedNumericPrefix` if any other prefix stands there, and `UnexpectedEof` if the
     /// bytes end before the number does.
     #[inline(always)]
     #[tactic(auto, unfolding(crate::specs::Numeric::variant_at, crate::specs::Numeric::numeral_at), using(crate::proofs::NumericLemmas::stays))]

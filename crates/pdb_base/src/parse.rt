@@ -23,7 +23,7 @@ pub trait Parse<C>: Sized {
     /// than there are.
     ///
     /// # Errors
-    /// `UnexpectedEof` where the bytes end before the value does. Some values have refusals of their
+    /// `UnexpectedEof` if the bytes end before the value does. Some values have refusals of their
     /// own.
     fn parse_from(bytes: &[u8], context: C) -> Result<(Self, usize)>
         ensures read { Gives (λ read. (read.0, drop read.1 bytes.now)) result (reads context bytes.now) }

@@ -42,7 +42,7 @@ impl<'b> RawString<'b> {
     /// are UTF-8, and owns its text where they are not.
     ///
     /// # Errors
-    /// `OutOfMemory` where the bytes are not UTF-8 and memory is refused.
+    /// `OutOfMemory` if the bytes are not UTF-8 and memory is refused.
     pub fn to_string(&self, alloc: Global) -> Result<CowStr<'b>>
         ensures text { IfOk result (λ text. cow_str_bytes text ≡ lossy self.now.0.now) }
         ensures borrowed { IsUtf8 self.now.0.now → IfOk result (λ text. ¬ IsOwnedStr text) }

@@ -44,7 +44,7 @@ fn acted<I: Read>(alloc: Global, words: &[String], input: &mut I) -> Result<Outc
 /// read all the same.
 ///
 /// # Errors
-/// What reading the words or the input refuses, or `OutOfMemory` where memory is refused.
+/// What reading the words or the input refuses, or `OutOfMemory` if memory is refused.
 fn attempt<I: Read>(alloc: Global, arguments: io::Result<Args>, input: &mut I) -> Result<Outcome>
     ensures shown { IfOk result (IsShownOfCall arguments (I.remaining input.old)) }
     ensures refused { IfErr result IsFault }
@@ -66,7 +66,7 @@ fn attempt<I: Read>(alloc: Global, arguments: io::Result<Args>, input: &mut I) -
 /// Writes an outcome, each part to its channel.
 ///
 /// # Errors
-/// `IoError` where the output can't be written, a part of which may then stand.
+/// `IoError` if the output can't be written, a part of which may then stand.
 fn show<O: Write, E: Write>(outcome: &Outcome, out: &mut O, err: &mut E) -> io::Result<Ended>
     ensures ok { IfOk result (IsWritten outcome.now (O.contents out.old) (O.contents out.new) (E.contents err.old) (E.contents err.new)) }
     ensures err { OnErr result (err.new ≡ err.old) }

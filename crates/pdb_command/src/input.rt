@@ -20,8 +20,8 @@ const _: () = prove!(MOST_READS == 4_294_967_295);
 /// All bytes to the end of an input, which is read no more often than `most` times.
 ///
 /// # Errors
-/// `IoError` where a read fails, or of kind `Other` where the input has not ended after so many reads;
-/// `OutOfMemory` where memory is refused. A read that was interrupted is asked again.
+/// `IoError` if a read fails, or of kind `Other` where the input has not ended after so many reads;
+/// `OutOfMemory` if memory is refused. A read that was interrupted is asked again.
 pub fn read_within<R: Read>(alloc: Global, input: &mut R, most: u32) -> Result<Vec<u8>>
     ensures bytes { IfOk result (λ file. IfSome (R.remaining input.old) (λ xs. file.items ≡ xs)) }
     ensures end { OnOk result (IsAtEnd (R.remaining input.new)) }
@@ -43,8 +43,8 @@ pub fn read_within<R: Read>(alloc: Global, input: &mut R, most: u32) -> Result<V
 /// All bytes to the end of an input.
 ///
 /// # Errors
-/// `IoError` where a read fails, or of kind `Other` where the input has not ended after 4,294,967,295
-/// reads; `OutOfMemory` where memory is refused. A read that was interrupted is asked again.
+/// `IoError` if a read fails, or of kind `Other` where the input has not ended after 4,294,967,295
+/// reads; `OutOfMemory` if memory is refused. A read that was interrupted is asked again.
 pub fn read_all<R: Read>(alloc: Global, input: &mut R) -> Result<Vec<u8>>
     ensures bytes { IfOk result (λ file. IfSome (R.remaining input.old) (λ xs. file.items ≡ xs)) }
     ensures end { OnOk result (IsAtEnd (R.remaining input.new)) }

@@ -48,7 +48,7 @@ fn refused(alloc: Global, error: &Error) -> Result<Outcome>
 /// Status 2: how to call the program, on a line of standard error.
 ///
 /// # Errors
-/// `OutOfMemory` where memory is refused.
+/// `OutOfMemory` if memory is refused.
 pub fn usage(alloc: Global) -> Result<Outcome>
     ensures ok { IfOk result IsUsage }
     ensures want { IfErr result (λ e. e ≡ Error.OutOfMemory) }
@@ -91,7 +91,7 @@ fn answer(alloc: Global, file: Vec<u8>, query: Query) -> Result<Outcome>
 /// file, and says what to write and how to end. Without words it asks for stream 1 of S1.
 ///
 /// # Errors
-/// `OutOfMemory` where memory is refused.
+/// `OutOfMemory` if memory is refused.
 pub fn act(alloc: Global, words: &[&str], file: Vec<u8>) -> Result<Outcome>
     ensures ok { IfOk result (Shows (asked (map (λ word. word.now) words.now) file.items)) }
     ensures want { IfErr result (λ e. e ≡ Error.OutOfMemory) }

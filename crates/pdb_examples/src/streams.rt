@@ -14,7 +14,7 @@ const STREAM_NUMBERS: u32 = 65535;
 ///
 /// # Errors
 /// What `open_msf` refuses, and then what `Msf::get` refuses of the first stream that the directory holds
-/// but the file does not. `OutOfMemory` where memory is refused.
+/// but the file does not. `OutOfMemory` if memory is refused.
 pub fn stream_sizes(alloc: Global, bytes: Vec<u8>) -> Result<Vec<(u32, usize)>>
     ensures { IfOk result (λ sizes. (head : Head) × (opened bytes.items ≡ Ok head) × (sizes.items ≡ sizes_of 65535 bytes.items head)) }
 {

@@ -53,8 +53,8 @@ impl FrameTable {
     /// The table that two streams hold. A stream that is absent or empty holds no records.
     ///
     /// # Errors
-    /// `InvalidStreamLength("FPO")` where the length of the old stream is no multiple of 16 bytes, and
-    /// else `InvalidStreamLength("FrameData")` where that of the new one is no multiple of 32.
+    /// `InvalidStreamLength("FPO")` if the length of the old stream is no multiple of 16 bytes, and
+    /// else `InvalidStreamLength("FrameData")` if that of the new one is no multiple of 32.
     #[tactic(auto, unfolding(crate::specs::Table::table_of))]
     pub fn parse(old: Option<Stream>, new: Option<Stream>) -> Result<FrameTable>
         ensures { Gives (λ table. table) result (table_of old new) }

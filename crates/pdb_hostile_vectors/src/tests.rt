@@ -1,7 +1,7 @@
 //! What a file of a stranger, or a machine without memory, may do to a reader.
 
 /// What a call answers; where memory is refused, what it answers when it is asked once more. The function
-/// returns `OutOfMemory` where memory is refused again.
+/// returns `OutOfMemory` if memory is refused again.
 macro_rules! settled {
     ($call:expr) => {
         match $call {

@@ -35,12 +35,12 @@ pub trait Msf<S: Source> {
     ///
     /// # Errors
     /// The first of these, in this order: `IoError`, `UnexpectedEof` or `PageReferenceOutOfRange`
-    /// where the directory can't be read; `UnexpectedEof` where it ends before its count;
-    /// `StreamNotFound` from the count on; `UnexpectedEof` where a size up to the stream's own is
-    /// missing; `StreamNotFound` where the stream is absent; `UnexpectedEof` where a later size, or
+    /// where the directory can't be read; `UnexpectedEof` if it ends before its count;
+    /// `StreamNotFound` from the count on; `UnexpectedEof` if a size up to the stream's own is
+    /// missing; `StreamNotFound` if the stream is absent; `UnexpectedEof` if a later size, or
     /// a page number of an earlier stream, is missing; `UnexpectedEof` or `PageReferenceOutOfRange`
     /// for the first of the stream's own page numbers, whatever the limit, that is missing or bad;
-    /// `IoError` where a page below the limit passes the end of the source. `OutOfMemory` where
+    /// `IoError` if a page below the limit passes the end of the source. `OutOfMemory` if
     /// memory is asked for and refused; once the directory is kept, never in place of a refusal that
     /// comes before the stream's own page numbers.
     fn get(&mut self, alloc: Global, stream_number: u32, limit: Option<usize>) -> Result<Stream>
@@ -89,10 +89,10 @@ impl<S: Source + Drop> BigMSF<S> {
     /// A file whose header stands at the front of a view. A refused source is dropped.
     ///
     /// # Errors
-    /// The first of these, in this order: `UnexpectedEof` where the view has fewer than 52 bytes;
+    /// The first of these, in this order: `UnexpectedEof` if the view has fewer than 52 bytes;
     /// `UnimplementedFeature` for the format MSF 2.00; `UnrecognizedFileFormat` for other magic;
     /// `InvalidPageSize`; `UnexpectedEof` or `PageReferenceOutOfRange` for the first number of the
-    /// pages that locate the directory that is missing or bad. `OutOfMemory` where memory is asked
+    /// pages that locate the directory that is missing or bad. `OutOfMemory` if memory is asked
     /// for and refused, which is for these numbers alone.
     pub fn new(alloc: Global, source: S, header_view: ReadView) -> Result<BigMSF<S>>
         ensures head { Answers (λ m. m.head) result (head_of header_view) }
@@ -204,11 +204,11 @@ fn view_front<S: Source>(source: &mut S, alloc: Global, size: usize) -> Result<R
 /// Opens a file by its first 4096 bytes. A refused source is dropped.
 ///
 /// # Errors
-/// The first of these, in this order: `UnrecognizedFileFormat` where the source has fewer bytes;
-/// `IoError` where it fails otherwise; `UnimplementedFeature` for the format MSF 2.00;
+/// The first of these, in this order: `UnrecognizedFileFormat` if the source has fewer bytes;
+/// `IoError` if it fails otherwise; `UnimplementedFeature` for the format MSF 2.00;
 /// `UnrecognizedFileFormat` for other magic; `InvalidPageSize`; `UnexpectedEof` or
 /// `PageReferenceOutOfRange` for the first number of the pages that locate the directory that is
-/// missing or bad. `OutOfMemory` where memory is asked for and refused.
+/// missing or bad. `OutOfMemory` if memory is asked for and refused.
 #[tactic(auto, unfolding(crate::specs::Header::opened), using(crate::proofs::Kept::unsound))]
 pub fn open_msf<S: Source + Drop>(alloc: Global, mut source: S) -> Result<BigMSF<S>>
     ensures head { AnswersUnless (¬ IsTrue (S.state source).is_sound) (λ m. m.head) result (opened (S.state source).bytes) }

@@ -95,8 +95,8 @@ impl Source for Vec<u8> {
     /// The bytes that the slices name, which are copied.
     ///
     /// # Errors
-    /// Kind `UnexpectedEof` where a slice of any bytes passes the end, before memory is asked for;
-    /// `OutOfMemory` where it is refused, or where the sizes have a sum above `usize::MAX`.
+    /// Kind `UnexpectedEof` if a slice of any bytes passes the end, before memory is asked for;
+    /// `OutOfMemory` if it is refused, or where the sizes have a sum above `usize::MAX`.
     fn view(&mut self, alloc: Global, slices: &[SourceSlice]) -> Result<ReadView, io::Error>
         ensures view { Shows ⊥ (λ v. v) result (bytes_at self.old.items (places slices.now)) }
         ensures exact { bytes_at self.old.items (places slices.now) ≡ None → IsErrAnd result (λ e. error_kind e ≡ ErrorKind.UnexpectedEof) }

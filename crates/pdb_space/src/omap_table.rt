@@ -40,7 +40,7 @@ impl OMAPTable {
     /// The table that a stream holds: records of eight bytes, each a u32 source and a u32 target.
     ///
     /// # Errors
-    /// `InvalidStreamLength` where the stream's length is no multiple of eight.
+    /// `InvalidStreamLength` if the stream's length is no multiple of eight.
     #[tactic(auto, unfolding(crate::specs::Omap::table_of))]
     pub fn parse(stream: Stream) -> Result<Self>
         ensures { Gives (λ table. table) result (table_of stream) }

@@ -52,7 +52,7 @@ impl ImageSectionHeader {
     /// first.
     ///
     /// # Errors
-    /// `UnexpectedEof` where fewer than forty bytes are left. Nothing is read then.
+    /// `UnexpectedEof` if fewer than forty bytes are left. Nothing is read then.
     #[tactic(auto, unfolding(crate::specs::SectionHeader::section_header_at), using(pdb_base::proofs::RecordLemmas::front_length))]
     pub fn parse(buffer: &mut ParseBuffer<'_>) -> Result<Self>
         ensures read { Gives (λ header. (header, left buffer.new)) result (section_header_at (left buffer.old)) }

@@ -36,7 +36,7 @@ impl StringRef {
     /// The name in the table, as its bytes.
     ///
     /// # Errors
-    /// `UnexpectedEof` where no NUL stands in the table's names at or after this place.
+    /// `UnexpectedEof` if no NUL stands in the table's names at or after this place.
     pub fn to_raw_string(self, strings: &StringTable) -> Result<RawString<'_>>
         ensures { Gives (λ name. name.0.now) result (name_of strings.now self) }
     {
@@ -47,8 +47,8 @@ impl StringRef {
     /// borrows where the name is UTF-8.
     ///
     /// # Errors
-    /// `UnexpectedEof` where no NUL stands in the table's names at or after this place, and
-    /// `OutOfMemory` where the name is not UTF-8 and memory is refused.
+    /// `UnexpectedEof` if no NUL stands in the table's names at or after this place, and
+    /// `OutOfMemory` if the name is not UTF-8 and memory is refused.
     #[tactic(auto, unfolding(crate::specs::StringTable::lossy_name_of), using(crate::proofs::NameLemmas::no_want))]
     pub fn to_string_lossy(self, alloc: Global, strings: &StringTable) -> Result<CowStr<'_>>
         ensures text { Answers cow_str_bytes result (lossy_name_of strings.now self) }

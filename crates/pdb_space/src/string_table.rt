@@ -91,10 +91,10 @@ impl StringTable {
     ///
     /// # Errors
     /// In this order:
-    /// - `UnexpectedEof` where the stream has fewer than the header's 12 bytes;
+    /// - `UnexpectedEof` if the stream has fewer than the header's 12 bytes;
     /// - `UnimplementedFeature("invalid string table signature")`;
-    /// - `UnexpectedEof` where the names don't fit the stream;
-    /// - `UnimplementedFeature("unknown string table hash version")` where the version is neither 1
+    /// - `UnexpectedEof` if the names don't fit the stream;
+    /// - `UnimplementedFeature("unknown string table hash version")` if the version is neither 1
     ///   nor 2.
     pub fn parse(stream: Stream) -> Result<Self>
         ensures { Gives (λ names. names) result (names_of stream) }
@@ -114,7 +114,7 @@ impl StringTable {
     /// The name at an offset in bytes from the first name, up to the first NUL at or after it.
     ///
     /// # Errors
-    /// `UnexpectedEof` where no NUL stands in the names at or after the offset.
+    /// `UnexpectedEof` if no NUL stands in the names at or after the offset.
     #[tactic(auto, unfolding(crate::specs::StringTable::name_of), using(std::proofs::lemmas::List::drop_min))]
     pub fn get(&self, offset: StringRef) -> Result<RawString<'_>>
         ensures { Gives (λ name. name.0.now) result (name_of self.now offset) }

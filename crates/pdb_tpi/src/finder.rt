@@ -49,7 +49,7 @@ impl<I: ItemIndex> ItemInformation<I> {
     /// table's bytes can hold.
     ///
     /// # Errors
-    /// `OutOfMemory` where memory is refused, which is not so where the header counts no index.
+    /// `OutOfMemory` if memory is refused, which is not so where the header counts no index.
     pub fn finder(&self, alloc: Global) -> Result<ItemFinder<'_, I>>
         ensures finder { Answers (λ finder. finder) result (Ok (record { table = self.now; known = known_first self.now })) }
         ensures few { IfOk result (λ finder. finder.known ≤ most_blocks self.now) }
@@ -115,7 +115,7 @@ impl<'t, I: ItemIndex> ItemFinder<'t, I> {
     /// ff.
     ///
     /// # Errors
-    /// `TypeNotFound` from the maximum on; `TypeNotIndexed` where the index is in no block that is
+    /// `TypeNotFound` from the maximum on; `TypeNotIndexed` if the index is in no block that is
     /// known; where the walk stops before the item, the refusal at which it stops; `UnexpectedEof`
     /// where it ends before the item.
     pub fn find_counted(&self, index: I, count: &mut Count) -> Result<Item<'t, I>>

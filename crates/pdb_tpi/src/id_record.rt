@@ -22,9 +22,9 @@ impl<'t> Item<'t, IdIndex> {
     /// for lists alone.
     ///
     /// # Errors
-    /// The first fault of the record: `UnexpectedEof` where its bytes end before a field does, or hold
+    /// The first fault of the record: `UnexpectedEof` if its bytes end before a field does, or hold
     /// fewer items than a list's count says; `UnimplementedTypeKind` by its number for a leaf that has
-    /// no record here; and `OutOfMemory` where memory for a list that the bytes hold is refused.
+    /// no record here; and `OutOfMemory` if memory for a list that the bytes hold is refused.
     #[tactic(auto, unfolding(crate::specs::Record::id_of))]
     pub fn parse(&self, alloc: Global) -> Result<IdData<'t>>
         ensures read { Answers id_value result (id_of self.now.bytes.now) }

@@ -37,7 +37,7 @@ impl<I: ItemIndex> ItemInformation<I> {
     /// whose header are 0.
     ///
     /// # Errors
-    /// `UnexpectedEof` where the stream ends within the header; `InvalidTypeInformationHeader` where
+    /// `UnexpectedEof` if the stream ends within the header; `InvalidTypeInformationHeader` if
     /// the header's size is not from 56 to 1024 bytes, where the least index is below 4096, or where
     /// the maximum is below it.
     #[tactic(auto, unfolding(crate::specs::Table::table_of))]

@@ -30,11 +30,11 @@ impl<'t> Item<'t, TypeIndex> {
     ///
     /// # Errors
     /// `TypeNotFound` for an index below 0x1000 that names no type. Else the first fault of the
-    /// record: `UnexpectedEof` where its bytes end before a field does, `UnexpectedNumericPrefix`
+    /// record: `UnexpectedEof` if its bytes end before a field does, `UnexpectedNumericPrefix`
     /// where a number of variable width has an unknown prefix, `UnimplementedTypeKind` by its number
     /// for a leaf that has no record here, for a list of fields within one, and for a pointer whose
     /// kind or mode is unknown, `UnimplementedFeature` for an array's dimension above 0xffffffff; and
-    /// `OutOfMemory` where memory for a list is refused, which is asked for only once the list's first
+    /// `OutOfMemory` if memory for a list is refused, which is asked for only once the list's first
     /// item is there. So a count that the bytes don't hold is `UnexpectedEof`, also as the first entry
     /// of a list of fields.
     #[inline(always)]

@@ -266,7 +266,7 @@ fn indirection_number(index: TypeIndex) -> u32
 /// the bits above say whether it is a pointer to that type, and which.
 ///
 /// # Errors
-/// `TypeNotFound` where the byte or the bits are no number of cvinfo.h.
+/// `TypeNotFound` if the byte or the bits are no number of cvinfo.h.
 #[tactic(auto, unfolding(crate::specs::Primitive::primitive_kind, crate::specs::Primitive::primitive_indirection, crate::specs::Primitive::primitive_type, crate::specs::TypeView::primitive_of))]
 pub fn type_data_for_primitive<'t>(index: TypeIndex) -> Result<TypeData<'t>>
     requires { index.0 < first_record }

@@ -65,7 +65,7 @@ fn directory(alloc: Global, size: u32) -> Result<Vec<u8>>
 /// The file S1 with other bytes as stream 3: the first 512 of these, which is what its page holds.
 ///
 /// # Errors
-/// `OutOfMemory` where memory is refused.
+/// `OutOfMemory` if memory is refused.
 #[tactic(auto, using(crate::proofs::Constants::is_header, crate::proofs::Constants::is_location), unfolding(crate::specs::Example::s1_of))]
 pub fn s1_with(alloc: Global, stream: &[u8]) -> Result<Vec<u8>>
     ensures bytes { IfOk result (λ file. file.items ≡ s1_of (take 512 stream.now)) }
@@ -90,7 +90,7 @@ pub fn s1_with(alloc: Global, stream: &[u8]) -> Result<Vec<u8>>
 /// times `b`, stream 2 is absent, and stream 3 is `hello`.
 ///
 /// # Errors
-/// `OutOfMemory` where memory is refused.
+/// `OutOfMemory` if memory is refused.
 #[tactic(auto, using(crate::proofs::Constants::is_hello))]
 pub fn s1(alloc: Global) -> Result<Vec<u8>>
     ensures bytes { IfOk result (λ file. file.items ≡ s1_bytes) }

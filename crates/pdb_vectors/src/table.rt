@@ -12,7 +12,7 @@ const HEADER_SIZE: usize = 56;
 /// The bytes of a table: 56 of a header, of which these three fields are not 0, and then the items.
 ///
 /// # Errors
-/// `OutOfMemory` where memory is refused.
+/// `OutOfMemory` if memory is refused.
 #[tactic(auto, unfolding(crate::specs::Tables::table_bytes))]
 pub fn item_table(
     alloc: Global,

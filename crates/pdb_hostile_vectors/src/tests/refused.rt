@@ -306,7 +306,7 @@ fn replies_told(replies: &[Reply]) -> (bool, bool) {
 /// Runs over S1, of which each reply is the row's or `OutOfMemory`.
 ///
 /// # Errors
-/// `OutOfMemory` where the run was refused, or one of its replies was.
+/// `OutOfMemory` if the run was refused, or one of its replies was.
 fn answered(alloc: Global, file: &[u8]) -> Result<()> {
     match replies_told(&ran(alloc, file)?) {
         (true, false) => Ok(()),
@@ -376,7 +376,7 @@ const CALLS: &[(&[u8], &[&str], u8, &[u8], &[u8])] = &[
 /// What the program does, asked of S1 with these bytes as stream 3.
 ///
 /// # Errors
-/// `OutOfMemory` where memory is refused, also where the program says so.
+/// `OutOfMemory` if memory is refused, also where the program says so.
 fn acted(alloc: Global, stream: &[u8], words: &[&str]) -> Result<Outcome> {
     let file = s1_with(alloc, stream)?;
     let outcome = act(alloc, words, file)?;

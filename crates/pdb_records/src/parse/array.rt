@@ -26,7 +26,7 @@ fn pad_length(byte: u8) -> usize
 /// Passes by padding.
 ///
 /// # Errors
-/// `UnexpectedEof` where the last pad is cut.
+/// `UnexpectedEof` if the last pad is cut.
 pub(crate) fn skip_padding(buffer: &mut ParseBuffer<'_>) -> Result<()>
     ensures { Gives (λ nothing. (tt, left buffer.new)) result (padding_at (left buffer.old)) }
 {
@@ -43,7 +43,7 @@ pub(crate) fn skip_padding(buffer: &mut ParseBuffer<'_>) -> Result<()>
 /// One dimension.
 ///
 /// # Errors
-/// `UnimplementedFeature` where it is above 0xffffffff.
+/// `UnimplementedFeature` if it is above 0xffffffff.
 fn parse_dimension(buffer: &mut ParseBuffer<'_>) -> Result<u32>
     ensures { Gives (λ n. (n, left buffer.new)) result (dimension_at (left buffer.old)) }
 {

@@ -53,7 +53,7 @@ fn parse_held_indexes<I: Index>(
 /// So many indexes.
 ///
 /// # Errors
-/// `UnexpectedEof` where the bytes don't hold so many, before memory is asked for.
+/// `UnexpectedEof` if the bytes don't hold so many, before memory is asked for.
 fn parse_indexes<I: Index>(
     alloc: Global,
     buffer: &mut ParseBuffer<'_>,
@@ -71,7 +71,7 @@ fn parse_indexes<I: Index>(
 /// Indexes behind their count.
 ///
 /// # Errors
-/// `UnexpectedEof` where the bytes don't hold as many as the count says, before memory is asked for.
+/// `UnexpectedEof` if the bytes don't hold as many as the count says, before memory is asked for.
 pub(crate) fn parse_counted<I: Index>(
     alloc: Global,
     buffer: &mut ParseBuffer<'_>,

@@ -78,9 +78,9 @@ fn parse_id_record<'t>(alloc: Global, buffer: &mut ParseBuffer<'t>) -> Result<Id
 /// field of a record are ignored.
 ///
 /// # Errors
-/// The first fault: `UnexpectedEof` where the bytes end before a field does, or hold fewer items than
+/// The first fault: `UnexpectedEof` if the bytes end before a field does, or hold fewer items than
 /// a list's count says; `UnimplementedTypeKind` by its number for a leaf that has no record here; and
-/// `OutOfMemory` where memory for a list that the bytes hold is refused.
+/// `OutOfMemory` if memory for a list that the bytes hold is refused.
 pub fn parse_id_data<'t>(alloc: Global, bytes: &'t [u8]) -> Result<IdData<'t>>
     ensures read { Answers id_value result (id_record bytes.now) }
     ensures answers { SaysAssigned id_value (IsId bytes.now) (NoId bytes.now) result }

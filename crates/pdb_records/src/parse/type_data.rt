@@ -45,7 +45,7 @@ fn parse_record<'t>(alloc: Global, buffer: &mut ParseBuffer<'t>) -> Result<TypeD
 /// are ignored, but for arrays, lists of methods and lists of fields, which reach to the end.
 ///
 /// # Errors
-/// The first fault: `UnexpectedEof` where the bytes end before a field does, `UnexpectedNumericPrefix`
+/// The first fault: `UnexpectedEof` if the bytes end before a field does, `UnexpectedNumericPrefix`
 /// where a number of variable width has an unknown prefix, `UnimplementedTypeKind` by its number for a
 /// leaf that has no record here, for a list of fields within one, and for a pointer whose kind or mode
 /// is unknown, `UnimplementedFeature` for an array's dimension above 0xffffffff; and `OutOfMemory`
