@@ -20,7 +20,7 @@ const _: () = prove!(MOST_READS == 4_294_967_295);
 /// All bytes to the end of an input, which is read no more often than `most` times.
 ///
 /// # Errors
-/// `IoError` if a read fails, or of kind `Other` where the input has not ended after so many reads;
+/// `IoError` if a read fails, or of kind `Other` if the input has not ended after so many reads;
 /// `OutOfMemory` if memory is refused. A read that was interrupted is asked again.
 pub fn read_within<R: Read>(alloc: Global, input: &mut R, most: u32) -> Result<Vec<u8>>
     ensures bytes { IfOk result (λ file. IfSome (R.remaining input.old) (λ xs. file.items ≡ xs)) }
@@ -43,7 +43,7 @@ pub fn read_within<R: Read>(alloc: Global, input: &mut R, most: u32) -> Result<V
 /// All bytes to the end of an input.
 ///
 /// # Errors
-/// `IoError` if a read fails, or of kind `Other` where the input has not ended after 4,294,967,295
+/// `IoError` if a read fails, or of kind `Other` if the input has not ended after 4,294,967,295
 /// reads; `OutOfMemory` if memory is refused. A read that was interrupted is asked again.
 pub fn read_all<R: Read>(alloc: Global, input: &mut R) -> Result<Vec<u8>>
     ensures bytes { IfOk result (λ file. IfSome (R.remaining input.old) (λ xs. file.items ≡ xs)) }

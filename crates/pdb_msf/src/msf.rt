@@ -35,7 +35,7 @@ pub trait Msf<S: Source> {
     ///
     /// # Errors
     /// The first of these, in this order: `IoError`, `UnexpectedEof` or `PageReferenceOutOfRange`
-    /// where the directory can't be read; `UnexpectedEof` if it ends before its count;
+    /// if the directory can't be read; `UnexpectedEof` if it ends before its count;
     /// `StreamNotFound` from the count on; `UnexpectedEof` if a size up to the stream's own is
     /// missing; `StreamNotFound` if the stream is absent; `UnexpectedEof` if a later size, or
     /// a page number of an earlier stream, is missing; `UnexpectedEof` or `PageReferenceOutOfRange`

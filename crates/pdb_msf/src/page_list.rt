@@ -51,7 +51,7 @@ impl PageList {
     /// Adds a page at the end. The list was not truncated, and its length in bytes stays below 2^64.
     ///
     /// # Errors
-    /// `OutOfMemory` if memory is refused, which is asked for only where the page begins a
+    /// `OutOfMemory` if memory is refused, which is asked for only if the page begins a
     /// slice. The list stays as it was.
     pub fn push(&mut self, page: u32) -> Result<()>
         requires whole { self.old.is_truncated ≡ false }

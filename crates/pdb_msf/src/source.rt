@@ -80,8 +80,8 @@ pub trait Source {
     /// The bytes that the slices name, slice after slice.
     ///
     /// # Errors
-    /// Kind `UnexpectedEof` only where a slice of any bytes passes the end, `OutOfMemory` only for
-    /// want of memory, and any other only where the source's count of faults rises.
+    /// Kind `UnexpectedEof` only if a slice of any bytes passes the end, `OutOfMemory` only for
+    /// want of memory, and any other only if the source's count of faults rises.
     fn view(&mut self, alloc: Global, slices: &[SourceSlice]) -> Result<ReadView, io::Error>
         ensures view { Shows (HasFailed (state self.old) (state self.new)) (λ v. v) result
             (bytes_at (state self.old).bytes (places slices.now)) }
@@ -96,7 +96,7 @@ impl Source for Vec<u8> {
     ///
     /// # Errors
     /// Kind `UnexpectedEof` if a slice of any bytes passes the end, before memory is asked for;
-    /// `OutOfMemory` if it is refused, or where the sizes have a sum above `usize::MAX`.
+    /// `OutOfMemory` if it is refused, or if the sizes have a sum above `usize::MAX`.
     fn view(&mut self, alloc: Global, slices: &[SourceSlice]) -> Result<ReadView, io::Error>
         ensures view { Shows ⊥ (λ v. v) result (bytes_at self.old.items (places slices.now)) }
         ensures exact { bytes_at self.old.items (places slices.now) ≡ None → IsErrAnd result (λ e. error_kind e ≡ ErrorKind.UnexpectedEof) }

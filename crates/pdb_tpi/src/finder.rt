@@ -49,7 +49,7 @@ impl<I: ItemIndex> ItemInformation<I> {
     /// table's bytes can hold.
     ///
     /// # Errors
-    /// `OutOfMemory` if memory is refused, which is not so where the header counts no index.
+    /// `OutOfMemory` if memory is refused, which is not so if the header counts no index.
     pub fn finder(&self, alloc: Global) -> Result<ItemFinder<'_, I>>
         ensures finder { Answers (λ finder. finder) result (Ok (record { table = self.now; known = known_first self.now })) }
         ensures few { IfOk result (λ finder. finder.known ≤ most_blocks self.now) }
@@ -116,8 +116,8 @@ impl<'t, I: ItemIndex> ItemFinder<'t, I> {
     ///
     /// # Errors
     /// `TypeNotFound` from the maximum on; `TypeNotIndexed` if the index is in no block that is
-    /// known; where the walk stops before the item, the refusal at which it stops; `UnexpectedEof`
-    /// where it ends before the item.
+    /// known; if the walk stops before the item, the refusal at which it stops; `UnexpectedEof`
+    /// if it ends before the item.
     pub fn find_counted(&self, index: I, count: &mut Count) -> Result<Item<'t, I>>
         ensures item { Gives (λ item. item.bytes.now) result (find_of self.now.table self.now.known (I.number index)) }
         ensures index { IfOk result (λ item. item.index ≡ index) }

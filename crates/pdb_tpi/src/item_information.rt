@@ -38,7 +38,7 @@ impl<I: ItemIndex> ItemInformation<I> {
     ///
     /// # Errors
     /// `UnexpectedEof` if the stream ends within the header; `InvalidTypeInformationHeader` if
-    /// the header's size is not from 56 to 1024 bytes, where the least index is below 4096, or where
+    /// the header's size is not from 56 to 1024 bytes, if the least index is below 4096, or if
     /// the maximum is below it.
     #[tactic(auto, unfolding(crate::specs::Table::table_of))]
     pub fn parse(stream: Stream) -> Result<Self>

@@ -31,7 +31,7 @@ impl<'t> Item<'t, TypeIndex> {
     /// # Errors
     /// `TypeNotFound` for an index below 0x1000 that names no type. Else the first fault of the
     /// record: `UnexpectedEof` if its bytes end before a field does, `UnexpectedNumericPrefix`
-    /// where a number of variable width has an unknown prefix, `UnimplementedTypeKind` by its number
+    /// if a number of variable width has an unknown prefix, `UnimplementedTypeKind` by its number
     /// for a leaf that has no record here, for a list of fields within one, and for a pointer whose
     /// kind or mode is unknown, `UnimplementedFeature` for an array's dimension above 0xffffffff; and
     /// `OutOfMemory` if memory for a list is refused, which is asked for only once the list's first

@@ -29,7 +29,7 @@ impl ArrayType {
     /// An equal array, in memory of its own.
     ///
     /// # Errors
-    /// `OutOfMemory` if memory is refused, which is asked for only where there is a dimension.
+    /// `OutOfMemory` if memory is refused, which is asked for only if there is a dimension.
     pub fn clone(&self, alloc: Global) -> Result<Self>
         ensures copied { Answers array_value result (Ok (array_value self.now)) }
         ensures want { LacksOnlyIf result (HasItem (array_value self.now).dimensions) }

@@ -26,7 +26,7 @@ impl<'t> FieldList<'t> {
     /// An equal list, with memory of its own for its fields and for their lists.
     ///
     /// # Errors
-    /// `OutOfMemory` if memory is refused, which is asked for only where there is a field.
+    /// `OutOfMemory` if memory is refused, which is asked for only if there is a field.
     pub fn clone(&self, alloc: Global) -> Result<Self>
         ensures copied { Answers field_list_value result (Ok (field_list_value self.now)) }
         ensures want { LacksOnlyIf result (HasListItem (field_list_value self.now)) }

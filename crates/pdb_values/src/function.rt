@@ -62,7 +62,7 @@ impl ArgumentList {
     /// An equal list, in memory of its own.
     ///
     /// # Errors
-    /// `OutOfMemory` if memory is refused, which is asked for only where the list has an item.
+    /// `OutOfMemory` if memory is refused, which is asked for only if the list has an item.
     pub fn clone(&self, alloc: Global) -> Result<Self>
         ensures copied { Answers argument_types result (Ok (argument_types self.now)) }
         ensures want { LacksOnlyIf result (HasItem (argument_types self.now)) }

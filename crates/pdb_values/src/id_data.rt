@@ -38,7 +38,7 @@ impl<'t> IdData<'t> {
     /// An equal value, with memory of its own for a list.
     ///
     /// # Errors
-    /// `OutOfMemory` if memory is refused, which is asked for only where a list has an item.
+    /// `OutOfMemory` if memory is refused, which is asked for only if a list has an item.
     pub fn clone(&self, alloc: Global) -> Result<Self>
         ensures copied { Answers id_value result (Ok (id_value self.now)) }
         ensures want { LacksOnlyIf result (HasIdListItem (id_value self.now)) }

@@ -38,7 +38,7 @@ impl BuildInfoId {
     /// An equal list, in memory of its own.
     ///
     /// # Errors
-    /// `OutOfMemory` if memory is refused, which is asked for only where the list has an item.
+    /// `OutOfMemory` if memory is refused, which is asked for only if the list has an item.
     pub fn clone(&self, alloc: Global) -> Result<Self>
         ensures copied { Answers build_arguments result (Ok (build_arguments self.now)) }
         ensures want { LacksOnlyIf result (HasItem (build_arguments self.now)) }
@@ -52,7 +52,7 @@ impl StringListId {
     /// An equal list, in memory of its own.
     ///
     /// # Errors
-    /// `OutOfMemory` if memory is refused, which is asked for only where the list has an item.
+    /// `OutOfMemory` if memory is refused, which is asked for only if the list has an item.
     pub fn clone(&self, alloc: Global) -> Result<Self>
         ensures copied { Answers text_parts result (Ok (text_parts self.now)) }
         ensures want { LacksOnlyIf result (HasItem (text_parts self.now)) }

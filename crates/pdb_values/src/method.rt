@@ -63,7 +63,7 @@ impl MethodList {
     /// An equal list, in memory of its own.
     ///
     /// # Errors
-    /// `OutOfMemory` if memory is refused, which is asked for only where the list has an item.
+    /// `OutOfMemory` if memory is refused, which is asked for only if the list has an item.
     pub fn clone(&self, alloc: Global) -> Result<Self>
         ensures copied { Answers listed_methods result (Ok (listed_methods self.now)) }
         ensures want { LacksOnlyIf result (HasItem (listed_methods self.now)) }

@@ -122,7 +122,7 @@ impl<'t> TypeData<'t> {
     /// An equal value, with memory of its own for each list.
     ///
     /// # Errors
-    /// `OutOfMemory` if memory is refused, which is asked for only where a list has an item.
+    /// `OutOfMemory` if memory is refused, which is asked for only if a list has an item.
     pub fn clone(&self, alloc: Global) -> Result<Self>
         ensures copied { Answers type_value result (Ok (type_value self.now)) }
         ensures want { LacksOnlyIf result (HasListItem (type_value self.now)) }

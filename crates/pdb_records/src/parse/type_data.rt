@@ -46,10 +46,10 @@ fn parse_record<'t>(alloc: Global, buffer: &mut ParseBuffer<'t>) -> Result<TypeD
 ///
 /// # Errors
 /// The first fault: `UnexpectedEof` if the bytes end before a field does, `UnexpectedNumericPrefix`
-/// where a number of variable width has an unknown prefix, `UnimplementedTypeKind` by its number for a
+/// if a number of variable width has an unknown prefix, `UnimplementedTypeKind` by its number for a
 /// leaf that has no record here, for a list of fields within one, and for a pointer whose kind or mode
 /// is unknown, `UnimplementedFeature` for an array's dimension above 0xffffffff; and `OutOfMemory`
-/// where memory for a list is refused, which is asked for only once the list's first item is there.
+/// if memory for a list is refused, which is asked for only once the list's first item is there.
 /// So a count that the bytes don't hold is `UnexpectedEof`, also as the first entry of a list of fields.
 #[inline(always)]
 pub fn parse_type_data<'t>(alloc: Global, bytes: &'t [u8]) -> Result<TypeData<'t>>
