@@ -34,8 +34,8 @@ pub trait Msf<S: Source> {
     /// where it then refuses: a later one asks the source for the bytes of its stream alone.
     ///
     /// # Errors
-    /// The first of these, in this order: `IoError`, `UnexpectedEof` or `PageReferenceOutOfRange`
-    /// if the directory can't be read; `UnexpectedEof` if it ends before its count;
+    /// The first of these, in this order: `IoError` or `PageReferenceOutOfRange` if the directory
+    /// can't be read; `UnexpectedEof` if it ends before its count;
     /// `StreamNotFound` from the count on; `UnexpectedEof` if a size up to the stream's own is
     /// missing; `StreamNotFound` if the stream is absent; `UnexpectedEof` if a later size, or
     /// a page number of an earlier stream, is missing; `UnexpectedEof` or `PageReferenceOutOfRange`
