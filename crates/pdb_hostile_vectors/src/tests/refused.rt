@@ -252,8 +252,10 @@ fn is_build_read(alloc: Global, items: &[u8], is_held: bool) -> Result<bool> {
     };
     match settled!(item.parse(alloc)) {
         Ok(IdData::BuildInfo(build)) => {
-            Ok(is_held
-                && build.arguments.as_slice() == [IdIndex(0x1001), IdIndex(0x1002)].as_slice())
+            Ok(
+                is_held
+                    && build.arguments.as_slice() == [IdIndex(0x1001), IdIndex(0x1002)].as_slice(),
+            )
         }
         Err(Error::UnexpectedEof) => Ok(!is_held),
         _ => Ok(false),

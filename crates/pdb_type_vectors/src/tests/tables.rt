@@ -294,12 +294,7 @@ const WALKS: &[(&str, u32, &[u8], &[&str])] = &[
         "a third length of 1, of nine",
         0x1000,
         &NINE_SHORT,
-        &[
-            "0x1000 1000",
-            "0x1001 1001",
-            "TypeTooShort",
-            "TypeTooShort",
-        ],
+        &["0x1000 1000", "0x1001 1001", "TypeTooShort", "TypeTooShort"],
     ),
 ];
 
