@@ -38,6 +38,20 @@ mod tests {
     use pdb_values::{ClassKind, ClassType, TypeData};
     use std::test::Fail;
 
+    /// The structure as a line of text, as a line of JSON, and in full.
+    const STRUCTURE: &str =
+        r#"0x1000 LF_STRUCTURE S\n"x" count=1 properties=[forward_reference,has_unique_name] fields=0x1001 size=4 unique_name=.?AUS@@
+{"index":4096,"kind":"LF_STRUCTURE","name":"S\n\"x\"","count":1,"properties":["forward_reference","has_unique_name"],"fields":4097,"size":4,"unique_name":".?AUS@@"}
+index: 0x1000
+kind: LF_STRUCTURE
+name: S\n"x"
+count: 1
+properties: [forward_reference,has_unique_name]
+fields: 0x1001
+size: 4
+unique_name: .?AUS@@
+"#;
+
     #[test]
     fn class(rt: HostRuntime) -> Result<(), Fail> {
         let data = TypeData::Class(ClassType {
@@ -56,10 +70,7 @@ mod tests {
         push_row(Form::Text, &row, &mut out)?;
         push_row(Form::Json, &row, &mut out)?;
         push_fields(Form::Text, &row, &mut out)?;
-        let text = String::from_utf8(out)
-            .ok()
-            .unwrap_or(String::new(rt.alloc()));
-        println!(rt; "{text}")?;
+        assert_eq!(rt; out.as_slice(), STRUCTURE.as_bytes());
         Ok(())
     }
 }

@@ -118,6 +118,8 @@ enum Says {
     Argument,
     /// Two values of an enumeration.
     Fields,
+    /// No field, and the list of this index that goes on.
+    Continued(u32),
     /// It ends too soon.
     Ended,
     /// Its kind is not read.
@@ -159,6 +161,10 @@ const RECORDS: &[(&[u8], Says)] = &[
         Says::Fields,
     ),
     (b"\x04\x00\x03\x12\x03\x12", Says::Unread(0x1203)),
+    (
+        b"\x0a\x00\x03\x12\x04\x14\x00\x00\x34\x12\x00\x00",
+        Says::Continued(0x1234),
+    ),
 ];
 
 /// Whether a pointer is one of 64 bits to an `int`.
@@ -194,6 +200,9 @@ impl Says {
                 list.arguments.as_slice() == [TypeIndex(0x74)].as_slice()
             }
             (Says::Fields, Ok(TypeData::FieldList(list))) => are_fields(list),
+            (Says::Continued(index), Ok(TypeData::FieldList(list))) => {
+                list.fields.is_empty() && list.continuation == Some(TypeIndex(*index))
+            }
             (Says::Ended, Err(Error::UnexpectedEof)) => true,
             (Says::Unread(kind), Err(Error::UnimplementedTypeKind(number))) => *kind == *number,
             _ => false,
@@ -219,30 +228,47 @@ fn types(rt: HostRuntime) -> std::result::Result<(), Fail> {
     Ok(())
 }
 
-/// What a module was built with: two ids.
-const BUILD_INFO: &[u8] = b"\x0c\x00\x03\x16\x02\x00\x01\x10\x00\x00\x02\x10\x00\x00";
+/// Items of one record each: what a module was built with, and whether it holds the ids that it counts.
+const BUILDS: &[(&[u8], bool)] = &[
+    (
+        b"\x0c\x00\x03\x16\x02\x00\x01\x10\x00\x00\x02\x10\x00\x00",
+        true,
+    ),
+    (
+        b"\x0e\x00\x03\x16\x02\x00\x01\x10\x00\x00\x02\x10\x00\x00\xf2\xf1",
+        true,
+    ),
+    (
+        b"\x0c\x00\x03\x16\x03\x00\x01\x10\x00\x00\x02\x10\x00\x00",
+        false,
+    ),
+];
 
-/// Whether what a module was built with is read.
-fn is_build_read(alloc: Global) -> Result<bool> {
-    let table = IdInformation::parse(settled!(table_of(alloc, 0x1001, BUILD_INFO))?)?;
+/// Whether what a module was built with is read, or ends too soon where it holds too few ids.
+fn is_build_read(alloc: Global, items: &[u8], is_held: bool) -> Result<bool> {
+    let table = IdInformation::parse(settled!(table_of(alloc, 0x1001, items))?)?;
     let Some(item) = table.iter().next()? else {
         return Ok(false);
     };
-    match settled!(item.parse(alloc))? {
-        IdData::BuildInfo(build) => {
-            Ok(build.arguments.as_slice() == [IdIndex(0x1001), IdIndex(0x1002)].as_slice())
+    match settled!(item.parse(alloc)) {
+        Ok(IdData::BuildInfo(build)) => {
+            Ok(
+                is_held
+                    && build.arguments.as_slice() == [IdIndex(0x1001), IdIndex(0x1002)].as_slice(),
+            )
         }
+        Err(Error::UnexpectedEof) => Ok(!is_held),
         _ => Ok(false),
     }
 }
 
 #[test]
 fn ids(rt: HostRuntime) -> std::result::Result<(), Fail> {
-    assert!(rt; is_build_read(rt.alloc())?);
+    for (items, is_held) in BUILDS {
+        assert!(rt; is_build_read(rt.alloc(), items, *is_held)?, "{items:?}");
+    }
     Ok(())
 }
-
-// Field lists joined: their rows belong here, once there is a call that joins them.
 
 /// Bytes whose views are counted.
 #[derive(Drop)]
@@ -364,6 +390,7 @@ const CALLS: &[(&[u8], &[&str], u8, &[u8], &[u8])] = &[
     ),
     (MODIFIER, &["type", "3", "0x74"], 0, b"0x74 0xffff -\n", b""),
     (LISTS, &["fields", "3", "0x1001"], 0, b"A\nB\n", b""),
+    (LISTS, &["fields", "3", "0x1000"], 0, b"B\n", b""),
     (
         MODIFIER,
         &["type", "3", "0x1001"],

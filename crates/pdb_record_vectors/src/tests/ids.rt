@@ -206,6 +206,12 @@ fn build_records(rt: HostRuntime) -> std::result::Result<(), Fail> {
     for (record, ids) in BUILDS {
         judge(alloc, record, &build(alloc, ids)?)?;
     }
+    let padded = id_said(
+        alloc,
+        b"\x03\x16\x02\x00\x01\x10\x00\x00\x02\x10\x00\x00\xf2\xf1",
+    )?;
+    let want = text_of(alloc, &build(alloc, &[IdIndex(0x1001), IdIndex(0x1002)])?)?;
+    assert_eq!(rt; padded.as_str(), want.as_str());
     Ok(())
 }
 

@@ -201,6 +201,11 @@ const REFUSED: &[(&str, &[u8], &str)] = &[
         PREFIX,
     ),
     (
+        "a structure without its last byte",
+        b"\x09\x16\x00\x02\x00\x00\x16\x10\x00\x00\x00\x00\x00\x00\x00\x00\x00\x00\x02\x00\x06\x00H_size\x00.?AUH_size@@",
+        END,
+    ),
+    (
         "a shape of three functions in one byte",
         b"\x0a\x00\x03\x00\x55",
         END,

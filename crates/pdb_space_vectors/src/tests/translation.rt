@@ -201,6 +201,8 @@ fn characteristics(rt: HostRuntime) {
     assert!(rt; flags.initialized_data() && flags.not_paged() && flags.read() && flags.write());
     assert!(rt; !flags.execute() && !flags.not_cached() && !flags.executable());
     assert_eq!(rt; SectionCharacteristics::new(flags.bits()), flags);
+    let mut buffer = ParseBuffer::from(&HEADER[36..]);
+    assert!(rt; matches!(buffer.parse::<SectionCharacteristics>(), Ok(word) if word == flags));
     for (word, want) in ALIGNMENTS {
         assert_eq!(rt; SectionCharacteristics(*word).alignment(), *want);
     }

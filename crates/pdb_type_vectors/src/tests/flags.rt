@@ -135,6 +135,7 @@ const KINDS: &[(u32, PointerKind, u8)] = &[
     (10, PointerKind::Near32, 4),
     (11, PointerKind::Far32, 4),
     (12, PointerKind::Ptr64, 8),
+    (0x0001_000c, PointerKind::Ptr64, 8),
 ];
 
 #[test]
@@ -164,6 +165,7 @@ fn mode_of(bits: u32) -> Option<(PointerMode, bool, bool)> {
 /// Words, the modes of the pointers, whether they are to members, and whether they are references.
 const MODES: &[(u32, PointerMode, bool, bool)] = &[
     (0x0c, PointerMode::Pointer, false, false),
+    (0x0001_000c, PointerMode::Pointer, false, false),
     (0x2c, PointerMode::LValueReference, false, true),
     (0x4c, PointerMode::Member, true, false),
     (0x6c, PointerMode::MemberFunction, true, false),

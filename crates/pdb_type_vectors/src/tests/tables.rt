@@ -229,6 +229,12 @@ fn short_header(rt: HostRuntime) {
 /// The largest index.
 const LAST: u32 = 0xffff_ffff;
 
+/// Nine items of two bytes, but for a length of 1 of the third: the kinds 0x1000, 0x1001 and so on.
+const NINE_SHORT: [u8; 36] = [
+    2, 0, 0, 0x10, 2, 0, 1, 0x10, 1, 0, 2, 0x10, 2, 0, 3, 0x10, 2, 0, 4, 0x10, 2, 0, 5, 0x10, 2, 0,
+    6, 0x10, 2, 0, 7, 0x10, 2, 0, 8, 0x10,
+];
+
 /// Tables by their minimum and their items, and what the steps of a walk give.
 const WALKS: &[(&str, u32, &[u8], &[&str])] = &[
     ("no item", 0x1000, b"", &["none", "none"]),
@@ -283,6 +289,12 @@ const WALKS: &[(&str, u32, &[u8], &[&str])] = &[
             "TypeTooShort",
             "TypeTooShort",
         ],
+    ),
+    (
+        "a third length of 1, of nine",
+        0x1000,
+        &NINE_SHORT,
+        &["0x1000 1000", "0x1001 1001", "TypeTooShort", "TypeTooShort"],
     ),
 ];
 
@@ -378,12 +390,6 @@ const NINE: [u8; 36] = [
 const EIGHT: [u8; 32] = [
     2, 0, 0, 0x10, 2, 0, 1, 0x10, 2, 0, 2, 0x10, 2, 0, 3, 0x10, 2, 0, 4, 0x10, 2, 0, 5, 0x10, 2, 0,
     6, 0x10, 2, 0, 7, 0x10,
-];
-
-/// The nine again, but for a length of 1 of the third.
-const NINE_SHORT: [u8; 36] = [
-    2, 0, 0, 0x10, 2, 0, 1, 0x10, 1, 0, 2, 0x10, 2, 0, 3, 0x10, 2, 0, 4, 0x10, 2, 0, 5, 0x10, 2, 0,
-    6, 0x10, 2, 0, 7, 0x10, 2, 0, 8, 0x10,
 ];
 
 /// Tables from index 0x1000 on, by their maximum and their items: how many steps the finder is
@@ -563,6 +569,10 @@ fn many_finders(rt: HostRuntime) -> Result<(), Fail> {
     Ok(())
 }
 
+/// The list of the field B at 0x1000, and one of the field A at 0x1001 that goes on in the first.
+const TWO_LISTS: &[u8] =
+    b"\x0c\x00\x03\x12\x02\x15\x03\x00\x01\x00B\x00\xf2\xf1\x12\x00\x03\x12\x02\x15\x03\x00\x00\x00A\x00\x04\x14\x00\x00\x00\x10\x00\x00";
+
 /// The list of the field B at 0x1000, seven empty lists, and at 0x1008 a list of the field A that goes on in
 /// the first.
 const LISTS: &[u8] =
@@ -578,16 +588,27 @@ fn is_enumerate(field: Option<&TypeData<'_>>, name: &[u8], number: u16) -> bool 
     }
 }
 
+/// Whether fields are the values A, 0, and B, 1.
+fn are_a_and_b(fields: &[TypeData<'_>]) -> bool {
+    fields.len() == 2
+        && is_enumerate(fields.first(), b"A", 0)
+        && is_enumerate(fields.get(1), b"B", 1)
+}
+
 #[test]
 fn joined_fields(rt: HostRuntime) -> Result<(), Fail> {
     let alloc = rt.alloc();
+    let two = table_of(alloc, 0x1000, 0x1002, TWO_LISTS)?;
+    let finder = two.finder(alloc)?;
+    let fields = finder.fields(alloc, TypeIndex(0x1001))?;
+    assert!(rt; are_a_and_b(fields.as_slice()), "in one block");
+
     let table = table_of(alloc, 0x1000, 0x1009, LISTS)?;
     let mut finder = table.finder(alloc)?;
     let unknown = finder.fields(alloc, TypeIndex(0x1008));
     assert!(rt; matches!(unknown, Err(Error::TypeNotIndexed(0x1008, 0x1007))));
     show_each(&table, &mut finder, 8)?;
     let fields = finder.fields(alloc, TypeIndex(0x1008))?;
-    assert!(rt; fields.len() == 2);
-    assert!(rt; is_enumerate(fields.first(), b"A", 0) && is_enumerate(fields.get(1), b"B", 1));
+    assert!(rt; are_a_and_b(fields.as_slice()), "in two blocks");
     Ok(())
 }

@@ -4,6 +4,7 @@ use super::shows;
 use pdb_base::{Error, ParseBuffer, RawString, Variant};
 use pdb_msf::Stream;
 use std::alloc::Global;
+use std::borrow::CowStr;
 use std::fmt;
 use std::test::Fail;
 
@@ -242,7 +243,7 @@ fn alignments(rt: HostRuntime) {
             "{bytes} behind {taken}"
         );
     }
-    let mut buffer = buffer_of(3);
+    let mut buffer = ParseBuffer::from(b"123".as_slice());
     assert!(rt; buffer.take(3).is_ok());
     assert!(rt; ends(buffer.align(4)) && buffer.pos() == 3);
 }
@@ -268,20 +269,24 @@ fn strings(rt: HostRuntime) {
     assert!(rt; ends(buffer.parse_u8_pascal_string()) && buffer.pos() == 14);
 }
 
-/// Whether a text is this one, with what is no UTF-8 in it replaced.
-fn is_lossy(alloc: Global, raw: RawString<'_>, want: &str) -> bool {
-    matches!(raw.to_string(alloc), Ok(text) if text.as_str() == want)
+/// Whether a text is this one, owned where what is no UTF-8 in it is replaced, and else borrowed.
+fn is_lossy(alloc: Global, raw: RawString<'_>, want: &str, is_owned: bool) -> bool {
+    match raw.to_string(alloc) {
+        Ok(CowStr::Borrowed(text)) => !is_owned && text == want,
+        Ok(CowStr::Owned(text)) => is_owned && text.as_str() == want,
+        Err(_) => false,
+    }
 }
 
 #[test]
 fn raw_strings(rt: HostRuntime) {
     let alloc = rt.alloc();
-    for (bytes, text) in [
-        (b"f\xffo".as_slice(), "f\u{fffd}o"),
-        (b"foo".as_slice(), "foo"),
+    for (bytes, text, is_owned) in [
+        (b"f\xffo".as_slice(), "f\u{fffd}o", true),
+        (b"foo".as_slice(), "foo", false),
     ] {
         let raw = RawString::from(bytes);
-        assert!(rt; is_lossy(alloc, raw, text) && shows(alloc, &raw, text));
+        assert!(rt; is_lossy(alloc, raw, text, is_owned) && shows(alloc, &raw, text));
         assert!(rt; raw.len() == 3 && !raw.is_empty());
     }
     assert!(rt; RawString::from("ab") == RawString::from(b"ab".as_slice()));

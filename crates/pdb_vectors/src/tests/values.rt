@@ -73,6 +73,13 @@ fn values(rt: HostRuntime) {
         )
     );
     assert!(rt; buffer.pos() == 13);
+    let mut buffer = ParseBuffer::from(b"\x05\x80\x00\x00\x00\x00".as_slice());
+    assert!(rt;
+        matches!(
+            buffer.parse::<Variant>(),
+            Err(Error::UnexpectedNumericPrefix(0x8005))
+        ) && buffer.pos() == 0
+    );
 }
 
 #[test]
