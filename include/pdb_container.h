@@ -90,10 +90,49 @@ uint32_t pdb_error_text(const pdb_fault *about, uint8_t *room, size_t room_lengt
 /* Closes a handle and frees what it held. One that holds nothing stays as it is. */
 void pdb_close(pdb_handle *handle);
 
-/* ---- files, whose bytes are the caller's and are read anew at each call */
+/* ---- the streams of a file
+ *
+ * A file is opened once: its header and its directory are read, and the handle keeps them. The bytes stay the
+ * caller's and are not copied. pdb_file_stream is given them again, and they have to be the same. */
+
+/* Opens a file. */
+uint32_t pdb_file_open(const uint8_t *bytes, size_t bytes_length, pdb_handle *file, pdb_fault *fault);
+
+/* Writes how many bytes a page has: a power of two from 256 to 8,388,608. */
+uint32_t pdb_file_page_size(pdb_handle *file, uint32_t *page_size, pdb_fault *fault);
+
+/* Writes how many streams the directory has, the absent ones too: their numbers are those below. */
+uint32_t pdb_file_stream_count(pdb_handle *file, uint32_t *count, pdb_fault *fault);
+
+/* Writes how many bytes a stream has, as the directory says, or tells PDB_STREAM_NOT_FOUND of one that is
+ * absent. Whether its pages bear that out is known once it is copied. */
+uint32_t pdb_file_stream_size(pdb_handle *file, uint32_t number, uint32_t *size, pdb_fault *fault);
 
 /* Copies the bytes of a stream, at most as many as the limit, which may be SIZE_MAX. */
-uint32_t pdb_file_stream(const uint8_t *file, size_t file_length, uint32_t number, size_t limit, uint8_t *room, size_t room_length, size_t *length, pdb_fault *fault);
+uint32_t pdb_file_stream(pdb_handle *file, const uint8_t *bytes, size_t bytes_length, uint32_t number, size_t limit, uint8_t *room, size_t room_length, size_t *length, pdb_fault *fault);
+
+/* ---- what a file says by the roles and names of its streams, asked of its bytes alone */
+
+/* The numbers by which a file is told from others. */
+typedef struct pdb_information {
+    uint32_t version;   /* of the format, as 20000404 for version 7 */
+    uint32_t signature; /* the time at which the file was made, in seconds since 1970 */
+    uint32_t age;       /* how often it was written */
+    uint8_t guid[16];   /* as the bytes stand in the file */
+} pdb_information;
+
+/* Writes the numbers by which a file is told from others. */
+uint32_t pdb_file_information(const uint8_t *file, size_t file_length, pdb_information *information, pdb_fault *fault);
+
+/* A stream that has a name, and how long that is. */
+typedef struct pdb_named_stream {
+    size_t name_length;
+    uint32_t number; /* 0xffff where the file names none */
+} pdb_named_stream;
+
+/* Writes the streams that have names, in the order in which the file lists them, and the bytes of the names,
+ * one name behind another. */
+uint32_t pdb_file_stream_names(const uint8_t *file, size_t file_length, pdb_named_stream *rows, size_t rows_length, size_t *count, uint8_t *names, size_t names_length, size_t *size, pdb_fault *fault);
 
 /* Copies the bytes of the first stream of a name. */
 uint32_t pdb_file_named_stream(const uint8_t *file, size_t file_length, const uint8_t *name, size_t name_length, uint8_t *room, size_t room_length, size_t *length, pdb_fault *fault);
@@ -126,6 +165,10 @@ uint32_t pdb_file_names(const uint8_t *file, size_t file_length, pdb_handle *nam
 
 /* Copies the name at an offset, without its NUL. */
 uint32_t pdb_names_get(pdb_handle *names, uint32_t offset, uint8_t *room, size_t room_length, size_t *length, pdb_fault *fault);
+
+/* Writes the offsets of all names, in their order: the first name is at offset 0, and each other one behind the
+ * NUL of the one before. */
+uint32_t pdb_names_offsets(pdb_handle *names, uint32_t *room, size_t room_length, size_t *length, pdb_fault *fault);
 
 /* ---- addresses */
 
@@ -208,6 +251,14 @@ uint32_t pdb_internal_offset_to_rva(pdb_handle *addresses, uint16_t section, uin
 
 /* Makes of a place in a section of the original image its place in a section of the one that is loaded. */
 uint32_t pdb_internal_offset_to_section_offset(pdb_handle *addresses, uint16_t section, uint32_t offset, pdb_place *place, pdb_fault *fault);
+
+/* Writes where the addresses of a range of the original image lie in the image as it is loaded: laid end to
+ * end, the ranges are what pdb_internal_rva_to_rva makes of the addresses one by one. */
+uint32_t pdb_rva_ranges(pdb_handle *addresses, uint32_t start, uint32_t end, pdb_span *room, size_t room_length, size_t *length, pdb_fault *fault);
+
+/* Writes where the addresses of a range of the image as it is loaded lie in the original image: laid end to
+ * end, the ranges are what pdb_rva_to_internal_rva makes of the addresses one by one. */
+uint32_t pdb_internal_rva_ranges(pdb_handle *addresses, uint32_t start, uint32_t end, pdb_span *room, size_t room_length, size_t *length, pdb_fault *fault);
 
 /* ---- frames */
 
@@ -334,6 +385,17 @@ uint32_t pdb_type_name(const uint8_t *record, size_t record_length, uint32_t ind
 
 /* Copies the types of the arguments that a list of arguments has, or tells PDB_NOWHERE of another type. */
 uint32_t pdb_type_arguments(const uint8_t *record, size_t record_length, uint32_t index, uint32_t *room, size_t room_length, size_t *length, pdb_fault *fault);
+
+/* Copies the unique name of a class, a union or an enumeration, or tells PDB_NOWHERE if it has none. */
+uint32_t pdb_type_unique_name(const uint8_t *record, size_t record_length, uint32_t index, uint8_t *room, size_t room_length, size_t *length, pdb_fault *fault);
+
+/* Copies how many bytes an array takes in each dimension, the outermost first, or tells PDB_NOWHERE of another
+ * type. */
+uint32_t pdb_type_dimensions(const uint8_t *record, size_t record_length, uint32_t index, uint32_t *room, size_t room_length, size_t *length, pdb_fault *fault);
+
+/* Writes the methods that a list of methods has, each as a row of the shape PDB_METHOD, or tells PDB_NOWHERE of
+ * another type. */
+uint32_t pdb_type_methods(const uint8_t *record, size_t record_length, uint32_t index, pdb_row *room, size_t room_length, size_t *length, pdb_fault *fault);
 
 /* A field: its numbers, and how long its name is. */
 typedef struct pdb_field {

@@ -15,6 +15,12 @@ typedef struct bytes {
     size_t length;
 } bytes;
 
+/* A file: its bytes, and the handle that keeps its header and its directory. */
+typedef struct pdb {
+    bytes data;
+    pdb_handle handle;
+} pdb;
+
 /* A table in a stream: where its items stand. */
 typedef struct table {
     bytes stream;
@@ -51,17 +57,19 @@ static uint32_t read_file(const char *path, bytes *file, pdb_fault *fault) {
     return status;
 }
 
-/* A stream, into memory of the size that it turns out to need. */
-static uint32_t read_stream(bytes file, uint32_t number, bytes *stream, pdb_fault *fault) {
+/* A stream, into memory of the size that it turns out to need. A damaged file may say of a stream a size that
+ * its pages don't bear out. */
+static uint32_t read_stream(pdb *file, uint32_t number, bytes *stream, pdb_fault *fault) {
     uint8_t none[1];
-    uint32_t status = pdb_file_stream(file.at, file.length, number, SIZE_MAX, none, 0, &stream->length, fault);
+    bytes data = file->data;
+    uint32_t status = pdb_file_stream(&file->handle, data.at, data.length, number, SIZE_MAX, none, 0, &stream->length, fault);
     if (status != PDB_TOO_SMALL) return status;
     stream->at = room_for(stream->length, 1);
     if (!stream->at) return told(fault, no_memory);
-    return pdb_file_stream(file.at, file.length, number, SIZE_MAX, stream->at, stream->length, &stream->length, fault);
+    return pdb_file_stream(&file->handle, data.at, data.length, number, SIZE_MAX, stream->at, stream->length, &stream->length, fault);
 }
 
-static uint32_t read_table(bytes file, uint32_t number, table *table, pdb_fault *fault) {
+static uint32_t read_table(pdb *file, uint32_t number, table *table, pdb_fault *fault) {
     uint32_t none[1], status = read_stream(file, number, &table->stream, fault);
     const uint8_t *at = table->stream.at ? table->stream.at : (const uint8_t *)"";
     if (status) return status;
@@ -90,7 +98,7 @@ static uint32_t find(const table *table, uint32_t index, bytes *record, pdb_faul
 
 /* ---- what is printed */
 
-static uint32_t print_stream(bytes file, uint32_t number, pdb_fault *fault) {
+static uint32_t print_stream(pdb *file, uint32_t number, pdb_fault *fault) {
     bytes stream = {0};
     uint32_t status = read_stream(file, number, &stream, fault);
     for (size_t i = 0; !status && i < stream.length; i++)
@@ -129,7 +137,7 @@ static uint32_t read_name(copy *copy, const named *of, bytes *name, pdb_fault *f
     return name->at ? copy(of, name->at, name->length, &name->length, fault) : told(fault, no_memory);
 }
 
-static uint32_t print_record(bytes file, uint32_t number, uint32_t index, int is_type, pdb_fault *fault) {
+static uint32_t print_record(pdb *file, uint32_t number, uint32_t index, int is_type, pdb_fault *fault) {
     table table = {0};
     bytes record = {0}, name = {0};
     uint32_t status = read_table(file, number, &table, fault);
@@ -150,7 +158,7 @@ static uint32_t print_record(bytes file, uint32_t number, uint32_t index, int is
     return status;
 }
 
-static uint32_t print_name(bytes file, uint32_t number, uint32_t offset, pdb_fault *fault) {
+static uint32_t print_name(pdb *file, uint32_t number, uint32_t offset, pdb_fault *fault) {
     pdb_handle names = {0};
     bytes stream = {0}, name = {0};
     uint32_t status = read_stream(file, number, &stream, fault);
@@ -166,7 +174,7 @@ static uint32_t print_name(bytes file, uint32_t number, uint32_t offset, pdb_fau
     return status;
 }
 
-static uint32_t print_ranges(bytes file, uint32_t number, uint32_t start, uint32_t end, pdb_fault *fault) {
+static uint32_t print_ranges(pdb *file, uint32_t number, uint32_t start, uint32_t end, pdb_fault *fault) {
     pdb_handle omap = {0};
     bytes stream = {0};
     pdb_span none[1], *spans = NULL;
@@ -222,7 +230,7 @@ static uint32_t print_list(const table *table, uint32_t index, uint32_t *next, b
     return status;
 }
 
-static uint32_t print_fields(bytes file, uint32_t number, uint32_t index, pdb_fault *fault) {
+static uint32_t print_fields(pdb *file, uint32_t number, uint32_t index, pdb_fault *fault) {
     table table = {0};
     bytes out = {0};
     uint32_t status = read_table(file, number, &table, fault), next = index;
@@ -249,19 +257,21 @@ static void print_fault(const pdb_fault *about) {
 static uint32_t number_of(const char *word) { return (uint32_t)strtoul(word, NULL, 0); }
 
 int main(int count, char **words) {
-    bytes file = {0};
+    pdb file = {0};
     pdb_fault fault = {0};
     const char *verb = count > 2 ? words[2] : "";
     uint32_t status = 1, a = count > 3 ? number_of(words[3]) : 0, b = count > 4 ? number_of(words[4]) : 0;
-    if (count < 4 || read_file(words[1], &file, &fault)) fault.status = fault.status ? fault.status : PDB_NO_TEXT;
-    else if (!strcmp(verb, "stream")) status = print_stream(file, a, &fault);
-    else if (!strcmp(verb, "type")) status = print_record(file, a, b, 1, &fault);
-    else if (!strcmp(verb, "id")) status = print_record(file, a, b, 0, &fault);
-    else if (!strcmp(verb, "name")) status = print_name(file, a, b, &fault);
-    else if (!strcmp(verb, "ranges")) status = print_ranges(file, a, b, count > 5 ? number_of(words[5]) : 0, &fault);
-    else if (!strcmp(verb, "fields")) status = print_fields(file, a, b, &fault);
+    if (count < 4 || read_file(words[1], &file.data, &fault)) fault.status = fault.status ? fault.status : PDB_NO_TEXT;
+    else if (pdb_file_open(file.data.at, file.data.length, &file.handle, &fault)) status = fault.status;
+    else if (!strcmp(verb, "stream")) status = print_stream(&file, a, &fault);
+    else if (!strcmp(verb, "type")) status = print_record(&file, a, b, 1, &fault);
+    else if (!strcmp(verb, "id")) status = print_record(&file, a, b, 0, &fault);
+    else if (!strcmp(verb, "name")) status = print_name(&file, a, b, &fault);
+    else if (!strcmp(verb, "ranges")) status = print_ranges(&file, a, b, count > 5 ? number_of(words[5]) : 0, &fault);
+    else if (!strcmp(verb, "fields")) status = print_fields(&file, a, b, &fault);
     else fault.status = PDB_NO_TEXT;
     if (status) print_fault(&fault);
-    free(file.at);
+    pdb_close(&file.handle);
+    free(file.data.at);
     return status != PDB_OK;
 }

@@ -43,6 +43,19 @@ template <class T, class Call> std::vector<T> answer(Call call) {
     return room;
 }
 
+// The header and the directory of a file, closed where it goes out of scope.
+struct File {
+    explicit File(const Bytes &file) {
+        pdb_fault fault{};
+        expect(pdb_file_open(file.data(), file.size(), &handle, &fault) == PDB_OK, fault);
+    }
+    ~File() { pdb_close(&handle); }
+    File(const File &) = delete;
+    File &operator=(const File &) = delete;
+
+    pdb_handle handle{};
+};
+
 struct Field {
     pdb_row row;
     std::string name;
@@ -52,8 +65,9 @@ struct Field {
 class Types {
   public:
     explicit Types(const Bytes &file) {
+        File opened(file);
         stream = answer<uint8_t>([&](uint8_t *room, size_t size, size_t *count, pdb_fault *fault) {
-            return pdb_file_stream(file.data(), file.size(), types_stream, SIZE_MAX, room, size, count, fault);
+            return pdb_file_stream(&opened.handle, file.data(), file.size(), types_stream, SIZE_MAX, room, size, count, fault);
         });
         positions = answer<uint32_t>([&](uint32_t *room, size_t size, size_t *count, pdb_fault *fault) {
             return pdb_table_positions(stream.data(), stream.size(), room, size, count, &facts, fault);

@@ -7,7 +7,7 @@ usage: PDB_CONTAINER=.../libpdb_container.so.0 classes.py FILE
 import ctypes
 import os
 import sys
-from ctypes import POINTER, Structure, byref, c_size_t, c_uint8, c_uint32, c_uint64
+from ctypes import POINTER, Structure, byref, c_size_t, c_uint8, c_uint32, c_uint64, c_void_p
 
 OK, NOWHERE, TOO_SMALL = 0, 105, 102
 TYPES = 2  # the stream of the table of types
@@ -21,6 +21,10 @@ library = ctypes.CDLL(os.environ.get("PDB_CONTAINER", "libpdb_container.so.0"))
 
 class Fault(Structure):
     _fields_ = [("status", c_uint32), ("first", c_uint32), ("second", c_uint32)]
+
+
+class Handle(Structure):
+    _fields_ = [("held", c_void_p), ("kind", c_uint32)]
 
 
 class Table(Structure):
@@ -78,7 +82,12 @@ class Types:
     """The table of types of a file."""
 
     def __init__(self, file):
-        self.stream = bytes(answer(library.pdb_file_stream, c_uint8, *lent(file), c_uint32(TYPES), c_size_t(-1)))
+        opened, data = Handle(), lent(file)
+        call(library.pdb_file_open, *data, byref(opened))
+        try:
+            self.stream = bytes(answer(library.pdb_file_stream, c_uint8, byref(opened), *data, c_uint32(TYPES), c_size_t(-1)))
+        finally:
+            library.pdb_close(byref(opened))
         stream, table, count = lent(self.stream), Table(), c_size_t()
         call(library.pdb_table_positions, *stream, *array(c_uint32, 0), byref(count), byref(table), also=(TOO_SMALL,))
         room, size = array(c_uint32, count.value)

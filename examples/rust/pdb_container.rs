@@ -76,7 +76,8 @@ const NOWHERE: u32 = 105;
 extern "C" {
     fn pdb_error_text(about: *const Fault, room: *mut u8, size: usize, length: *mut usize, fault: *mut Fault) -> u32;
     fn pdb_close(handle: *mut Handle);
-    fn pdb_file_stream(file: *const u8, len: usize, number: u32, limit: usize, room: *mut u8, size: usize, length: *mut usize, fault: *mut Fault) -> u32;
+    fn pdb_file_open(bytes: *const u8, len: usize, file: *mut Handle, fault: *mut Fault) -> u32;
+    fn pdb_file_stream(file: *mut Handle, bytes: *const u8, len: usize, number: u32, limit: usize, room: *mut u8, size: usize, length: *mut usize, fault: *mut Fault) -> u32;
     fn pdb_file_names(file: *const u8, len: usize, names: *mut Handle, fault: *mut Fault) -> u32;
     fn pdb_names_get(names: *mut Handle, offset: u32, room: *mut u8, size: usize, length: *mut usize, fault: *mut Fault) -> u32;
     fn pdb_table_positions(stream: *const u8, len: usize, positions: *mut u32, size: usize, count: *mut usize, facts: *mut Facts, fault: *mut Fault) -> u32;
@@ -112,13 +113,39 @@ fn answer<T: Clone + Default>(mut call: impl FnMut(*mut T, usize, &mut usize, &m
     }
 }
 
-/// The bytes of a stream.
-pub fn stream(file: &[u8], number: u32) -> Result<Vec<u8>, Refused> {
-    // SAFETY: the slice and the array of `answer` are as long as they say, and apart.
-    let bytes = answer(|room, size, count, fault| unsafe {
-        pdb_file_stream(file.as_ptr(), file.len(), number, usize::MAX, room, size, count, fault)
-    })?;
-    Ok(bytes.unwrap_or_default())
+/// A file over bytes that it borrows: its header and its directory are kept.
+pub struct File<'f> {
+    handle: Handle,
+    bytes: &'f [u8],
+}
+
+impl<'f> File<'f> {
+    pub fn open(bytes: &'f [u8]) -> Result<File<'f>, Refused> {
+        let mut file = File { handle: Handle { held: std::ptr::null_mut(), kind: 0 }, bytes };
+        let mut fault = Fault::default();
+        // SAFETY: the handle is all zero, and stays with this value.
+        match unsafe { pdb_file_open(bytes.as_ptr(), bytes.len(), &mut file.handle, &mut fault) } {
+            OK => Ok(file),
+            _ => Err(refused(&fault)),
+        }
+    }
+
+    /// The bytes of a stream.
+    pub fn stream(&mut self, number: u32) -> Result<Vec<u8>, Refused> {
+        let (handle, bytes) = (&mut self.handle, self.bytes);
+        // SAFETY: the slice and the array of `answer` are as long as they say, and apart.
+        let stream = answer(|room, size, count, fault| unsafe {
+            pdb_file_stream(handle, bytes.as_ptr(), bytes.len(), number, usize::MAX, room, size, count, fault)
+        })?;
+        Ok(stream.unwrap_or_default())
+    }
+}
+
+impl Drop for File<'_> {
+    fn drop(&mut self) {
+        // SAFETY: the handle is this value's own.
+        unsafe { pdb_close(&mut self.handle) }
+    }
 }
 
 /// The string table of a file.
@@ -166,7 +193,7 @@ pub struct Types {
 
 impl Types {
     pub fn open(file: &[u8]) -> Result<Types, Refused> {
-        let (stream, mut facts) = (stream(file, 2)?, Facts::default());
+        let (stream, mut facts) = (File::open(file)?.stream(2)?, Facts::default());
         // SAFETY: as above.
         let positions = answer(|room, size, count, fault| unsafe {
             pdb_table_positions(stream.as_ptr(), stream.len(), room, size, count, &mut facts, fault)

@@ -1,5 +1,6 @@
 mod FieldsLemmas
 mod HeldSteps
+mod OffsetsLemmas
 mod PartsSteps
 mod PlacesLemmas
 mod StatusLaws

@@ -1,7 +1,8 @@
 -- What is told of what may be nowhere.
-use Rattle.std.specs.Prelude.{◌≡◌, Option, Some, None}
+use Rattle.std.specs.Prelude.{◌≡◌, Option, Some, None, Ok, Err}
+use Rattle.pdb_base.specs.Answer.{Answer}
 use Rattle.pdb_c.specs.declared.fault.Fault.{Fault}
-use Rattle.pdb_c.specs.Fault.{fine, not_open, nowhere}
+use Rattle.pdb_c.specs.Fault.{fault_of, fine, not_open, nowhere}
 
 -- how a call ended, and the caller's variable afterwards
 pub record Found (A : Type 0) : Type 0 where
@@ -16,6 +17,21 @@ found old None = record { fault = nowhere; value = old }
 -- a handle that holds nothing of what is asked
 abbrev pub not_held : {A : Type 0} → A → Found A
 not_held old = record { fault = not_open; value = old }
+
+-- what is answered, or what tells its refusal, and then the variable is as it was
+abbrev pub answered : {A : Type 0} → A → Answer A → Found A
+answered old (Ok value) = record { fault = fine; value = value }
+answered old (Err refusal) = record { fault = fault_of refusal; value = old }
+
+-- the answer of what a handle holds, where it holds what is asked
+abbrev pub answered_of : {A B : Type 0} → B → (A → Answer B) → Option A → Found B
+answered_of old answer (Some held) = answered old (answer held)
+answered_of old answer None = not_held old
+
+-- a number of what a handle holds, where it holds what is asked
+abbrev pub found_of : {A B : Type 0} → B → (A → B) → Option A → Found B
+found_of old number (Some held) = found old (Some (number held))
+found_of old number None = not_held old
 
 -- Something was found, whatever it is, or it is nowhere.
 abbrev pub IsFound : {A : Type 0} → A → Found A → Type 0

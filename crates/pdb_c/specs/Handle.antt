@@ -3,6 +3,7 @@ use Rattle.std.specs.Prelude.{◌≡◌, ◌⊎◌, ◌<◌, ◌≤◌, ℕ, Lis
 use Rattle.pdb_base.specs.Answer.{Answer}
 use Rattle.pdb_base.specs.Refusal.{out_of_memory}
 use Rattle.pdb_frames.specs.Table.{Frames}
+use Rattle.pdb_msf.specs.Layout.{Plan}
 use Rattle.pdb_space.specs.Conversions.{Arrangement}
 use Rattle.pdb_space.specs.Omap.{Mapping}
 use Rattle.pdb_c.specs.declared.content.Content.{Content}
@@ -17,6 +18,7 @@ kind_of (Some (contents.Names names)) = 1
 kind_of (Some (contents.Omap table)) = 2
 kind_of (Some (contents.Addresses map)) = 3
 kind_of (Some (contents.Frames table)) = 4
+kind_of (Some (contents.File plan)) = 5
 
 -- what an answer says, as the content of a handle
 abbrev pub held_as : {A : Type 0} → (A → Content) → Answer A → Answer Content
@@ -58,6 +60,11 @@ omap_held held = None
 abbrev pub addresses_held : Option Content → Option Arrangement
 addresses_held (Some (contents.Addresses map)) = Some map
 addresses_held held = None
+
+-- the plan of a file that it holds
+abbrev pub file_held : Option Content → Option Plan
+file_held (Some (contents.File plan)) = Some plan
+file_held held = None
 
 -- the frame table that it holds
 abbrev pub frames_held : Option Content → Option Frames

@@ -6,7 +6,10 @@ pub mod Frame
 pub mod Handle
 pub mod Held
 pub mod Ids
+pub mod Information
 pub mod Listing
+pub mod Lists
+pub mod Offsets
 pub mod Place
 pub mod Places
 pub mod Ranges

@@ -13,8 +13,8 @@ use Rattle.pdb_c.specs.Frame.{flag}
 use Rattle.pdb_c.specs.Row.{row_of}
 
 -- what is written of a list that there may not be
-abbrev pub if_copied : List ℕ → Answer (Option (List ℕ)) → Copied ℕ
-if_copied room (Ok (Some name)) = written room name
+abbrev pub if_copied : {A : Type 0} → List A → Answer (Option (List A)) → Copied A
+if_copied room (Ok (Some items)) = written room items
 if_copied room (Ok None) = untouched nowhere room
 if_copied room (Err refusal) = untouched (fault_of refusal) room
 
@@ -54,33 +54,33 @@ pub record Listing : Type 0 where
 abbrev pub listing : List TypeValue → Listing
 listing fields = record { rows = map field_row fields; names = flat_map name_bytes fields }
 
--- how a call ended that writes fields and their names, how many of both there are, and the caller's arrays
+-- how a call ended that writes rows and their names, how many of both there are, and the caller's arrays
 -- afterwards
-pub record Fielded : Type 0 where
+pub record Fielded (R : Type 0) : Type 0 where
   pub fault : Fault
-  pub rows : List FieldRow
+  pub rows : List R
   pub count : ℕ
   pub names : List ℕ
   pub size : ℕ
 
 -- nothing is written
-abbrev pub unfielded : Fault → List FieldRow → List ℕ → Fielded
+abbrev pub unfielded : {R : Type 0} → Fault → List R → List ℕ → Fielded R
 unfielded fault rows names = record { fault = fault; rows = rows; count = 0; names = names; size = 0 }
 
 -- Rows and names at the fronts of the arrays, the names one behind another. Where there is no room for all of
 -- either, nothing is written, and it is told how many there are.
-abbrev pub fielded : List FieldRow → List ℕ → List FieldRow → List ℕ → Fielded
+abbrev pub fielded : {R : Type 0} → List R → List ℕ → List R → List ℕ → Fielded R
 fielded rows names told bytes =
     if nat_lt (length rows) (length told) || nat_lt (length names) (length bytes)
     then record { fault = too_small; rows = rows; count = length told; names = names; size = length bytes }
     else record { fault = fine; rows = told ++ drop (length told) rows; count = length told; names = bytes ++ drop (length bytes) names; size = length bytes }
 
 -- the fields that are meant, or what tells their refusal
-abbrev pub fields_told : List FieldRow → List ℕ → Answer (Option (List TypeValue)) → Fielded
+abbrev pub fields_told : List FieldRow → List ℕ → Answer (Option (List TypeValue)) → Fielded FieldRow
 fields_told rows names (Ok (Some fields)) = fielded rows names (map field_row fields) (flat_map name_bytes fields)
 fields_told rows names (Ok None) = unfielded nowhere rows names
 fields_told rows names (Err refusal) = unfielded (fault_of refusal) rows names
 
 -- What is meant was written; or memory was refused, and nothing was.
-abbrev pub FieldsOrLacks : Fielded → List FieldRow → List ℕ → Fielded → Type 0
+abbrev pub FieldsOrLacks : {R : Type 0} → Fielded R → List R → List ℕ → Fielded R → Type 0
 FieldsOrLacks done rows names meant = (done ≡ meant) ⊎ (done ≡ unfielded (fault_of out_of_memory) rows names)

@@ -1,6 +1,7 @@
 //! What can stand behind a handle.
 
 use pdb_frames::FrameTable;
+use pdb_msf::Layout;
 use pdb_space::{AddressMap, OMAPTable, StringTable};
 
 /// What a handle holds.
@@ -17,4 +18,7 @@ pub enum Content {
 
     /// The frames of a program.
     Frames(FrameTable),
+
+    /// The header and the directory of a file.
+    File(Layout),
 }

@@ -3,6 +3,7 @@
 ghost use Rattle.std.specs.Prelude.{◌≡◌, ℕ, List};
 ghost use Rattle.pdb_base.specs.Answer.{Answer, Answers};
 ghost use Rattle.pdb_c.specs.Copied.{CopiesOrLacks, copied, written};
+ghost use Rattle.pdb_c.specs.Records.{fielded};
 
 use crate::fault::{FINE, Fault, TOO_SMALL};
 use pdb_base::Result;
@@ -17,6 +18,29 @@ pub fn copy_out<T: Copy>(items: &[T], room: &mut [T], length: &mut usize) -> Fau
         return Fault::status(TOO_SMALL);
     }
     room[..items.len()].copy_from_slice(items);
+    Fault::status(FINE)
+}
+
+/// Copies rows and the bytes of their names to the fronts of two arrays of the caller's, where both have
+/// room for all of them, and says how many they are.
+pub fn copy_both<T: Copy>(
+    items: &[T],
+    bytes: &[u8],
+    rows: &mut [T],
+    count: &mut usize,
+    names: &mut [u8],
+    size: &mut usize,
+) -> Fault
+    ensures { record { fault = result; rows = rows.new; count = count.new; names = names.new; size = size.new }
+        ≡ fielded rows.old names.old items.now bytes.now }
+{
+    *count = items.len();
+    *size = bytes.len();
+    if rows.len() < items.len() || names.len() < bytes.len() {
+        return Fault::status(TOO_SMALL);
+    }
+    rows[..items.len()].copy_from_slice(items);
+    names[..bytes.len()].copy_from_slice(bytes);
     Fault::status(FINE)
 }
 

@@ -8,7 +8,8 @@ ghost use Rattle.pdb_values.specs.TypeView.{type_value};
 ghost use Rattle.pdb_c.specs.Records.{FieldsOrLacks, field_row, fielded, fields_in, fields_of_record, fields_told, listing, name_bytes};
 ghost use Rattle.pdb_c.specs.Listing.{listing_view};
 
-use crate::fault::{FINE, Fault, NOWHERE, TOO_SMALL};
+use crate::copied::copy_both;
+use crate::fault::{Fault, NOWHERE};
 use crate::frame::flag;
 use crate::records::type_in;
 use crate::row::Row;
@@ -82,18 +83,11 @@ fn write_listing(
     ensures { record { fault = result; rows = rows.new; count = count.new; names = names.new; size = size.new }
         ≡ fielded rows.old names.old listing.now.rows.items listing.now.names.items }
 {
-    *count = listing.rows.len();
-    *size = listing.names.len();
-    if rows.len() < listing.rows.len() || names.len() < listing.names.len() {
-        return Fault::status(TOO_SMALL);
-    }
-    rows[..listing.rows.len()].copy_from_slice(&listing.rows);
-    names[..listing.names.len()].copy_from_slice(&listing.names);
-    Fault::status(FINE)
+    copy_both(&listing.rows, &listing.names, rows, count, names, size)
 }
 
 /// Writes no field.
-fn write_nothing(fault: Fault, count: &mut usize, size: &mut usize) -> Fault
+pub fn write_nothing(fault: Fault, count: &mut usize, size: &mut usize) -> Fault
     ensures fault { result ≡ fault }
     ensures count { count.new ≡ 0 }
     ensures size { size.new ≡ 0 }

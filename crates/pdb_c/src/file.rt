@@ -1,10 +1,10 @@
-//! Files, whose bytes are the caller's.
+//! What a file of the caller's says, by the roles and names of its streams.
 
 ghost use Rattle.std.specs.Prelude.{◌≡◌, IfOk};
 ghost use Rattle.pdb_base.specs.Answer.{Answers};
 ghost use Rattle.pdb_msf.specs.Header.{opened};
 ghost use Rattle.pdb_c.specs.Copied.{CopiesOrLacks, copied};
-ghost use Rattle.pdb_c.specs.File.{addresses_said, frames_said, named_stream_said, names_said, stream_said};
+ghost use Rattle.pdb_c.specs.File.{addresses_said, frames_said, named_stream_said, names_said};
 ghost use Rattle.pdb_c.specs.Handle.{Opens};
 
 use crate::content::Content;
@@ -12,7 +12,7 @@ use crate::copied::copy_stream;
 use crate::fault::{ALREADY_OPEN, Fault};
 use crate::handle::Handle;
 use pdb_base::Result;
-use pdb_msf::{BigMSF, Msf, Stream, open_msf};
+use pdb_msf::{BigMSF, Stream, open_msf};
 use pdb_roles::{address_map, frame_table, named_stream, string_table};
 use std::alloc::Global;
 
@@ -22,33 +22,6 @@ pub fn opened<'f>(alloc: Global, file: &'f [u8]) -> Result<BigMSF<&'f [u8]>>
     ensures bytes { IfOk result (λ opened. opened.source.now ≡ file.now) }
 {
     open_msf(alloc, file)
-}
-
-/// The bytes of a stream, at most so many.
-fn stream_in(alloc: Global, file: &[u8], number: u32, limit: usize) -> Result<Stream>
-    ensures { Answers (λ stream. stream) result (stream_said number limit file.now) }
-{
-    let mut file = opened(alloc, file)?;
-    file.get(alloc, number, Some(limit))
-}
-
-/// Copies the bytes of a stream into the caller's array, at most as many as the limit.
-#[unsafe(no_mangle)]
-pub extern "C" fn pdb_file_stream(
-    alloc: Global,
-    file: &[u8],
-    number: u32,
-    limit: usize,
-    room: &mut [u8],
-    length: &mut usize,
-    fault: &mut Fault,
-) -> u32
-    ensures answer { CopiesOrLacks (record { fault = fault.new; length = length.new; room = room.new }) room.old
-        (copied room.old (stream_said number limit file.now)) }
-    ensures status { result ≡ fault.new.status }
-{
-    let stream = stream_in(alloc, file, number, limit);
-    copy_stream(stream, room, length).tell(fault)
 }
 
 /// The bytes of the first stream of a name.

@@ -1,11 +1,20 @@
-//! What the statuses of refusals say in other words. The function does nothing: its contract is a law.
+//! What the definitions say in other words. The functions do nothing: each contract is a law.
 
+ghost use Rattle.std.specs.Prelude.{◌≡◌, ℕ, List, Ok, Some};
 ghost use Rattle.pdb_base.specs.Refusal.{Refusal};
+ghost use Rattle.pdb_msf.specs.Layout.{Plan, plan_of, stream_by};
 ghost use Rattle.pdb_c.specs.declared.fault.Fault.{Fault};
+ghost use Rattle.pdb_c.specs.File.{stream_said};
 ghost use Rattle.pdb_c.specs.Told.{IsTold, TellsBack};
 
 /// Refusals of the library and the faults that tell one correspond one to one.
 pub fn statuses()
     ensures forth { (refusal : Refusal) → IsTold refusal }
     ensures back { (fault : Fault) (refusal : Refusal) → TellsBack fault refusal }
+{}
+
+/// Over the bytes of which a plan is kept, its streams are those of the file, read anew.
+pub fn kept_plans()
+    ensures { (file : List ℕ) (plan : Plan) (number limit : ℕ) → plan_of file ≡ Ok plan
+        → stream_by plan file number (Some limit) ≡ stream_said number limit file }
 {}

@@ -11,3 +11,4 @@ pub mod AskedLemmas
 pub mod Kept
 pub mod MagicLemmas
 pub mod StreamLaws
+pub mod LayoutLemmas

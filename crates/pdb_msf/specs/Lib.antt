@@ -8,4 +8,5 @@ pub mod Asked
 pub mod Exactly
 pub mod Directory
 pub mod File
+pub mod Layout
 pub mod Laws

@@ -131,7 +131,7 @@ impl Directory {
 
     /// Where a stream stands.
     #[tactic(auto, unfolding(crate::specs::Directory::place_in))]
-    fn place(&self, page_size: u32, stream_number: u32) -> Result<StreamPlace>
+    pub fn place(&self, page_size: u32, stream_number: u32) -> Result<StreamPlace>
         requires { HasStarts page_size self.now }
         ensures place { Gives (λ place. place) result (place_in page_size stream_number self.now.bytes.items) }
         ensures there { IfOk result (λ place. place.size < absent) }

@@ -5,8 +5,9 @@ ghost use Rattle.std.specs.Prelude.{◌≡◌, ℕ, ◌<◌, List, [], ◌∷◌
 ghost use Rattle.pdb_base.specs.Refusal.{Refusal, page_reference_out_of_range};
 ghost use Rattle.pdb_msf.specs.Pages.{pages, judged, page_numbers};
 ghost use Rattle.pdb_msf.specs.Runs.{AreJoined};
-ghost use Rattle.pdb_msf.specs.Header.{Head};
+ghost use Rattle.pdb_msf.specs.Header.{Head, opened};
 ghost use Rattle.pdb_msf.specs.File.{stream_of};
+ghost use Rattle.pdb_msf.specs.Layout.{Plan, plan_of, stream_by};
 ghost use Rattle.pdb_msf.specs.Laws.{IsLeast, Scatters, StandAtOffsets, AreGood, FirstFault, CutsOnly, IsStream, Moment, IsLater, AnswersAlike};
 
 /// So many bytes take the least number of pages that holds them.
@@ -62,6 +63,14 @@ pub fn limits()
 pub fn streams()
     ensures is { (file : List ℕ) (head : Head) (n : ℕ) (limit : Option ℕ) (bytes : List ℕ) → stream_of file head n limit ≡ Ok bytes → IsStream file head n limit bytes }
     ensures only { (file : List ℕ) (head : Head) (n : ℕ) (limit : Option ℕ) (bytes : List ℕ) → IsStream file head n limit bytes → stream_of file head n limit ≡ Ok bytes }
+{}
+
+/// Over the bytes that it is of, a plan has the header that opens the file, and each stream that the file
+/// has, or its refusal.
+#[tactic(auto, using(crate::proofs::LayoutLemmas::head_read, crate::proofs::LayoutLemmas::same_stream))]
+pub fn plans()
+    ensures head { (file : List ℕ) (plan : Plan) → plan_of file ≡ Ok plan → opened file ≡ Ok plan.head }
+    ensures stream { (file : List ℕ) (plan : Plan) (n : ℕ) (limit : Option ℕ) → plan_of file ≡ Ok plan → stream_by plan file n limit ≡ stream_of file plan.head n limit }
 {}
 
 /// A stream has one answer, whatever was asked before: each call of `get` leads to a later moment of

@@ -4,6 +4,7 @@
 mod directory;
 mod header;
 pub mod laws;
+mod layout;
 mod magic;
 mod msf;
 mod page_list;
@@ -11,6 +12,7 @@ mod scattered;
 mod source;
 mod stream;
 
+pub use layout::Layout;
 pub use magic::{big, small};
 pub use msf::{BigMSF, Msf, open_msf};
 pub use page_list::PageList;

@@ -20,7 +20,7 @@ use std::io::ErrorKind;
 use std::marker::Model;
 
 /// How many bytes of a file are looked at to open it.
-const OPENING_SIZE: usize = 4096;
+pub(crate) const OPENING_SIZE: usize = 4096;
 
 /// A file of streams.
 pub trait Msf<S: Source> {
@@ -173,7 +173,7 @@ impl<S: Source> Msf<S> for BigMSF<S> {
 }
 
 /// A size cut to the limit, if there is one.
-fn limited(size: u32, limit: Option<usize>) -> usize
+pub(crate) fn limited(size: u32, limit: Option<usize>) -> usize
     ensures size { result ≡ limited size limit }
     ensures cut { result ≤ size }
 {
@@ -185,7 +185,7 @@ fn limited(size: u32, limit: Option<usize>) -> usize
 
 /// Views the first `size` bytes of a file; one that has fewer is no database.
 #[tactic(auto, unfolding(crate::specs::Header::opening), using(crate::proofs::PlacesLemmas::front_there, crate::proofs::PlacesLemmas::front_cut))]
-fn view_front<S: Source>(source: &mut S, alloc: Global, size: usize) -> Result<ReadView>
+pub(crate) fn view_front<S: Source>(source: &mut S, alloc: Global, size: usize) -> Result<ReadView>
     ensures bytes { AnswersUnless (HasFailed (S.state source.old) (S.state source.new)) (λ v. v) result
         (opening size (S.state source.old).bytes) }
     ensures kept { IsKept (S.state source.old) (S.state source.new) }

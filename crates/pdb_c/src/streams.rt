@@ -1,0 +1,148 @@
+//! The streams of a file whose header and directory are kept.
+
+ghost use Rattle.std.specs.Prelude.{◌≡◌, Some};
+ghost use Rattle.pdb_base.specs.Answer.{Answers};
+ghost use Rattle.pdb_msf.specs.Layout.{size_by, stream_by, stream_count_in};
+ghost use Rattle.pdb_c.specs.Copied.{CopiesOrLacks, copied_of};
+ghost use Rattle.pdb_c.specs.File.{plan_said};
+ghost use Rattle.pdb_c.specs.Found.{answered_of, found_of};
+ghost use Rattle.pdb_c.specs.Handle.{Opens, file_held};
+
+use crate::content::Content;
+use crate::copied::{copy_nothing, copy_stream};
+use crate::fault::{ALREADY_OPEN, Fault, NOT_OPEN};
+use crate::found::{tell_answered, tell_found};
+use crate::handle::Handle;
+use pdb_base::Result;
+use pdb_msf::Layout;
+use std::alloc::Global;
+
+/// The header and the directory of a file.
+fn layout_in(alloc: Global, file: &[u8]) -> Result<Content>
+    ensures { Answers (λ content. content) result (plan_said file.now) }
+{
+    Ok(Content::File(Layout::read(alloc, file)?))
+}
+
+/// Opens a file: reads its header and its directory, and keeps them. The bytes are not kept.
+#[unsafe(no_mangle)]
+pub extern "C" fn pdb_file_open(
+    alloc: Global,
+    bytes: &[u8],
+    file: &mut Handle,
+    fault: &mut Fault,
+) -> u32
+    ensures opens { Opens file.old.held.content (plan_said bytes.now) fault.new file.new.held.content }
+    ensures status { result ≡ fault.new.status }
+{
+    if file.is_open() {
+        return Fault::status(ALREADY_OPEN).tell(fault);
+    }
+    let opened = layout_in(alloc, bytes);
+    file.open(alloc, opened).tell(fault)
+}
+
+/// Writes how many bytes a page of the file has.
+#[unsafe(no_mangle)]
+pub extern "C" fn pdb_file_page_size(
+    alloc: Global,
+    file: &mut Handle,
+    page_size: &mut u32,
+    fault: &mut Fault,
+) -> u32
+    ensures answer { record { fault = fault.new; value = page_size.new }
+        ≡ found_of page_size.old (λ plan. plan.head.geometry.page_size) (file_held file.old.held.content) }
+    ensures kept { file.new.held.content ≡ file.old.held.content }
+    ensures status { result ≡ fault.new.status }
+{
+    let Some(content) = file.take(alloc) else {
+        return Fault::status(NOT_OPEN).tell(fault);
+    };
+    let told = match &*content {
+        Content::File(layout) => tell_found(Some(layout.page_size()), page_size),
+        _ => Fault::status(NOT_OPEN),
+    };
+    file.put(content);
+    told.tell(fault)
+}
+
+/// Writes how many streams the directory of the file has, the absent ones too.
+#[unsafe(no_mangle)]
+pub extern "C" fn pdb_file_stream_count(
+    alloc: Global,
+    file: &mut Handle,
+    count: &mut u32,
+    fault: &mut Fault,
+) -> u32
+    ensures answer { record { fault = fault.new; value = count.new }
+        ≡ answered_of count.old (λ plan. stream_count_in plan.directory) (file_held file.old.held.content) }
+    ensures kept { file.new.held.content ≡ file.old.held.content }
+    ensures status { result ≡ fault.new.status }
+{
+    let Some(content) = file.take(alloc) else {
+        return Fault::status(NOT_OPEN).tell(fault);
+    };
+    let told = match &*content {
+        Content::File(layout) => tell_answered(layout.stream_count(), count),
+        _ => Fault::status(NOT_OPEN),
+    };
+    file.put(content);
+    told.tell(fault)
+}
+
+/// Writes how many bytes a stream of the file has.
+#[unsafe(no_mangle)]
+pub extern "C" fn pdb_file_stream_size(
+    alloc: Global,
+    file: &mut Handle,
+    number: u32,
+    size: &mut u32,
+    fault: &mut Fault,
+) -> u32
+    ensures answer { record { fault = fault.new; value = size.new }
+        ≡ answered_of size.old (λ plan. size_by plan number) (file_held file.old.held.content) }
+    ensures kept { file.new.held.content ≡ file.old.held.content }
+    ensures status { result ≡ fault.new.status }
+{
+    let Some(content) = file.take(alloc) else {
+        return Fault::status(NOT_OPEN).tell(fault);
+    };
+    let told = match &*content {
+        Content::File(layout) => tell_answered(layout.stream_size(number), size),
+        _ => Fault::status(NOT_OPEN),
+    };
+    file.put(content);
+    told.tell(fault)
+}
+
+/// Copies the bytes of a stream of the file into the caller's array, at most as many as the limit. The
+/// file's bytes are those that it was opened with; of others, it copies what lies in the same places.
+#[unsafe(no_mangle)]
+pub extern "C" fn pdb_file_stream(
+    alloc: Global,
+    file: &mut Handle,
+    bytes: &[u8],
+    number: u32,
+    limit: usize,
+    room: &mut [u8],
+    length: &mut usize,
+    fault: &mut Fault,
+) -> u32
+    ensures answer { CopiesOrLacks (record { fault = fault.new; length = length.new; room = room.new }) room.old
+        (copied_of room.old (λ plan. stream_by plan bytes.now number (Some limit)) (file_held file.old.held.content)) }
+    ensures kept { file.new.held.content ≡ file.old.held.content }
+    ensures status { result ≡ fault.new.status }
+{
+    let Some(content) = file.take(alloc) else {
+        return copy_nothing(Fault::status(NOT_OPEN), length).tell(fault);
+    };
+    let told = match &*content {
+        Content::File(layout) => {
+            let stream = layout.stream(alloc, bytes, number, Some(limit));
+            copy_stream(stream, room, length)
+        }
+        _ => copy_nothing(Fault::status(NOT_OPEN), length),
+    };
+    file.put(content);
+    told.tell(fault)
+}

@@ -1,0 +1,120 @@
+//! What is kept of a file apart from its bytes.
+
+ghost use Rattle.std.specs.Prelude.{◌≡◌};
+ghost use Rattle.pdb_base.specs.Answer.{Answers, Gives};
+ghost use Rattle.pdb_msf.specs.Exactly.{RefusesExactly};
+ghost use Rattle.pdb_msf.specs.Directory.{place_in};
+ghost use Rattle.pdb_msf.specs.Layout.{plan_of, size_by, stream_by, stream_count_in};
+
+use crate::directory::Directory;
+use crate::header::{Header, read_header};
+use crate::msf::{OPENING_SIZE, limited, view_front};
+use crate::scattered::CountedSource;
+use crate::source::SourceView;
+use crate::stream::Stream;
+use pdb_base::{ParseBuffer, Result};
+use std::alloc::Global;
+use std::marker::Model;
+
+/// The header and the directory of a file, by which its streams are read from its bytes. The bytes
+/// themselves stay with the caller, who hands them in where a stream is read.
+#[derive(Debug, Drop)]
+pub struct Layout {
+    header: Header,
+    directory: Directory,
+}
+
+impl Model for Layout {
+    ghost use Rattle.pdb_msf.specs.Directory.{HasStarts};
+    ghost use Rattle.pdb_msf.specs.Header.{IsHeader, header_view};
+    ghost use Rattle.pdb_msf.specs.Layout.{Plan};
+
+    ghost Value = { Plan };
+
+    ghost view = { λ l. record { head = header_view l.header; directory = l.directory.bytes.items } };
+
+    ghost invariant = { λ l. IsHeader l.header × HasStarts l.header.geometry.page_size l.directory };
+}
+
+impl Layout {
+    /// Reads the header and the directory of a file.
+    ///
+    /// # Errors
+    /// The first refusal of the header, as `open_msf` says it, and of the directory: `IoError`,
+    /// `UnexpectedEof` or `PageReferenceOutOfRange` if it can't be read. `OutOfMemory` if memory is
+    /// asked for and refused.
+    #[tactic(auto, unfolding(crate::specs::Header::opened, crate::specs::Layout::plan_of))]
+    pub fn read(alloc: Global, file: &[u8]) -> Result<Layout>
+        ensures { Answers (λ layout. layout) result (plan_of file.now) }
+    {
+        let mut front = file;
+        let view = view_front(&mut front, alloc, OPENING_SIZE)?;
+        let header = read_header(alloc, view.as_slice())?;
+        let directory = Directory::read(&mut CountedSource::new(file), alloc, &header)?;
+        Ok(Layout { header, directory })
+    }
+
+    /// How many bytes a page has: a power of two from 256 to 8,388,608.
+    pub fn page_size(&self) -> u32
+        ensures { result ≡ self.now.head.geometry.page_size }
+    {
+        self.header.geometry.page_size
+    }
+
+    /// How many streams the directory has, the absent ones too: their numbers are those below.
+    ///
+    /// # Errors
+    /// `UnexpectedEof` if the directory ends before its count.
+    pub fn stream_count(&self) -> Result<u32>
+        ensures { Gives (λ count. count) result (stream_count_in self.now.directory) }
+    {
+        let mut buffer = ParseBuffer::from(self.directory.bytes.as_slice());
+        let count = buffer.parse_u32()?;
+        Ok(count)
+    }
+
+    /// How many bytes a stream has.
+    ///
+    /// # Errors
+    /// The first of these, in this order: `UnexpectedEof` if the directory ends before its count;
+    /// `StreamNotFound` from the count on; `UnexpectedEof` if a size up to the stream's own is missing;
+    /// `StreamNotFound` if the stream is absent; `UnexpectedEof` if a later size, or a page number of an
+    /// earlier stream, is missing.
+    pub fn stream_size(&self, stream_number: u32) -> Result<u32>
+        ensures { Gives (λ size. size) result (size_by self.now stream_number) }
+    {
+        let page_size = self.header.geometry.page_size;
+        Ok(self.directory.place(page_size, stream_number)?.size)
+    }
+
+    /// The bytes that lie in the file where the directory has a stream, at most as many as the limit. Of
+    /// the file that was read they are the bytes of its stream.
+    ///
+    /// # Errors
+    /// The first of these, in this order: what `stream_size` refuses; `UnexpectedEof` or
+    /// `PageReferenceOutOfRange` for the first of the stream's page numbers, whatever the limit, that is
+    /// missing or bad; `IoError` if a page below the limit passes the end of the file. `OutOfMemory` if
+    /// memory is asked for and refused, and never in place of what `stream_size` refuses.
+    #[tactic(auto, unfolding(crate::specs::Layout::stream_by))]
+    pub fn stream(
+        &self,
+        alloc: Global,
+        file: &[u8],
+        stream_number: u32,
+        limit: Option<usize>,
+    ) -> Result<Stream>
+        ensures stream { Answers (λ stream. stream) result (stream_by self.now file.now stream_number limit) }
+        ensures exact { RefusesExactly result (place_in self.now.head.geometry.page_size stream_number self.now.directory) }
+    {
+        let geometry = self.header.geometry;
+        let entry = self.directory.entry(alloc, geometry, stream_number)?;
+        let size = limited(entry.size, limit);
+        let bytes = CountedSource::new(file).read_scattered(
+            alloc,
+            geometry.page_size,
+            &entry.pages,
+            size,
+        )?;
+        Ok(Stream::new(bytes.into_bytes()))
+    }
+}
