@@ -40,8 +40,8 @@ impl Layout {
     /// Reads the header and the directory of a file.
     ///
     /// # Errors
-    /// The first refusal of the header, as `open_msf` says it, and of the directory: `IoError`,
-    /// `UnexpectedEof` or `PageReferenceOutOfRange` if it can't be read. `OutOfMemory` if memory is
+    /// The first refusal of the header, as `open_msf` says it, and of the directory: `IoError` or
+    /// `PageReferenceOutOfRange` if it can't be read. `OutOfMemory` if memory is
     /// asked for and refused.
     #[tactic(auto, unfolding(crate::specs::Header::opened, crate::specs::Layout::plan_of))]
     pub fn read(alloc: Global, file: &[u8]) -> Result<Layout>
