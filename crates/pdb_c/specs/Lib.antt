@@ -7,6 +7,7 @@ pub mod Handle
 pub mod Held
 pub mod Ids
 pub mod Listing
+pub mod OpenTable
 pub mod Place
 pub mod Places
 pub mod Ranges
@@ -14,4 +15,6 @@ pub mod Records
 pub mod Roles
 pub mod Row
 pub mod Sections
+pub mod Tables
 pub mod Told
+pub mod Walked

@@ -1,5 +1,6 @@
 //! What can stand behind a handle.
 
+use crate::open_table::OpenTable;
 use pdb_frames::FrameTable;
 use pdb_space::{AddressMap, OMAPTable, StringTable};
 
@@ -17,4 +18,7 @@ pub enum Content {
 
     /// The frames of a program.
     Frames(FrameTable),
+
+    /// The items of a table of types or of ids.
+    Table(OpenTable),
 }

@@ -30,6 +30,7 @@ fn kind_of(content: &Content) -> u32
         Content::Omap(_) => 2,
         Content::Addresses(_) => 3,
         Content::Frames(_) => 4,
+        Content::Table(_) => 6,
     }
 }
 
