@@ -1,5 +1,6 @@
 mod FieldsLemmas
 mod HeldSteps
+mod LearnedLemmas
 mod PartsSteps
 mod PlacesLemmas
 mod StatusLaws

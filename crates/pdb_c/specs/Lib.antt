@@ -15,6 +15,6 @@ pub mod Records
 pub mod Roles
 pub mod Row
 pub mod Sections
+pub mod TableCalls
 pub mod Tables
 pub mod Told
-pub mod Walked

@@ -9,7 +9,7 @@ ghost use Rattle.pdb_c.specs.Copied.{copied_of};
 ghost use Rattle.pdb_c.specs.Handle.{OpensStream, held_as, table_held};
 ghost use Rattle.pdb_c.specs.Records.{FieldsOrLacks};
 ghost use Rattle.pdb_c.specs.Tables.{table_opened};
-ghost use Rattle.pdb_c.specs.Walked.{fields_asked, number_of, rewound, step_told};
+ghost use Rattle.pdb_c.specs.TableCalls.{fields_asked, number_of, rewound, step_told};
 
 use crate::content::Content;
 use crate::copied::copy_nothing;

@@ -56,7 +56,7 @@ impl<'t, I: ItemIndex> Lookup<'t, I> {
         items: ItemIter<'t, I>,
     ) -> Self
         requires { IsShown table.now items finder }
-        ensures { result ≡ record { table = table.now; known = finder.known; index = items.index } }
+        ensures { result ≡ record { table = table.now; known = finder.entry.known; index = items.entry.index } }
     {
         Lookup {
             table,
