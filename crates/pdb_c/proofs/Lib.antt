@@ -1,6 +1,5 @@
 mod FieldsLemmas
 mod HeldSteps
-mod LearnedLemmas
 mod PartsSteps
 mod PlacesLemmas
 mod StatusLaws
