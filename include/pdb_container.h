@@ -287,9 +287,31 @@ typedef struct pdb_frame {
 /* Gives the frame at an address of the original image: the first from there on, or PDB_NOWHERE. */
 uint32_t pdb_frames_at(pdb_handle *frames, uint32_t address, pdb_frame *frame, pdb_fault *fault);
 
-/* ---- types and ids */
+/* ---- tables of types and of ids */
 
-/* What is told of a table of types or of ids. */
+/* Opens the table of types or of ids in a stream, which is copied. Its walk stands before the first item. */
+uint32_t pdb_table_open(const uint8_t *stream, size_t stream_length, pdb_handle *table, pdb_fault *fault);
+
+/* Gives the index of the first item. */
+uint32_t pdb_table_first_index(pdb_handle *table, uint32_t *index, pdb_fault *fault);
+
+/* Gives how many indexes the header counts. The walk may give fewer items, or more. */
+uint32_t pdb_table_count(pdb_handle *table, uint32_t *count, pdb_fault *fault);
+
+/* Copies the record of an index, which has 65,535 bytes at most, wherever in the table it stands. Calls walk
+ * along the table until they have come to the index once, and each later one reads eight lengths at most. An
+ * index below the first is that of a primitive type, and its record has the bytes ff ff. */
+uint32_t pdb_table_find(pdb_handle *table, uint32_t index, uint8_t *room, size_t room_length, size_t *length, pdb_fault *fault);
+
+/* Copies the next record of the walk along the table, and writes its index. Behind the last record this is
+ * PDB_NOWHERE, and where the walk stops before, the refusal; the index is then that at which it stopped. Where
+ * there is no room for the record, the walk stays. */
+uint32_t pdb_table_next(pdb_handle *table, uint32_t *index, uint8_t *room, size_t room_length, size_t *length, pdb_fault *fault);
+
+/* Has the walk stand before the first item again. */
+uint32_t pdb_table_rewind(pdb_handle *table, pdb_fault *fault);
+
+/* What is told of a table of types or of ids that is not kept open. */
 typedef struct pdb_table {
     uint32_t first_index;   /* the index of the first item */
     uint32_t maximum_index; /* one more than that of the last, as the header says */
@@ -407,6 +429,10 @@ typedef struct pdb_field {
 /* Writes the fields that a list of fields has, and the bytes of their names, one name behind another, or tells
  * PDB_NOWHERE of another type. The list goes on in the one of its row's list_index, which has to be below it. */
 uint32_t pdb_type_fields(const uint8_t *record, size_t record_length, uint32_t index, pdb_field *rows, size_t rows_length, size_t *count, uint8_t *names, size_t names_length, size_t *size, pdb_fault *fault);
+
+/* Writes the fields of the list of an index in an open table and of the lists in which it goes on, each below
+ * the one before it, as pdb_type_fields writes those of one. */
+uint32_t pdb_fields(pdb_handle *table, uint32_t index, pdb_field *rows, size_t rows_length, size_t *count, uint8_t *names, size_t names_length, size_t *size, pdb_fault *fault);
 
 /* Writes the numbers of an id, whose record these bytes are. */
 uint32_t pdb_id_row(const uint8_t *record, size_t record_length, pdb_row *row, pdb_fault *fault);

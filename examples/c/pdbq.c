@@ -21,14 +21,6 @@ typedef struct pdb {
     pdb_handle handle;
 } pdb;
 
-/* A table in a stream: where its items stand. */
-typedef struct table {
-    bytes stream;
-    uint32_t *positions;
-    size_t count;
-    pdb_table facts;
-} table;
-
 static const pdb_fault no_memory = {PDB_OUT_OF_MEMORY, 0, 0};
 
 /* Memory for so many items, at least one; it is all zero. */
@@ -69,31 +61,13 @@ static uint32_t read_stream(pdb *file, uint32_t number, bytes *stream, pdb_fault
     return pdb_file_stream(&file->handle, data.at, data.length, number, SIZE_MAX, stream->at, stream->length, &stream->length, fault);
 }
 
-static uint32_t read_table(pdb *file, uint32_t number, table *table, pdb_fault *fault) {
-    uint32_t none[1], status = read_stream(file, number, &table->stream, fault);
-    const uint8_t *at = table->stream.at ? table->stream.at : (const uint8_t *)"";
-    if (status) return status;
-    status = pdb_table_positions(at, table->stream.length, none, 0, &table->count, &table->facts, fault);
-    if (status != PDB_TOO_SMALL) return status;
-    table->positions = room_for(table->count, sizeof *table->positions);
-    if (!table->positions) return told(fault, no_memory);
-    return pdb_table_positions(at, table->stream.length, table->positions, table->count, &table->count, &table->facts, fault);
-}
-
-/* The record of an index. A primitive type has none; its bytes are ff ff. */
-static uint32_t find(const table *table, uint32_t index, bytes *record, pdb_fault *fault) {
-    static uint8_t primitive[] = {0xff, 0xff};
-    uint32_t first = table->facts.first_index;
-    if (index < first) {
-        *record = (bytes){primitive, 2};
-        return told(fault, (pdb_fault){PDB_OK, 0, 0});
-    }
-    if (index >= table->facts.maximum_index) return told(fault, (pdb_fault){PDB_TYPE_NOT_FOUND, index, 0});
-    if (index - first >= table->count)
-        return told(fault, table->facts.stop.status ? table->facts.stop : (pdb_fault){PDB_UNEXPECTED_EOF, 0, 0});
-    const uint8_t *at = table->stream.at + table->positions[index - first];
-    *record = (bytes){(uint8_t *)at + 2, at[0] | at[1] << 8};
-    return told(fault, (pdb_fault){PDB_OK, 0, 0});
+/* The table in a stream. */
+static uint32_t open_table(pdb *file, uint32_t number, pdb_handle *table, pdb_fault *fault) {
+    bytes stream = {0};
+    uint32_t status = read_stream(file, number, &stream, fault);
+    if (!status) status = pdb_table_open(stream.at ? stream.at : (const uint8_t *)"", stream.length, table, fault);
+    free(stream.at);
+    return status;
 }
 
 /* ---- what is printed */
@@ -138,10 +112,11 @@ static uint32_t read_name(copy *copy, const named *of, bytes *name, pdb_fault *f
 }
 
 static uint32_t print_record(pdb *file, uint32_t number, uint32_t index, int is_type, pdb_fault *fault) {
-    table table = {0};
-    bytes record = {0}, name = {0};
-    uint32_t status = read_table(file, number, &table, fault);
-    if (!status) status = find(&table, index, &record, fault);
+    static uint8_t room[0xffff]; /* no record is longer */
+    pdb_handle table = {0};
+    bytes record = {room, 0}, name = {0};
+    uint32_t status = open_table(file, number, &table, fault);
+    if (!status) status = pdb_table_find(&table, index, room, sizeof room, &record.length, fault);
     if (!status) {
         named of = {record, NULL, index};
         status = read_name(is_type ? type_name : id_name, &of, &name, fault);
@@ -152,9 +127,8 @@ static uint32_t print_record(pdb *file, uint32_t number, uint32_t index, int is_
             status = PDB_OK;
         }
     }
+    pdb_close(&table);
     free(name.at);
-    free(table.positions);
-    free(table.stream.at);
     return status;
 }
 
@@ -193,52 +167,24 @@ static uint32_t print_ranges(pdb *file, uint32_t number, uint32_t start, uint32_
     return status;
 }
 
-/* The fields of one list, and the list in which it goes on; 0 if in none. */
-static uint32_t print_list(const table *table, uint32_t index, uint32_t *next, bytes *out, pdb_fault *fault) {
-    bytes record = {0};
-    pdb_row row = {0};
+static uint32_t print_fields(pdb *file, uint32_t number, uint32_t index, pdb_fault *fault) {
     static pdb_field none[1];
+    pdb_handle table = {0};
     pdb_field *fields = NULL;
     uint8_t no_name[1], *names = NULL;
     size_t count = 0, size = 0;
-    uint32_t status = find(table, index, &record, fault);
-    if (status) return status;
-    uint32_t kind = record.at[0] | record.at[1] << 8;
-    if (kind != 0x1203) return told(fault, (pdb_fault){PDB_UNIMPLEMENTED_TYPE_KIND, kind, 0});
-    status = pdb_type_row(record.at, record.length, index, &row, fault);
-    if (!status) status = pdb_type_fields(record.at, record.length, index, none, 0, &count, no_name, 0, &size, fault);
+    uint32_t status = open_table(file, number, &table, fault);
+    if (!status) status = pdb_fields(&table, index, none, 0, &count, no_name, 0, &size, fault);
     if (status == PDB_TOO_SMALL) {
         fields = room_for(count, sizeof *fields);
         names = room_for(size, 1);
-        status = fields && names ? pdb_type_fields(record.at, record.length, index, fields, count, &count, names, size, &size, fault)
-                                 : told(fault, no_memory);
+        status = fields && names ? pdb_fields(&table, index, fields, count, &count, names, size, &size, fault) : told(fault, no_memory);
     }
-    uint8_t *more = status ? NULL : realloc(out->at, out->length + size + 2 * count + 1);
-    if (!status && !more) status = told(fault, no_memory);
-    if (more) out->at = more;
-    for (size_t i = 0, from = 0; !status && i < count; from += fields[i++].name_length) {
-        if (!fields[i].has_name) out->at[out->length++] = '-';
-        memcpy(out->at + out->length, names + from, fields[i].name_length);
-        out->length += fields[i].name_length;
-        out->at[out->length++] = '\n';
-    }
+    for (size_t i = 0, from = 0; !status && i < count; from += fields[i++].name_length)
+        printf("%.*s\n", fields[i].has_name ? (int)fields[i].name_length : 1, fields[i].has_name ? (char *)names + from : "-");
+    pdb_close(&table);
     free(fields);
     free(names);
-    *next = row.stands & PDB_LIST_INDEX ? row.list_index : 0;
-    if (!status && row.stands & PDB_LIST_INDEX && row.list_index >= index)
-        status = told(fault, (pdb_fault){PDB_UNIMPLEMENTED_FEATURE, 9, 0});
-    return status;
-}
-
-static uint32_t print_fields(pdb *file, uint32_t number, uint32_t index, pdb_fault *fault) {
-    table table = {0};
-    bytes out = {0};
-    uint32_t status = read_table(file, number, &table, fault), next = index;
-    for (int more = 1; !status && more; more = next != 0) status = print_list(&table, next, &next, &out, fault);
-    if (!status && out.length) fwrite(out.at, 1, out.length, stdout);
-    free(out.at);
-    free(table.positions);
-    free(table.stream.at);
     return status;
 }
 

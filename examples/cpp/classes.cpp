@@ -61,78 +61,72 @@ struct Field {
     std::string name;
 };
 
-// The table of types of a file.
+// The table of types of a file, which stays open as long as this does.
 class Types {
   public:
     explicit Types(const Bytes &file) {
         File opened(file);
-        stream = answer<uint8_t>([&](uint8_t *room, size_t size, size_t *count, pdb_fault *fault) {
+        Bytes stream = answer<uint8_t>([&](uint8_t *room, size_t size, size_t *count, pdb_fault *fault) {
             return pdb_file_stream(&opened.handle, file.data(), file.size(), types_stream, SIZE_MAX, room, size, count, fault);
         });
-        positions = answer<uint32_t>([&](uint32_t *room, size_t size, size_t *count, pdb_fault *fault) {
-            return pdb_table_positions(stream.data(), stream.size(), room, size, count, &facts, fault);
-        });
-    }
-
-    uint32_t first() const { return facts.first_index; }
-    size_t count() const { return positions.size(); }
-
-    pdb_row row(uint32_t index) const {
-        pdb_row row{};
         pdb_fault fault{};
-        expect(pdb_type_row(record(index), length(index), index, &row, &fault) == PDB_OK, fault);
-        return row;
+        expect(pdb_table_open(stream.data(), stream.size(), &table, &fault) == PDB_OK, fault);
     }
 
-    std::string name(uint32_t index) const {
+    ~Types() { pdb_close(&table); }
+    Types(const Types &) = delete;
+    Types &operator=(const Types &) = delete;
+
+    // Calls with the index and the row of each type, from the first on.
+    template <class Call> void walk(Call call) {
+        uint32_t index = 0, status = PDB_OK;
+        pdb_fault fault{};
+        expect(pdb_table_rewind(&table, &fault) == PDB_OK, fault);
+        while ((status = pdb_table_next(&table, &index, record.data(), record.size(), &length, &fault)) != PDB_NOWHERE) {
+            expect(status == PDB_OK, fault);
+            pdb_row row{};
+            expect(pdb_type_row(record.data(), length, index, &row, &fault) == PDB_OK, fault);
+            call(index, row);
+        }
+    }
+
+    std::string name(uint32_t index) {
+        pdb_fault fault{};
+        expect(pdb_table_find(&table, index, record.data(), record.size(), &length, &fault) == PDB_OK, fault);
         auto name = answer<uint8_t>([&](uint8_t *room, size_t size, size_t *count, pdb_fault *fault) {
-            return pdb_type_name(record(index), length(index), index, room, size, count, fault);
+            return pdb_type_name(record.data(), length, index, room, size, count, fault);
         });
         return std::string(name.begin(), name.end());
     }
 
     // The fields of a list and of those in which it goes on.
-    std::vector<Field> fields(uint32_t index) const {
-        std::vector<Field> all;
-        for (;;) {
-            add_fields(index, all);
-            pdb_row list = row(index);
-            if (!(list.stands & PDB_LIST_INDEX) || list.list_index >= index) return all;
-            index = list.list_index;
-        }
-    }
-
-  private:
-    const uint8_t *at(uint32_t index) const { return stream.data() + positions.at(index - facts.first_index); }
-    const uint8_t *record(uint32_t index) const { return at(index) + 2; }
-    size_t length(uint32_t index) const { return at(index)[0] | at(index)[1] << 8; }
-
-    void add_fields(uint32_t index, std::vector<Field> &all) const {
+    std::vector<Field> fields(uint32_t index) {
         pdb_fault fault{};
         std::vector<pdb_field> rows(1);
         Bytes names(1);
         size_t count = 0, size = 0;
-        uint32_t status = pdb_type_fields(record(index), length(index), index, rows.data(), 0, &count, names.data(), 0, &size, &fault);
+        uint32_t status = pdb_fields(&table, index, rows.data(), 0, &count, names.data(), 0, &size, &fault);
         expect(status == PDB_OK || status == PDB_TOO_SMALL, fault);
         rows.resize(count + 1);
         names.resize(size + 1);
-        status = pdb_type_fields(record(index), length(index), index, rows.data(), count, &count, names.data(), size, &size, &fault);
-        expect(status == PDB_OK, fault);
+        expect(pdb_fields(&table, index, rows.data(), count, &count, names.data(), size, &size, &fault) == PDB_OK, fault);
+        std::vector<Field> all;
         auto from = names.begin();
         for (size_t i = 0; i < count; from += rows[i++].name_length) all.push_back({rows[i].row, std::string(from, from + rows[i].name_length)});
+        return all;
     }
 
-    Bytes stream;
-    std::vector<uint32_t> positions;
-    pdb_table facts{};
+  private:
+    pdb_handle table{};
+    Bytes record = Bytes(0xffff); // no record is longer
+    size_t length = 0;
 };
 
-void print_largest(const Types &types) {
+void print_largest(Types &types) {
     std::vector<std::pair<uint32_t, pdb_row>> classes;
-    for (uint32_t index = types.first(); index < types.first() + types.count(); index++) {
-        pdb_row row = types.row(index);
+    types.walk([&](uint32_t index, const pdb_row &row) {
         if (row.shape == PDB_CLASS && !(row.properties & forward)) classes.emplace_back(index, row);
-    }
+    });
     std::stable_sort(classes.begin(), classes.end(), [](auto &a, auto &b) { return a.second.number > b.second.number; });
     if (classes.size() > most) classes.resize(most);
     for (auto &[index, row] : classes) {
@@ -148,7 +142,8 @@ void print_largest(const Types &types) {
 int main(int count, char **words) {
     try {
         std::ifstream in(count > 1 ? words[1] : "", std::ios::binary);
-        print_largest(Types(Bytes(std::istreambuf_iterator<char>(in), {})));
+        Types types(Bytes(std::istreambuf_iterator<char>(in), {}));
+        print_largest(types);
         return 0;
     } catch (const std::exception &error) {
         std::fprintf(stderr, "%s\n", error.what());

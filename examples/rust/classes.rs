@@ -15,10 +15,9 @@ const MOST: usize = 5;
 
 fn main() -> Result<(), Box<dyn Error>> {
     let path = std::env::args_os().nth(1).ok_or("usage: classes FILE")?;
-    let types = Types::open(&std::fs::read(path)?)?;
+    let mut types = Types::open(&std::fs::read(path)?)?;
     let mut classes = Vec::new();
-    for index in types.indexes() {
-        let row = types.row(index)?;
+    for (index, row) in types.rows()? {
         if row.shape == CLASS && row.properties & FORWARD == 0 {
             classes.push((index, row));
         }

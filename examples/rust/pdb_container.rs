@@ -50,18 +50,30 @@ struct RawField {
     has_name: u32,
 }
 
-#[repr(C)]
-#[derive(Clone, Copy, Default)]
-struct Facts {
-    first_index: u32,
-    maximum_index: u32,
-    stop: Fault,
-}
-
+/// What is open, which is closed when this ends.
 #[repr(C)]
 struct Handle {
     held: *mut c_void,
     kind: u32,
+}
+
+impl Handle {
+    /// Opens a handle by a call.
+    fn open(call: impl FnOnce(&mut Handle, &mut Fault) -> u32) -> Result<Handle, Refused> {
+        let mut handle = Handle { held: std::ptr::null_mut(), kind: 0 };
+        let mut fault = Fault::default();
+        match call(&mut handle, &mut fault) {
+            OK => Ok(handle),
+            _ => Err(refused(&fault)),
+        }
+    }
+}
+
+impl Drop for Handle {
+    fn drop(&mut self) {
+        // SAFETY: the handle was all zero or made by the library, and is not copied.
+        unsafe { pdb_close(self) }
+    }
 }
 
 pub const CLASS: u32 = 1;
@@ -80,10 +92,13 @@ extern "C" {
     fn pdb_file_stream(file: *mut Handle, bytes: *const u8, len: usize, number: u32, limit: usize, room: *mut u8, size: usize, length: *mut usize, fault: *mut Fault) -> u32;
     fn pdb_file_names(file: *const u8, len: usize, names: *mut Handle, fault: *mut Fault) -> u32;
     fn pdb_names_get(names: *mut Handle, offset: u32, room: *mut u8, size: usize, length: *mut usize, fault: *mut Fault) -> u32;
-    fn pdb_table_positions(stream: *const u8, len: usize, positions: *mut u32, size: usize, count: *mut usize, facts: *mut Facts, fault: *mut Fault) -> u32;
+    fn pdb_table_open(stream: *const u8, len: usize, table: *mut Handle, fault: *mut Fault) -> u32;
+    fn pdb_table_find(table: *mut Handle, index: u32, room: *mut u8, size: usize, length: *mut usize, fault: *mut Fault) -> u32;
+    fn pdb_table_next(table: *mut Handle, index: *mut u32, room: *mut u8, size: usize, length: *mut usize, fault: *mut Fault) -> u32;
+    fn pdb_table_rewind(table: *mut Handle, fault: *mut Fault) -> u32;
+    fn pdb_fields(table: *mut Handle, index: u32, rows: *mut RawField, size: usize, count: *mut usize, names: *mut u8, room: usize, bytes: *mut usize, fault: *mut Fault) -> u32;
     fn pdb_type_row(record: *const u8, len: usize, index: u32, row: *mut Row, fault: *mut Fault) -> u32;
     fn pdb_type_name(record: *const u8, len: usize, index: u32, room: *mut u8, size: usize, length: *mut usize, fault: *mut Fault) -> u32;
-    fn pdb_type_fields(record: *const u8, len: usize, index: u32, rows: *mut RawField, size: usize, count: *mut usize, names: *mut u8, room: usize, bytes: *mut usize, fault: *mut Fault) -> u32;
 }
 
 fn refused(about: &Fault) -> Refused {
@@ -153,13 +168,8 @@ pub struct Names(Handle);
 
 impl Names {
     pub fn open(file: &[u8]) -> Result<Names, Refused> {
-        let mut names = Names(Handle { held: std::ptr::null_mut(), kind: 0 });
-        let mut fault = Fault::default();
-        // SAFETY: the handle is all zero, and stays with this value.
-        match unsafe { pdb_file_names(file.as_ptr(), file.len(), &mut names.0, &mut fault) } {
-            OK => Ok(names),
-            _ => Err(refused(&fault)),
-        }
+        // SAFETY: the slice is as long as it says, and the handle is all zero.
+        Handle::open(|names, fault| unsafe { pdb_file_names(file.as_ptr(), file.len(), names, fault) }).map(Names)
     }
 
     /// The bytes of the name at an offset.
@@ -171,13 +181,6 @@ impl Names {
     }
 }
 
-impl Drop for Names {
-    fn drop(&mut self) {
-        // SAFETY: the handle is this value's own.
-        unsafe { pdb_close(&mut self.0) }
-    }
-}
-
 /// A field of a class, with its name.
 pub struct Field {
     pub row: Row,
@@ -186,69 +189,78 @@ pub struct Field {
 
 /// The table of types of a file.
 pub struct Types {
-    stream: Vec<u8>,
-    positions: Vec<u32>,
-    first: u32,
+    table: Handle,
+    record: Vec<u8>,
+    length: usize,
 }
+
+/// No record is longer.
+const LONGEST: usize = 0xffff;
 
 impl Types {
     pub fn open(file: &[u8]) -> Result<Types, Refused> {
-        let (stream, mut facts) = (File::open(file)?.stream(2)?, Facts::default());
+        let stream = File::open(file)?.stream(2)?;
         // SAFETY: as above.
-        let positions = answer(|room, size, count, fault| unsafe {
-            pdb_table_positions(stream.as_ptr(), stream.len(), room, size, count, &mut facts, fault)
-        })?;
-        let positions = positions.unwrap_or_default();
-        Ok(Types { stream, positions, first: facts.first_index })
+        let table = Handle::open(|table, fault| unsafe { pdb_table_open(stream.as_ptr(), stream.len(), table, fault) })?;
+        Ok(Types { table, record: vec![0; LONGEST], length: 0 })
     }
 
-    pub fn indexes(&self) -> std::ops::Range<u32> {
-        self.first..self.first + self.positions.len() as u32
-    }
-
-    /// The record of an index, none for one that the table does not have.
-    fn record(&self, index: u32) -> &[u8] {
-        let Some(at) = index.checked_sub(self.first).and_then(|place| self.positions.get(place as usize)) else {
-            return &[];
-        };
-        let bytes = &self.stream[*at as usize..];
-        &bytes[2..2 + u16::from_le_bytes([bytes[0], bytes[1]]) as usize]
-    }
-
-    pub fn row(&self, index: u32) -> Result<Row, Refused> {
-        let (record, mut row, mut fault) = (self.record(index), Row::default(), Fault::default());
+    /// The index and the row of each type, from the first on.
+    pub fn rows(&mut self) -> Result<Vec<(u32, Row)>, Refused> {
+        let (mut rows, mut index, mut fault) = (Vec::new(), 0, Fault::default());
         // SAFETY: as above.
-        match unsafe { pdb_type_row(record.as_ptr(), record.len(), index, &mut row, &mut fault) } {
+        unsafe { pdb_table_rewind(&mut self.table, &mut fault) };
+        loop {
+            // SAFETY: as above.
+            match unsafe { pdb_table_next(&mut self.table, &mut index, self.record.as_mut_ptr(), LONGEST, &mut self.length, &mut fault) } {
+                OK => rows.push((index, self.row(index)?)),
+                NOWHERE => return Ok(rows),
+                _ => return Err(refused(&fault)),
+            }
+        }
+    }
+
+    /// The row of the type whose record was copied last.
+    fn row(&self, index: u32) -> Result<Row, Refused> {
+        let (mut row, mut fault) = (Row::default(), Fault::default());
+        // SAFETY: as above.
+        match unsafe { pdb_type_row(self.record.as_ptr(), self.length, index, &mut row, &mut fault) } {
             OK => Ok(row),
             _ => Err(refused(&fault)),
         }
     }
 
-    pub fn name(&self, index: u32) -> Result<Option<String>, Refused> {
-        let record = self.record(index);
+    pub fn name(&mut self, index: u32) -> Result<Option<String>, Refused> {
+        let mut fault = Fault::default();
+        // SAFETY: as above.
+        let status = unsafe { pdb_table_find(&mut self.table, index, self.record.as_mut_ptr(), LONGEST, &mut self.length, &mut fault) };
+        if status != OK {
+            return Err(refused(&fault));
+        }
         // SAFETY: as above.
         let name = answer(|room, size, count, fault| unsafe {
-            pdb_type_name(record.as_ptr(), record.len(), index, room, size, count, fault)
+            pdb_type_name(self.record.as_ptr(), self.length, index, room, size, count, fault)
         })?;
         Ok(name.map(|name| String::from_utf8_lossy(&name).into_owned()))
     }
 
-    fn listed(&self, index: u32) -> Result<Vec<Field>, Refused> {
-        let (record, mut fault) = (self.record(index), Fault::default());
+    /// The fields of a list and of those in which it goes on.
+    pub fn fields(&mut self, index: u32) -> Result<Vec<Field>, Refused> {
         let (mut rows, mut names) = (vec![RawField::default(); 1], vec![0; 1]);
-        let (mut count, mut bytes) = (0, 0);
+        let (mut count, mut bytes, mut fault) = (0, 0, Fault::default());
         // SAFETY: as above; both arrays are as long as they say.
-        let mut call = |rows: &mut [RawField], size, names: &mut [u8], room| unsafe {
-            let status = pdb_type_fields(record.as_ptr(), record.len(), index, rows.as_mut_ptr(), size, &mut count, names.as_mut_ptr(), room, &mut bytes, &mut fault);
-            (status, count, bytes, fault)
+        let status = unsafe {
+            pdb_fields(&mut self.table, index, rows.as_mut_ptr(), 0, &mut count, names.as_mut_ptr(), 0, &mut bytes, &mut fault)
         };
-        let (status, count, bytes, fault) = call(&mut rows, 0, &mut names, 0);
         if status != OK && status != TOO_SMALL {
             return Err(refused(&fault));
         }
         rows.resize(count.max(1), RawField::default());
         names.resize(bytes.max(1), 0);
-        let (status, _, _, fault) = call(&mut rows, count, &mut names, bytes);
+        // SAFETY: as above.
+        let status = unsafe {
+            pdb_fields(&mut self.table, index, rows.as_mut_ptr(), count, &mut count, names.as_mut_ptr(), bytes, &mut bytes, &mut fault)
+        };
         if status != OK {
             return Err(refused(&fault));
         }
@@ -261,18 +273,5 @@ impl Types {
                 Field { row: field.row, name }
             })
             .collect())
-    }
-
-    /// The fields of a list and of those in which it goes on.
-    pub fn fields(&self, mut index: u32) -> Result<Vec<Field>, Refused> {
-        let mut all = Vec::new();
-        loop {
-            all.extend(self.listed(index)?);
-            let row = self.row(index)?;
-            if row.stands & LIST_INDEX == 0 || row.list_index >= index {
-                return Ok(all);
-            }
-            index = row.list_index;
-        }
     }
 }

@@ -1,6 +1,8 @@
 -- The fields of a list of fields, as they are listed for the caller.
 use Rattle.std.proofs.Common.{◌≡◌, List, [], ◌∷◌, ◌++◌, map, refl, ap, sym, ◌∙◌, ℕ}
 use Rattle.std.specs.List.{flat_map}
+use Rattle.pdb_base.specs.Answer.{Answer}
+use Rattle.pdb_base.proofs.Collected.{ok}
 use Rattle.pdb_values.specs.declared.field_list.FieldList.{FieldList, fold_out-FieldList}
 use Rattle.pdb_values.specs.declared.type_data.TypeData.{TypeData, fold-roll-TypeData}
 use Rattle.pdb_values.specs.declared.type_data.TypeData.TheVariants as variants
@@ -10,7 +12,7 @@ use Rattle.pdb_values.specs.TypeValue.{TypeValue}
 use Rattle.pdb_values.specs.TypeView.{type_value, field_list_value, view_step, list_step}
 use Rattle.pdb_values.proofs.FieldLemmas as fields
 use Rattle.pdb_c.specs.declared.fields.FieldRow.{FieldRow}
-use Rattle.pdb_c.specs.Records.{Listing, field_row, fields_in, listing, name_bytes}
+use Rattle.pdb_c.specs.Records.{Listing, all_found, field_row, fields_in, listing, listings, name_bytes}
 use Rattle.std.specs.Prelude.{Option, Some}
 use Rattle.std.specs.Option.{option_map}
 
@@ -40,3 +42,13 @@ listed value list items rows names is same row_is name_is =
     ∙ ap (λ (values : List TypeValue). Some (listing values)) (fields.listed (map type_value types))
     ∙ ap (λ (r : List FieldRow). as_some (record { rows = r; names = flat_map name_bytes (map type_value types) })) rows'
     ∙ ap (λ (n : List ℕ). as_some (record { rows = rows; names = n })) names'
+
+-- what is listed of fields that were found
+pub listed_found : (types items : List TypeData) (meant : Answer (List TypeValue)) (rows : List FieldRow) (names : List ℕ) → meant ≡ ok (map type_value types) → items ≡ types
+    → rows ≡ map (λ type. field_row (type_value type)) items → names ≡ flat_map (λ type. name_bytes (type_value type)) items → listings (all_found meant) ≡ ok (Some (record { rows = rows; names = names }))
+listed_found types items meant rows names is same row_is name_is =
+    let rows' : map field_row (map type_value types) ≡ rows = sym (row_is ∙ ap (λ (xs : List TypeData). map (λ type. field_row (type_value type)) xs) same ∙ rows_are types) in
+    let names' : flat_map name_bytes (map type_value types) ≡ names = sym (name_is ∙ ap (λ (xs : List TypeData). flat_map (λ type. name_bytes (type_value type)) xs) same ∙ names_are types) in
+    ap (λ (m : Answer (List TypeValue)). listings (all_found m)) is
+    ∙ ap (λ (r : List FieldRow). ok (as_some (record { rows = r; names = flat_map name_bytes (map type_value types) }))) rows'
+    ∙ ap (λ (n : List ℕ). ok (as_some (record { rows = rows; names = n }))) names'

@@ -6,6 +6,7 @@ use Rattle.pdb_frames.specs.Table.{Frames}
 use Rattle.pdb_msf.specs.Layout.{Plan}
 use Rattle.pdb_space.specs.Conversions.{Arrangement}
 use Rattle.pdb_space.specs.Omap.{Mapping}
+use Rattle.pdb_tpi.specs.Steps.{Stand}
 use Rattle.pdb_c.specs.declared.content.Content.{Content}
 use Rattle.pdb_c.specs.declared.content.Content.TheVariants as contents
 use Rattle.pdb_c.specs.declared.fault.Fault.{Fault}
@@ -19,6 +20,7 @@ kind_of (Some (contents.Omap table)) = 2
 kind_of (Some (contents.Addresses map)) = 3
 kind_of (Some (contents.Frames table)) = 4
 kind_of (Some (contents.File plan)) = 5
+kind_of (Some (contents.Table table)) = 6
 
 -- what an answer says, as the content of a handle
 abbrev pub held_as : {A : Type 0} → (A → Content) → Answer A → Answer Content
@@ -70,3 +72,8 @@ file_held held = None
 abbrev pub frames_held : Option Content → Option Frames
 frames_held (Some (contents.Frames table)) = Some table
 frames_held held = None
+
+-- the table of types or of ids that it holds, and where the walk along it stands
+abbrev pub table_held : Option Content → Option Stand
+table_held (Some (contents.Table table)) = Some table
+table_held held = None

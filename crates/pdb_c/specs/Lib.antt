@@ -10,6 +10,7 @@ pub mod Information
 pub mod Listing
 pub mod Lists
 pub mod Offsets
+pub mod OpenTable
 pub mod Place
 pub mod Places
 pub mod Ranges
@@ -17,4 +18,6 @@ pub mod Records
 pub mod Roles
 pub mod Row
 pub mod Sections
+pub mod TableCalls
+pub mod Tables
 pub mod Told

@@ -1,6 +1,7 @@
 -- What the record of a type says, as a caller sees it: its row, its name and its lists.
 use Rattle.std.specs.Prelude.{◌≡◌, ◌⊎◌, ℕ, ◌||◌, nat_lt, if◌then◌else◌, is_some, unwrap_or, List, [], ◌++◌, length, drop, map, Option, Some, None, Ok, Err}
 use Rattle.std.specs.List.{flat_map}
+use Rattle.std.specs.Option.{option_map}
 use Rattle.pdb_base.specs.Answer.{Answer, ◌>>=◌}
 use Rattle.pdb_base.specs.Refusal.{out_of_memory}
 use Rattle.pdb_values.specs.TypeValue.{TypeValue, argument_list, field_list, name_of, values_in}
@@ -53,6 +54,14 @@ pub record Listing : Type 0 where
 
 abbrev pub listing : List TypeValue → Listing
 listing fields = record { rows = map field_row fields; names = flat_map name_bytes fields }
+
+-- the same of what may be fields
+abbrev pub listings : Answer (Option (List TypeValue)) → Answer (Option Listing)
+listings meant = meant >>= λ fields. Ok (option_map listing fields)
+
+-- fields that there are
+abbrev pub all_found : Answer (List TypeValue) → Answer (Option (List TypeValue))
+all_found meant = meant >>= λ fields. Ok (Some fields)
 
 -- how a call ended that writes rows and their names, how many of both there are, and the caller's arrays
 -- afterwards

@@ -1,5 +1,6 @@
 //! What can stand behind a handle.
 
+use crate::open_table::OpenTable;
 use pdb_frames::FrameTable;
 use pdb_msf::Layout;
 use pdb_space::{AddressMap, OMAPTable, StringTable};
@@ -21,4 +22,7 @@ pub enum Content {
 
     /// The header and the directory of a file.
     File(Layout),
+
+    /// The items of a table of types or of ids.
+    Table(OpenTable),
 }

@@ -1,11 +1,12 @@
 //! Lists of fields.
 
-ghost use Rattle.std.specs.Prelude.{◌≡◌, map, Ok, IfOk, IfErr};
+ghost use Rattle.std.specs.Prelude.{◌≡◌, List, Option, map, Ok, IfOk, IfErr};
 ghost use Rattle.std.specs.List.{flat_map};
 ghost use Rattle.std.specs.Option.{option_map};
-ghost use Rattle.pdb_base.specs.Answer.{Answers};
+ghost use Rattle.pdb_base.specs.Answer.{Answer, Answers};
+ghost use Rattle.pdb_values.specs.TypeValue.{TypeValue};
 ghost use Rattle.pdb_values.specs.TypeView.{type_value};
-ghost use Rattle.pdb_c.specs.Records.{FieldsOrLacks, field_row, fielded, fields_in, fields_of_record, fields_told, listing, name_bytes};
+ghost use Rattle.pdb_c.specs.Records.{FieldsOrLacks, all_found, field_row, fielded, fields_in, fields_of_record, fields_told, listings, name_bytes};
 ghost use Rattle.pdb_c.specs.Listing.{listing_view};
 
 use crate::copied::copy_both;
@@ -31,7 +32,7 @@ pub struct FieldRow {
 
 /// Fields and the bytes of their names.
 #[derive(Drop)]
-struct Listing {
+pub struct Listing {
     rows: Vec<FieldRow>,
     names: Vec<u8>,
 }
@@ -100,7 +101,7 @@ pub fn write_nothing(fault: Fault, count: &mut usize, size: &mut usize) -> Fault
 /// The fields that a type lists, for the caller, if it is a list of fields.
 #[tactic(auto, using(pdb_values::proofs::FieldLemmas::listed))]
 fn listing_of(alloc: Global, value: &TypeData<'_>) -> Result<Option<Listing>>
-    ensures { Answers (option_map listing_view) result (Ok (option_map listing (fields_in (type_value value.now)))) }
+    ensures { Answers (option_map listing_view) result (listings (Ok (fields_in (type_value value.now)))) }
 {
     match value {
         TypeData::FieldList(list) => Ok(Some(shown(alloc, &list.fields)?)),
@@ -108,23 +109,39 @@ fn listing_of(alloc: Global, value: &TypeData<'_>) -> Result<Option<Listing>>
     }
 }
 
-/// Writes the fields of a type, if it is a list of fields.
-fn write_fields(
-    alloc: Global,
-    value: &TypeData<'_>,
+/// All fields that were found, for the caller.
+pub fn listing_found(alloc: Global, found: Result<Vec<TypeData<'_>>>) -> Result<Option<Listing>>
+    ensures { (meant : Answer (List TypeValue)) → Answers (λ fields. map type_value fields.items) found.entry meant
+        → Answers (option_map listing_view) result (listings (all_found meant)) }
+{
+    Ok(Some(shown(alloc, &found?)?))
+}
+
+/// Writes fields, if there is a list of them.
+pub fn write_found(
+    found: Result<Option<Listing>>,
     rows: &mut [FieldRow],
     count: &mut usize,
     names: &mut [u8],
     size: &mut usize,
 ) -> Fault
-    ensures { FieldsOrLacks (record { fault = result; rows = rows.new; count = count.new; names = names.new; size = size.new })
-        rows.old names.old (fields_told rows.old names.old (Ok (fields_in (type_value value.now)))) }
+    ensures { (meant : Answer (Option (List TypeValue))) → Answers (option_map listing_view) found (listings meant)
+        → FieldsOrLacks (record { fault = result; rows = rows.new; count = count.new; names = names.new; size = size.new })
+        rows.old names.old (fields_told rows.old names.old meant) }
 {
-    match listing_of(alloc, value) {
+    match found {
         Ok(Some(listing)) => write_listing(&listing, rows, count, names, size),
         Ok(None) => write_nothing(Fault::status(NOWHERE), count, size),
         Err(error) => write_nothing(Fault::of(&error), count, size),
     }
+}
+
+/// The fields that a record lists, for the caller, if it is a list of fields.
+fn fields_of(alloc: Global, bytes: &[u8], index: u32) -> Result<Option<Listing>>
+    ensures { Answers (option_map listing_view) result (listings (fields_of_record index bytes.now)) }
+{
+    let value = type_in(alloc, bytes, index)?;
+    listing_of(alloc, &value)
 }
 
 /// Writes the fields that the record of a list of fields has, and the bytes of their names, one name
@@ -144,8 +161,5 @@ pub extern "C" fn pdb_type_fields(
         rows.old names.old (fields_told rows.old names.old (fields_of_record index bytes.now)) }
     ensures status { result ≡ fault.new.status }
 {
-    match type_in(alloc, bytes, index) {
-        Ok(value) => write_fields(alloc, &value, rows, count, names, size).tell(fault),
-        Err(error) => write_nothing(Fault::of(&error), count, size).tell(fault),
-    }
+    write_found(fields_of(alloc, bytes, index), rows, count, names, size).tell(fault)
 }

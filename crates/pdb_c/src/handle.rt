@@ -31,6 +31,7 @@ fn kind_of(content: &Content) -> u32
         Content::Addresses(_) => 3,
         Content::Frames(_) => 4,
         Content::File(_) => 5,
+        Content::Table(_) => 6,
     }
 }
 

@@ -6,7 +6,7 @@ ghost use Rattle.pdb_base.specs.Answer.{Answers, Gives};
 ghost use Rattle.pdb_tpi.specs.Finder.{known_first, item_of};
 ghost use Rattle.pdb_tpi.specs.Chain.{fields_of};
 ghost use Rattle.pdb_values.specs.TypeView.{type_value};
-ghost use Rattle.pdb_container.specs.Lookup.{is_known};
+ghost use Rattle.pdb_container.specs.Lookup.{IsShown, is_known};
 
 use pdb_base::{Error, FallibleIterator, ItemIndex, Result, TypeIndex};
 use pdb_tpi::{Item, ItemFinder, ItemInformation, ItemIter, TypeInformation};
@@ -47,6 +47,36 @@ impl<'t, I: ItemIndex> Lookup<'t, I> {
             finder: table.finder(alloc)?,
             items: table.iter(),
         })
+    }
+
+    /// Looks up items of a table with a finder and an iterator that `into_parts` of a look-up gave.
+    pub fn with_parts(
+        table: &'t ItemInformation<I>,
+        finder: ItemFinder<'t, I>,
+        items: ItemIter<'t, I>,
+    ) -> Self
+        requires { IsShown table.now items finder }
+        ensures { result ≡ record { table = table.now; known = finder.entry.known; index = items.entry.index } }
+    {
+        Lookup {
+            table,
+            finder,
+            items,
+        }
+    }
+
+    /// What it has learned of its table: a finder, and an iterator that stands where its walk does.
+    pub fn into_parts(self) -> (ItemFinder<'t, I>, ItemIter<'t, I>)
+        ensures shown { IsShown self.entry.table result.1 result.0 }
+        ensures finder { result.0.known ≡ self.entry.known }
+        ensures items { result.1.index ≡ self.entry.index }
+    {
+        let Lookup {
+            table: _,
+            finder,
+            items,
+        } = self;
+        (finder, items)
     }
 
     /// Whether the finder knows the block of an index, or need not know it since the header doesn't count

@@ -1,10 +1,11 @@
 //! Finds items of a table by their indexes.
 
-ghost use Rattle.std.specs.Prelude.{◌≡◌, ◌+◌, ◌≤◌, All, map, IsOk, IfOk, Ok};
+ghost use Rattle.std.specs.Prelude.{◌≡◌, ◌+◌, ◌≤◌, All, length, map, vec_capacity, IsOk, IfOk, Ok};
 ghost use Rattle.pdb_base.specs.Answer.{Answers, Gives};
 ghost use Rattle.pdb_base.specs.Count.{calls_of, after_calls};
 ghost use Rattle.pdb_tpi.specs.Steps.{Stand};
 ghost use Rattle.pdb_tpi.specs.Table.{count_of};
+ghost use Rattle.pdb_tpi.specs.Place.{ArePlaces};
 ghost use Rattle.pdb_tpi.specs.Finder.{Indexed, known_first, known_after, known_of, max_index_of, most_blocks, find_of, reads_of};
 
 use crate::item::Item;
@@ -68,6 +69,27 @@ impl<I: ItemIndex> ItemInformation<I> {
 }
 
 impl<'t, I: ItemIndex> ItemFinder<'t, I> {
+    /// A finder of a table that knows the blocks at these positions, which a finder of the same table knew
+    /// and gave by `into_positions`.
+    pub fn with_positions(table: &'t ItemInformation<I>, positions: Vec<u32>) -> Self
+        requires { ArePlaces table.now positions.items (vec_capacity positions) }
+        ensures { result ≡ record { table = table.now; known = length positions.items } }
+    {
+        ItemFinder { table, positions }
+    }
+
+    /// Where the blocks that it knows begin, apart from the table.
+    pub fn into_positions(self) -> Vec<u32>
+        ensures places { ArePlaces self.entry.table result.items (vec_capacity result) }
+        ensures known { length result.items ≡ self.entry.known }
+    {
+        let ItemFinder {
+            table: _,
+            positions,
+        } = self;
+        positions
+    }
+
     /// The last index of the blocks that are known, or 0 where none is.
     pub fn max_index(&self) -> I
         ensures index { I.number result ≡ max_index_of self.now.table self.now.known }

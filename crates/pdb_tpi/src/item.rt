@@ -46,6 +46,13 @@ impl<'t, I: Copy> Item<'t, I> {
         self.bytes.len()
     }
 
+    /// The bytes of the record, without the length that stands before it.
+    pub fn as_bytes(&self) -> &'t [u8]
+        ensures { result.now ≡ self.now.bytes.now }
+    {
+        self.bytes
+    }
+
     /// Whether the record has no byte, which is so of none.
     pub fn is_empty(&self) -> bool
         ensures { IsTrue result ↔ (self.now.bytes.now ≡ []) }

@@ -52,8 +52,9 @@ fn read_item<'t>(bytes: &'t [u8], count: &mut Count) -> Result<&'t [u8]>
 }
 
 impl<'t, I: ItemIndex> ItemIter<'t, I> {
-    /// An iterator before the item of an index, which begins at a position.
-    pub(crate) fn at(table: &'t ItemInformation<I>, index: u64, position: usize) -> Self
+    /// An iterator before the item of an index, which begins at a position: where an iterator over the same
+    /// table stood once, as `place` said.
+    pub fn at(table: &'t ItemInformation<I>, index: u64, position: usize) -> Self
         requires { IsPlace table.now index position }
         ensures { result ≡ record { table = table.now; index = index } }
     {

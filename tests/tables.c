@@ -1,0 +1,233 @@
+// Checks what the library says of an open table against the calls that read its stream anew.
+//
+// tables FILE    FILE holds the stream of a table of types. Prints how many records and fields were compared.
+//                Where memory is refused, it says so on standard error and gives 1; where a call answers wrongly,
+//                it tells the line of this file and gives 2.
+#include <pdb_container.h>
+#include <stdio.h>
+#include <stdlib.h>
+#include <string.h>
+
+enum { MOST = 0xffff, LIST = 0x1203 };
+
+static uint8_t *stream, record[MOST + 1], *names, *joined_names;
+static size_t stream_length, count;
+static uint32_t *positions;
+static pdb_field *fields, *joined;
+static pdb_handle table;
+static pdb_table facts;
+
+static void end(int status) {
+    pdb_close(&table);
+    free(stream);
+    free(positions);
+    free(fields);
+    free(joined);
+    free(names);
+    free(joined_names);
+    exit(status);
+}
+
+static void expect(int is_well, int line) {
+    if (is_well) return;
+    fprintf(stderr, "line %d\n", line);
+    end(2);
+}
+#define EXPECT(test) expect(test, __LINE__)
+
+static void lacks(void) {
+    fputs("OutOfMemory\n", stderr);
+    end(1);
+}
+
+// The status of a call, which had memory.
+static uint32_t had(uint32_t status) {
+    if (status == PDB_OUT_OF_MEMORY) lacks();
+    return status;
+}
+
+static void *room_for(size_t items, size_t size) {
+    void *room = calloc(items ? items : 1, size);
+    if (!room) lacks();
+    return room;
+}
+
+static void read_stream(const char *path) {
+    FILE *in = fopen(path, "rb");
+    EXPECT(in && !fseek(in, 0, SEEK_END));
+    long size = ftell(in);
+    rewind(in);
+    stream = calloc(size ? size : 1, 1);
+    size_t got = stream ? fread(stream, 1, size, in) : 0;
+    fclose(in);
+    if (!stream) lacks();
+    EXPECT(got == (size_t)size);
+    stream_length = size;
+}
+
+static size_t length_at(size_t n) { return stream[positions[n]] | stream[positions[n] + 1] << 8; }
+
+static int same_fault(pdb_fault one, pdb_fault other) { return !memcmp(&one, &other, sizeof one); }
+
+// A table that is opened is one whose items are placed, and the same refusal is told of any other.
+static int is_open(void) {
+    pdb_fault fault, placed;
+    uint32_t none[1], status = had(pdb_table_positions(stream, stream_length, none, 0, &count, &facts, &placed));
+    EXPECT(had(pdb_table_open(stream, stream_length, &table, &fault)) == fault.status);
+    EXPECT(!fault.status == (status == PDB_OK || status == PDB_TOO_SMALL));
+    if (fault.status) {
+        EXPECT(same_fault(fault, placed) && !table.held && !table.kind);
+        return 0;
+    }
+    positions = room_for(count, sizeof *positions);
+    EXPECT(had(pdb_table_positions(stream, stream_length, positions, count, &count, &facts, &placed)) == PDB_OK);
+    return 1;
+}
+
+static void check_numbers(void) {
+    pdb_fault fault;
+    uint32_t first, indexes;
+    EXPECT(pdb_table_first_index(&table, &first, &fault) == PDB_OK && first == facts.first_index);
+    EXPECT(pdb_table_count(&table, &indexes, &fault) == PDB_OK && indexes == facts.maximum_index - facts.first_index);
+}
+
+// The walk gives each record with its index, and then the fault at which it stops, again and again.
+static void check_walk(size_t most) {
+    pdb_fault fault;
+    uint32_t index;
+    size_t length;
+    for (size_t n = 0; n < most; n++) {
+        size_t size = length_at(n);
+        memset(record, 0xa5, sizeof record);
+        EXPECT(pdb_table_next(&table, &index, record, size - 1, &length, &fault) == PDB_TOO_SMALL && length == size && record[0] == 0xa5);
+        EXPECT(pdb_table_next(&table, &index, record, MOST, &length, &fault) == PDB_OK && length == size);
+        EXPECT(index == facts.first_index + n && record[size] == 0xa5 && !memcmp(record, stream + positions[n] + 2, size));
+    }
+    for (int again = 0; most == count && again < 2; again++) {
+        uint32_t stop = facts.stop.status ? facts.stop.status : PDB_NOWHERE;
+        EXPECT(pdb_table_next(&table, &index, record, MOST, &length, &fault) == stop && !length);
+        EXPECT(index == facts.first_index + count && fault.first == facts.stop.first && fault.second == facts.stop.second);
+    }
+    EXPECT(pdb_table_rewind(&table, &fault) == PDB_OK);
+}
+
+static void check_find(uint32_t index) {
+    pdb_fault fault, wanted = {PDB_OK, 0, 0};
+    size_t length, n = index - facts.first_index;
+    memset(record, 0xa5, sizeof record);
+    uint32_t status = pdb_table_find(&table, index, record, MOST, &length, &fault);
+    if (index < facts.first_index) {
+        EXPECT(status == PDB_OK && length == 2 && !memcmp(record, "\xff\xff\xa5", 3));
+    } else if (index < facts.maximum_index && n < count) {
+        EXPECT(status == PDB_OK && length == length_at(n) && !memcmp(record, stream + positions[n] + 2, length) && record[length] == 0xa5);
+        EXPECT(pdb_table_find(&table, index, record, length - 1, &length, &fault) == PDB_TOO_SMALL && length == length_at(n));
+    } else {
+        if (index >= facts.maximum_index) wanted = (pdb_fault){PDB_TYPE_NOT_FOUND, index, 0};
+        else wanted = facts.stop.status ? facts.stop : (pdb_fault){PDB_UNEXPECTED_EOF, 0, 0};
+        EXPECT(!length && status == wanted.status && same_fault(fault, wanted));
+    }
+}
+
+// Finds in an order that jumps to and fro, and the indexes around both ends.
+static void check_finds(void) {
+    size_t steps = count < 2000 ? count : 2000;
+    for (size_t n = 0; n < steps; n++) check_find(facts.first_index + (uint32_t)(n * 7919 % count));
+    uint32_t some[] = {0, 0x74, facts.first_index - 1, facts.first_index, facts.first_index + (uint32_t)count, facts.maximum_index - 1, facts.maximum_index, 0xffffffff};
+    for (size_t i = 0; i < sizeof some / sizeof *some; i++) check_find(some[i]);
+}
+
+// The fields of a list and of those in which it goes on, list by list; the fault, or PDB_OK.
+static pdb_fault join(uint32_t index, size_t *fields_count, size_t *names_size) {
+    *fields_count = *names_size = 0;
+    for (;;) {
+        pdb_fault fault;
+        pdb_field none[1];
+        uint8_t no_name[1];
+        pdb_row row = {0};
+        size_t length, some, size;
+        if (pdb_table_find(&table, index, record, MOST, &length, &fault)) return fault;
+        uint32_t kind = record[0] | record[1] << 8;
+        if (kind != LIST) return (pdb_fault){PDB_UNIMPLEMENTED_TYPE_KIND, kind, 0};
+        if (had(pdb_type_row(record, length, index, &row, &fault))) return fault;
+        EXPECT(had(pdb_type_fields(record, length, index, none, 0, &some, no_name, 0, &size, &fault)) == (some ? PDB_TOO_SMALL : PDB_OK));
+        pdb_field *more = realloc(joined, (*fields_count + some + 1) * sizeof *joined);
+        if (!more) lacks();
+        joined = more;
+        uint8_t *longer = realloc(joined_names, *names_size + size + 1);
+        if (!longer) lacks();
+        joined_names = longer;
+        EXPECT(had(pdb_type_fields(record, length, index, joined + *fields_count, some, &some, joined_names + *names_size, size, &size, &fault)) == PDB_OK);
+        *fields_count += some;
+        *names_size += size;
+        if (!(row.stands & PDB_LIST_INDEX)) return (pdb_fault){PDB_OK, 0, 0};
+        if (row.list_index >= index) return (pdb_fault){PDB_UNIMPLEMENTED_FEATURE, 9, 0};
+        index = row.list_index;
+    }
+}
+
+static size_t check_fields(uint32_t index) {
+    pdb_fault fault;
+    size_t wanted, wanted_size, some, size;
+    pdb_field none[1];
+    uint8_t no_name[1];
+    pdb_fault answer = join(index, &wanted, &wanted_size);
+    uint32_t status = had(pdb_fields(&table, index, none, 0, &some, no_name, 0, &size, &fault));
+    if (answer.status) {
+        EXPECT(same_fault(answer, fault) && !some && !size);
+        return 0;
+    }
+    EXPECT(status == (wanted ? PDB_TOO_SMALL : PDB_OK) && some == wanted && size == wanted_size);
+    free(fields);
+    fields = NULL;
+    free(names);
+    names = NULL;
+    fields = room_for(some, sizeof *fields);
+    names = room_for(size, 1);
+    EXPECT(had(pdb_fields(&table, index, fields, some, &some, names, size, &size, &fault)) == PDB_OK && some == wanted && size == wanted_size);
+    for (size_t i = 0; i < some; i++) {
+        EXPECT(!memcmp(&fields[i].row, &joined[i].row, sizeof fields[i].row));
+        EXPECT(fields[i].name_length == joined[i].name_length && fields[i].has_name == joined[i].has_name);
+    }
+    EXPECT(!size || !memcmp(names, joined_names, size));
+    return some;
+}
+
+static void check_closed(pdb_handle *closed) {
+    pdb_fault fault;
+    uint32_t number = 7;
+    size_t length = 7, size = 7;
+    pdb_field none[1];
+    EXPECT(pdb_table_first_index(closed, &number, &fault) == PDB_NOT_OPEN && number == 7);
+    EXPECT(pdb_table_count(closed, &number, &fault) == PDB_NOT_OPEN && number == 7);
+    EXPECT(pdb_table_find(closed, 0x1000, record, MOST, &length, &fault) == PDB_NOT_OPEN && !length);
+    EXPECT(pdb_table_next(closed, &number, record, MOST, &length, &fault) == PDB_NOT_OPEN && !length && number == 7);
+    EXPECT(pdb_table_rewind(closed, &fault) == PDB_NOT_OPEN);
+    EXPECT(pdb_fields(closed, 0x1000, none, 1, &length, record, MOST, &size, &fault) == PDB_NOT_OPEN && !length && !size);
+}
+
+static void check_misuse(void) {
+    pdb_fault fault;
+    pdb_handle closed = {0};
+    size_t length = 7;
+    EXPECT(had(pdb_table_open(stream, stream_length, &table, &fault)) == PDB_ALREADY_OPEN);
+    EXPECT(pdb_names_get(&table, 0, record, MOST, &length, &fault) == PDB_NOT_OPEN && !length);
+    check_closed(&closed);
+    pdb_close(&table);
+    check_closed(&table);
+}
+
+int main(int words, char **word) {
+    EXPECT(words == 2);
+    read_stream(word[1]);
+    size_t listed = 0;
+    if (is_open()) {
+        check_numbers();
+        check_walk(count / 2);
+        if (count) check_finds();
+        check_walk(count);
+        for (size_t n = 0; n < count; n++) listed += check_fields(facts.first_index + (uint32_t)n);
+        check_misuse();
+    }
+    printf("%zu records, %zu fields\n", count, listed);
+    end(0);
+}
