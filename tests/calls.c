@@ -19,7 +19,8 @@ static pdb_fault fault;
 static uint32_t allowed(uint32_t status, uint32_t also) {
     if (status != fault.status) printf("status %" PRIu32 " and fault %" PRIu32 "\n", status, fault.status), exit(3);
     if (status == PDB_OK || status == also) return status;
-    fprintf(stderr, "%s\n", status == PDB_OUT_OF_MEMORY ? "OutOfMemory" : "refused");
+    if (status == PDB_OUT_OF_MEMORY) fprintf(stderr, "OutOfMemory\n");
+    else fprintf(stderr, "status %" PRIu32 "\n", status);
     exit(1);
 }
 
@@ -93,18 +94,18 @@ static void ask_sections(uint32_t number) {
     allowed(status, PDB_OK);
     allowed(pdb_sections(stream, length, sections, 16, &count, &fault), PDB_OK);
     for (size_t i = 0; i < count; i++)
-        printf("section %.8s %#" PRIx32 " %#" PRIx32 " %#" PRIx32 " %#" PRIx32 "\n", (char *)sections[i].name, sections[i].virtual_size,
+        printf("section %.8s 0x%" PRIx32 " 0x%" PRIx32 " 0x%" PRIx32 " 0x%" PRIx32 "\n", (char *)sections[i].name, sections[i].virtual_size,
                sections[i].virtual_address, sections[i].size_of_raw_data, sections[i].characteristics);
 }
 
 static void print_address(const char *front, uint32_t asked, uint32_t status, uint32_t address) {
-    if (allowed(status, PDB_NOWHERE)) printf("%s %#" PRIx32 " nowhere\n", front, asked);
-    else printf("%s %#" PRIx32 " %#" PRIx32 "\n", front, asked, address);
+    if (allowed(status, PDB_NOWHERE)) printf("%s 0x%" PRIx32 " nowhere\n", front, asked);
+    else printf("%s 0x%" PRIx32 " 0x%" PRIx32 "\n", front, asked, address);
 }
 
 static void print_place(const char *front, uint32_t asked, uint32_t status, pdb_place place) {
-    if (allowed(status, PDB_NOWHERE)) printf("%s %#" PRIx32 " nowhere\n", front, asked);
-    else printf("%s %#" PRIx32 " %" PRIu32 ":%#" PRIx32 "\n", front, asked, place.section, place.offset);
+    if (allowed(status, PDB_NOWHERE)) printf("%s 0x%" PRIx32 " nowhere\n", front, asked);
+    else printf("%s 0x%" PRIx32 " %" PRIu32 ":0x%" PRIx32 "\n", front, asked, place.section, place.offset);
 }
 
 typedef uint32_t to_address(pdb_handle *, uint32_t, uint32_t *, pdb_fault *);
@@ -121,7 +122,7 @@ static to_ranges *const ranges[] = {pdb_rva_ranges, pdb_internal_rva_ranges};
 
 static void ask_addresses(void) {
     pdb_handle map = {0};
-    uint32_t address = 0;
+    uint32_t address = 0, status;
     pdb_place place = {0};
     pdb_span spans[64];
     char front[32];
@@ -129,20 +130,24 @@ static void ask_addresses(void) {
     for (uint32_t asked = FIRST; asked < LAST; asked += STEP) {
         for (int i = 0; i < 2; i++) {
             snprintf(front, sizeof front, "address%d", i);
-            print_address(front, asked, addresses[i](&map, asked, &address, &fault), address);
+            status = addresses[i](&map, asked, &address, &fault);
+            print_address(front, asked, status, address);
         }
         for (int i = 0; i < 4; i++) {
             snprintf(front, sizeof front, "place%d", i);
-            print_place(front, asked, places[i](&map, asked, &place, &fault), place);
+            status = places[i](&map, asked, &place, &fault);
+            print_place(front, asked, status, place);
             snprintf(front, sizeof front, "from%d", i);
-            print_address(front, asked, from[i](&map, (uint16_t)(asked / STEP % 4), asked, &address, &fault), address);
+            status = from[i](&map, (uint16_t)(asked / STEP % 4), asked, &address, &fault);
+            print_address(front, asked, status, address);
         }
         for (int i = 0; i < 2; i++) {
             snprintf(front, sizeof front, "across%d", i);
-            print_place(front, asked, across[i](&map, (uint16_t)(asked / STEP % 4), asked, &place, &fault), place);
+            status = across[i](&map, (uint16_t)(asked / STEP % 4), asked, &place, &fault);
+            print_place(front, asked, status, place);
             allowed(ranges[i](&map, asked, asked + 0x300, spans, 64, &length, &fault), PDB_OK);
-            printf("ranges%d %#" PRIx32, i, asked);
-            for (size_t n = 0; n < length; n++) printf(" %#" PRIx32 "..%#" PRIx32, spans[n].start, spans[n].end);
+            printf("ranges%d 0x%" PRIx32, i, asked);
+            for (size_t n = 0; n < length; n++) printf(" 0x%" PRIx32 "..0x%" PRIx32, spans[n].start, spans[n].end);
             printf("\n");
         }
     }
@@ -154,8 +159,8 @@ static void ask_frames(void) {
     pdb_frame frame = {0};
     allowed(pdb_file_frames(file, file_length, &frames, &fault), PDB_OK);
     for (uint32_t asked = FIRST; asked < LAST; asked += STEP) {
-        if (allowed(pdb_frames_at(&frames, asked, &frame, &fault), PDB_NOWHERE)) printf("frame %#" PRIx32 " nowhere\n", asked);
-        else printf("frame %#" PRIx32 " %#" PRIx32 " %" PRIu32 " %" PRIu32 " %" PRIu32 " %" PRIu32 "\n", asked, frame.code_start, frame.code_size,
+        if (allowed(pdb_frames_at(&frames, asked, &frame, &fault), PDB_NOWHERE)) printf("frame 0x%" PRIx32 " nowhere\n", asked);
+        else printf("frame 0x%" PRIx32 " 0x%" PRIx32 " %" PRIu32 " %" PRIu32 " %" PRIu32 " %" PRIu32 "\n", asked, frame.code_start, frame.code_size,
                     frame.locals_size, frame.params_size, frame.kind);
     }
     pdb_close(&frames);
@@ -192,12 +197,12 @@ static void ask_types(void) {
         size_t size = record[-2] | record[-1] << 8;
         uint32_t index = table.first_index + i;
         if (!allowed(pdb_type_unique_name(record, size, index, text, ROOM, &length, &fault), PDB_NOWHERE))
-            printf("unique %#" PRIx32 " %.*s\n", index, (int)length, (char *)text);
+            printf("unique 0x%" PRIx32 " %.*s\n", index, (int)length, (char *)text);
         if (!allowed(pdb_type_dimensions(record, size, index, numbers, 64, &length, &fault), PDB_NOWHERE))
-            for (size_t n = 0; n < length; n++) printf("dimension %#" PRIx32 " %" PRIu32 "\n", index, numbers[n]);
+            for (size_t n = 0; n < length; n++) printf("dimension 0x%" PRIx32 " %" PRIu32 "\n", index, numbers[n]);
         if (!allowed(pdb_type_methods(record, size, index, rows, 64, &length, &fault), PDB_NOWHERE))
             for (size_t n = 0; n < length; n++)
-                printf("method %#" PRIx32 " %" PRIu32 " %#" PRIx32 " %#" PRIx32 " %" PRIu32 "\n", index, rows[n].shape, rows[n].attributes,
+                printf("method 0x%" PRIx32 " %" PRIu32 " 0x%" PRIx32 " 0x%" PRIx32 " %" PRIu32 "\n", index, rows[n].shape, rows[n].attributes,
                        rows[n].type_index, rows[n].stands & PDB_EXTRA ? rows[n].extra : UINT32_MAX);
     }
 }
