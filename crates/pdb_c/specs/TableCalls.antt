@@ -1,6 +1,5 @@
 -- What calls tell of a handle that holds a table.
 use Rattle.std.specs.Prelude.{ℕ, List, Option, Some, None}
-use Rattle.pdb_tpi.specs.Finder.{item_of}
 use Rattle.pdb_tpi.specs.StepLaws.{first_stand}
 use Rattle.pdb_tpi.specs.Steps.{Stand, step_of}
 use Rattle.pdb_c.specs.declared.content.Content.{Content}
@@ -9,7 +8,6 @@ use Rattle.pdb_c.specs.declared.fault.Fault.{Fault}
 use Rattle.pdb_c.specs.declared.fields.FieldRow.{FieldRow}
 use Rattle.pdb_c.specs.Copied.{Copied, untouched}
 use Rattle.pdb_c.specs.Fault.{fine, not_open}
-use Rattle.pdb_c.specs.Handle.{table_held}
 use Rattle.pdb_c.specs.Records.{Fielded, fields_told, unfielded}
 use Rattle.pdb_c.specs.Tables.{Stepped, fields_in_table, stepped}
 
