@@ -1,0 +1,69 @@
+//! Tables of types, from their first record to the last.
+
+use crate::records::{field_count, name_size};
+use crate::stream::stream_of;
+use pdb_container::{FallibleIterator, TypeInformation};
+use std::alloc::Global;
+
+/// The table of types in a stream.
+pub fn types_in(alloc: Global, stream: &[u8]) -> Option<TypeInformation> {
+    let stream = stream_of(alloc, stream)?;
+    TypeInformation::parse(stream).ok()
+}
+
+/// Walks along a table; a sum with the size of each record.
+#[inline(never)]
+fn walk(table: &TypeInformation, mut sum: u64) -> u64 {
+    let mut items = table.iter();
+    for _ in 0..u32::MAX {
+        let Ok(Some(item)) = items.next() else {
+            break;
+        };
+        sum = sum.wrapping_add(item.len() as u64);
+    }
+    sum
+}
+
+/// Walks along the table of types in a stream. Sums the sizes of the records.
+#[unsafe(no_mangle)]
+pub extern "C" fn bench_walk(alloc: Global, stream: &[u8], turns: u32) -> u64 {
+    let Some(table) = types_in(alloc, stream) else {
+        return 0;
+    };
+    let mut sum = 0;
+    for _ in 0..turns {
+        sum = walk(&table, sum);
+    }
+    sum
+}
+
+/// Walks along a table and parses each record; a sum with what each says.
+#[inline(never)]
+fn parse(alloc: Global, table: &TypeInformation, mut sum: u64) -> u64 {
+    let mut items = table.iter();
+    for _ in 0..u32::MAX {
+        let Ok(Some(item)) = items.next() else {
+            break;
+        };
+        if let Ok(data) = item.parse(alloc) {
+            sum = sum
+                .wrapping_add(name_size(&data))
+                .wrapping_add(field_count(&data));
+        }
+    }
+    sum
+}
+
+/// Walks along the table of types in a stream and parses each record. Sums for each record that is read 1,
+/// the length of its name and the number of its fields.
+#[unsafe(no_mangle)]
+pub extern "C" fn bench_parse(alloc: Global, stream: &[u8], turns: u32) -> u64 {
+    let Some(table) = types_in(alloc, stream) else {
+        return 0;
+    };
+    let mut sum = 0;
+    for _ in 0..turns {
+        sum = parse(alloc, &table, sum);
+    }
+    sum
+}
