@@ -5,4 +5,3 @@ pub mod RowLemmas
 pub mod Separated
 pub mod StringLaws
 pub mod WordLemmas
-pub mod WrittenLemmas

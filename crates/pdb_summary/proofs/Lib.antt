@@ -1,4 +1,3 @@
 pub mod StreamLemmas
 pub mod KindLemmas
-pub mod LineLemmas
 pub mod TallyLemmas

@@ -1,2 +1,3 @@
+pub mod WrittenLemmas
 pub mod TableLemmas
 pub mod ListedLemmas
