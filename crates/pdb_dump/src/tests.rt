@@ -1,10 +1,12 @@
 //! What is listed of small files, row by row: S1 with other bytes as its stream 3.
 
-use crate::{any_is, asked_of_file, list, plain_words};
+use crate::{Command, any_is, asked_of_file, list, plain_words};
 use pdb_container::Result;
 use pdb_rows::Form;
 use pdb_vectors::s1_with;
 use std::alloc::Global;
+use std::io;
+use std::io::{ErrorKind, Write};
 use std::test::Fail;
 
 /// A row: the words behind the file, the bytes of stream 3, what is listed, and the text of the refusal.
@@ -32,10 +34,10 @@ const LISTED: &[Listed] = &[
     (
         &[],
         b"hello",
-        "page_size=512 pages=8 bytes=4096\npart=roles refused=Unimplemented PDB feature: ancient DBI header\n\
-        part=names refused=UnexpectedEof\nstream=0 bytes=0\nstream=1 bytes=600 role=pdb_information\n\
-        stream=3 bytes=5 role=debug_information\ntable=2 refused=The requested stream (2) is not stored in this file\n\
-        table=4 refused=The requested stream (4) is not stored in this file\n",
+        "page_size=512 pages=8 bytes=4096\npart=roles error=Unimplemented PDB feature: ancient DBI header\n\
+        part=names error=UnexpectedEof\nstream=0 bytes=0 pages=0\nstream=1 bytes=600 pages=2 role=pdb_information\n\
+        stream=3 bytes=5 pages=1 role=debug_information\ntable=2 error=The requested stream (2) is not stored in this file\n\
+        table=4 error=The requested stream (4) is not stored in this file\n",
         "",
     ),
     (
@@ -57,6 +59,12 @@ const LISTED: &[Listed] = &[
         b"\0\x20\0\0\0\x10\0\0",
         "{\"source_address\":8192,\"target_address\":4096}\n{\"is_sorted\":true}\n",
         "",
+    ),
+    (
+        &["omap"],
+        b"hello",
+        "",
+        "Unimplemented PDB feature: ancient DBI header",
     ),
     (
         &["omap", "3"],
@@ -124,6 +132,56 @@ fn listed(rt: HostRuntime) -> std::result::Result<(), Fail> {
         let (words, _, lines, _) = row;
         let is_listed = lists(rt.alloc(), row)?;
         assert!(rt; is_listed, "{words:?} {lines}");
+    }
+    Ok(())
+}
+
+/// A writer that takes a few bytes at a time, and no more in all than it has room for.
+#[derive(Drop)]
+struct Narrow {
+    taken: Vec<u8>,
+    room: usize,
+}
+
+impl Write for Narrow {
+    fn write(&mut self, bytes: &[u8]) -> io::Result<usize> {
+        let count = bytes.len().min(5).min(self.room);
+        if count == 0 && !bytes.is_empty() {
+            return Err(io::Error::from(ErrorKind::StorageFull));
+        }
+        self.taken.extend_from_slice(&bytes[..count])?;
+        self.room -= count;
+        Ok(count)
+    }
+
+    fn flush(&mut self) -> io::Result<()> {
+        Ok(())
+    }
+}
+
+/// What a writer with so much room gets of the sections of S1 with a header as its stream 3, and whether
+/// it was asked for more.
+fn narrowed(alloc: Global, room: usize) -> Result<(Vec<u8>, bool)> {
+    let mut out = Narrow {
+        taken: Vec::new(alloc),
+        room,
+    };
+    let file = s1_with(alloc, &SECTION[..40])?;
+    let command = Command::Sections { stream: Some(3) };
+    let is_cut = list(alloc, file, command, Form::Text, &mut out).is_err();
+    Ok((out.taken, is_cut))
+}
+
+#[test]
+fn cut(rt: HostRuntime) -> std::result::Result<(), Fail> {
+    let (whole, is_cut) = narrowed(rt.alloc(), 1000)?;
+    assert!(rt; !is_cut && whole.starts_with(b"1 .text "));
+    for room in [0, 1, 4, 5, 6, 100] {
+        let (taken, is_cut) = narrowed(rt.alloc(), room)?;
+        assert!(rt;
+            is_cut && taken.len() == room && whole.starts_with(&taken),
+            "{room}"
+        );
     }
     Ok(())
 }
