@@ -1,6 +1,6 @@
 //! What is listed of small files, row by row: S1 with other bytes as its stream 3.
 
-use crate::{Command, any_is, asked_of_file, list, plain_words};
+use crate::{Task, any_is, asked_of_file, list, plain_words};
 use pdb_container::Result;
 use pdb_rows::Form;
 use pdb_vectors::s1_with;
@@ -23,6 +23,13 @@ const SECTION: &[u8] =
 
 /// Two OMAP records, of which the second has the lower source.
 const OMAP: &[u8] = b"\0\x20\0\0\0\x10\0\0\0\x10\0\0\0\0\0\0";
+
+/// A section header and no more.
+const SECTION_ALONE: [u8; 40] =
+    *b".text\0\0\0\x85\0\0\0\0\x10\0\0\0\x02\0\0\0\x04\0\0\0\0\0\0\0\0\0\0\0\0\0\0\x20\0\0\x60";
+
+/// An OMAP record that moves the addresses from 0x2000 on to those from 0x1000 on.
+const MOVED: &[u8] = b"\0\x20\0\0\0\x10\0\0";
 
 /// A string table of two names, the first of which is empty, with a byte behind the last NUL.
 const NAMES: &[u8] = b"\xfe\xef\xfe\xef\x01\0\0\0\x05\0\0\0\0a\"\0b";
@@ -94,6 +101,36 @@ const LISTED: &[Listed] = &[
         "The requested stream (2) is not stored in this file",
     ),
     (
+        &["map", "0x1010", "--sections", "3"],
+        &SECTION_ALONE,
+        "from=rva to=section_offset found=true section=1 offset=0x10\nfrom=rva to=internal_rva found=true address=0x1010\n\
+        from=rva to=internal_offset found=true section=1 offset=0x10\nfrom=internal_rva to=internal_offset found=true section=1 offset=0x10\n\
+        from=internal_rva to=rva found=true address=0x1010\nfrom=internal_rva to=section_offset found=true section=1 offset=0x10\n",
+        "",
+    ),
+    (
+        &["map", "0x2004", "--to", "3", "--json"],
+        MOVED,
+        "{\"from\":\"rva\",\"to\":\"section_offset\",\"found\":false}\n{\"from\":\"rva\",\"to\":\"internal_rva\",\"found\":true,\"address\":4100}\n\
+        {\"from\":\"rva\",\"to\":\"internal_offset\",\"found\":false}\n{\"from\":\"internal_rva\",\"to\":\"internal_offset\",\"found\":false}\n\
+        {\"from\":\"internal_rva\",\"to\":\"rva\",\"found\":true,\"address\":8196}\n{\"from\":\"internal_rva\",\"to\":\"section_offset\",\"found\":false}\n",
+        "",
+    ),
+    (
+        &["map", "0x2004", "--from", "3"],
+        MOVED,
+        "from=rva to=section_offset found=false\nfrom=rva to=internal_rva found=true address=0x2004\n\
+        from=rva to=internal_offset found=false\nfrom=internal_rva to=internal_offset found=false\n\
+        from=internal_rva to=rva found=true address=0x1004\nfrom=internal_rva to=section_offset found=false\n",
+        "",
+    ),
+    (
+        &["map", "1", "--sections", "9"],
+        b"hello",
+        "",
+        "The requested stream (9) is not stored in this file",
+    ),
+    (
         &["sections"],
         b"hello",
         "",
@@ -114,7 +151,7 @@ fn form_of(words: &[&str]) -> Form {
 fn lists(alloc: Global, row: &Listed) -> Result<bool> {
     let (words, stream, lines, refusal) = *row;
     let plain = plain_words(alloc, words)?;
-    let Ok(command) = asked_of_file(&plain) else {
+    let Ok(Task::List(command)) = asked_of_file("small.pdb", &plain) else {
         return Ok(false);
     };
     let file = s1_with(alloc, stream)?;
