@@ -1,6 +1,6 @@
 //! What is listed of small files, row by row: S1 with other bytes as its stream 3.
 
-use crate::{Task, any_is, asked_of_file, list, plain_words};
+use crate::{Command, Task, any_is, asked_of_file, list, plain_words};
 use pdb_container::Result;
 use pdb_rows::Form;
 use pdb_vectors::s1_with;
