@@ -4,16 +4,17 @@ use Rattle.pdb_base.specs.declared.error.Error.{Error}
 use Rattle.pdb_base.specs.Answer.{Answer, RefusesUnless}
 use Rattle.pdb_base.specs.Refusal.{Refusal, refusal_of}
 use Rattle.pdb_base.proofs.Collected.{err, err_is, ok_is_no_err}
-use Rattle.pdb_tables.specs.Listing.{IsCut, whole}
+use Rattle.pdb_rows.specs.Written.{IsCut}
+use Rattle.pdb_tables.specs.Listing.{whole}
 use Rattle.pdb_tables.proofs.ListedLemmas.{refused_listed}
 
 -- the refusal that is meant, or a fault of a channel or want of memory
 pub told_or_cut : {A failed : Type 0} (meant : Answer A) (e : Error) → RefusesUnless failed e meant → (meant ≡ Err (refusal_of e)) ⊎ IsCut e
 told_or_cut {A} (Ok x) e refuses = elim (refused_listed (λ (value : A). whole []) (Ok x) e None refuses) [
   | inl told ↦ absurd (ok_is_no_err (tt {0}) (refusal_of e) told.0)
-  | inr cut ↦ inr cut
+  | inr cut ↦ inr cut.0
 ]
 told_or_cut {A} (Err fault) e refuses = elim (refused_listed (λ (value : A). whole []) (Err fault) e None refuses) [
   | inl told ↦ inl (ap (λ (f : Refusal). err {A = A} f) (err_is {A = Unit {0}} fault (refusal_of e) told.0))
-  | inr cut ↦ inr cut
+  | inr cut ↦ inr cut.0
 ]

@@ -1,3 +1,4 @@
 pub mod Words
 pub mod Listed
 pub mod Served
+pub mod Asking

@@ -5,12 +5,15 @@ use Rattle.pdb_base.specs.declared.error.Error.{Error}
 use Rattle.pdb_base.specs.Refusal.{refusal_of}
 use Rattle.pdb_listing.specs.Lines.{type_line, id_line, type_at, id_at}
 use Rattle.pdb_listing.specs.Listed as records
+use Rattle.pdb_mapping.specs.Given.{map_in}
+use Rattle.pdb_mapping.specs.Mapped.{IsMapped}
 use Rattle.pdb_msf.specs.File.{stream_of}
 use Rattle.pdb_msf.specs.Header.{Head, opened}
 use Rattle.pdb_rows.specs.declared.form.Form.{Form}
 use Rattle.pdb_summary.specs.Summary.{summary_listing}
 use Rattle.pdb_tables.specs.Files.{file_frames, file_names, file_omap, file_sections, frames_in}
-use Rattle.pdb_tables.specs.Listing.{IsCut, IsListed}
+use Rattle.pdb_rows.specs.Written.{IsCut}
+use Rattle.pdb_tables.specs.Listing.{IsListed}
 use Rattle.pdb_dump.specs.declared.words.Command.{Command}
 use Rattle.pdb_dump.specs.declared.words.Command.TheVariants as commands
 
@@ -47,6 +50,7 @@ DoesIn form (commands.Sections stream) file head = IsListed (file_sections form 
 DoesIn form (commands.Omap stream) file head = IsListed (file_omap form file head stream)
 DoesIn form commands.Frames file head = IsListed (file_frames form file head)
 DoesIn form (commands.FramesIn old new) file head = IsListed (frames_in form file head old new)
+DoesIn form (commands.Map address streams) file head = IsMapped form (map_in file head streams) address
 
 -- What a command does with a file; or its header is refused, and nothing is written.
 pub data Does (form : Form) (command : Command) (file : List ℕ) (out out' : Option (List ℕ)) (result : Result (Unit {0}) Error) : Type 0 where

@@ -15,10 +15,12 @@ FILE is a path, or `-` for standard input. Without a command it is summary.
   sections [S]            each section header
   omap [S]                each record of an OMAP table, and whether they are in order
   frames [OLD [NEW]]      each frame; a stream that is absent is `-`
+  map RVA [..]            what the address map makes of an address, both ways, with its sections
+  ask                     the answers to questions on standard input, a line each
 
-S, OLD and NEW are the numbers of streams and I is an index, in decimal, or in hexadecimal after 0x. A
-stream that isn't given is found by its role. With --index I only that record is shown, in full. With --json each line is one object of JSON. `pdbdump COMMAND --help` tells
-of one command.
+S, OLD and NEW are the numbers of streams, I is an index and RVA an address, in decimal, or in hexadecimal
+after 0x. A stream that isn't given is found by its role. With --index I only that record is shown, in full.
+With --json each line is one object of JSON. `pdbdump COMMAND --help` tells of one command.
 ";
 
 /// How a command is called.
@@ -31,6 +33,8 @@ pub fn usage_of(verb: Verb) -> &'static str {
         Verb::Sections => "pdbdump FILE sections [S]",
         Verb::Omap => "pdbdump FILE omap [S]",
         Verb::Frames => "pdbdump FILE frames [OLD [NEW]]",
+        Verb::Map => { "pdbdump FILE map RVA [--sections S] [--transformed S] [--to S] [--from S]" }
+        Verb::Ask => "pdbdump FILE ask < QUESTIONS",
     }
 }
 
@@ -63,6 +67,20 @@ the original one; and then whether their sources never fall."
         Verb::Frames => {
             "Each frame, by its start, of the file's own streams, or of stream OLD of the older format and stream NEW
 of the newer, each of which may be `-`."
+        }
+        Verb::Map => {
+            "What the file's address map makes of RVA, a line for each conversion, whether it finds anything or not:
+as an address of the image as it is loaded, its place in a section there, the address in the original image
+from which it was moved, and the place of that; and then the same of RVA as an address of the original image.
+With an option the map is made of the streams that are given in place of the file's own: --sections has the
+section headers of the original image, --transformed those of the image as it is loaded, --to the OMAP table
+that leads to the original image, and --from the one that leads from it."
+        }
+        Verb::Ask => {
+            "Reads questions from standard input, one a line, in the words of pdbq: stream N [LIMIT], type S I,
+id S I, fields S I, name S O or ranges S A B. Each line is repeated, and its answer follows: the lines that
+pdbq prints, or why there is none. Lines that are empty are passed over. The status is 0 if all questions
+were answered, and else 1. All are asked at once, so that a table is read and walked along once."
         }
     }
 }

@@ -1,7 +1,8 @@
-//! What the program `pdbdump` does: the words of its command line, and the lines that it lists of a program
-//! database.
+//! What the program `pdbdump` does: the words of its command line, the lines that it lists of a program
+//! database, and the answers to questions about one.
 #![tactic(auto)]
 
+mod asking;
 mod help;
 mod listed;
 mod process;
@@ -10,9 +11,10 @@ mod served;
 mod tests;
 mod words;
 
+pub use asking::serve_questions;
 pub use listed::list;
 pub use process::program;
 pub use served::serve;
 pub use words::{
-    Command, Misuse, Verb, any_is, asked_of_file, first_verb, plain_words, verb_named,
+    Command, Misuse, Task, Verb, any_is, asked_of_file, first_verb, plain_words, verb_named,
 };

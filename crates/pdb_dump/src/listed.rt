@@ -6,6 +6,7 @@ ghost use Rattle.pdb_dump.specs.Listed.{AreIds, AreTypes, Does, DoesIn, IsListed
 use crate::words::Command;
 use pdb_container::{BigMSF, Msf, Result, open_msf};
 use pdb_listing::{id_at, ids, type_at, types};
+use pdb_mapping::list_map;
 use pdb_rows::Form;
 use pdb_summary::list_summary;
 use pdb_tables::{list_frames, list_frames_in, list_names, list_omap, list_sections};
@@ -83,6 +84,7 @@ fn list_opened<W: Write>(
         Command::Omap { stream } => list_omap(alloc, file, stream, form, out),
         Command::Frames => list_frames(alloc, file, form, out),
         Command::FramesIn { old, new } => list_frames_in(alloc, file, old, new, form, out),
+        Command::Map { address, streams } => list_map(alloc, file, address, streams, form, out),
     }
 }
 

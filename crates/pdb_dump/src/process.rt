@@ -1,8 +1,9 @@
 //! The program on the channels of its process.
 
+use crate::asking::serve_questions;
 use crate::help::{HELP, meaning_of, usage_of};
 use crate::served::serve;
-use crate::words::{Command, Misuse, any_is, asked_of_file, first_verb, plain_words};
+use crate::words::{Command, Misuse, Task, Verb, any_is, asked_of_file, first_verb, plain_words};
 use pdb_command::{Ended, Errors, tell, texts_of, words_of};
 use pdb_container::{Error, Result};
 use pdb_rows::Form;
@@ -44,6 +45,12 @@ fn tell_misuse<P: Eprint + AllocGlobal>(process: &P, misuse: Misuse, words: &[&s
             let usage = usage_of(verb);
             eprintln!(process; "pdbdump: these words ask nothing:{told}\nusage: {usage}")?;
         }
+        Misuse::InputTwice => {
+            let usage = usage_of(Verb::Ask);
+            eprintln!(process;
+                "pdbdump: standard input has the questions, so FILE cannot be `-`\nusage: {usage}"
+            )?;
+        }
     }
     Ok(MISUSED)
 }
@@ -68,6 +75,29 @@ fn list_file<P: Files + Input + Print + Eprint + AllocGlobal>(
     }
 }
 
+/// Answers the questions on standard input about the file of a path.
+fn answer_questions<P: Files + Input + Print + Eprint + AllocGlobal>(
+    process: &P,
+    path: &str,
+    form: Form,
+) -> Result<Ended> {
+    let alloc = process.alloc();
+    let mut out = BufWriter::with_capacity(alloc, BUFFER_SIZE, io::writer(process))?;
+    let mut err = Errors { process };
+    let mut questions = process.reader();
+    match fs::open(process, path) {
+        Ok(mut input) => Ok(serve_questions(
+            alloc,
+            form,
+            &mut input,
+            &mut questions,
+            &mut out,
+            &mut err,
+        )),
+        Err(fault) => Ok(tell(alloc, &Error::from(fault), &mut err)),
+    }
+}
+
 /// What the program does with the words behind its name, and the status that it ends with.
 fn call<P: Files + Input + Print + Eprint + AllocGlobal>(
     process: &P,
@@ -86,8 +116,9 @@ fn call<P: Files + Input + Print + Eprint + AllocGlobal>(
         eprint!(process; "{HELP}")?;
         return Ok(MISUSED);
     };
-    match asked_of_file(words) {
-        Ok(command) => Ok(list_file(process, path, command, form)?.status),
+    match asked_of_file(path, words) {
+        Ok(Task::List(command)) => Ok(list_file(process, path, command, form)?.status),
+        Ok(Task::Answer) => Ok(answer_questions(process, path, form)?.status),
         Err(misuse) => tell_misuse(process, misuse, words),
     }
 }
@@ -109,7 +140,7 @@ fn attempt<P: Env + Files + Input + Print + Eprint + AllocGlobal>(process: &P) -
 }
 
 /// What the program does with the words, the files and the channels of its process, and the status that it
-/// ends with: 0 if all was listed, 1 if something was refused, 2 if the words ask nothing.
+/// ends with: 0 if all was listed or answered, 1 if something was refused, 2 if the words ask nothing.
 pub fn program<P: Env + Files + Input + Print + Eprint + AllocGlobal>(process: &P) -> u8 {
     match attempt(process) {
         Ok(status) => status,

@@ -27,7 +27,7 @@ fn read_and_list<I: Read, O: Write>(
 }
 
 /// How listing went, and then handing on what was written.
-fn joined(listed: Result<()>, flushed: io::Result<()>) -> Result<()>
+pub(crate) fn joined(listed: Result<()>, flushed: io::Result<()>) -> Result<()>
     ensures { result ≡ joined listed flushed }
 {
     match (listed, flushed) {
@@ -48,7 +48,7 @@ fn is_closed(fault: &Error) -> bool
 }
 
 /// Ends the program, which tells a fault unless it is that the output was closed.
-fn end<E: Write>(alloc: Global, listed: Result<()>, err: &mut E) -> Ended
+pub(crate) fn end<E: Write>(alloc: Global, listed: Result<()>, err: &mut E) -> Ended
     ensures { IsEnded listed (E.contents err.old) (E.contents err.new) result }
 {
     match listed {

@@ -1,10 +1,12 @@
 //! What is listed of small files, row by row: S1 with other bytes as its stream 3.
 
-use crate::{any_is, asked_of_file, list, plain_words};
+use crate::{Command, Task, any_is, asked_of_file, list, plain_words};
 use pdb_container::Result;
 use pdb_rows::Form;
 use pdb_vectors::s1_with;
 use std::alloc::Global;
+use std::io;
+use std::io::{ErrorKind, Write};
 use std::test::Fail;
 
 /// A row: the words behind the file, the bytes of stream 3, what is listed, and the text of the refusal.
@@ -22,6 +24,13 @@ const SECTION: &[u8] =
 /// Two OMAP records, of which the second has the lower source.
 const OMAP: &[u8] = b"\0\x20\0\0\0\x10\0\0\0\x10\0\0\0\0\0\0";
 
+/// A section header and no more.
+const SECTION_ALONE: [u8; 40] =
+    *b".text\0\0\0\x85\0\0\0\0\x10\0\0\0\x02\0\0\0\x04\0\0\0\0\0\0\0\0\0\0\0\0\0\0\x20\0\0\x60";
+
+/// An OMAP record that moves the addresses from 0x2000 on to those from 0x1000 on.
+const MOVED: &[u8] = b"\0\x20\0\0\0\x10\0\0";
+
 /// A string table of two names, the first of which is empty, with a byte behind the last NUL.
 const NAMES: &[u8] = b"\xfe\xef\xfe\xef\x01\0\0\0\x05\0\0\0\0a\"\0b";
 
@@ -32,10 +41,10 @@ const LISTED: &[Listed] = &[
     (
         &[],
         b"hello",
-        "page_size=512 pages=8 bytes=4096\npart=roles refused=Unimplemented PDB feature: ancient DBI header\n\
-        part=names refused=UnexpectedEof\nstream=0 bytes=0\nstream=1 bytes=600 role=pdb_information\n\
-        stream=3 bytes=5 role=debug_information\ntable=2 refused=The requested stream (2) is not stored in this file\n\
-        table=4 refused=The requested stream (4) is not stored in this file\n",
+        "page_size=512 pages=8 bytes=4096\npart=roles error=Unimplemented PDB feature: ancient DBI header\n\
+        part=names error=UnexpectedEof\nstream=0 bytes=0 pages=0\nstream=1 bytes=600 pages=2 role=pdb_information\n\
+        stream=3 bytes=5 pages=1 role=debug_information\ntable=2 error=The requested stream (2) is not stored in this file\n\
+        table=4 error=The requested stream (4) is not stored in this file\n",
         "",
     ),
     (
@@ -57,6 +66,12 @@ const LISTED: &[Listed] = &[
         b"\0\x20\0\0\0\x10\0\0",
         "{\"source_address\":8192,\"target_address\":4096}\n{\"is_sorted\":true}\n",
         "",
+    ),
+    (
+        &["omap"],
+        b"hello",
+        "",
+        "Unimplemented PDB feature: ancient DBI header",
     ),
     (
         &["omap", "3"],
@@ -86,6 +101,36 @@ const LISTED: &[Listed] = &[
         "The requested stream (2) is not stored in this file",
     ),
     (
+        &["map", "0x1010", "--sections", "3"],
+        &SECTION_ALONE,
+        "from=rva to=section_offset found=true section=1 offset=0x10\nfrom=rva to=internal_rva found=true address=0x1010\n\
+        from=rva to=internal_offset found=true section=1 offset=0x10\nfrom=internal_rva to=internal_offset found=true section=1 offset=0x10\n\
+        from=internal_rva to=rva found=true address=0x1010\nfrom=internal_rva to=section_offset found=true section=1 offset=0x10\n",
+        "",
+    ),
+    (
+        &["map", "0x2004", "--to", "3", "--json"],
+        MOVED,
+        "{\"from\":\"rva\",\"to\":\"section_offset\",\"found\":false}\n{\"from\":\"rva\",\"to\":\"internal_rva\",\"found\":true,\"address\":4100}\n\
+        {\"from\":\"rva\",\"to\":\"internal_offset\",\"found\":false}\n{\"from\":\"internal_rva\",\"to\":\"internal_offset\",\"found\":false}\n\
+        {\"from\":\"internal_rva\",\"to\":\"rva\",\"found\":true,\"address\":8196}\n{\"from\":\"internal_rva\",\"to\":\"section_offset\",\"found\":false}\n",
+        "",
+    ),
+    (
+        &["map", "0x2004", "--from", "3"],
+        MOVED,
+        "from=rva to=section_offset found=false\nfrom=rva to=internal_rva found=true address=0x2004\n\
+        from=rva to=internal_offset found=false\nfrom=internal_rva to=internal_offset found=false\n\
+        from=internal_rva to=rva found=true address=0x1004\nfrom=internal_rva to=section_offset found=false\n",
+        "",
+    ),
+    (
+        &["map", "1", "--sections", "9"],
+        b"hello",
+        "",
+        "The requested stream (9) is not stored in this file",
+    ),
+    (
         &["sections"],
         b"hello",
         "",
@@ -106,7 +151,7 @@ fn form_of(words: &[&str]) -> Form {
 fn lists(alloc: Global, row: &Listed) -> Result<bool> {
     let (words, stream, lines, refusal) = *row;
     let plain = plain_words(alloc, words)?;
-    let Ok(command) = asked_of_file(&plain) else {
+    let Ok(Task::List(command)) = asked_of_file("small.pdb", &plain) else {
         return Ok(false);
     };
     let file = s1_with(alloc, stream)?;
@@ -124,6 +169,56 @@ fn listed(rt: HostRuntime) -> std::result::Result<(), Fail> {
         let (words, _, lines, _) = row;
         let is_listed = lists(rt.alloc(), row)?;
         assert!(rt; is_listed, "{words:?} {lines}");
+    }
+    Ok(())
+}
+
+/// A writer that takes a few bytes at a time, and no more in all than it has room for.
+#[derive(Drop)]
+struct Narrow {
+    taken: Vec<u8>,
+    room: usize,
+}
+
+impl Write for Narrow {
+    fn write(&mut self, bytes: &[u8]) -> io::Result<usize> {
+        let count = bytes.len().min(5).min(self.room);
+        if count == 0 && !bytes.is_empty() {
+            return Err(io::Error::from(ErrorKind::StorageFull));
+        }
+        self.taken.extend_from_slice(&bytes[..count])?;
+        self.room -= count;
+        Ok(count)
+    }
+
+    fn flush(&mut self) -> io::Result<()> {
+        Ok(())
+    }
+}
+
+/// What a writer with so much room gets of the sections of S1 with a header as its stream 3, and whether
+/// it was asked for more.
+fn narrowed(alloc: Global, room: usize) -> Result<(Vec<u8>, bool)> {
+    let mut out = Narrow {
+        taken: Vec::new(alloc),
+        room,
+    };
+    let file = s1_with(alloc, &SECTION[..40])?;
+    let command = Command::Sections { stream: Some(3) };
+    let is_cut = list(alloc, file, command, Form::Text, &mut out).is_err();
+    Ok((out.taken, is_cut))
+}
+
+#[test]
+fn cut(rt: HostRuntime) -> std::result::Result<(), Fail> {
+    let (whole, is_cut) = narrowed(rt.alloc(), 1000)?;
+    assert!(rt; !is_cut && whole.starts_with(b"1 .text "));
+    for room in [0, 1, 4, 5, 6, 100] {
+        let (taken, is_cut) = narrowed(rt.alloc(), room)?;
+        assert!(rt;
+            is_cut && taken.len() == room && whole.starts_with(&taken),
+            "{room}"
+        );
     }
     Ok(())
 }

@@ -3,10 +3,11 @@
 ghost use Rattle.std.specs.Prelude.{◌≡◌, map, IfErr, IfOk};
 ghost use Rattle.std.specs.List.{list_any};
 ghost use Rattle.pdb_command.specs.Words.{same};
-ghost use Rattle.pdb_dump.specs.Words.{argument_of, asked, command_of, first_verb, frames_asked, one_stream, plain_words, records_asked, verb_of};
+ghost use Rattle.pdb_dump.specs.Words.{argument_of, asked, command_of, first_verb, frames_asked, listed_by, map_asked, no_streams, one_stream, plain_words, records_asked, streams_asked, task_of, verb_of, with_stream};
 
 use pdb_command::number;
 use pdb_container::Error;
+use pdb_mapping::MapStreams;
 use std::alloc::Global;
 
 /// What a command is called.
@@ -26,9 +27,13 @@ pub enum Verb {
     Omap,
     /// `frames`: the records of a frame table.
     Frames,
+    /// `map`: what an address map makes of an address.
+    Map,
+    /// `ask`: the answers to questions on standard input.
+    Ask,
 }
 
-/// What the program is asked of a file. A stream that isn't given is found by its role.
+/// What the program is asked to list of a file. A stream that isn't given is found by its role.
 #[derive(Clone, Copy, Debug, PartialEq, Eq)]
 pub enum Command {
     /// What the file is made of.
@@ -71,6 +76,22 @@ pub enum Command {
         /// The number of the stream of records of the newer format.
         new: Option<u32>,
     },
+    /// What an address map makes of an address.
+    Map {
+        /// The address.
+        address: u32,
+        /// The streams of the map, or none of them for the file's own map.
+        streams: MapStreams,
+    },
+}
+
+/// What the program is asked to do with a file.
+#[derive(Clone, Copy, Debug, PartialEq, Eq)]
+pub enum Task {
+    /// To list what a command says.
+    List(Command),
+    /// To answer the questions on standard input.
+    Answer,
 }
 
 /// Why words ask nothing of a file.
@@ -80,6 +101,8 @@ pub enum Misuse {
     NoCommand,
     /// The command does not take the words behind it.
     Arguments(Verb),
+    /// Both the questions and the file are to be read from standard input.
+    InputTwice,
 }
 
 /// Whether one of the words is this one.
@@ -120,6 +143,8 @@ pub fn verb_named(word: &str) -> Option<Verb>
         "sections" => Some(Verb::Sections),
         "omap" => Some(Verb::Omap),
         "frames" => Some(Verb::Frames),
+        "map" => Some(Verb::Map),
+        "ask" => Some(Verb::Ask),
         _ => None,
     }
 }
@@ -211,13 +236,81 @@ fn frames_asked(words: &[&str]) -> Option<Command>
     }
 }
 
-/// What a command asks with the words behind it, if it takes them.
-fn asked(verb: Verb, words: &[&str]) -> Option<Command>
-    ensures { result ≡ asked verb (map (λ word. word.now) words.now) }
+/// No stream of an address map.
+fn no_streams() -> MapStreams
+    ensures { result ≡ no_streams }
+{
+    MapStreams {
+        sections: None,
+        transformed: None,
+        to_original: None,
+        to_transformed: None,
+    }
+}
+
+/// The streams of an address map, with the one that an option gives.
+fn with_stream(streams: MapStreams, option: &str, stream: u32) -> Option<MapStreams>
+    ensures { result ≡ with_stream streams option.now stream }
+{
+    let stream = Some(stream);
+    match option {
+        "--sections" => Some(MapStreams {
+            sections: stream,
+            ..streams
+        }),
+        "--transformed" => Some(MapStreams {
+            transformed: stream,
+            ..streams
+        }),
+        "--to" => Some(MapStreams {
+            to_original: stream,
+            ..streams
+        }),
+        "--from" => Some(MapStreams {
+            to_transformed: stream,
+            ..streams
+        }),
+        _ => None,
+    }
+}
+
+/// The streams of an address map that words give, each by an option and a number.
+#[tactic(auto, unfolding(crate::specs::Words::streams_asked))]
+fn streams_asked(words: &[&str]) -> Option<MapStreams>
+    ensures { result ≡ streams_asked no_streams (map (λ word. word.now) words.now) }
+{
+    let mut streams = no_streams();
+    let mut words = words;
+    while let [option, stream, rest @ ..] = words {
+        let stream = number(stream)?;
+        streams = with_stream(streams, option, stream)?;
+        words = rest;
+    }
+    if words.is_empty() {
+        Some(streams)
+    } else {
+        None
+    }
+}
+
+/// What `map` asks: an address, and the streams of the map.
+#[tactic(auto, unfolding(crate::specs::Words::map_asked))]
+fn map_asked(words: &[&str]) -> Option<Command>
+    ensures { result ≡ map_asked (map (λ word. word.now) words.now) }
+{
+    let (address, words) = words.split_first()?;
+    let address = number(address)?;
+    let streams = streams_asked(words)?;
+    Some(Command::Map { address, streams })
+}
+
+/// What a command lists with the words behind it, if it takes them.
+fn listed_by(verb: Verb, words: &[&str]) -> Option<Command>
+    ensures { result ≡ listed_by verb (map (λ word. word.now) words.now) }
 {
     match verb {
         Verb::Summary if words.is_empty() => Some(Command::Summary),
-        Verb::Summary => None,
+        Verb::Summary | Verb::Ask => None,
         Verb::Types => {
             let (stream, index) = records_asked(words)?;
             Some(Command::Types { stream, index })
@@ -239,22 +332,48 @@ fn asked(verb: Verb, words: &[&str]) -> Option<Command>
             Some(Command::Omap { stream })
         }
         Verb::Frames => frames_asked(words),
+        Verb::Map => map_asked(words),
     }
 }
 
-/// What the words behind the file ask of it. No word asks for the summary.
+/// What a command asks with the words behind it, if it takes them.
+fn asked(verb: Verb, words: &[&str]) -> Option<Task>
+    ensures { result ≡ asked verb (map (λ word. word.now) words.now) }
+{
+    match verb {
+        Verb::Ask if words.is_empty() => Some(Task::Answer),
+        verb => {
+            let command = listed_by(verb, words)?;
+            Some(Task::List(command))
+        }
+    }
+}
+
+/// What the words behind a file ask of it. No word asks for the summary.
 #[tactic(auto, unfolding(crate::specs::Words::command_of))]
-pub fn asked_of_file(words: &[&str]) -> Result<Command, Misuse>
+fn command_of(words: &[&str]) -> Result<Task, Misuse>
     ensures { result ≡ command_of (map (λ word. word.now) words.now) }
 {
     let Some((name, arguments)) = words.split_first() else {
-        return Ok(Command::Summary);
+        return Ok(Task::List(Command::Summary));
     };
     let Some(verb) = verb_named(name) else {
         return Err(Misuse::NoCommand);
     };
     match asked(verb, arguments) {
-        Some(command) => Ok(command),
+        Some(task) => Ok(task),
         None => Err(Misuse::Arguments(verb)),
+    }
+}
+
+/// What the words behind the file of a path ask of it. A file on standard input, whose path is `-`, can't
+/// be asked the questions on standard input.
+#[tactic(auto, unfolding(crate::specs::Words::task_of))]
+pub fn asked_of_file(path: &str, words: &[&str]) -> Result<Task, Misuse>
+    ensures { result ≡ task_of path.now (map (λ word. word.now) words.now) }
+{
+    match command_of(words)? {
+        Task::Answer if path == "-" => Err(Misuse::InputTwice),
+        task => Ok(task),
     }
 }

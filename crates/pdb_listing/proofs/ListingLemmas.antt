@@ -1,5 +1,5 @@
 -- What stands on a writer after each step of a walk.
-use Rattle.std.proofs.Common.{◌≡◌, inl, inr, ℕ, suc, ◌+◌, ◌-◌, ◌≤◌, ◌<◌, List, [], ◌∷◌, ◌++◌, length, take, get_or, Option, Some, None, Ok, Err, refl, sym, ap, subst, ◌∙◌, arith, append_assoc}
+use Rattle.std.proofs.Common.{◌≡◌, inl, inr, ℕ, suc, ◌+◌, ◌-◌, ◌≤◌, ◌<◌, List, [], ◌∷◌, ◌++◌, length, take, drop, get_or, Option, Some, None, Ok, Err, refl, sym, ap, subst, ◌∙◌, arith, append_assoc, drop-cons, take-append-drop}
 use Rattle.std.specs.Io.KnownBytes.{Appends}
 use Rattle.std.proofs.KnownBytes.{Appends-nil, Appends-trans}
 use Rattle.std.proofs.lemmas.List.{append-nil, take_all, take_more, length-take}
@@ -7,8 +7,11 @@ use Rattle.std.proofs.lemmas.Option.{slice_get_cases}
 use Rattle.pdb_base.proofs.Collected.{ok_is}
 use Rattle.pdb_listing.specs.Lines.{lines_from}
 use Rattle.pdb_base.specs.declared.error.Error.{Error}
-use Rattle.pdb_base.specs.declared.error.Error.TheVariants.{OutOfMemory}
-use Rattle.pdb_listing.specs.Listed.{IsWalked, all_lines, lacking, lines_of, stopped, whole}
+use Rattle.std.specs.declared.io.Error as io
+use Rattle.pdb_base.specs.declared.error.Error.TheVariants.{IoError, OutOfMemory}
+use Rattle.pdb_listing.specs.Listed.{IsWalked, all_lines, cut, lacking, lines_of, stopped, whole}
+use Rattle.pdb_rows.specs.Written.{IsFront}
+use Rattle.pdb_rows.proofs.WrittenLemmas.{front_more}
 use Rattle.pdb_tpi.proofs.StepLemmas.{step_err, step_gives, step_none, step_some}
 use Rattle.pdb_tpi.proofs.WalkLemmas.{nth_some}
 use Rattle.pdb_tpi.specs.Steps.{Stand, walk, walk_rest, place_of, IsStep}
@@ -103,6 +106,48 @@ pub so_far_whole : (line : Line) (table : Table) (stand : Stand) (out out' : Opt
 so_far_whole line table stand out out' so past =
     let here = subst (λ (t : Table). length (walk t) ≤ stand.index - t.header.minimum_index) so.same past in
     subst (λ (items : List (List ℕ)). Appends out out' (lines_from line table.header.minimum_index items)) (take_all (stand.index - table.header.minimum_index) (walk table) here) so.lines
+
+-- ---- where a line is cut short
+
+lines_append : (line : Line) (index : ℕ) (items others : List (List ℕ)) → lines_from line index (items ++ others) ≡ lines_from line index items ++ lines_from line (index + length items) others
+lines_append line index [] others = ap (λ (i : ℕ). lines_from line i others) (omega arith)
+lines_append line index (first ∷ items) others =
+    let at : suc index + length items ≡ index + length (first ∷ items) = omega arith in
+    ap (λ (rest : List ℕ). line index first ++ rest) (lines_append line (suc index) items others)
+    ∙ sym (append_assoc (line index first) (lines_from line (suc index) items) (lines_from line (suc index + length items) others))
+    ∙ ap (λ (i : ℕ). lines_from line index (first ∷ items) ++ lines_from line i others) at
+
+-- a front of the next line stands there
+cut_here : {X : Type 0} (seen : X → ℕ × List ℕ) (line : Line) (old new : Stand) (x : X) (out mid out' : Option (List ℕ)) → IsSoFar line old.table old out mid → IsStep seen old (Ok (Some x)) new
+    → IsFront (line (seen x).0 (seen x).1) mid out' → IsFront (all_lines line old.table) out out'
+cut_here {X} seen line old new x out mid out' so step front =
+    let table = old.table in
+    let items = walk table in
+    let minimum = table.header.minimum_index in
+    let count = place_of old in
+    let given = step_item seen old x new step in
+    let least = so.least in
+    let within : count < length items = given.0 in
+    let long : length (take count items) ≡ count = simp length-take (omega arith) in
+    let at : minimum + length (take count items) ≡ (seen x).0 = let index = given.2 in omega arith in
+    let rest : List ℕ = lines_from line (minimum + length (take count items)) (drop count items) in
+    let split : all_lines line table ≡ lines_of line table count ++ rest =
+    ap (lines_from line minimum) (sym (take-append-drop count items)) ∙ lines_append line minimum (take count items) (drop count items) in
+    let next : rest ≡ line (seen x).0 (seen x).1 ++ lines_from line (suc (seen x).0) (drop (suc count) items) =
+    ap (lines_from line (minimum + length (take count items))) (drop-cons items count (seen x).1 within)
+    ∙ ap (λ (i : ℕ). lines_from line i (get_or items count (seen x).1 ∷ drop (suc count) items)) at
+    ∙ ap (λ (bytes : List ℕ). lines_from line (seen x).0 (bytes ∷ drop (suc count) items)) given.1 in
+    front_more out mid out' (all_lines line table) (line (seen x).0 (seen x).1) (lines_from line (suc (seen x).0) (drop (suc count) items)) rest next (record { done = lines_of line table count; got = so.lines; left = split }) front
+
+-- where the writer fails within the next line
+pub ends_cut : {X : Type 0} (seen : X → ℕ × List ℕ) (line : Line) (table : Table) (old new : Stand) (x : X) (cause : io.Error) (out mid out' : Option (List ℕ)) → IsSoFar line table old out mid → IsStep seen old (Ok (Some x)) new
+    → IsFront (line (seen x).0 (seen x).1) mid out' → IsWalked line table out out' (Err (IoError cause))
+ends_cut {X} seen line table old new x cause out mid out' so step front =
+    subst (λ (t : Table). IsSoFar line t old out mid → IsWalked line t out out' (Err (IoError cause))) so.same (λ here. cut cause (cut_here seen line old new x out mid out' here step front)) so
+
+-- a front of what was put together in a cleared buffer is one of the line
+pub front_written : (mid out' : Option (List ℕ)) (cleared filled written text : List ℕ) → cleared ≡ [] → filled ≡ cleared ++ text → written ≡ filled → IsFront written mid out' → IsFront text mid out'
+front_written mid out' cleared filled written text none fill write front = subst (λ (bytes : List ℕ). IsFront bytes mid out') (write ∙ fill ∙ ap (λ (before : List ℕ). before ++ text) none) front
 
 -- ---- how a walk ends
 

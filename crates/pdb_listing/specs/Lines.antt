@@ -1,15 +1,15 @@
 -- The lines of records.
 use Rattle.std.specs.Prelude.{ℕ, suc, List, [], ◌∷◌, ◌++◌, codes, Option, Some, None, Ok, Err}
 use Rattle.std.specs.List.{flat_map}
-use Rattle.std.specs.Option.{option_map, unwrap_or}
+use Rattle.std.specs.Option.{option_map}
 use Rattle.pdb_base.specs.Answer.{Answer, ◌>>=◌}
-use Rattle.pdb_base.specs.ErrorText.{io_error_front, text_of}
 use Rattle.pdb_base.specs.Refusal.{Refusal}
 use Rattle.pdb_rows.specs.declared.form.Form.{Form}
 use Rattle.pdb_rows.specs.EntryRows.{field_row}
 use Rattle.pdb_rows.specs.IdRows.{id_row}
 use Rattle.pdb_rows.specs.Lines.{full_text, row_text}
-use Rattle.pdb_rows.specs.Row.{ShownRow, hexadecimal, kind, text}
+use Rattle.pdb_rows.specs.Refused.{refusal_shown}
+use Rattle.pdb_rows.specs.Row.{ShownRow, hexadecimal, kind}
 use Rattle.pdb_rows.specs.TypeRows.{listed_method_fields, type_row}
 use Rattle.pdb_tpi.specs.Chain.{fields_of}
 use Rattle.pdb_tpi.specs.Finder.{item_of}
@@ -19,16 +19,12 @@ use Rattle.pdb_values.specs.IdValue.{IdValue}
 use Rattle.pdb_values.specs.TypeValue as values
 use Rattle.pdb_values.specs.TypeValue.{TypeValue, PlainValue}
 
--- the text of a refusal; of an error of a source only the words that stand before its own
-unfoldable pub refusal_text : Refusal → List ℕ
-refusal_text fault = unwrap_or (text_of fault) io_error_front
-
 -- the row of a record that is refused: its index, its leaf, and why
 unfoldable pub refused_row : ℕ → ℕ → Refusal → ShownRow
 refused_row index leaf fault =
     (codes "index", hexadecimal index)
     ∷ (codes "kind", kind leaf)
-    ∷ (codes "error", text (refusal_text fault))
+    ∷ refusal_shown fault
     ∷ []
 
 -- the row of the type that an item is, or of its refusal

@@ -7,6 +7,7 @@ use Rattle.pdb_base.specs.Refusal.{refusal_of}
 use Rattle.pdb_base.specs.declared.error.Error.{Error}
 use Rattle.pdb_base.specs.declared.error.Error.TheVariants.{IoError, OutOfMemory}
 use Rattle.pdb_listing.specs.Lines.{lines_from}
+use Rattle.pdb_rows.specs.Written.{IsFront}
 use Rattle.pdb_tpi.specs.Steps.{walk, walk_rest}
 use Rattle.pdb_tpi.specs.Table.{Table, table_of}
 use Rattle.pdb_tpi.specs.Walk.{fault_of}
@@ -28,17 +29,22 @@ Pushes (Err fault) old new meant = (meant ≡ Err (refusal_of fault)) ⊎ (fault
 --   whole    the lines of all items stand there, and no byte is left behind them
 --   stopped  the lines of all items stand there, and the fault is the one at which the walk stops
 --   lacking  memory was refused, behind the lines of some first items
---   cut      the writer failed
+--   cut      the writer failed, and a front of the lines stands there
 pub data IsWalked (line : ℕ → List ℕ → List ℕ) (table : Table) (out out' : Option (List ℕ)) : Result (Unit {0}) Error → Type 0 where
   whole : walk_rest table ≡ [] → Appends out out' (all_lines line table) → IsWalked line table out out' (Ok tt)
   stopped : (fault : Error) → fault_of (walk_rest table) ≡ refusal_of fault → Appends out out' (all_lines line table) → IsWalked line table out out' (Err fault)
   lacking : (count : ℕ) → Appends out out' (lines_of line table count) → IsWalked line table out out' (Err OutOfMemory)
-  cut : (cause : io.Error) → IsWalked line table out out' (Err (IoError cause))
+  cut : (cause : io.Error) → IsFront (all_lines line table) out out' → IsWalked line table out out' (Err (IoError cause))
 
 -- A listing of the table that a stream is, or the stream is refused as a table, and nothing was written.
 pub data IsListed (line : ℕ → List ℕ → List ℕ) (stream : List ℕ) (out out' : Option (List ℕ)) (result : Result (Unit {0}) Error) : Type 0 where
   walked : (table : Table) → table_of stream ≡ Ok table → IsWalked line table out out' result → IsListed line stream out out' result
   refused : (fault : Error) → result ≡ Err fault → table_of stream ≡ Err (refusal_of fault) → Keeps out out' → IsListed line stream out out' result
+
+-- the lines of members, of which there are none where they are refused
+abbrev pub members_text : Answer (List ℕ) → List ℕ
+members_text (Ok lines) = lines
+members_text (Err fault) = []
 
 -- One record in full, and then its members, as they are meant:
 --   whole_shown    both stand there
@@ -46,11 +52,11 @@ pub data IsListed (line : ℕ → List ℕ → List ℕ) (stream : List ℕ) (ou
 --   refused_shown  the table, the look-up or the record is refused, and nothing was written
 --   unread_shown   memory was refused, and nothing was written
 --   lacking_shown  memory was refused behind the record
---   cut_shown      the writer failed
+--   cut_shown      the writer failed, and a front of the record and its members stands there
 pub data IsShown (meant : Answer (List ℕ × Answer (List ℕ))) (out out' : Option (List ℕ)) : Result (Unit {0}) Error → Type 0 where
   whole_shown : (text members : List ℕ) → meant ≡ Ok (text, Ok members) → Appends out out' (text ++ members) → IsShown meant out out' (Ok tt)
   stopped_shown : (text : List ℕ) (fault : Error) → meant ≡ Ok (text, Err (refusal_of fault)) → Appends out out' text → IsShown meant out out' (Err fault)
   refused_shown : (fault : Error) → meant ≡ Err (refusal_of fault) → Keeps out out' → IsShown meant out out' (Err fault)
   unread_shown : Keeps out out' → IsShown meant out out' (Err OutOfMemory)
   lacking_shown : (text : List ℕ) (members : Answer (List ℕ)) → meant ≡ Ok (text, members) → Appends out out' text → IsShown meant out out' (Err OutOfMemory)
-  cut_shown : (cause : io.Error) → IsShown meant out out' (Err (IoError cause))
+  cut_shown : (text : List ℕ) (members : Answer (List ℕ)) (cause : io.Error) → meant ≡ Ok (text, members) → IsFront (text ++ members_text members) out out' → IsShown meant out out' (Err (IoError cause))

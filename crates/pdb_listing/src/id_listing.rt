@@ -7,7 +7,7 @@ use crate::line::push_id;
 use pdb_base::{FallibleIterator, IdIndex, Result};
 use pdb_container::look_up;
 use pdb_msf::Stream;
-use pdb_rows::{Form, id_row, push_fields};
+use pdb_rows::{Form, id_row, push_fields, write_bytes};
 use pdb_tpi::IdInformation;
 use std::alloc::Global;
 use std::io::Write;
@@ -21,7 +21,7 @@ fn list_ids<W: Write>(alloc: Global, table: &IdInformation, form: Form, out: &mu
     while let Some(item) = items.next()? {
         line.clear();
         push_id(alloc, form, &item, &mut line)?;
-        out.write_all(&line)?;
+        write_bytes(&line, out)?;
     }
     Ok(())
 }
@@ -31,7 +31,7 @@ fn list_ids<W: Write>(alloc: Global, table: &IdInformation, form: Form, out: &mu
 ///
 /// # Errors
 /// What the table refuses, before anything is written; the fault at which the table stops, behind the
-/// lines of the ids before it; `IoError` if the writer fails, where a part of a line may then stand; and
+/// lines of the ids before it; `IoError` if the writer fails, where a front of what is meant then stands; and
 /// `OutOfMemory` if memory is refused, behind the lines so far.
 pub fn ids<W: Write>(alloc: Global, stream: Stream, form: Form, out: &mut W) -> Result<()>
     ensures { IsListed (id_line form) stream (W.contents out.old) (W.contents out.new) result }
@@ -55,7 +55,7 @@ fn show_id<W: Write>(
     let row = id_row(alloc, index, item.raw_kind(), &value)?;
     let mut text = Vec::new(alloc);
     push_fields(form, &row, &mut text)?;
-    out.write_all(&text)?;
+    write_bytes(&text, out)?;
     Ok(())
 }
 
@@ -63,7 +63,7 @@ fn show_id<W: Write>(
 ///
 /// # Errors
 /// What the table, the look-up or the record refuses, before anything is written; `IoError` if the writer
-/// fails, where a part of a line may then stand; and `OutOfMemory` if memory is refused.
+/// fails, where a front of what is meant then stands; and `OutOfMemory` if memory is refused.
 pub fn id_at<W: Write>(
     alloc: Global,
     stream: Stream,

@@ -1,31 +1,13 @@
 //! The row of a record that is refused.
 
-ghost use Rattle.std.specs.Prelude.{◌≡◌, ◌++◌, IfErr, IfOk, OnOk, string_bytes};
+ghost use Rattle.std.specs.Prelude.{◌≡◌, ◌++◌, IfErr, OnOk};
 ghost use Rattle.pdb_base.specs.Refusal.{refusal_of};
-ghost use Rattle.pdb_listing.specs.Lines.{refusal_text, refused_row};
+ghost use Rattle.pdb_listing.specs.Lines.{refused_row};
 ghost use Rattle.pdb_rows.specs.Lines.{row_text};
 
-use pdb_base::{Error, IO_ERROR_FRONT, RawString, Result};
-use pdb_rows::{Field, Form, Row, Value, push_row};
+use pdb_base::{Error, Result};
+use pdb_rows::{Form, Row, Value, error_field, error_text, field, push_row};
 use std::alloc::Global;
-
-/// The text of a refusal; of an error of a source only the words that stand before its own.
-#[tactic(auto, unfolding(crate::specs::Lines::refusal_text))]
-fn refusal_text(alloc: Global, fault: &Error) -> Result<String>
-    ensures ok { IfOk result (λ text. string_bytes text ≡ refusal_text (refusal_of fault.now)) }
-    ensures want { IfErr result (λ e. e ≡ Error.OutOfMemory) }
-{
-    match fault {
-        Error::IoError(_) => {
-            let text = String::from_str(alloc, IO_ERROR_FRONT)?;
-            Ok(text)
-        }
-        fault => {
-            let text = format!(in alloc; "{fault}")?;
-            Ok(text)
-        }
-    }
-}
 
 /// Adds the line of a record that is refused: its index, its leaf, and why.
 ///
@@ -43,20 +25,11 @@ pub(crate) fn push_refused(
     ensures ok { OnOk result (line.new.items ≡ line.old.items ++ row_text form (refused_row index leaf (refusal_of fault.now))) }
     ensures want { IfErr result (λ e. e ≡ Error.OutOfMemory) }
 {
-    let text = refusal_text(alloc, fault)?;
+    let text = error_text(alloc, fault)?;
     let fields = vec![in alloc;
-        Field {
-            name: "index",
-            value: Value::Hexadecimal(index),
-        },
-        Field {
-            name: "kind",
-            value: Value::Kind(leaf),
-        },
-        Field {
-            name: "error",
-            value: Value::Text(RawString::from(text.as_str())),
-        },
+        field("index", Value::Hexadecimal(index)),
+        field("kind", Value::Kind(leaf)),
+        error_field(&text),
     ]?;
     push_row(form, &Row { fields }, line)
 }

@@ -8,7 +8,7 @@ use crate::members::push_members;
 use pdb_base::{FallibleIterator, Result, TypeIndex};
 use pdb_container::look_up;
 use pdb_msf::Stream;
-use pdb_rows::{Form, push_fields, type_row};
+use pdb_rows::{Form, push_fields, type_row, write_bytes};
 use pdb_tpi::TypeInformation;
 use std::alloc::Global;
 use std::io::Write;
@@ -27,7 +27,7 @@ fn list_types<W: Write>(
     while let Some(item) = items.next()? {
         line.clear();
         push_type(alloc, form, &item, &mut line)?;
-        out.write_all(&line)?;
+        write_bytes(&line, out)?;
     }
     Ok(())
 }
@@ -37,7 +37,7 @@ fn list_types<W: Write>(
 ///
 /// # Errors
 /// What the table refuses, before anything is written; the fault at which the table stops, behind the
-/// lines of the types before it; `IoError` if the writer fails, where a part of a line may then stand; and
+/// lines of the types before it; `IoError` if the writer fails, where a front of what is meant then stands; and
 /// `OutOfMemory` if memory is refused, behind the lines so far.
 pub fn types<W: Write>(alloc: Global, stream: Stream, form: Form, out: &mut W) -> Result<()>
     ensures { IsListed (type_line form) stream (W.contents out.old) (W.contents out.new) result }
@@ -61,10 +61,10 @@ fn show_type<W: Write>(
     let row = type_row(alloc, index, item.raw_kind(), &value)?;
     let mut text = Vec::new(alloc);
     push_fields(form, &row, &mut text)?;
-    out.write_all(&text)?;
+    write_bytes(&text, out)?;
     let mut lines = Vec::new(alloc);
     push_members(alloc, form, table, TypeIndex(index), &value, &mut lines)?;
-    out.write_all(&lines)?;
+    write_bytes(&lines, out)?;
     Ok(())
 }
 
@@ -74,7 +74,7 @@ fn show_type<W: Write>(
 ///
 /// # Errors
 /// What the table, the look-up or the record refuses, before anything is written; what the lists of fields
-/// refuse, behind the type itself; `IoError` if the writer fails, where a part of a line may then stand;
+/// refuse, behind the type itself; `IoError` if the writer fails, where a front of what is meant then stands;
 /// and `OutOfMemory` if memory is refused.
 pub fn type_at<W: Write>(
     alloc: Global,

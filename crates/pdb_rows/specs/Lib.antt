@@ -8,4 +8,6 @@ pub mod TypeRows
 pub mod EntryRows
 pub mod IdRows
 pub mod TableRows
+pub mod Refused
+pub mod Written
 pub mod Laws

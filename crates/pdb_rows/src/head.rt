@@ -36,7 +36,7 @@ impl Head {
 }
 
 /// A field of this name.
-pub(crate) fn field<'t>(name: &'static str, value: Value<'t>) -> Field<'t>
+pub fn field<'t>(name: &'static str, value: Value<'t>) -> Field<'t>
     ensures { field_shown result ≡ (name.now, value_shown value.entry) }
 {
     Field { name, value }
@@ -101,7 +101,7 @@ pub(crate) fn nonzero<'t>(number: u8) -> Value<'t>
 }
 
 /// A word that may be absent.
-pub(crate) fn optional_word<'t>(word: Option<&'static str>) -> Value<'t>
+pub fn optional_word<'t>(word: Option<&'static str>) -> Value<'t>
     ensures { value_shown result ≡ optional_text (option_map (λ text. text.now) word.entry) }
 {
     match word {
@@ -111,7 +111,7 @@ pub(crate) fn optional_word<'t>(word: Option<&'static str>) -> Value<'t>
 }
 
 /// A name or another text that may be absent.
-pub(crate) fn optional_text<'t>(text: Option<RawString<'t>>) -> Value<'t>
+pub fn optional_text<'t>(text: Option<RawString<'t>>) -> Value<'t>
     ensures { value_shown result ≡ optional_text (option_map text_bytes text.entry) }
 {
     match text {

@@ -1,3 +1,4 @@
 pub mod StreamLemmas
 pub mod KindLemmas
+pub mod LineLemmas
 pub mod TallyLemmas

@@ -1,11 +1,11 @@
 -- What a walk has counted, step after step.
-use Rattle.std.proofs.Common.{◌≡◌, inl, inr, ℕ, zero, suc, ◌+◌, ◌-◌, ◌^◌, ◌<◌, ◌≤◌, ◌==◌, Bool, cond, List, [], ◌∷◌, length, get_or, drop, Option, Some, None, Ok, Err, refl, sym, ap, subst, ◌∙◌, arith, drop-cons, zero-add}
+use Rattle.std.proofs.Common.{◌≡◌, inl, inr, ℕ, zero, suc, ◌+◌, ◌-◌, ◌^◌, ◌<◌, ◌≤◌, ◌==◌, Bool, cond, true, false, List, [], ◌∷◌, length, get_or, drop, Option, Some, None, Ok, Err, refl, sym, ap, subst, ◌∙◌, arith, drop-cons, zero-add}
 use Rattle.std.specs.Prelude.{count_by, slice_index_or, slice_set}
 use Rattle.std.specs.List.{fold}
 use Rattle.std.specs.Option.{option_map_or}
 use Rattle.std.specs.Result.{result_ok}
-use Rattle.std.proofs.lemmas.Bool.{cases_Bool, eqb-true, eqb-false}
-use Rattle.std.proofs.lemmas.List.{get_or-set_same, get_or-set_other}
+use Rattle.std.proofs.lemmas.Bool.{cases_Bool, cases_lt, eqb-true, eqb-false}
+use Rattle.std.proofs.lemmas.List.{get_or_past, get_or-set_same, get_or-set_other}
 use Rattle.std.proofs.Math.ListN.{drop_of_length-le}
 use Rattle.std.proofs.lemmas.List.Sums.{count_by-le-length}
 use Rattle.std.proofs.lemmas.Option.{slice_get_cases, slice_get_past, slice_get-get_or}
@@ -18,7 +18,9 @@ use Rattle.pdb_tpi.specs.Table.{Table}
 use Rattle.pdb_tpi.specs.Walk.{behind, fault_of, first_item, items}
 use Rattle.pdb_tpi.proofs.StepLemmas.{step_err, step_gives, step_none, step_some, step_stops}
 use Rattle.pdb_tpi.proofs.WalkLemmas.{nth_some}
-use Rattle.pdb_summary.specs.Kinds.{count_of, stop_of}
+use Rattle.pdb_summary.specs.Tally.{IsTally}
+use Rattle.pdb_summary.specs.declared.kinds.Tally.{Tally}
+use Rattle.pdb_summary.specs.Kinds.{continued_from, continued_of, count_of, goes_on, stop_of}
 
 -- ---- how many items there can be
 
@@ -52,6 +54,16 @@ left stand = drop (place_of stand) (walk stand.table)
 some_same : {A : Type 0} {x y : A} → Some x ≡ Some y → x ≡ y
 some_same e = cc
 
+-- the index that a step gives is the iterator's
+step_index : {X : Type 0} (seen : X → ℕ × List ℕ) (old : Stand) (x : X) (new : Stand) → IsStep seen old (Ok (Some x)) new → old.index ≡ (seen x).0
+step_index seen old x new step = elim ((slice_get_cases (walk old.table) (place_of old)).1) [
+  | inl here ↦
+      let moved : Stand = record old { index = old.index + 1 } in
+      let is : (Some (old.index, here.0), moved) ≡ (Some (seen x), new) = ok_is (Some (old.index, here.0), moved) (Some (seen x), new) (sym (step_gives old here.0 (nth_some old.table (place_of old) here.0 here.2)) ∙ step.gives) in
+      ap (λ (p : ℕ × List ℕ). p.0) (some_same (ap (λ (p : Option (ℕ × List ℕ) × Stand). p.0) is))
+  | inr past ↦ absurd (omega (arith, (step_some seen old x new step).0, past.0))
+]
+
 -- the item that a step gives is the first of those that are left
 pub left_first : {X : Type 0} (seen : X → ℕ × List ℕ) (old : Stand) (x : X) (new : Stand) → old.table.header.minimum_index ≤ old.index → IsStep seen old (Ok (Some x)) new → left old ≡ (seen x).1 ∷ left new
 unfolding left
@@ -75,16 +87,32 @@ left_none stand past = drop_of_length-le (walk stand.table) past
 
 -- ---- counts
 
+abbrev once : Bool → ℕ
+once is = cond is 1 0
+
+one_most : (is : Bool) → cond is 1 0 ≤ 1
+one_most true = omega arith
+one_most false = omega arith
+
+-- no more lists go on than there are
+continued_few : (index : ℕ) (items : List (List ℕ)) → continued_from index items ≤ length items
+continued_few index [] = omega arith
+continued_few index (item ∷ items) =
+    let rest = continued_few (suc index) items in
+    let here : cond (goes_on index item) 1 0 ≤ 1 = one_most (goes_on index item) in
+    omega (arith, here, rest)
+
 -- So much is counted of a table's records as an iterator gave.
-pub record IsCounting (table : Table) (stand : Stand) (counts : List ℕ) (records : ℕ) : Type 0 where
+pub record IsCounting (table : Table) (stand : Stand) (counts : List ℕ) (records continued : ℕ) : Type 0 where
   pub same : stand.table ≡ table
   pub base : table.header.minimum_index ≤ stand.index
   pub kinds : length counts ≡ 0x10000
   pub each : (leaf : ℕ) → leaf < 0x10000 → slice_index_or counts leaf 0 + count_of (left stand) leaf ≡ count_of (walk table) leaf
   pub all : records + length (left stand) ≡ length (walk table)
+  pub lists : continued + continued_from stand.index (left stand) ≡ continued_of table
 
 pub counting_none : (table : Table) (stand : Stand) (counts : List ℕ) → stand ≡ record { table = table; index = table.header.minimum_index } → length counts ≡ 0x10000
-    → ((leaf : ℕ) → leaf < 0x10000 → slice_index_or counts leaf 0 ≡ 0) → IsCounting table stand counts 0
+    → ((leaf : ℕ) → leaf < 0x10000 → slice_index_or counts leaf 0 ≡ 0) → IsCounting table stand counts 0 0
 unfolding left
 counting_none table stand counts first kinds zeros =
     let none : table.header.minimum_index - table.header.minimum_index ≡ 0 = omega arith in
@@ -94,18 +122,26 @@ counting_none table stand counts first kinds zeros =
       kinds = kinds;
       each = λ leaf within. rw (zeros leaf within, none) (zero-add (count_of (walk table) leaf));
       all = rw none (zero-add (length (walk table)));
+      lists = rw none (zero-add (continued_of table));
     })
 
 -- one count more has room
-pub room_more : (table : Table) (stand : Stand) (counts : List ℕ) (records leaf : ℕ) → leaf < 0x10000 → IsCounting table stand counts records → slice_index_or counts leaf 0 + 1 < 2 ^ 64
-room_more table stand counts records leaf within counting =
+pub room_more : (table : Table) (stand : Stand) (counts : List ℕ) (records continued leaf : ℕ) → leaf < 0x10000 → IsCounting table stand counts records continued → slice_index_or counts leaf 0 + 1 < 2 ^ 64
+room_more table stand counts records continued leaf within counting =
     let each = counting.each leaf within in
     let few = count_by-le-length (λ item. kind_of item == leaf) (walk table) in
     let most = walk_few table in
     omega (arith, each, few, most)
 
-pub room_records : (table : Table) (stand : Stand) (counts : List ℕ) (records : ℕ) → IsCounting table stand counts records → records + 1 < 2 ^ 64
-room_records table stand counts records counting =
+pub room_continued : (table : Table) (stand : Stand) (counts : List ℕ) (records continued : ℕ) (is_continued : Bool) → IsCounting table stand counts records continued → continued + cond is_continued 1 0 < 2 ^ 64
+room_continued table stand counts records continued is_continued counting =
+    let most = walk_few table in
+    let one = one_most is_continued in
+    let few = continued_few table.header.minimum_index (walk table) in
+    omega (arith, counting.lists, most, few, one)
+
+pub room_records : (table : Table) (stand : Stand) (counts : List ℕ) (records continued : ℕ) → IsCounting table stand counts records continued → records + 1 < 2 ^ 64
+room_records table stand counts records continued counting =
     let most = walk_few table in
     omega (arith, counting.all, most)
 
@@ -142,10 +178,10 @@ each_more counts item others kind leaf whole is within before = elim (cases_Bool
 ]
 
 -- one record more
-pub counting_more : {X : Type 0} (seen : X → ℕ × List ℕ) (table : Table) (old : Stand) (x : X) (new : Stand) (counts more : List ℕ) (records kind : ℕ) → IsStep seen old (Ok (Some x)) new
-    → IsCounting table old counts records → kind ≡ kind_of (seen x).1 → kind < 0x10000 → more ≡ slice_set counts kind (slice_index_or counts kind 0 + 1) → length more ≡ 0x10000
-    → IsCounting table new more (records + 1)
-counting_more seen table old x new counts more records kind step counting is within noted kinds =
+pub counting_more : {X : Type 0} (seen : X → ℕ × List ℕ) (table : Table) (old : Stand) (x : X) (new : Stand) (counts more : List ℕ) (records continued kind : ℕ) (is_continued : Bool) → IsStep seen old (Ok (Some x)) new
+    → IsCounting table old counts records continued → kind ≡ kind_of (seen x).1 → kind < 0x10000 → more ≡ slice_set counts kind (slice_index_or counts kind 0 + 1) → length more ≡ 0x10000
+    → is_continued ≡ goes_on (seen x).0 (seen x).1 → IsCounting table new more (records + 1) (continued + cond is_continued 1 0)
+counting_more seen table old x new counts more records continued kind is_continued step counting is within noted kinds on =
     let moved = (step_some seen old x new step).1 in
     let base : old.table.header.minimum_index ≤ old.index = subst (λ (t : Table). t.header.minimum_index ≤ old.index) (sym counting.same) counting.base in
     let first = left_first seen old x new base step in
@@ -158,17 +194,27 @@ counting_more seen table old x new counts more records kind step counting is wit
       each = λ leaf small. rw noted (each_more counts (seen x).1 (left new) kind leaf (count_of (walk table) leaf) is (omega (arith, within, counting.kinds))
           (ap (λ (rest : List (List ℕ)). slice_index_or counts leaf 0 + count_of rest leaf) (sym first) ∙ counting.each leaf small));
       all = let one : length (left old) ≡ suc (length (left new)) = ap length first in omega (arith, one, counting.all);
+      lists =
+          let named : old.index ≡ (seen x).0 = step_index seen old x new step in
+          let suc' : suc old.index ≡ new.index = omega (arith, next) in
+          let one : continued_from old.index (left old) ≡ cond (goes_on (seen x).0 (seen x).1) 1 0 + continued_from new.index (left new) =
+          ap (continued_from old.index) first
+          ∙ ap (λ (i : ℕ). cond (goes_on i (seen x).1) 1 0 + continued_from (suc old.index) (left new)) named
+          ∙ ap (λ (i : ℕ). cond (goes_on (seen x).0 (seen x).1) 1 0 + continued_from i (left new)) suc' in
+          let more : once is_continued ≡ once (goes_on (seen x).0 (seen x).1) = ap once on in
+          omega (arith, one, more, counting.lists);
     }
 
 -- ---- the end
 
 -- all is counted where none is left
-pub counted_all : (table : Table) (stand : Stand) (counts : List ℕ) (records : ℕ) → IsCounting table stand counts records → length (walk stand.table) ≤ place_of stand
-    → ((leaf : ℕ) → leaf < 0x10000 → slice_index_or counts leaf 0 ≡ count_of (walk table) leaf) × (records ≡ length (walk table))
-counted_all table stand counts records counting past =
+pub counted_all : (table : Table) (stand : Stand) (counts : List ℕ) (records continued : ℕ) → IsCounting table stand counts records continued → length (walk stand.table) ≤ place_of stand
+    → ((leaf : ℕ) → leaf < 0x10000 → slice_index_or counts leaf 0 ≡ count_of (walk table) leaf) × (records ≡ length (walk table)) × (continued ≡ continued_of table)
+counted_all table stand counts records continued counting past =
     let none = left_none stand past in (
       λ leaf within. let each = counting.each leaf within in let no : count_of (left stand) leaf ≡ 0 = ap (λ (rest : List (List ℕ)). count_of rest leaf) none in omega (arith, each, no),
       (let no : length (left stand) ≡ 0 = ap length none in omega (arith, counting.all, no)),
+      (let no : continued_from stand.index (left stand) ≡ 0 = ap (continued_from stand.index) none in omega (arith, counting.lists, no)),
     )
 
 stop_at : (stand : Stand) (rest : List ℕ) (fault : Refusal) → stopped stand rest ≡ Err fault → stop_of rest ≡ Some fault
@@ -184,3 +230,10 @@ stops_with seen table old new e same step =
 -- where a step gives nothing the walk does not stop
 pub stops_not : {X : Type 0} (seen : X → ℕ × List ℕ) (table : Table) (old new : Stand) → old.table ≡ table → IsStep seen old (Ok None) new → stop_of (walk_rest table) ≡ None
 stops_not seen table old new same step = ap (λ (t : Table). stop_of (walk_rest t)) (sym same) ∙ ap stop_of (step_none seen old new step).1
+
+-- no kind has more records than there are
+pub counts_few : (table : Table) (tally : Tally) → IsTally table tally → (leaf : ℕ) → slice_index_or tally.counts.items leaf 0 ≤ length (walk table)
+counts_few table tally is leaf = elim (cases_lt leaf 0x10000) [
+  | inr past ↦ let none : slice_index_or tally.counts.items leaf 0 ≡ 0 = get_or_past tally.counts.items leaf 0 (omega (arith, past, is.kinds)) in omega (arith, none)
+  | inl within ↦ let same = is.counts leaf within in let few = count_by-le-length (λ item. kind_of item == leaf) (walk table) in omega (arith, same, few)
+]

@@ -1,10 +1,11 @@
 -- What a summary says of a table: how many records it has of each kind.
-use Rattle.std.specs.Prelude.{ℕ, zero, suc, ◌+◌, ◌==◌, nat_le, if◌then◌else◌, List, [], ◌∷◌, ◌++◌, length, codes, count_by, Option, None, Some, Ok, Err}
-use Rattle.std.specs.List.{flat_map}
+use Rattle.std.specs.Prelude.{ℕ, zero, suc, ◌+◌, ◌==◌, ◌&&◌, not, Bool, true, false, if◌then◌else◌, List, [], ◌∷◌, ◌++◌, length, map, filter, codes, count_by, Option, None, Some, Ok, Err}
+use Rattle.std.specs.List.{flat_map, range_with_len}
 use Rattle.pdb_base.specs.Answer.{Answer, ◌>>=◌}
 use Rattle.pdb_base.specs.Refusal.{Refusal}
 use Rattle.pdb_msf.specs.File.{stream_of}
 use Rattle.pdb_msf.specs.Header.{Head}
+use Rattle.pdb_records.specs.declared.constants.TheConstants.{LF_FIELDLIST}
 use Rattle.pdb_rows.specs.declared.form.Form.{Form}
 use Rattle.pdb_rows.specs.Lines.{row_text}
 use Rattle.pdb_rows.specs.Row.{ShownRow, number, hexadecimal}
@@ -12,41 +13,67 @@ use Rattle.pdb_rows.specs.Row as rows
 use Rattle.pdb_summary.specs.Refused.{refused_line}
 use Rattle.pdb_summary.specs.declared.kinds.KindCount.{KindCount}
 use Rattle.pdb_summary.specs.declared.refused.Part.TheVariants as parts
-use Rattle.pdb_tpi.specs.Record.{kind_of}
+use Rattle.pdb_tpi.specs.Record.{kind_of, type_of}
 use Rattle.pdb_tpi.specs.Steps.{walk, walk_rest}
 use Rattle.pdb_tpi.specs.Table.{Table, table_of}
 use Rattle.pdb_tpi.specs.Walk.{fault_of}
+use Rattle.pdb_values.specs.TypeValue.{TypeValue}
+use Rattle.pdb_values.specs.TypeValue as values
 
 -- how many items are of a kind
 abbrev pub count_of : List (List ℕ) → ℕ → ℕ
 count_of items leaf = count_by (λ item. kind_of item == leaf) items
 
--- a kind among others, of which the most frequent stands first: it stands before the first that is not
--- more frequent
-abbrev pub placed : KindCount → List KindCount → List KindCount
-placed kind [] = kind ∷ []
-placed kind (other ∷ others) = if nat_le other.count kind.count then kind ∷ other ∷ others else other ∷ placed kind others
+-- a kind of which there are so many
+abbrev pub of_count : ℕ → ℕ → KindCount
+of_count n leaf = record { leaf = leaf; count = n }
 
--- a kind of which there are so many, among others; one of which there is none is no kind
-abbrev pub counted : ℕ → ℕ → List KindCount → List KindCount
-counted leaf zero kinds = kinds
-counted leaf (suc more) kinds = placed (record { leaf = leaf; count = suc more }) kinds
+-- the kinds of which there are some, in the order of their leaves
+abbrev pub present : (ℕ → ℕ) → List ℕ → List KindCount
+present count leaves = map (λ leaf. of_count (count leaf) leaf) (filter (λ leaf. not (count leaf == 0)) leaves)
 
--- So many kinds from a leaf on, the most frequent first, and of those that are equally frequent the one of
--- the lower leaf first.
-unfoldable pub ranked : (ℕ → ℕ) → ℕ → ℕ → List KindCount
-ranked count zero leaf = []
-ranked count (suc most) leaf = counted leaf (count leaf) (ranked count most (leaf + 1))
+-- the kinds of which there are so many, in the order of their leaves
+abbrev pub equally : (ℕ → ℕ) → ℕ → List ℕ → List KindCount
+equally count n leaves = map (of_count n) (filter (λ leaf. count leaf == n) leaves)
 
--- the kinds of items, each of which is a number of 16 bits
+-- The kinds of which there are some, and at most so many: the most frequent first, and of those that are
+-- equally frequent the one of the lower leaf first. Each is a number of 16 bits.
+unfoldable pub ranked : (ℕ → ℕ) → ℕ → List KindCount
+ranked count zero = []
+ranked count (suc most) = equally count (suc most) (range_with_len 0 0x10000) ++ ranked count most
+
+-- the kinds of items
 unfoldable pub kinds_of : List (List ℕ) → List KindCount
-kinds_of items = ranked (count_of items) 0x10000 0
+kinds_of items = ranked (count_of items) (length items)
 
--- a table: the number of its stream, how many records it has, and the indexes that its header counts,
--- from the least to below the other
-abbrev pub table_shown : ℕ → ℕ → ℕ → ℕ → ShownRow
-table_shown n records least end =
-    (codes "table", number n) ∷ (codes "records", number records) ∷ (codes "minimum_index", hexadecimal least) ∷ (codes "maximum_index", hexadecimal end) ∷ []
+-- whether what a record says is a list of fields that goes on in another
+abbrev pub is_continued : Answer TypeValue → Bool
+is_continued (Ok (values.field_list fields (Some list))) = true
+is_continued other = false
+
+-- whether the record of an index is a list of fields that goes on in another
+unfoldable pub goes_on : ℕ → List ℕ → Bool
+goes_on index item = (kind_of item == LF_FIELDLIST) && is_continued (type_of index item)
+
+-- how many items, of which the first has this index, are lists of fields that go on in others
+abbrev pub continued_from : ℕ → List (List ℕ) → ℕ
+continued_from index [] = 0
+continued_from index (item ∷ items) = (if goes_on index item then 1 else 0) + continued_from (suc index) items
+
+-- the same of all records of a table
+abbrev pub continued_of : Table → ℕ
+continued_of table = continued_from table.header.minimum_index (walk table)
+
+-- a table: the number of its stream, how many records it has, the indexes that its header counts, from
+-- the least to below the other, and how many lists of fields go on in others
+abbrev pub table_shown : ℕ → ℕ → ℕ → ℕ → ℕ → ShownRow
+table_shown n records continued least end =
+    (codes "table", number n)
+    ∷ (codes "records", number records)
+    ∷ (codes "minimum_index", hexadecimal least)
+    ∷ (codes "maximum_index", hexadecimal end)
+    ∷ (codes "continued_field_lists", number continued)
+    ∷ []
 
 -- a kind of a table's records, and how many there are
 abbrev pub kind_shown : ℕ → KindCount → ShownRow
@@ -69,7 +96,7 @@ stop_line form n (Some fault) = refused_line form (parts.Table n) fault
 -- a table, its kinds, and the fault at which its walk stops
 unfoldable pub table_lines : Form → ℕ → Table → List ℕ
 table_lines form n table =
-    row_text form (table_shown n (length (walk table)) table.header.minimum_index table.header.maximum_index)
+    row_text form (table_shown n (length (walk table)) (continued_of table) table.header.minimum_index table.header.maximum_index)
     ++ (kind_lines form n (kinds_of (walk table)) ++ stop_line form n (stop_of (walk_rest table)))
 
 -- the table in a stream, or that it is refused

@@ -1,5 +1,6 @@
 pub mod Refused
 pub mod Streams
+pub mod Known
 pub mod Kinds
 pub mod Tally
 pub mod Summary

@@ -1,16 +1,12 @@
 -- How a part of a file that is refused is told among those that are not.
-use Rattle.std.specs.Prelude.{ℕ, List, [], ◌∷◌, codes, unwrap_or}
-use Rattle.pdb_base.specs.ErrorText.{text_of}
+use Rattle.std.specs.Prelude.{ℕ, List, [], ◌∷◌, codes}
 use Rattle.pdb_base.specs.Refusal.{Refusal}
 use Rattle.pdb_rows.specs.declared.form.Form.{Form}
 use Rattle.pdb_rows.specs.Lines.{row_text}
+use Rattle.pdb_rows.specs.Refused.{refusal_shown}
 use Rattle.pdb_rows.specs.Row.{ShownField, ShownRow, number, text}
 use Rattle.pdb_summary.specs.declared.refused.Part.{Part}
 use Rattle.pdb_summary.specs.declared.refused.Part.TheVariants as parts
-
--- the text of a refusal; of an error of the source, that it is one
-abbrev pub refused_text : Refusal → List ℕ
-refused_text refusal = unwrap_or (text_of refusal) (codes "IO error while reading PDB")
 
 -- which part is told of
 abbrev pub part_shown : Part → ShownField
@@ -23,7 +19,7 @@ part_shown (parts.Table n) = (codes "table", number n)
 
 -- the part, and why it is refused
 abbrev pub refused_shown : Part → Refusal → ShownRow
-refused_shown part refusal = part_shown part ∷ (codes "refused", text (refused_text refusal)) ∷ []
+refused_shown part refusal = part_shown part ∷ refusal_shown refusal ∷ []
 
 unfoldable pub refused_line : Form → Part → Refusal → List ℕ
 refused_line form part refusal = row_text form (refused_shown part refusal)

@@ -8,11 +8,13 @@ use Rattle.pdb_base.specs.Refusal.{stream_not_found}
 use Rattle.pdb_base.specs.declared.index.StreamIndex.{StreamIndex}
 use Rattle.pdb_msf.specs.File.{stream_of}
 use Rattle.pdb_msf.specs.Header.{Head}
+use Rattle.pdb_msf.specs.Pages.{pages}
 use Rattle.pdb_roles.specs.StreamNames.{Named}
 use Rattle.pdb_roles.specs.declared.debug_header.DBIExtraStreams.{DBIExtraStreams}
 use Rattle.pdb_rows.specs.declared.form.Form.{Form}
 use Rattle.pdb_rows.specs.Lines.{row_text}
-use Rattle.pdb_rows.specs.Row.{ShownRow, ShownValue, number, text, absent}
+use Rattle.pdb_rows.specs.Fields.{optional_text}
+use Rattle.pdb_rows.specs.Row.{ShownRow, ShownValue, number, absent}
 use Rattle.pdb_summary.specs.Refused.{refused_line}
 use Rattle.pdb_summary.specs.declared.refused.Part.TheVariants as parts
 
@@ -49,26 +51,35 @@ role_of roles n =
 abbrev pub name_of : List Named → ℕ → Option (List ℕ)
 name_of names n = option_map (λ named. named.name) (find (λ named. named.stream == n) names)
 
--- a text, if there is one
-abbrev pub text_shown : Option (List ℕ) → ShownValue
-text_shown (Some bytes) = text bytes
-text_shown None = absent
+-- how many pages of a size hold so many bytes; that is not known where the size of a page is not, which is then 0
+abbrev pub pages_held : ℕ → ℕ → ShownValue
+pages_held page_size size = if page_size == 0 then absent else number (pages page_size size)
 
--- a stream: its number, its size in bytes, its role and its name
-abbrev pub stream_shown : ℕ → ℕ → Option (List ℕ) → Option (List ℕ) → ShownRow
-stream_shown n size role name =
-    (codes "stream", number n) ∷ (codes "bytes", number size) ∷ (codes "role", text_shown role) ∷ (codes "name", text_shown name) ∷ []
+-- a stream: its number, its size in bytes, how many pages hold it, its role and its name
+abbrev pub stream_shown : ℕ → ℕ → ℕ → Option (List ℕ) → Option (List ℕ) → ShownRow
+stream_shown page_size n size role name =
+    (codes "stream", number n) ∷ (codes "bytes", number size) ∷ (codes "pages", pages_held page_size size) ∷ (codes "role", optional_text role) ∷ (codes "name", optional_text name) ∷ []
+
+-- What is known of a file's streams apart from their bytes: the size of a page, their roles and their names.
+pub record Known : Type 0 where
+  pub page_size : ℕ
+  pub roles : DBIExtraStreams
+  pub names : List Named
+
+-- the line of a stream of a number and a size
+abbrev pub size_line : Form → Known → ℕ → ℕ → List ℕ
+size_line form known n size = row_text form (stream_shown known.page_size n size (role_of known.roles n) (name_of known.names n))
 
 -- what is said of the stream of a number: nothing where there is none
-abbrev pub said_of : Form → DBIExtraStreams → List Named → ℕ → Answer (List ℕ) → List ℕ
-said_of form roles names n (Ok stream) = row_text form (stream_shown n (length stream) (role_of roles n) (name_of names n))
-said_of form roles names n (Err (stream_not_found m)) = []
-said_of form roles names n (Err refusal) = refused_line form (parts.Stream n) refusal
+abbrev pub said_of : Form → Known → ℕ → Answer (List ℕ) → List ℕ
+said_of form known n (Ok stream) = size_line form known n (length stream)
+said_of form known n (Err (stream_not_found m)) = []
+said_of form known n (Err refusal) = refused_line form (parts.Stream n) refusal
 
 -- the line of stream n of a file
-unfoldable pub stream_line : Form → DBIExtraStreams → List Named → List ℕ → Head → ℕ → List ℕ
-stream_line form roles names file head n = said_of form roles names n (stream_of file head n None)
+unfoldable pub stream_line : Form → Known → List ℕ → Head → ℕ → List ℕ
+stream_line form known file head n = said_of form known n (stream_of file head n None)
 
 -- the lines of all streams that a number of 16 bits can name
-unfoldable pub stream_lines : Form → DBIExtraStreams → List Named → List ℕ → Head → List ℕ
-stream_lines form roles names file head = flat_map (stream_line form roles names file head) (range_with_len 0 0xffff)
+unfoldable pub stream_lines : Form → Known → List ℕ → Head → List ℕ
+stream_lines form known file head = flat_map (stream_line form known file head) (range_with_len 0 0xffff)

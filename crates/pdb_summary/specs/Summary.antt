@@ -37,6 +37,10 @@ abbrev pub said_or : {A : Type 0} → A → Answer A → A
 said_or empty (Ok said) = said
 said_or empty (Err refusal) = empty
 
+-- the size of a page as the header says it, and 0 where it does not
+abbrev pub page_size_of : List ℕ → ℕ
+page_size_of file = (said_or (0, 0) (pages_of file)).0
+
 -- that a part is refused, if it is
 abbrev pub told : {A : Type 0} → Form → Part → Answer A → List ℕ
 told form part (Ok said) = []
@@ -65,12 +69,15 @@ no_roles = record {
 unfoldable pub names_of : List ℕ → Head → Answer (List Named)
 names_of file head = file_information file head >>= stream_names_of
 
+-- the streams of a file, behind that their names are refused, if they are
+abbrev pub named_part : Form → ℕ → DBIExtraStreams → List ℕ → Head → Answer (List Named) → List ℕ
+named_part form page_size roles file head names =
+    told form parts.Names names ++ stream_lines form (record { page_size = page_size; roles = roles; names = said_or [] names }) file head
+
 -- the streams of a file, behind what is refused of their roles and names
 unfoldable pub streams_part : Form → List ℕ → Head → List ℕ
 streams_part form file head =
-    told form parts.Roles (file_roles file head)
-    ++ (told form parts.Names (names_of file head)
-    ++ stream_lines form (said_or no_roles (file_roles file head)) (said_or [] (names_of file head)) file head)
+    told form parts.Roles (file_roles file head) ++ named_part form (page_size_of file) (said_or no_roles (file_roles file head)) file head (names_of file head)
 
 -- the tables of types and of ids
 unfoldable pub tables_part : Form → List ℕ → Head → List ℕ

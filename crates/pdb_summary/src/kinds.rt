@@ -1,12 +1,16 @@
 //! The kinds of the records of a table.
 
-ghost use Rattle.std.specs.Prelude.{◌≡◌, ℕ, ◌+◌, ◌<◌, ◌^◌, length, slice_index_or, slice_set, vec_len, IfErr, IfOk, OnOk};
-ghost use Rattle.pdb_summary.specs.Kinds.{counted, placed, ranked};
+ghost use Rattle.std.specs.Prelude.{◌≡◌, ℕ, ◌+◌, ◌<◌, ◌≤◌, ◌^◌, length, slice_index_or, slice_set, vec_len, IfErr, IfOk, if◌then◌else◌};
+ghost use Rattle.std.specs.List.{range_with_len};
+ghost use Rattle.pdb_summary.specs.Kinds.{goes_on, present, ranked};
 ghost use Rattle.pdb_summary.specs.Tally.{IsTally, IsWalked};
 
-use pdb_base::{Error, FallibleIterator, Result};
-use pdb_tpi::TypeInformation;
+use pdb_base::{Error, FallibleIterator, Result, TypeIndex};
+use pdb_records::constants::LF_FIELDLIST;
+use pdb_tpi::{Item, TypeInformation};
+use pdb_values::TypeData;
 use std::alloc::Global;
+use std::cmp::Reverse;
 
 /// How many numbers a kind can be.
 const KINDS: usize = 0x10000;
@@ -20,41 +24,34 @@ pub struct KindCount {
     pub count: u64,
 }
 
-/// Places a kind among others, of which the most frequent stands first.
-fn place(kinds: &mut Vec<KindCount>, kind: KindCount) -> Result<()>
-    ensures placed { OnOk result (kinds.new.items ≡ placed kind kinds.old.items) }
+/// The kinds of which there are some, the lowest first.
+fn present(alloc: Global, counts: &[u64]) -> Result<Vec<KindCount>>
+    requires { length counts.now ≡ 0x10000 }
+    ensures present { IfOk result (λ kinds. kinds.items ≡ present (λ leaf. slice_index_or counts.now leaf 0) (range_with_len 0 0x10000)) }
     ensures want { IfErr result (λ e. e ≡ Error.OutOfMemory) }
 {
-    let mut at = 0;
-    while at < kinds.len() && kind.count < kinds[at].count {
-        at += 1;
+    let mut kinds = Vec::new(alloc);
+    for leaf in 0..KINDS {
+        let count = counts[leaf];
+        if count != 0 {
+            kinds.push(KindCount {
+                leaf: leaf as u16,
+                count,
+            })?;
+        }
     }
-    kinds.insert(at, kind)?;
-    Ok(())
-}
-
-/// Places a kind of which there are so many among others; one of which there is none is no kind.
-fn place_counted(kinds: &mut Vec<KindCount>, leaf: u16, count: u64) -> Result<()>
-    ensures placed { OnOk result (kinds.new.items ≡ counted leaf count kinds.old.items) }
-    ensures want { IfErr result (λ e. e ≡ Error.OutOfMemory) }
-{
-    if count == 0 {
-        return Ok(());
-    }
-    place(kinds, KindCount { leaf, count })
+    Ok(kinds)
 }
 
 /// The kinds of which there are some, the most frequent first.
 fn rank(alloc: Global, counts: &[u64]) -> Result<Vec<KindCount>>
     requires { length counts.now ≡ 0x10000 }
-    ensures ranked { IfOk result (λ kinds. kinds.items ≡ ranked (λ leaf. slice_index_or counts.now leaf 0) 0x10000 0) }
+    ensures ranked { (most : ℕ) → ((leaf : ℕ) → slice_index_or counts.now leaf 0 ≤ most)
+        → IfOk result (λ kinds. kinds.items ≡ ranked (λ leaf. slice_index_or counts.now leaf 0) most) }
     ensures want { IfErr result (λ e. e ≡ Error.OutOfMemory) }
 {
-    let mut kinds = Vec::new(alloc);
-    for place_behind in 0..KINDS {
-        let leaf = KINDS - 1 - place_behind;
-        place_counted(&mut kinds, leaf as u16, counts[leaf])?;
-    }
+    let mut kinds = present(alloc, counts)?;
+    kinds.sort_by_key(|kind| Reverse(kind.count))?;
     Ok(kinds)
 }
 
@@ -65,6 +62,8 @@ struct Tally {
     counts: Vec<u64>,
     /// How many records there are.
     records: u64,
+    /// How many of them are lists of fields that go on in others.
+    continued: u64,
     /// The fault at which the walk stops, if it does.
     fault: Option<Error>,
 }
@@ -89,6 +88,29 @@ fn zeros(alloc: Global, count: usize) -> Result<Vec<u64>>
     Ok(counts)
 }
 
+/// Whether a record is a list of fields that goes on in another.
+#[tactic(auto, unfolding(crate::specs::Kinds::goes_on))]
+fn goes_on(alloc: Global, item: &Item<'_, TypeIndex>) -> Result<bool>
+    ensures ok { IfOk result (λ is. is ≡ goes_on item.now.index.0 item.now.bytes.now) }
+    ensures want { IfErr result (λ e. e ≡ Error.OutOfMemory) }
+{
+    if item.raw_kind() != LF_FIELDLIST {
+        return Ok(false);
+    }
+    match item.parse(alloc) {
+        Ok(TypeData::FieldList(list)) => Ok(list.continuation.is_some()),
+        Err(Error::OutOfMemory) => Err(Error::OutOfMemory),
+        _ => Ok(false),
+    }
+}
+
+/// 1 if so, and else 0.
+fn as_count(is: bool) -> u64
+    ensures { result ≡ (if is then 1 else 0) }
+{
+    if is { 1 } else { 0 }
+}
+
 /// Walks over a table and counts its records.
 fn count_records(alloc: Global, table: &TypeInformation) -> Result<Tally>
     ensures tally { IfOk result (IsTally table.now) }
@@ -96,17 +118,21 @@ fn count_records(alloc: Global, table: &TypeInformation) -> Result<Tally>
 {
     let mut counts = zeros(alloc, KINDS)?;
     let mut records = 0;
+    let mut continued = 0;
     let mut items = table.iter();
     loop {
         match items.next() {
             Ok(Some(item)) => {
+                let is_continued = goes_on(alloc, &item)?;
                 note(&mut counts, item.raw_kind());
                 records += 1;
+                continued += as_count(is_continued);
             }
             Ok(None) => {
                 return Ok(Tally {
                     counts,
                     records,
+                    continued,
                     fault: None,
                 });
             }
@@ -114,6 +140,7 @@ fn count_records(alloc: Global, table: &TypeInformation) -> Result<Tally>
                 return Ok(Tally {
                     counts,
                     records,
+                    continued,
                     fault: Some(fault),
                 });
             }
@@ -128,6 +155,8 @@ pub struct Walked {
     pub kinds: Vec<KindCount>,
     /// How many there are.
     pub records: u64,
+    /// How many of them are lists of fields that go on in others.
+    pub continued: u64,
     /// The fault at which the walk stops, if it does.
     pub fault: Option<Error>,
 }
@@ -141,12 +170,14 @@ pub fn walk_over(alloc: Global, table: &TypeInformation) -> Result<Walked>
     let Tally {
         counts,
         records,
+        continued,
         fault,
     } = count_records(alloc, table)?;
     let kinds = rank(alloc, &counts)?;
     Ok(Walked {
         kinds,
         records,
+        continued,
         fault,
     })
 }

@@ -1,25 +1,34 @@
 //! The streams of a file, a line each.
 
-ghost use Rattle.std.specs.Prelude.{◌≡◌, map, None, OnOk, IfErr, IfOk};
-ghost use Rattle.std.specs.Io.KnownBytes.{Appends};
+ghost use Rattle.std.specs.Prelude.{◌≡◌, map, None, IfErr, IfOk};
 ghost use Rattle.std.specs.Option.{option_map};
 ghost use Rattle.pdb_base.specs.Answer.{Answers};
 ghost use Rattle.pdb_msf.specs.File.{stream_of};
 ghost use Rattle.pdb_roles.specs.StreamNames.{named_view};
-ghost use Rattle.pdb_rows.specs.Lines.{row_text};
 ghost use Rattle.pdb_rows.specs.Row.{row_shown, value_shown};
-ghost use Rattle.pdb_summary.specs.Streams.{name_of, role_of, stream_line, stream_lines, stream_shown, text_shown};
-ghost use Rattle.pdb_tables.specs.Listing.{IsCut};
+ghost use Rattle.pdb_rows.specs.Written.{Writes};
+ghost use Rattle.pdb_summary.specs.Known.{known_view};
+ghost use Rattle.pdb_summary.specs.Streams.{pages_held, size_line, stream_line, stream_lines, stream_shown};
 
 use crate::refused::{Part, write_refused};
 use crate::roles::{name_of, role_of};
 use pdb_base::{Error, RawString, Result};
 use pdb_msf::{BigMSF, Msf, Stream};
 use pdb_roles::{DBIExtraStreams, StreamName};
-use pdb_rows::{Field, Form, Row, Value};
-use pdb_tables::write_row;
+use pdb_rows::{Form, Row, Value, field, optional_text, optional_word, write_row};
 use std::alloc::Global;
 use std::io::Write;
+
+/// What is known of a file's streams apart from their bytes.
+#[derive(Clone, Copy)]
+pub struct Known<'k, 'n> {
+    /// The size of a page in bytes, or 0 if it is not known.
+    pub page_size: u32,
+    /// The roles of streams.
+    pub roles: DBIExtraStreams,
+    /// The streams that have names.
+    pub names: &'k [StreamName<'n>],
+}
 
 /// The stream of a number.
 pub fn stream(alloc: Global, file: &mut BigMSF<Vec<u8>>, number: u32) -> Result<Stream>
@@ -30,99 +39,74 @@ pub fn stream(alloc: Global, file: &mut BigMSF<Vec<u8>>, number: u32) -> Result<
     file.get(alloc, number, None)
 }
 
-/// A word, if there is one.
-fn word_value<'t>(word: Option<&'static str>) -> Value<'t>
-    ensures { value_shown result ≡ text_shown (option_map (λ word. word.now) word.entry) }
+/// How many pages hold so many bytes, or nothing if the size of a page is not known.
+#[tactic(auto, unfolding(pdb_msf::specs::Pages::pages))]
+fn pages_held<'t>(page_size: u32, size: usize) -> Value<'t>
+    ensures { value_shown result ≡ pages_held page_size size }
 {
-    match word {
-        Some(word) => Value::Word(word),
-        None => Value::Absent,
+    if page_size == 0 {
+        return Value::Absent;
     }
+    Value::Number((size as u64).div_ceil(page_size as u64))
 }
 
-/// A name, if there is one.
-fn name_value<'t>(name: Option<RawString<'t>>) -> Value<'t>
-    ensures { value_shown result ≡ text_shown (option_map (λ name. name.0.now) name.entry) }
-{
-    match name {
-        Some(name) => Value::Text(name),
-        None => Value::Absent,
-    }
-}
-
-/// A stream: its number, its size in bytes, its role and its name.
+/// A stream: its number, its size in bytes, how many pages hold it, its role and its name.
 fn stream_row<'t>(
     alloc: Global,
+    page_size: u32,
     number: u32,
     size: usize,
     role: Option<&'static str>,
     name: Option<RawString<'t>>,
 ) -> Result<Row<'t>>
-    ensures ok { IfOk result (λ row. row_shown row ≡ stream_shown number size (option_map (λ role. role.now) role.entry) (option_map (λ name. name.0.now) name.entry)) }
+    ensures ok { IfOk result (λ row. row_shown row
+        ≡ stream_shown page_size number size (option_map (λ role. role.now) role.entry) (option_map (λ name. name.0.now) name.entry)) }
     ensures want { IfErr result (λ e. e ≡ Error.OutOfMemory) }
 {
-    let mut fields = Vec::with_capacity(alloc, 4)?;
-    fields.push(Field {
-        name: "stream",
-        value: Value::Number(number as u64),
-    })?;
-    fields.push(Field {
-        name: "bytes",
-        value: Value::Number(size as u64),
-    })?;
-    fields.push(Field {
-        name: "role",
-        value: word_value(role),
-    })?;
-    fields.push(Field {
-        name: "name",
-        value: name_value(name),
-    })?;
+    let fields = vec![in alloc;
+        field("stream", Value::Number(number as u64)),
+        field("bytes", Value::Number(size as u64)),
+        field("pages", pages_held(page_size, size)),
+        field("role", optional_word(role)),
+        field("name", optional_text(name)),
+    ]?;
     Ok(Row { fields })
 }
 
 /// Writes the line of a stream of this size.
-fn write_found<W: Write>(
+#[tactic(auto, using(pdb_rows::proofs::WrittenLemmas::front_none))]
+fn write_size<W: Write>(
     alloc: Global,
     number: u32,
     size: usize,
-    roles: &DBIExtraStreams,
-    names: &[StreamName<'_>],
+    known: Known<'_, '_>,
     form: Form,
     out: &mut W,
 ) -> Result<()>
-    ensures line { OnOk result (Appends (W.contents out.old) (W.contents out.new)
-        (row_text form (stream_shown number size (role_of roles.now number) (name_of (map named_view names.now) number)))) }
-    ensures cut { IfErr result IsCut }
+    ensures { Writes (size_line form (known_view known.entry) number size) (W.contents out.old) (W.contents out.new) result }
 {
-    let role = role_of(roles, number);
-    let name = name_of(names, number);
-    let row = stream_row(alloc, number, size, role, name)?;
+    let role = role_of(&known.roles, number);
+    let name = name_of(known.names, number);
+    let row = stream_row(alloc, known.page_size, number, size, role, name)?;
     write_row(form, &row, &mut Vec::new(alloc), out)
 }
 
 /// Writes the line of the stream of a number, if there is one.
-#[tactic(auto, unfolding(crate::specs::Streams::stream_line))]
+#[tactic(auto, unfolding(crate::specs::Streams::stream_line), using(pdb_rows::proofs::WrittenLemmas::front_none))]
 fn write_stream<W: Write>(
     alloc: Global,
     file: &mut BigMSF<Vec<u8>>,
     number: u32,
-    roles: &DBIExtraStreams,
-    names: &[StreamName<'_>],
+    known: Known<'_, '_>,
     form: Form,
     out: &mut W,
 ) -> Result<()>
-    ensures line { OnOk result (Appends (W.contents out.old) (W.contents out.new)
-        (stream_line form roles.now (map named_view names.now) file.old.source.items file.old.head number)) }
-    ensures cut { IfErr result IsCut }
+    ensures line { Writes (stream_line form (known_view known.entry) file.old.source.items file.old.head number) (W.contents out.old) (W.contents out.new) result }
     ensures bytes { file.new.source.items ≡ file.old.source.items }
     ensures head { file.new.head ≡ file.old.head }
 {
     match stream(alloc, file, number) {
-        Ok(stream) => {
-            let size = stream.as_slice().len();
-            write_found(alloc, number, size, roles, names, form, out)
-        }
+        Ok(stream) => write_size(alloc, number, stream.as_slice().len(), known, form, out),
         Err(Error::StreamNotFound(_)) => Ok(()),
         Err(Error::OutOfMemory) => Err(Error::OutOfMemory),
         Err(error) => write_refused(alloc, Part::Stream(number), &error, form, out),
@@ -133,19 +117,16 @@ fn write_stream<W: Write>(
 pub fn write_streams<W: Write>(
     alloc: Global,
     file: &mut BigMSF<Vec<u8>>,
-    roles: &DBIExtraStreams,
-    names: &[StreamName<'_>],
+    known: Known<'_, '_>,
     form: Form,
     out: &mut W,
 ) -> Result<()>
-    ensures lines { OnOk result (Appends (W.contents out.old) (W.contents out.new)
-        (stream_lines form roles.now (map named_view names.now) file.old.source.items file.old.head)) }
-    ensures cut { IfErr result IsCut }
+    ensures lines { Writes (stream_lines form (known_view known.entry) file.old.source.items file.old.head) (W.contents out.old) (W.contents out.new) result }
     ensures bytes { file.new.source.items ≡ file.old.source.items }
     ensures head { file.new.head ≡ file.old.head }
 {
     for number in 0..0xffff {
-        write_stream(alloc, file, number, roles, names, form, out)?;
+        write_stream(alloc, file, number, known, form, out)?;
     }
     Ok(())
 }

@@ -1,24 +1,26 @@
 //! The summary of a file.
 
-ghost use Rattle.std.specs.Prelude.{◌≡◌, [], ◌++◌, OnOk, IfErr, IfOk};
-ghost use Rattle.std.specs.Io.KnownBytes.{Appends};
+ghost use Rattle.std.specs.Prelude.{◌≡◌, [], ◌++◌, IfErr, IfOk};
 ghost use Rattle.pdb_base.specs.Answer.{Answers, Gives};
+ghost use Rattle.pdb_base.specs.Refusal.{refusal_of};
 ghost use Rattle.pdb_roles.specs.File.{file_roles};
 ghost use Rattle.pdb_roles.specs.StreamNames.{stream_names_of};
 ghost use Rattle.pdb_rows.specs.Row.{row_shown};
+ghost use Rattle.pdb_rows.specs.Written.{Writes, done_of};
+ghost use Rattle.pdb_summary.specs.Known.{known_view};
+ghost use Rattle.pdb_summary.specs.Refused.{refused_line};
 ghost use Rattle.pdb_summary.specs.Streams.{stream_lines};
-ghost use Rattle.pdb_summary.specs.Summary.{directory_read, names_of, no_roles, pages_line, pages_of, pages_shown, parts_lines, said_or, streams_part, summary_listing, tables_part, told};
+ghost use Rattle.pdb_summary.specs.Summary.{directory_read, named_part, names_of, no_roles, page_size_of, pages_line, pages_of, pages_shown, parts_lines, said_or, streams_part, summary_listing, tables_part, told};
 ghost use Rattle.pdb_summary.specs.declared.refused.Part.TheVariants as parts;
-ghost use Rattle.pdb_tables.specs.Listing.{IsCut, IsListed};
+ghost use Rattle.pdb_tables.specs.Listing.{IsListed};
 
 use crate::refused::{Part, write_refused};
-use crate::streams::write_streams;
+use crate::streams::{Known, write_streams};
 use crate::tables::write_table;
 use pdb_base::{Error, ParseBuffer, Result};
 use pdb_msf::{BigMSF, Msf};
 use pdb_roles::{DBIExtraStreams, PDBInformation, extra_streams, pdb_information};
-use pdb_rows::{Field, Form, Row, Value};
-use pdb_tables::write_row;
+use pdb_rows::{Form, Row, Value, field, write_row};
 use std::alloc::Global;
 use std::io::Write;
 
@@ -44,25 +46,38 @@ fn pages_of(file: &[u8]) -> Result<(u32, u32)>
     Ok((page_size, pages_used))
 }
 
+/// The size of a page as the header of a file says it, or 0 if it does not.
+fn page_size_of(file: &[u8]) -> u32
+    ensures { result ≡ page_size_of file.now }
+{
+    match pages_of(file) {
+        Ok((page_size, _)) => page_size,
+        Err(_) => 0,
+    }
+}
+
 /// A file: the size of its pages, how many it uses, and its size, in bytes.
 fn pages_row<'t>(alloc: Global, page_size: u32, pages: u32, size: usize) -> Result<Row<'t>>
     ensures ok { IfOk result (λ row. row_shown row ≡ pages_shown (page_size, pages) size) }
     ensures want { IfErr result (λ e. e ≡ Error.OutOfMemory) }
 {
-    let mut fields = Vec::with_capacity(alloc, 3)?;
-    fields.push(Field {
-        name: "page_size",
-        value: Value::Number(page_size as u64),
-    })?;
-    fields.push(Field {
-        name: "pages",
-        value: Value::Number(pages as u64),
-    })?;
-    fields.push(Field {
-        name: "bytes",
-        value: Value::Number(size as u64),
-    })?;
+    let fields = vec![in alloc;
+        field("page_size", Value::Number(page_size as u64)),
+        field("pages", Value::Number(pages as u64)),
+        field("bytes", Value::Number(size as u64)),
+    ]?;
     Ok(Row { fields })
+}
+
+/// What is known of streams that have no names.
+fn unnamed(page_size: u32, roles: DBIExtraStreams) -> Known<'static, 'static>
+    ensures { known_view result ≡ record { page_size = page_size; roles = roles; names = [] } }
+{
+    Known {
+        page_size,
+        roles,
+        names: &[],
+    }
 }
 
 /// Reads the directory of a file, and gives the refusal if it is refused.
@@ -80,6 +95,7 @@ fn read_directory(alloc: Global, file: &mut BigMSF<Vec<u8>>) -> Result<()>
 }
 
 /// What stream 3 says of roles. If it is refused that is told, and no stream has a role.
+#[tactic(auto, using(pdb_rows::proofs::WrittenLemmas::front_none))]
 fn known_roles<W: Write>(
     alloc: Global,
     file: &mut BigMSF<Vec<u8>>,
@@ -87,8 +103,7 @@ fn known_roles<W: Write>(
     out: &mut W,
 ) -> Result<DBIExtraStreams>
     ensures roles { IfOk result (λ roles. roles ≡ said_or no_roles (file_roles file.old.source.items file.old.head)) }
-    ensures told { OnOk result (Appends (W.contents out.old) (W.contents out.new) (told form parts.Roles (file_roles file.old.source.items file.old.head))) }
-    ensures cut { IfErr result IsCut }
+    ensures told { Writes (told form parts.Roles (file_roles file.old.source.items file.old.head)) (W.contents out.old) (W.contents out.new) (done_of result) }
     ensures bytes { file.new.source.items ≡ file.old.source.items }
     ensures head { file.new.head ≡ file.old.head }
 {
@@ -102,118 +117,127 @@ fn known_roles<W: Write>(
     }
 }
 
+/// Writes that the names of streams are refused, and then the streams without names.
+#[tactic(auto, using(pdb_rows::proofs::WrittenLemmas::front_none, pdb_rows::proofs::WrittenLemmas::front_first, pdb_rows::proofs::WrittenLemmas::front_second, pdb_rows::proofs::WrittenLemmas::writes_second))]
+fn write_unnamed<W: Write>(
+    alloc: Global,
+    file: &mut BigMSF<Vec<u8>>,
+    known: Known<'_, '_>,
+    error: &Error,
+    form: Form,
+    out: &mut W,
+) -> Result<()>
+    ensures lines { Writes (refused_line form parts.Names (refusal_of error.now) ++ stream_lines form (known_view known.entry) file.old.source.items file.old.head) (W.contents out.old) (W.contents out.new) result }
+    ensures bytes { file.new.source.items ≡ file.old.source.items }
+    ensures head { file.new.head ≡ file.old.head }
+{
+    write_refused(alloc, Part::Names, error, form, out)?;
+    write_streams(alloc, file, known, form, out)
+}
+
 /// Writes the streams of a file whose names stream 1 says.
+#[tactic(auto, using(pdb_rows::proofs::WrittenLemmas::front_none, pdb_rows::proofs::WrittenLemmas::front_first, pdb_rows::proofs::WrittenLemmas::front_second, pdb_rows::proofs::WrittenLemmas::writes_second))]
 fn write_named<W: Write>(
     alloc: Global,
     file: &mut BigMSF<Vec<u8>>,
-    roles: &DBIExtraStreams,
+    page_size: u32,
+    roles: DBIExtraStreams,
     information: &PDBInformation,
     form: Form,
     out: &mut W,
 ) -> Result<()>
-    ensures lines { OnOk result (Appends (W.contents out.old) (W.contents out.new)
-        (told form parts.Names (stream_names_of information.now)
-        ++ stream_lines form roles.now (said_or [] (stream_names_of information.now)) file.old.source.items file.old.head)) }
-    ensures cut { IfErr result IsCut }
+    ensures lines { Writes (named_part form page_size roles file.old.source.items file.old.head (stream_names_of information.now)) (W.contents out.old) (W.contents out.new) result }
     ensures bytes { file.new.source.items ≡ file.old.source.items }
     ensures head { file.new.head ≡ file.old.head }
 {
     match information.stream_names(alloc) {
-        Ok(names) => write_streams(alloc, file, roles, names.as_slice(), form, out),
-        Err(Error::OutOfMemory) => Err(Error::OutOfMemory),
-        Err(error) => {
-            write_refused(alloc, Part::Names, &error, form, out)?;
-            write_streams(alloc, file, roles, &[], form, out)
+        Ok(names) => {
+            let known = Known {
+                page_size,
+                roles,
+                names: names.as_slice(),
+            };
+            write_streams(alloc, file, known, form, out)
         }
+        Err(Error::OutOfMemory) => Err(Error::OutOfMemory),
+        Err(error) => write_unnamed(alloc, file, unnamed(page_size, roles), &error, form, out),
     }
 }
 
 /// Writes the streams of a file. If their names are refused that is told, and no stream has a name.
-#[tactic(auto, unfolding(crate::specs::Summary::names_of))]
+#[tactic(auto, unfolding(crate::specs::Summary::names_of), using(pdb_rows::proofs::WrittenLemmas::front_none, pdb_rows::proofs::WrittenLemmas::front_first, pdb_rows::proofs::WrittenLemmas::front_second, pdb_rows::proofs::WrittenLemmas::writes_second))]
 fn write_all_streams<W: Write>(
     alloc: Global,
     file: &mut BigMSF<Vec<u8>>,
-    roles: &DBIExtraStreams,
+    roles: DBIExtraStreams,
     form: Form,
     out: &mut W,
 ) -> Result<()>
-    ensures lines { OnOk result (Appends (W.contents out.old) (W.contents out.new)
-        (told form parts.Names (names_of file.old.source.items file.old.head)
-        ++ stream_lines form roles.now (said_or [] (names_of file.old.source.items file.old.head)) file.old.source.items file.old.head)) }
-    ensures cut { IfErr result IsCut }
+    ensures lines { Writes (named_part form (page_size_of file.old.source.items) roles file.old.source.items file.old.head (names_of file.old.source.items file.old.head)) (W.contents out.old) (W.contents out.new) result }
     ensures bytes { file.new.source.items ≡ file.old.source.items }
     ensures head { file.new.head ≡ file.old.head }
 {
+    let page_size = page_size_of(file.source());
     match pdb_information(alloc, file) {
-        Ok(information) => write_named(alloc, file, roles, &information, form, out),
+        Ok(information) => write_named(alloc, file, page_size, roles, &information, form, out),
         Err(Error::OutOfMemory) => Err(Error::OutOfMemory),
-        Err(error) => {
-            write_refused(alloc, Part::Names, &error, form, out)?;
-            write_streams(alloc, file, roles, &[], form, out)
-        }
+        Err(error) => write_unnamed(alloc, file, unnamed(page_size, roles), &error, form, out),
     }
 }
 
 /// Writes the streams of a file, and what is refused of their roles and names.
-#[tactic(auto, unfolding(crate::specs::Summary::streams_part))]
+#[tactic(auto, unfolding(crate::specs::Summary::streams_part), using(pdb_rows::proofs::WrittenLemmas::front_none, pdb_rows::proofs::WrittenLemmas::front_first, pdb_rows::proofs::WrittenLemmas::front_second, pdb_rows::proofs::WrittenLemmas::writes_second))]
 fn write_streams_part<W: Write>(
     alloc: Global,
     file: &mut BigMSF<Vec<u8>>,
     form: Form,
     out: &mut W,
 ) -> Result<()>
-    ensures lines { OnOk result (Appends (W.contents out.old) (W.contents out.new) (streams_part form file.old.source.items file.old.head)) }
-    ensures cut { IfErr result IsCut }
+    ensures lines { Writes (streams_part form file.old.source.items file.old.head) (W.contents out.old) (W.contents out.new) result }
     ensures bytes { file.new.source.items ≡ file.old.source.items }
     ensures head { file.new.head ≡ file.old.head }
 {
     let roles = known_roles(alloc, file, form, out)?;
-    write_all_streams(alloc, file, &roles, form, out)?;
-    Ok(())
+    write_all_streams(alloc, file, roles, form, out)
 }
 
 /// Writes the tables of types and of ids.
-#[tactic(auto, unfolding(crate::specs::Summary::tables_part))]
+#[tactic(auto, unfolding(crate::specs::Summary::tables_part), using(pdb_rows::proofs::WrittenLemmas::front_none, pdb_rows::proofs::WrittenLemmas::front_first, pdb_rows::proofs::WrittenLemmas::front_second, pdb_rows::proofs::WrittenLemmas::writes_second))]
 fn write_tables<W: Write>(
     alloc: Global,
     file: &mut BigMSF<Vec<u8>>,
     form: Form,
     out: &mut W,
 ) -> Result<()>
-    ensures lines { OnOk result (Appends (W.contents out.old) (W.contents out.new) (tables_part form file.old.source.items file.old.head)) }
-    ensures cut { IfErr result IsCut }
+    ensures { Writes (tables_part form file.old.source.items file.old.head) (W.contents out.old) (W.contents out.new) result }
 {
     write_table(alloc, file, TYPE_STREAM, form, out)?;
-    write_table(alloc, file, ID_STREAM, form, out)?;
-    Ok(())
+    write_table(alloc, file, ID_STREAM, form, out)
 }
 
 /// Writes the parts of a file whose directory is read.
+#[tactic(auto, using(pdb_rows::proofs::WrittenLemmas::front_none, pdb_rows::proofs::WrittenLemmas::front_first, pdb_rows::proofs::WrittenLemmas::front_second, pdb_rows::proofs::WrittenLemmas::writes_second))]
 fn write_read_parts<W: Write>(
     alloc: Global,
     file: &mut BigMSF<Vec<u8>>,
     form: Form,
     out: &mut W,
 ) -> Result<()>
-    ensures lines { OnOk result (Appends (W.contents out.old) (W.contents out.new)
-        (streams_part form file.old.source.items file.old.head ++ tables_part form file.old.source.items file.old.head)) }
-    ensures cut { IfErr result IsCut }
+    ensures { Writes (streams_part form file.old.source.items file.old.head ++ tables_part form file.old.source.items file.old.head) (W.contents out.old) (W.contents out.new) result }
 {
     write_streams_part(alloc, file, form, out)?;
-    write_tables(alloc, file, form, out)?;
-    Ok(())
+    write_tables(alloc, file, form, out)
 }
 
 /// Writes all parts of a file, or that its directory is refused.
-#[tactic(auto, unfolding(crate::specs::Summary::parts_lines))]
+#[tactic(auto, unfolding(crate::specs::Summary::parts_lines), using(pdb_rows::proofs::WrittenLemmas::front_none, pdb_rows::proofs::WrittenLemmas::front_first, pdb_rows::proofs::WrittenLemmas::front_second, pdb_rows::proofs::WrittenLemmas::writes_second))]
 fn write_parts<W: Write>(
     alloc: Global,
     file: &mut BigMSF<Vec<u8>>,
     form: Form,
     out: &mut W,
 ) -> Result<()>
-    ensures lines { OnOk result (Appends (W.contents out.old) (W.contents out.new) (parts_lines form file.old.source.items file.old.head)) }
-    ensures cut { IfErr result IsCut }
+    ensures { Writes (parts_lines form file.old.source.items file.old.head) (W.contents out.old) (W.contents out.new) result }
 {
     match read_directory(alloc, file) {
         Ok(()) => write_read_parts(alloc, file, form, out),
@@ -223,10 +247,9 @@ fn write_parts<W: Write>(
 }
 
 /// Writes the line of a file, or that its header is refused.
-#[tactic(auto, unfolding(crate::specs::Summary::pages_line))]
+#[tactic(auto, unfolding(crate::specs::Summary::pages_line), using(pdb_rows::proofs::WrittenLemmas::front_none, pdb_rows::proofs::WrittenLemmas::front_first, pdb_rows::proofs::WrittenLemmas::front_second, pdb_rows::proofs::WrittenLemmas::writes_second))]
 fn write_pages<W: Write>(alloc: Global, file: &[u8], form: Form, out: &mut W) -> Result<()>
-    ensures line { OnOk result (Appends (W.contents out.old) (W.contents out.new) (pages_line form file.now)) }
-    ensures cut { IfErr result IsCut }
+    ensures { Writes (pages_line form file.now) (W.contents out.old) (W.contents out.new) result }
 {
     match pages_of(file) {
         Ok((page_size, pages)) => {
@@ -235,6 +258,20 @@ fn write_pages<W: Write>(alloc: Global, file: &[u8], form: Form, out: &mut W) ->
         }
         Err(error) => write_refused(alloc, Part::Header, &error, form, out),
     }
+}
+
+/// Writes the line of a file, and all its parts.
+#[tactic(auto, using(pdb_rows::proofs::WrittenLemmas::front_none, pdb_rows::proofs::WrittenLemmas::front_first, pdb_rows::proofs::WrittenLemmas::front_second, pdb_rows::proofs::WrittenLemmas::writes_second))]
+fn write_summary<W: Write>(
+    alloc: Global,
+    file: &mut BigMSF<Vec<u8>>,
+    form: Form,
+    out: &mut W,
+) -> Result<()>
+    ensures { Writes (pages_line form file.old.source.items ++ parts_lines form file.old.source.items file.old.head) (W.contents out.old) (W.contents out.new) result }
+{
+    write_pages(alloc, file.source(), form, out)?;
+    write_parts(alloc, file, form, out)
 }
 
 /// Lists what a file is made of: its pages, a line for each stream, and of the tables of types and ids how
@@ -251,7 +288,5 @@ pub fn list_summary<W: Write>(
 ) -> Result<()>
     ensures { IsListed (summary_listing form file.old.source.items file.old.head) (W.contents out.old) (W.contents out.new) result }
 {
-    write_pages(alloc, file.source(), form, out)?;
-    write_parts(alloc, file, form, out)?;
-    Ok(())
+    write_summary(alloc, file, form, out)
 }

@@ -1,49 +1,66 @@
 //! The tables of a file, and the kinds of their records.
 
-ghost use Rattle.std.specs.Prelude.{◌≡◌, IfErr, IfOk, OnOk};
-ghost use Rattle.std.specs.Io.KnownBytes.{Appends};
+ghost use Rattle.std.specs.Prelude.{◌≡◌, ◌++◌, IfErr, IfOk};
 ghost use Rattle.std.specs.Option.{option_map};
 ghost use Rattle.pdb_base.specs.Answer.{Answers};
 ghost use Rattle.pdb_base.specs.Refusal.{refusal_of};
 ghost use Rattle.pdb_rows.specs.Lines.{row_text};
 ghost use Rattle.pdb_rows.specs.Row.{row_shown};
+ghost use Rattle.pdb_rows.specs.Written.{Writes};
 ghost use Rattle.pdb_summary.specs.Kinds.{kind_lines, kind_shown, stop_line, table_found, table_lines, table_part, table_shown};
-ghost use Rattle.pdb_tables.specs.Listing.{IsCut};
 
 use crate::kinds::{KindCount, Walked, walk_over};
 use crate::refused::{Part, write_refused};
 use crate::streams::stream;
 use pdb_base::{Error, Result};
 use pdb_msf::BigMSF;
-use pdb_rows::{Field, Form, Row, Value};
-use pdb_tables::write_row;
+use pdb_rows::{Form, Row, Value, field, write_row};
 use pdb_tpi::TypeInformation;
 use std::alloc::Global;
 use std::io::Write;
 
-/// A table: the number of its stream, how many records it has, and the indexes that its header counts.
-fn table_row<'t>(alloc: Global, number: u32, records: u64, least: u32, end: u32) -> Result<Row<'t>>
-    ensures ok { IfOk result (λ row. row_shown row ≡ table_shown number records least end) }
+/// A table: the number of its stream, what its records are, and the indexes that its header counts.
+fn table_row<'t>(
+    alloc: Global,
+    number: u32,
+    walked: &Walked,
+    least: u32,
+    end: u32,
+) -> Result<Row<'t>>
+    ensures ok { IfOk result (λ row. row_shown row ≡ table_shown number walked.now.records walked.now.continued least end) }
     ensures want { IfErr result (λ e. e ≡ Error.OutOfMemory) }
 {
-    let mut fields = Vec::with_capacity(alloc, 4)?;
-    fields.push(Field {
-        name: "table",
-        value: Value::Number(number as u64),
-    })?;
-    fields.push(Field {
-        name: "records",
-        value: Value::Number(records),
-    })?;
-    fields.push(Field {
-        name: "minimum_index",
-        value: Value::Hexadecimal(least),
-    })?;
-    fields.push(Field {
-        name: "maximum_index",
-        value: Value::Hexadecimal(end),
-    })?;
+    let fields = vec![in alloc;
+        field("table", Value::Number(number as u64)),
+        field("records", Value::Number(walked.records)),
+        field("minimum_index", Value::Hexadecimal(least)),
+        field("maximum_index", Value::Hexadecimal(end)),
+        field("continued_field_lists", Value::Number(walked.continued)),
+    ]?;
     Ok(Row { fields })
+}
+
+/// Writes a table: what its records are, and the indexes that its header counts.
+#[tactic(auto, using(pdb_rows::proofs::WrittenLemmas::front_none))]
+fn write_head<W: Write>(
+    alloc: Global,
+    number: u32,
+    table: &TypeInformation,
+    walked: &Walked,
+    form: Form,
+    out: &mut W,
+) -> Result<()>
+    ensures { Writes (row_text form (table_shown number walked.now.records walked.now.continued table.now.header.minimum_index table.now.header.maximum_index)) (W.contents out.old) (W.contents out.new) result }
+{
+    let header = table.header();
+    let row = table_row(
+        alloc,
+        number,
+        walked,
+        header.minimum_index,
+        header.maximum_index,
+    )?;
+    write_row(form, &row, &mut Vec::new(alloc), out)
 }
 
 /// A kind of a table's records, and how many there are.
@@ -51,19 +68,11 @@ fn kind_row<'t>(alloc: Global, number: u32, kind: KindCount) -> Result<Row<'t>>
     ensures ok { IfOk result (λ row. row_shown row ≡ kind_shown number kind) }
     ensures want { IfErr result (λ e. e ≡ Error.OutOfMemory) }
 {
-    let mut fields = Vec::with_capacity(alloc, 3)?;
-    fields.push(Field {
-        name: "table",
-        value: Value::Number(number as u64),
-    })?;
-    fields.push(Field {
-        name: "kind",
-        value: Value::Kind(kind.leaf),
-    })?;
-    fields.push(Field {
-        name: "count",
-        value: Value::Number(kind.count),
-    })?;
+    let fields = vec![in alloc;
+        field("table", Value::Number(number as u64)),
+        field("kind", Value::Kind(kind.leaf)),
+        field("count", Value::Number(kind.count)),
+    ]?;
     Ok(Row { fields })
 }
 
@@ -75,8 +84,7 @@ fn write_kinds<W: Write>(
     form: Form,
     out: &mut W,
 ) -> Result<()>
-    ensures lines { OnOk result (Appends (W.contents out.old) (W.contents out.new) (kind_lines form number kinds.now)) }
-    ensures cut { IfErr result IsCut }
+    ensures { Writes (kind_lines form number kinds.now) (W.contents out.old) (W.contents out.new) result }
 {
     let mut line = Vec::new(alloc);
     for kind in kinds {
@@ -94,8 +102,7 @@ fn write_stop<W: Write>(
     form: Form,
     out: &mut W,
 ) -> Result<()>
-    ensures line { OnOk result (Appends (W.contents out.old) (W.contents out.new) (stop_line form number (option_map refusal_of fault.now))) }
-    ensures cut { IfErr result IsCut }
+    ensures { Writes (stop_line form number (option_map refusal_of fault.now)) (W.contents out.old) (W.contents out.new) result }
 {
     match fault {
         Some(fault) => write_refused(alloc, Part::Table(number), fault, form, out),
@@ -103,8 +110,40 @@ fn write_stop<W: Write>(
     }
 }
 
-/// Writes a table, its kinds, and the fault at which its walk stops.
-#[tactic(auto, unfolding(crate::specs::Kinds::table_lines))]
+/// Writes the kinds of a table's records, and that its walk stops, if it does.
+#[tactic(auto, using(pdb_rows::proofs::WrittenLemmas::front_none, pdb_rows::proofs::WrittenLemmas::front_first, pdb_rows::proofs::WrittenLemmas::front_second, pdb_rows::proofs::WrittenLemmas::writes_second))]
+fn write_rest<W: Write>(
+    alloc: Global,
+    number: u32,
+    walked: &Walked,
+    form: Form,
+    out: &mut W,
+) -> Result<()>
+    ensures { Writes (kind_lines form number walked.now.kinds.items ++ stop_line form number (option_map refusal_of walked.now.fault)) (W.contents out.old) (W.contents out.new) result }
+{
+    write_kinds(alloc, number, &walked.kinds, form, out)?;
+    write_stop(alloc, number, &walked.fault, form, out)
+}
+
+/// Writes a table that was walked over: its line, its kinds, and that its walk stops, if it does.
+#[tactic(auto, using(pdb_rows::proofs::WrittenLemmas::front_none, pdb_rows::proofs::WrittenLemmas::front_first, pdb_rows::proofs::WrittenLemmas::front_second, pdb_rows::proofs::WrittenLemmas::writes_second))]
+fn write_walked<W: Write>(
+    alloc: Global,
+    number: u32,
+    table: &TypeInformation,
+    walked: &Walked,
+    form: Form,
+    out: &mut W,
+) -> Result<()>
+    ensures { Writes (row_text form (table_shown number walked.now.records walked.now.continued table.now.header.minimum_index table.now.header.maximum_index)
+        ++ (kind_lines form number walked.now.kinds.items ++ stop_line form number (option_map refusal_of walked.now.fault))) (W.contents out.old) (W.contents out.new) result }
+{
+    write_head(alloc, number, table, walked, form, out)?;
+    write_rest(alloc, number, walked, form, out)
+}
+
+/// Walks over a table, and writes what it has.
+#[tactic(auto, unfolding(crate::specs::Kinds::table_lines), using(pdb_rows::proofs::WrittenLemmas::front_none))]
 fn write_found<W: Write>(
     alloc: Global,
     number: u32,
@@ -112,26 +151,10 @@ fn write_found<W: Write>(
     form: Form,
     out: &mut W,
 ) -> Result<()>
-    ensures lines { OnOk result (Appends (W.contents out.old) (W.contents out.new) (table_lines form number table.now)) }
-    ensures cut { IfErr result IsCut }
+    ensures { Writes (table_lines form number table.now) (W.contents out.old) (W.contents out.new) result }
 {
-    let header = table.header();
-    let Walked {
-        kinds,
-        records,
-        fault,
-    } = walk_over(alloc, table)?;
-    let row = table_row(
-        alloc,
-        number,
-        records,
-        header.minimum_index,
-        header.maximum_index,
-    )?;
-    write_row(form, &row, &mut Vec::new(alloc), out)?;
-    write_kinds(alloc, number, &kinds, form, out)?;
-    write_stop(alloc, number, &fault, form, out)?;
-    Ok(())
+    let walked = walk_over(alloc, table)?;
+    write_walked(alloc, number, table, &walked, form, out)
 }
 
 /// The table in the stream of a number.
@@ -145,7 +168,7 @@ fn table_found(alloc: Global, file: &mut BigMSF<Vec<u8>>, number: u32) -> Result
 }
 
 /// Writes the table in the stream of a number, or that it is refused.
-#[tactic(auto, unfolding(crate::specs::Kinds::table_part))]
+#[tactic(auto, unfolding(crate::specs::Kinds::table_part), using(pdb_rows::proofs::WrittenLemmas::front_none))]
 pub fn write_table<W: Write>(
     alloc: Global,
     file: &mut BigMSF<Vec<u8>>,
@@ -153,8 +176,7 @@ pub fn write_table<W: Write>(
     form: Form,
     out: &mut W,
 ) -> Result<()>
-    ensures lines { OnOk result (Appends (W.contents out.old) (W.contents out.new) (table_part form number file.old.source.items file.old.head)) }
-    ensures cut { IfErr result IsCut }
+    ensures lines { Writes (table_part form number file.old.source.items file.old.head) (W.contents out.old) (W.contents out.new) result }
     ensures bytes { file.new.source.items ≡ file.old.source.items }
     ensures head { file.new.head ≡ file.old.head }
 {

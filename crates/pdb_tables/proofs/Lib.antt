@@ -1,3 +1,2 @@
-pub mod WrittenLemmas
 pub mod TableLemmas
 pub mod ListedLemmas

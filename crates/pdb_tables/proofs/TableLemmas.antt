@@ -2,6 +2,7 @@
 use Rattle.std.proofs.Common.{◌≡◌, ℕ, ◌+◌, ◌-◌, ◌<◌, ◌≤◌, ◌%◌, ◌==◌, ◌&&◌, ◌↔◌, Bool, IsTrue, zero, suc, leb, inl, inr, true, false, eq-eqb, List, [], ◌∷◌, ◌++◌, length, drop, Option, Some, None, Result, Ok, Err, refl, sym, ap, ◌∙◌, arith}
 use Rattle.std.proofs.lemmas.Bool.{ne_eqb, cases_Bool, false≢true, and_from, le-leb}
 use Rattle.std.specs.List.{slice_get}
+use Rattle.std.specs.Option.{option_map_or}
 use Rattle.pdb_base.specs.Answer.{required}
 use Rattle.pdb_base.specs.Records.{spelled}
 use Rattle.pdb_base.specs.Refusal.{Refusal, unexpected_eof}
@@ -113,6 +114,21 @@ names_none (suc most) names place e refused = rw refused refl
 names_end : (names : List ℕ) (place : ℕ) → names_from 0 names place ≡ []
 unfolding names_from
 names_end names place = refl
+
+-- the names behind one of this place
+abbrev names_behind : ℕ → List ℕ → ℕ → List ℕ → List (ℕ × List ℕ)
+names_behind most names place name = option_map_or (λ next. names_from most names next) (next_place place (length name)) []
+
+names_first : (most : ℕ) (names : List ℕ) (place : ℕ) (name : List ℕ) → name_of names place ≡ Ok name → names_from (suc most) names place ≡ (place, name) ∷ names_behind most names place name
+unfolding names_from
+names_first most names place name read = rw read refl
+
+-- the line of a name that is read stands first
+pub name_first : (form : Form) (all at : ℕ) (names : List ℕ) (place : ℕ) (name : List ℕ) (row : ShownRow) → at < all → name_of names place ≡ Ok name → row ≡ name_shown (place, name)
+    → name_lines form (names_from (all - at) names place) ≡ row_text form row ++ name_lines form (names_behind (all - (at + 1)) names place name)
+name_first form all at names place name row within read shown =
+    let left : all - at ≡ suc (all - (at + 1)) = omega (arith, within) in
+    rw (left, names_first (all - (at + 1)) names place name read, shown) refl
 
 -- the line of a name that is read stands before those of the others
 pub name_step : (form : Form) (all at : ℕ) (names : List ℕ) (place : ℕ) (name : List ℕ) (next : ℕ) (row : ShownRow) → at < all → name_of names place ≡ Ok name

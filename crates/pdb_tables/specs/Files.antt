@@ -1,5 +1,5 @@
 -- What is listed of a file's tables, whose streams are given by their numbers or found by their roles.
-use Rattle.std.specs.Prelude.{ℕ, List, [], Option, Some, None, Ok}
+use Rattle.std.specs.Prelude.{ℕ, List, [], ◌∷◌, codes, Option, Some, None, Ok}
 use Rattle.pdb_base.specs.Answer.{Answer, ◌>>=◌}
 use Rattle.pdb_base.specs.Index.{stream_number}
 use Rattle.pdb_msf.specs.File.{stream_of}
@@ -7,20 +7,18 @@ use Rattle.pdb_msf.specs.Header.{Head}
 use Rattle.pdb_space.specs.StringTable.{names_of}
 use Rattle.pdb_frames.specs.Table.{table_of}
 use Rattle.pdb_roles.specs.File.{file_frame_table, file_roles, file_string_table, stream_numbered}
+use Rattle.pdb_roles.specs.declared.debug_header.DBIExtraStreams.{DBIExtraStreams}
 use Rattle.pdb_rows.specs.declared.form.Form.{Form}
-use Rattle.pdb_tables.specs.Listing.{Listing, whole, listed_of}
+use Rattle.pdb_rows.specs.Lines.{row_text}
+use Rattle.pdb_rows.specs.Row.{ShownRow, text}
+use Rattle.pdb_rows.specs.Row as rows
+use Rattle.pdb_tables.specs.Listing.{Listing, whole, headed, followed_by, listed_of}
 use Rattle.pdb_tables.specs.Tables.{sections_listing, omap_listing, frames_listing, name_lines, all_names}
 
 -- the number of the stream of section headers: the one that is given, or that of the role
 unfoldable pub section_number : List ℕ → Head → Option ℕ → Answer (Option ℕ)
 section_number file head (Some number) = Ok (Some number)
 section_number file head None = file_roles file head >>= λ roles. Ok (stream_number roles.section_headers.0)
-
--- the number of the stream of OMAP records: the one that is given, or that of the role by which addresses
--- of the image as it is loaded lead to the original one
-unfoldable pub omap_number : List ℕ → Head → Option ℕ → Answer (Option ℕ)
-omap_number file head (Some number) = Ok (Some number)
-omap_number file head None = file_roles file head >>= λ roles. Ok (stream_number roles.omap_to_src.0)
 
 -- what is listed of a stream; where there is none, nothing
 abbrev pub stream_listing : (List ℕ → Listing) → Option (List ℕ) → Listing
@@ -31,9 +29,29 @@ stream_listing listing None = whole []
 unfoldable pub file_sections : Form → List ℕ → Head → Option ℕ → Listing
 file_sections form file head given = listed_of (stream_listing (sections_listing form)) (section_number file head given >>= stream_numbered file head)
 
--- the OMAP records of a file
+-- which role the table that follows has, and in which stream it is
+abbrev pub role_shown : List ℕ → ℕ → ShownRow
+role_shown role n = (codes "role", text role) ∷ (codes "stream", rows.number n) ∷ []
+
+-- the OMAP records of a stream
+abbrev pub numbered_omap : Form → List ℕ → Head → ℕ → Listing
+numbered_omap form file head n = listed_of (omap_listing form) (stream_of file head n None)
+
+-- the OMAP records of the stream that has a role, behind a line that says which; nothing where none has it
+unfoldable pub role_omap : Form → List ℕ → Head → List ℕ → Option ℕ → Listing
+role_omap form file head role (Some n) = headed (row_text form (role_shown role n)) (numbered_omap form file head n)
+role_omap form file head role None = whole []
+
+-- the OMAP records by which addresses of the image as it is loaded lead to the original one, and then
+-- those of the way back
+unfoldable pub both_omaps : Form → List ℕ → Head → DBIExtraStreams → Listing
+both_omaps form file head roles =
+    followed_by (role_omap form file head (codes "omap_to_src") (stream_number roles.omap_to_src.0)) (role_omap form file head (codes "omap_from_src") (stream_number roles.omap_from_src.0))
+
+-- the OMAP records of a file: of the stream that is given, or of both roles
 unfoldable pub file_omap : Form → List ℕ → Head → Option ℕ → Listing
-file_omap form file head given = listed_of (stream_listing (omap_listing form)) (omap_number file head given >>= stream_numbered file head)
+file_omap form file head (Some n) = numbered_omap form file head n
+file_omap form file head None = listed_of (both_omaps form file head) (file_roles file head)
 
 -- the string table in the stream that is given, or in the one named `/names`
 unfoldable pub names_in : List ℕ → Head → Option ℕ → Answer (List ℕ)

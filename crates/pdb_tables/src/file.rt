@@ -4,14 +4,13 @@
 ghost use Rattle.std.specs.Prelude.{◌≡◌};
 ghost use Rattle.pdb_base.specs.Answer.{AnswersUnless};
 ghost use Rattle.pdb_msf.specs.Source.{HasFailed, IsKept};
-ghost use Rattle.pdb_tables.specs.Files.{file_frames, file_names, file_omap, file_sections, frames_in, names_in};
+ghost use Rattle.pdb_tables.specs.Files.{file_frames, file_names, file_sections, frames_in, names_in};
 ghost use Rattle.pdb_tables.specs.Listing.{IsListed};
 
 use crate::frames::write_frames;
 use crate::names::write_table;
-use crate::omap::write_omap;
 use crate::sections::write_sections;
-use crate::streams::{numbered, omap_number, section_number};
+use crate::streams::{numbered, section_number};
 use pdb_base::Result;
 use pdb_frames::FrameTable;
 use pdb_msf::{BigMSF, Msf, Source};
@@ -40,30 +39,6 @@ pub fn list_sections<S: Source + Drop, W: Write>(
     let number = section_number(alloc, &mut file, stream)?;
     match numbered(alloc, &mut file, number)? {
         Some(stream) => write_sections(alloc, &stream, form, out),
-        None => Ok(()),
-    }
-}
-
-/// Lists the records of the OMAP table in a stream, or in the one that leads from the image as it is
-/// loaded to the original one, and behind them whether their sources never fall.
-///
-/// # Errors
-/// If no stream is given, what `extra_streams` refuses. What `Msf::get` refuses of the stream.
-/// `InvalidStreamLength` if its length is no multiple of eight. `IoError` if the writer fails, and
-/// `OutOfMemory` if memory is refused.
-#[tactic(auto, unfolding(crate::specs::Files::file_omap), using(crate::proofs::ListedLemmas::refused_listed))]
-pub fn list_omap<S: Source + Drop, W: Write>(
-    alloc: Global,
-    mut file: BigMSF<S>,
-    stream: Option<u32>,
-    form: Form,
-    out: &mut W,
-) -> Result<()>
-    ensures { IsListed (file_omap form (S.state file.source).bytes file.head stream) (W.contents out.old) (W.contents out.new) result }
-{
-    let number = omap_number(alloc, &mut file, stream)?;
-    match numbered(alloc, &mut file, number)? {
-        Some(stream) => write_omap(alloc, stream, form, out),
         None => Ok(()),
     }
 }

@@ -4,10 +4,9 @@ ghost use Rattle.std.specs.Prelude.{◌≡◌};
 ghost use Rattle.pdb_tables.specs.Listing.{IsListed};
 ghost use Rattle.pdb_tables.specs.Tables.{frames_listing};
 
-use crate::written::write_row;
 use pdb_base::{FallibleIterator, Result};
 use pdb_frames::FrameTable;
-use pdb_rows::{Form, frame_row};
+use pdb_rows::{Form, frame_row, write_row};
 use std::alloc::Global;
 use std::io::Write;
 

@@ -6,9 +6,9 @@ mod file;
 mod frames;
 mod names;
 mod omap;
+mod omap_roles;
 mod sections;
 mod streams;
-mod written;
 
-pub use file::{list_frames, list_frames_in, list_names, list_omap, list_sections};
-pub use written::write_row;
+pub use file::{list_frames, list_frames_in, list_names, list_sections};
+pub use omap_roles::list_omap;

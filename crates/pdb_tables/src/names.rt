@@ -5,9 +5,8 @@ ghost use Rattle.pdb_rows.specs.Row.{row_shown};
 ghost use Rattle.pdb_tables.specs.Listing.{IsListed, whole};
 ghost use Rattle.pdb_tables.specs.Tables.{all_names, name_lines, name_shown, next_place};
 
-use crate::written::write_row;
 use pdb_base::{Error, RawString, Result};
-use pdb_rows::{Field, Form, Row, Value};
+use pdb_rows::{Form, Row, Value, field, write_row};
 use pdb_space::{StringRef, StringTable};
 use std::alloc::Global;
 use std::io::Write;
@@ -25,15 +24,10 @@ fn name_row<'t>(alloc: Global, place: u32, name: RawString<'t>) -> Result<Row<'t
     ensures ok { IfOk result (λ row. row_shown row ≡ name_shown (place, name.entry.0.now)) }
     ensures want { IfErr result (λ e. e ≡ Error.OutOfMemory) }
 {
-    let mut fields = Vec::with_capacity(alloc, 2)?;
-    fields.push(Field {
-        name: "offset",
-        value: Value::Hexadecimal(place),
-    })?;
-    fields.push(Field {
-        name: "name",
-        value: Value::Text(name),
-    })?;
+    let fields = vec![in alloc;
+        field("offset", Value::Hexadecimal(place)),
+        field("name", Value::Text(name)),
+    ]?;
     Ok(Row { fields })
 }
 

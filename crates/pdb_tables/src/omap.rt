@@ -1,23 +1,21 @@
 //! The records of OMAP tables.
 
-ghost use Rattle.std.specs.Prelude.{◌≡◌, IfOk, IfErr, OnOk};
-ghost use Rattle.std.specs.Io.KnownBytes.{Appends};
+ghost use Rattle.std.specs.Prelude.{◌≡◌, IfOk, IfErr};
 ghost use Rattle.pdb_rows.specs.Row.{row_shown};
-ghost use Rattle.pdb_tables.specs.Listing.{IsCut, IsListed, whole};
+ghost use Rattle.pdb_rows.specs.Written.{Writes};
+ghost use Rattle.pdb_tables.specs.Listing.{IsListed};
 ghost use Rattle.pdb_tables.specs.Tables.{omap_all, omap_lines, omap_listing, order_shown, rises};
 
-use crate::written::write_row;
 use pdb_base::{Error, Result};
 use pdb_msf::Stream;
-use pdb_rows::{Field, Form, Row, Value, omap_row};
+use pdb_rows::{Form, Row, Value, field, omap_row, write_row};
 use pdb_space::OMAPTable;
 use std::alloc::Global;
 use std::io::Write;
 
 /// Writes the records of a table.
 fn write_records<W: Write>(alloc: Global, table: &OMAPTable, form: Form, out: &mut W) -> Result<()>
-    ensures lines { OnOk result (Appends (W.contents out.old) (W.contents out.new) (omap_lines form table.now)) }
-    ensures cut { IfErr result IsCut }
+    ensures { Writes (omap_lines form table.now) (W.contents out.old) (W.contents out.new) result }
 {
     let mut line = Vec::new(alloc);
     for record in table.records() {
@@ -39,17 +37,14 @@ fn order_row<'t>(alloc: Global, is_sorted: bool) -> Result<Row<'t>>
     ensures ok { IfOk result (λ row. row_shown row ≡ order_shown is_sorted) }
     ensures want { IfErr result (λ e. e ≡ Error.OutOfMemory) }
 {
-    let mut fields = Vec::new(alloc);
-    fields.push(Field {
-        name: "is_sorted",
-        value: Value::Flag(is_sorted),
-    })?;
+    let fields = vec![in alloc; field("is_sorted", Value::Flag(is_sorted))]?;
     Ok(Row { fields })
 }
 
 /// Writes a table, and behind its records what is said of them all.
+#[tactic(auto, using(pdb_rows::proofs::WrittenLemmas::front_first, pdb_rows::proofs::WrittenLemmas::writes_second))]
 fn write_table<W: Write>(alloc: Global, table: &OMAPTable, form: Form, out: &mut W) -> Result<()>
-    ensures { IsListed (whole (omap_all form table.now)) (W.contents out.old) (W.contents out.new) result }
+    ensures { Writes (omap_all form table.now) (W.contents out.old) (W.contents out.new) result }
 {
     write_records(alloc, table, form, out)?;
     let row = order_row(alloc, is_sorted(table))?;

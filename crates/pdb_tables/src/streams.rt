@@ -4,7 +4,7 @@ ghost use Rattle.std.specs.Prelude.{◌≡◌};
 ghost use Rattle.pdb_base.specs.Answer.{AnswersUnless};
 ghost use Rattle.pdb_msf.specs.Source.{HasFailed, IsKept};
 ghost use Rattle.pdb_roles.specs.File.{stream_numbered};
-ghost use Rattle.pdb_tables.specs.Files.{omap_number, section_number};
+ghost use Rattle.pdb_tables.specs.Files.{section_number};
 
 use pdb_base::Result;
 use pdb_msf::{BigMSF, Msf, Source, Stream};
@@ -44,22 +44,4 @@ pub fn section_number<S: Source>(
         return Ok(given);
     }
     Ok(extra_streams(alloc, file)?.section_headers.msf_number())
-}
-
-/// The number of the stream of OMAP records: the one that is given, or that of the role.
-#[tactic(auto, unfolding(crate::specs::Files::omap_number))]
-pub fn omap_number<S: Source>(
-    alloc: Global,
-    file: &mut BigMSF<S>,
-    given: Option<u32>,
-) -> Result<Option<u32>>
-    ensures number { AnswersUnless (HasFailed (S.state file.old.source) (S.state file.new.source)) (λ number. number) result
-        (omap_number (S.state file.old.source).bytes file.old.head given) }
-    ensures source { IsKept (S.state file.old.source) (S.state file.new.source) }
-    ensures head { file.new.head ≡ file.old.head }
-{
-    if given.is_some() {
-        return Ok(given);
-    }
-    Ok(extra_streams(alloc, file)?.omap_to_src.msf_number())
 }

@@ -1,9 +1,13 @@
-use Rattle.std.proofs.Common.{◌∙◌, sym}
-use Rattle.pdb_summary.proofs.KindLemmas.{ranked_none, ranked_next}
+use Rattle.std.proofs.Common.{◌≡◌, ℕ, rules}
+use Rattle.std.specs.declared.cmp.Reverse.{Reverse}
+use Rattle.std.proofs.lemmas.Fn.{always_returns_same}
+use Rattle.pdb_summary.specs.declared.kinds.KindCount.{KindCount}
+use Rattle.pdb_summary.proofs.KindLemmas.{ranked_sorted}
 use Rattle.pdb_summary.proofs.kinds.rank.Goals as goal
 
-pub loop-place_behind-init : goal.loop-place_behind-init
-loop-place_behind-init c = c.new-kinds.ensures.items ∙ sym (ranked_none _ _)
-
-pub loop-place_behind-preserved : goal.loop-place_behind-preserved
-loop-place_behind-preserved c = ranked_next _ 0x10000 c.loop-place_behind.place_behind _ _ c.loop-place_behind-test.true c.loop-place_behind.invariant c.in_ok-place_counted.ensures.placed
+pub returns-clause-ranked : goal.returns-clause-ranked
+returns-clause-ranked c = λ most few.
+    let key : KindCount → Reverse ℕ = λ kind. record { 0 = kind.count } in
+    ranked_sorted _ most _ _ few c.in_ok-kinds.ensures.present c.in_ok-sort_by_key.ensures.permutation
+    (c.in_ok-sort_by_key.ensures.sorted key (always_returns_same _ (λ a r. r ≡ key a.0.now) _ (λ a r q k. search rules)))
+    (c.in_ok-sort_by_key.ensures.stable key (always_returns_same _ (λ a r. r ≡ key a.0.now) _ (λ a r q k. search rules)))

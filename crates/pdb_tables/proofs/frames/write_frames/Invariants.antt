@@ -2,7 +2,7 @@
 use Rattle.std.proofs.Common.{length}
 use Rattle.pdb_frames.specs.Merge.{by_heads}
 use Rattle.pdb_tables.specs.Tables.{frame_lines}
-use Rattle.pdb_tables.proofs.WrittenLemmas.{IsWritten}
+use Rattle.pdb_rows.specs.Written.{IsWritten}
 use Rattle.pdb_tables.proofs.frames.write_frames.Given as goal
 
 abbrev pub invariant-loop-frame : goal.invariant-loop-frame

@@ -1,6 +1,6 @@
 -- The lines of the records that are left are still to be written.
 use Rattle.pdb_tables.specs.Tables.{omap_lines}
-use Rattle.pdb_tables.proofs.WrittenLemmas.{IsWritten}
+use Rattle.pdb_rows.specs.Written.{IsWritten}
 use Rattle.pdb_tables.proofs.omap.write_records.Given as goal
 
 abbrev pub invariant-loop-record : goal.invariant-loop-record

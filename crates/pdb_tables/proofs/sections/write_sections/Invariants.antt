@@ -4,7 +4,7 @@ use Rattle.pdb_base.specs.Place.{left}
 use Rattle.pdb_base.specs.Records.{spelled}
 use Rattle.pdb_space.specs.SectionHeader.{section_header}
 use Rattle.pdb_tables.specs.Tables.{section_lines}
-use Rattle.pdb_tables.proofs.WrittenLemmas.{IsWritten}
+use Rattle.pdb_rows.specs.Written.{IsWritten}
 use Rattle.pdb_tables.proofs.sections.write_sections.Given as goal
 
 abbrev pub invariant-loop-place : goal.invariant-loop-place

@@ -1,0 +1,25 @@
+use Rattle.std.proofs.Common.{ℕ, List, [], ◌∷◌, Option, ap, sym, ◌∙◌}
+use Rattle.std.specs.Global.{Vec}
+use Rattle.std.specs.Option.{option_map}
+use Rattle.pdb_base.proofs.Refused.{passed_on}
+use Rattle.pdb_rows.proofs.WrittenLemmas.{cut_more, written_more}
+use Rattle.pdb_rows.specs.declared.form.Form.TheVariants.{Json}
+use Rattle.pdb_rows.specs.Lines.{row_text}
+use Rattle.pdb_rows.specs.Row.{ShownField}
+use Rattle.pdb_asking.specs.Answers.{name_field}
+use Rattle.pdb_asking.proofs.AnsweredLemmas.{flat_next}
+use Rattle.pdb_asking.proofs.answer.write_names.Goals as goal
+
+pub loop-name-preserved : goal.loop-name-preserved
+loop-name-preserved g c =
+    let same = c.as_deref.ensures.value ∙ ap (λ (name : Option (Vec ℕ)). option_map (λ copy. copy.items) name) c.name-item.is in
+    let shown = c.in_ok-row.ensures.ok ∙ ap (λ (field : ShownField). field ∷ []) (c.name_field.ensures ∙ ap name_field same) in
+    let next = flat_next _ c.args.names.now c.loop-name.name-index c.name-item.result _ c.loop-name-test.true (ap (row_text Json) (sym shown)) in
+    written_more _ _ _ _ _ _ _ next c.loop-name.invariant c.in_ok-write_row.ensures
+
+pub returns-in_err-write_row : goal.returns-in_err-write_row
+returns-in_err-write_row g c =
+    let same = c.as_deref.ensures.value ∙ ap (λ (name : Option (Vec ℕ)). option_map (λ copy. copy.items) name) c.name-item.is in
+    let shown = c.in_ok-row.ensures.ok ∙ ap (λ (field : ShownField). field ∷ []) (c.name_field.ensures ∙ ap name_field same) in
+    let next = flat_next _ c.args.names.now c.loop-name.name-index c.name-item.result _ c.loop-name-test.true (ap (row_text Json) (sym shown)) in
+    rw (passed_on _ _ c.from_residual-in_err-write_row.ensures.1) (cut_more _ _ _ _ _ _ _ _ next c.loop-name.invariant c.in_err-write_row.ensures)

@@ -1,0 +1,268 @@
+//! Answers as lines.
+
+ghost use Rattle.std.specs.Prelude.{◌≡◌, ◌∷◌, ◌&&◌, Some, codes, map, string_bytes, IfErr, IfOk, OnOk, []};
+ghost use Rattle.std.specs.List.{flat_map};
+ghost use Rattle.std.specs.Option.{option_copied, option_map};
+ghost use Rattle.pdb_base.specs.Refusal.{refusal_of};
+ghost use Rattle.hex.specs.Hex.{encode_lower};
+ghost use Rattle.pdb_rows.specs.Fields.{optional_text};
+ghost use Rattle.pdb_rows.specs.Lines.{row_text};
+ghost use Rattle.pdb_rows.specs.Row.{field_shown, row_shown, value_shown};
+ghost use Rattle.pdb_rows.specs.Refused.{refusal_shown, refusal_text};
+ghost use Rattle.pdb_rows.specs.Row.{text as shown_text};
+ghost use Rattle.pdb_rows.specs.Written.{Writes};
+ghost use Rattle.pdb_command.specs.Lines.{reply_lines};
+ghost use Rattle.pdb_asking.specs.Answers.{answer_text, answered_text, bytes_shown, is_answer, json_text, name_field, no_query, question_shown, range_shown, record_shown, reply_text, unasked_shown};
+
+use pdb_base::RawString;
+use pdb_command::reply_lines;
+use pdb_container::{Error, Reply, Result};
+use pdb_rows::{Field, Form, Row, Value, error_field, error_text, field, write_bytes, write_row};
+use std::alloc::Global;
+use std::io::Write;
+use std::ops::Range;
+
+/// What is told of a line that asks nothing.
+const NO_QUERY: &[u8] =
+    b"no question: stream N [LIMIT] | type S I | id S I | name S O | ranges S A B | fields S I";
+
+/// A row of one field.
+fn row_of<'t>(alloc: Global, field: Field<'t>) -> Result<Row<'t>>
+    ensures ok { IfOk result (λ row. row_shown row ≡ field_shown field.entry ∷ []) }
+    ensures want { IfErr result (λ e. e ≡ Error.OutOfMemory) }
+{
+    let fields = vec![in alloc; field]?;
+    Ok(Row { fields })
+}
+
+/// A field of a text.
+fn text_field<'t>(name: &'static str, text: &'t [u8]) -> Field<'t>
+    ensures { field_shown result ≡ (name.now, shown_text text.now) }
+{
+    field(name, Value::Text(RawString::from(text)))
+}
+
+/// The field of a name, if there is one.
+fn name_field<'t>(name: Option<&'t [u8]>) -> Field<'t>
+    ensures { field_shown result ≡ name_field (option_map (λ name. name.now) name.entry) }
+{
+    match name {
+        Some(name) => text_field("name", name),
+        None => field("name", Value::Absent),
+    }
+}
+
+/// A record: its index, its kind and its name, if it has one.
+fn record_row<'t>(alloc: Global, index: u32, leaf: u16, name: Option<&'t [u8]>) -> Result<Row<'t>>
+    ensures ok { IfOk result (λ row. row_shown row ≡ record_shown index leaf (option_map (λ name. name.now) name.entry)) }
+    ensures want { IfErr result (λ e. e ≡ Error.OutOfMemory) }
+{
+    let fields = vec![in alloc;
+        field("index", Value::Hexadecimal(index)),
+        field("kind", Value::Kind(leaf)),
+        name_field(name),
+    ]?;
+    Ok(Row { fields })
+}
+
+/// A range: where it starts, and where it ends.
+fn range_row<'t>(alloc: Global, range: &Range<u32>) -> Result<Row<'t>>
+    ensures ok { IfOk result (λ row. row_shown row ≡ range_shown range.now) }
+    ensures want { IfErr result (λ e. e ≡ Error.OutOfMemory) }
+{
+    let fields = vec![in alloc;
+        field("start", Value::Hexadecimal(range.start)),
+        field("end", Value::Hexadecimal(range.end)),
+    ]?;
+    Ok(Row { fields })
+}
+
+/// Writes a row of one field.
+fn write_field<W: Write>(
+    alloc: Global,
+    form: Form,
+    field: Field<'_>,
+    line: &mut Vec<u8>,
+    out: &mut W,
+) -> Result<()>
+    ensures { Writes (row_text form (field_shown field.entry ∷ [])) (W.contents out.old) (W.contents out.new) result }
+{
+    let row = row_of(alloc, field)?;
+    write_row(form, &row, line, out)
+}
+
+/// Writes a record as a line of JSON.
+fn write_record<W: Write>(
+    alloc: Global,
+    index: u32,
+    leaf: u16,
+    name: Option<&[u8]>,
+    line: &mut Vec<u8>,
+    out: &mut W,
+) -> Result<()>
+    ensures { Writes (row_text Form.Json (record_shown index leaf (option_map (λ name. name.now) name.entry))) (W.contents out.old) (W.contents out.new) result }
+{
+    let row = record_row(alloc, index, leaf, name)?;
+    write_row(Form::Json, &row, line, out)
+}
+
+/// Writes why there is no answer.
+fn write_refused<W: Write>(
+    alloc: Global,
+    form: Form,
+    error: &Error,
+    line: &mut Vec<u8>,
+    out: &mut W,
+) -> Result<()>
+    ensures { Writes (row_text form (refusal_shown (refusal_of error.now) ∷ [])) (W.contents out.old) (W.contents out.new) result }
+{
+    let text = error_text(alloc, error)?;
+    write_field(alloc, form, error_field(&text), line, out)
+}
+
+/// Bytes as hexadecimal digits.
+fn hexadecimal(alloc: Global, bytes: &[u8]) -> Result<String>
+    ensures ok { IfOk result (λ text. string_bytes text ≡ encode_lower bytes.now) }
+    ensures want { IfErr result (λ e. e ≡ Error.OutOfMemory) }
+{
+    let digits = hex::encode(alloc, bytes)?;
+    Ok(digits)
+}
+
+/// Writes the bytes of a stream as a line of JSON, in hexadecimal digits.
+fn write_stream<W: Write>(
+    alloc: Global,
+    stream: &[u8],
+    line: &mut Vec<u8>,
+    out: &mut W,
+) -> Result<()>
+    ensures { Writes (row_text Form.Json (bytes_shown stream.now)) (W.contents out.old) (W.contents out.new) result }
+{
+    let digits = hexadecimal(alloc, stream)?;
+    let field = text_field("bytes", digits.as_bytes());
+    write_field(alloc, Form::Json, field, line, out)
+}
+
+/// Writes the names of fields, a line of JSON each.
+fn write_names<W: Write>(
+    alloc: Global,
+    names: &[Option<Vec<u8>>],
+    line: &mut Vec<u8>,
+    out: &mut W,
+) -> Result<()>
+    ensures { Writes (flat_map (λ name. row_text Form.Json (name_field (option_map (λ copy. copy.items) name) ∷ [])) names.now) (W.contents out.old) (W.contents out.new) result }
+{
+    for name in names {
+        let row = row_of(alloc, name_field(name.as_deref()))?;
+        write_row(Form::Json, &row, line, out)?;
+    }
+    Ok(())
+}
+
+/// Writes ranges, a line of JSON each.
+fn write_ranges<W: Write>(
+    alloc: Global,
+    ranges: &[Range<u32>],
+    line: &mut Vec<u8>,
+    out: &mut W,
+) -> Result<()>
+    ensures { Writes (flat_map (λ range. row_text Form.Json (range_shown range)) ranges.now) (W.contents out.old) (W.contents out.new) result }
+{
+    for range in ranges {
+        let row = range_row(alloc, range)?;
+        write_row(Form::Json, &row, line, out)?;
+    }
+    Ok(())
+}
+
+/// Writes a reply as lines of JSON.
+fn write_json<W: Write>(alloc: Global, reply: &Reply, line: &mut Vec<u8>, out: &mut W) -> Result<()>
+    ensures { Writes (json_text reply.now) (W.contents out.old) (W.contents out.new) result }
+{
+    match reply {
+        Reply::Bytes(stream) => write_stream(alloc, stream, line, out),
+        Reply::Record { index, kind, name } => {
+            write_record(alloc, *index, *kind, name.as_deref(), line, out)
+        }
+        Reply::Fields(names) => write_names(alloc, names, line, out),
+        Reply::Name(name) => { write_field(alloc, Form::Json, text_field("name", name), line, out) }
+        Reply::Ranges(ranges) => write_ranges(alloc, ranges, line, out),
+        Reply::Refused(error) => write_refused(alloc, Form::Json, error, line, out),
+    }
+}
+
+/// Writes the lines that the other program prints of a reply.
+fn write_lines<W: Write>(alloc: Global, reply: &Reply, out: &mut W) -> Result<()>
+    ensures { Writes (reply_lines reply.now) (W.contents out.old) (W.contents out.new) result }
+{
+    let lines = reply_lines(alloc, reply)?;
+    write_bytes(&lines, out)?;
+    Ok(())
+}
+
+/// Writes the lines of a reply.
+#[tactic(auto, unfolding(crate::specs::Answers::reply_text))]
+fn write_reply<W: Write>(
+    alloc: Global,
+    form: Form,
+    reply: &Reply,
+    line: &mut Vec<u8>,
+    out: &mut W,
+) -> Result<()>
+    ensures { Writes (reply_text form reply.now) (W.contents out.old) (W.contents out.new) result }
+{
+    match (form, reply) {
+        (_, Reply::Refused(error)) => write_refused(alloc, form, error, line, out),
+        (Form::Text, reply) => write_lines(alloc, reply, out),
+        (Form::Json, reply) => write_json(alloc, reply, line, out),
+    }
+}
+
+/// What is told of a line that asks nothing, as a field.
+fn unasked_field<'t>() -> Field<'t>
+    ensures { field_shown result ≡ (codes "error", shown_text no_query) }
+{
+    error_field(NO_QUERY)
+}
+
+/// Writes the lines of an answer: of the reply, or that nothing was asked.
+fn write_answer<W: Write>(
+    alloc: Global,
+    form: Form,
+    reply: Option<&Reply>,
+    line: &mut Vec<u8>,
+    out: &mut W,
+) -> Result<()>
+    ensures { Writes (answer_text form (option_copied reply.entry)) (W.contents out.old) (W.contents out.new) result }
+{
+    match reply {
+        Some(reply) => write_reply(alloc, form, reply, line, out),
+        None => write_field(alloc, form, unasked_field(), line, out),
+    }
+}
+
+/// Whether a question is answered, and all others are.
+pub(crate) fn is_answered_too(reply: Option<&Reply>, all: bool) -> bool
+    ensures { result ≡ (is_answer (option_copied reply.entry) && all) }
+{
+    match reply {
+        None | Some(Reply::Refused(_)) => false,
+        Some(_) => all,
+    }
+}
+
+/// Writes a question, and its answer behind it.
+#[tactic(auto, unfolding(crate::specs::Answers::answered_text))]
+pub(crate) fn write_answered<W: Write>(
+    alloc: Global,
+    form: Form,
+    question: &[u8],
+    reply: Option<&Reply>,
+    line: &mut Vec<u8>,
+    out: &mut W,
+) -> Result<()>
+    ensures { Writes (answered_text form question.now (option_copied reply.entry)) (W.contents out.old) (W.contents out.new) result }
+{
+    write_field(alloc, form, text_field("question", question), line, out)?;
+    write_answer(alloc, form, reply, line, out)
+}

@@ -1,0 +1,89 @@
+//! A file, and all questions of a text.
+
+ghost use Rattle.std.specs.Prelude.{◌≡◌, map, IfErr, IfOk};
+ghost use Rattle.pdb_asking.specs.Answers.{answers_text, are_answers, next_reply};
+ghost use Rattle.pdb_asking.specs.Asked.{IsAsked};
+ghost use Rattle.pdb_asking.specs.Questions.{asked, queries_in};
+ghost use Rattle.std.specs.Option.{option_copied};
+ghost use Rattle.pdb_rows.specs.Written.{Writes, done_of};
+
+use crate::answer::{is_answered_too, write_answered};
+use crate::question::{Question, questions_in};
+use pdb_container::{Error, Query, Reply, Result, run};
+use pdb_rows::Form;
+use std::alloc::Global;
+use std::io::Write;
+
+/// The queries that questions ask, in order.
+fn queries_in(alloc: Global, questions: &[Question<'_>]) -> Result<Vec<Query>>
+    ensures queries { IfOk result (λ queries. queries.items ≡ queries_in (map asked questions.now)) }
+    ensures want { IfErr result (λ e. e ≡ Error.OutOfMemory) }
+{
+    let queries = questions
+        .iter()
+        .filter_map(|question| question.query)
+        .collect(alloc)?;
+    Ok(queries)
+}
+
+/// The reply to a question, which one that asks nothing has not, and the replies to the others.
+fn next_reply(asks: Option<Query>, replies: &[Reply]) -> (Option<&Reply>, &[Reply])
+    ensures reply { option_copied result.0 ≡ (next_reply asks replies.now).0 }
+    ensures rest { result.1.now ≡ (next_reply asks replies.now).1 }
+{
+    match asks {
+        None => (None, replies),
+        Some(_) => match replies.split_first() {
+            Some((first, rest)) => (Some(first), rest),
+            None => (None, replies),
+        },
+    }
+}
+
+/// Writes each question and its answer behind it, and returns whether all are answered. The replies are
+/// those to the questions that ask something, in order.
+fn write_answers<W: Write>(
+    alloc: Global,
+    form: Form,
+    questions: &[Question<'_>],
+    replies: &[Reply],
+    out: &mut W,
+) -> Result<bool>
+    ensures lines { Writes (answers_text form (map asked questions.now) replies.now) (W.contents out.old) (W.contents out.new) (done_of result) }
+    ensures all { IfOk result (λ all. all ≡ are_answers (map asked questions.now) replies.now) }
+{
+    let mut line = Vec::new(alloc);
+    let mut replies = replies;
+    let mut all = true;
+    for question in questions {
+        let (reply, rest) = next_reply(question.query, replies);
+        replies = rest;
+        write_answered(alloc, form, question.line, reply, &mut line, out)?;
+        all = is_answered_too(reply, all);
+    }
+    Ok(all)
+}
+
+/// Asks a file the questions of a text, one for each line that is not empty, and writes each line and the
+/// answer behind it. Returns whether all are answered: a question that is refused and a line that asks
+/// nothing are told in place of an answer, and the others are answered all the same.
+///
+/// Each table that is asked about is read and walked along once for all questions.
+///
+/// # Errors
+/// What `open_msf` refuses of the file, before anything is written. `IoError` if the writer fails, and
+/// `OutOfMemory` if there is no memory for the questions or their answers.
+pub fn ask<W: Write>(
+    alloc: Global,
+    file: Vec<u8>,
+    text: &[u8],
+    form: Form,
+    out: &mut W,
+) -> Result<bool>
+    ensures { IsAsked form file.items text.now (W.contents out.old) (W.contents out.new) result }
+{
+    let questions = questions_in(alloc, text)?;
+    let queries = queries_in(alloc, &questions)?;
+    let replies = run(alloc, file, &queries)?;
+    write_answers(alloc, form, &questions, &replies, out)
+}

@@ -1,0 +1,89 @@
+//! Questions: lines, and the query that the words of each spell.
+
+ghost use Rattle.std.specs.Prelude.{◌≡◌, map, IfErr, IfOk};
+ghost use Rattle.std.specs.Option.{option_map};
+ghost use Rattle.pdb_asking.specs.Questions.{asked, lines_of, query_in, questions_in, texts_of, words_of};
+
+use pdb_command::query;
+use pdb_container::{Error, Query, Result};
+use std::alloc::Global;
+
+/// A line, and what it asks.
+#[derive(Clone, Copy, Debug)]
+pub struct Question<'t> {
+    /// The bytes of the line.
+    pub line: &'t [u8],
+
+    /// The query that its words spell, if they spell one.
+    pub query: Option<Query>,
+}
+
+/// The lines of a text, but for the empty ones.
+fn lines_of<'t>(alloc: Global, text: &'t [u8]) -> Result<Vec<&'t [u8]>>
+    ensures lines { IfOk result (λ lines. map (λ line. line.now) lines.items ≡ lines_of text.now) }
+    ensures want { IfErr result (λ e. e ≡ Error.OutOfMemory) }
+{
+    let lines = text
+        .split(|byte| *byte == b'\n' || *byte == b'\r')
+        .filter(|line| !line.is_empty())
+        .collect(alloc)?;
+    Ok(lines)
+}
+
+/// The words of a line, between its blanks.
+fn words_of<'t>(alloc: Global, line: &'t [u8]) -> Result<Vec<&'t [u8]>>
+    ensures words { IfOk result (λ words. map (λ word. word.now) words.items ≡ words_of line.now) }
+    ensures want { IfErr result (λ e. e ≡ Error.OutOfMemory) }
+{
+    let words = line
+        .split(|byte| *byte == b' ' || *byte == b'\t')
+        .filter(|word| !word.is_empty())
+        .collect(alloc)?;
+    Ok(words)
+}
+
+/// Words as texts, if each is one.
+fn texts_of<'t>(alloc: Global, words: &[&'t [u8]]) -> Result<Option<Vec<&'t str>>>
+    ensures texts { IfOk result (λ texts. option_map (λ texts. map (λ text. text.now) texts.items) texts ≡ texts_of (map (λ word. word.now) words.now)) }
+    ensures want { IfErr result (λ e. e ≡ Error.OutOfMemory) }
+{
+    let mut texts = Vec::with_capacity(alloc, words.len())?;
+    for word in words {
+        match str::from_utf8(word) {
+            Ok(text) => texts.push(text)?,
+            Err(_) => return Ok(None),
+        }
+    }
+    Ok(Some(texts))
+}
+
+/// The query that the words of a line spell, if they spell one.
+#[tactic(auto, unfolding(crate::specs::Questions::query_in))]
+fn query_in(alloc: Global, line: &[u8]) -> Result<Option<Query>>
+    ensures query { IfOk result (λ query. query ≡ query_in line.now) }
+    ensures want { IfErr result (λ e. e ≡ Error.OutOfMemory) }
+{
+    let words = words_of(alloc, line)?;
+    match texts_of(alloc, &words)? {
+        Some(texts) => Ok(query(&texts)),
+        None => Ok(None),
+    }
+}
+
+/// The questions of a text, one for each line that is not empty.
+///
+/// # Errors
+/// `OutOfMemory` if memory is refused.
+#[tactic(auto, unfolding(crate::specs::Questions::questions_in))]
+pub fn questions_in<'t>(alloc: Global, text: &'t [u8]) -> Result<Vec<Question<'t>>>
+    ensures questions { IfOk result (λ questions. map asked questions.items ≡ questions_in text.now) }
+    ensures want { IfErr result (λ e. e ≡ Error.OutOfMemory) }
+{
+    let lines = lines_of(alloc, text)?;
+    let mut questions = Vec::with_capacity(alloc, lines.len())?;
+    for line in &lines {
+        let query = query_in(alloc, line)?;
+        questions.push(Question { line: *line, query })?;
+    }
+    Ok(questions)
+}

@@ -1,0 +1,60 @@
+//! What S1 answers to questions, row by row.
+
+use crate::ask;
+use pdb_container::Result;
+use pdb_rows::Form;
+use pdb_vectors::s1;
+use std::alloc::Global;
+use std::test::Fail;
+
+/// A row: the questions, the form, what is written, and whether all are answered.
+type Asked = (&'static [u8], Form, &'static str, bool);
+
+const ASKED: &[Asked] = &[
+    (b"", Form::Text, "", true),
+    (
+        b"stream 3\nstream 0x3 2\n",
+        Form::Text,
+        "question=stream 3\n68656c6c6f\nquestion=stream 0x3 2\n6865\n",
+        true,
+    ),
+    (
+        b"stream 9\r\n\r\n \tstream\t3 ",
+        Form::Text,
+        "question=stream 9\nerror=The requested stream (9) is not stored in this file\n\
+        question= \\tstream\\t3 \n68656c6c6f\n",
+        false,
+    ),
+    (
+        b"strom 3\ntype 3\xff 1\nranges 0 1 2",
+        Form::Json,
+        "{\"question\":\"strom 3\"}\n{\"error\":\"no question: stream N [LIMIT] | type S I | id S I | name S O | ranges S A B | fields S I\"}\n\
+        {\"question\":\"type 3\u{fffd} 1\"}\n{\"error\":\"no question: stream N [LIMIT] | type S I | id S I | name S O | ranges S A B | fields S I\"}\n\
+        {\"question\":\"ranges 0 1 2\"}\n",
+        false,
+    ),
+    (
+        b"stream 3",
+        Form::Json,
+        "{\"question\":\"stream 3\"}\n{\"bytes\":\"68656c6c6f\"}\n",
+        true,
+    ),
+];
+
+/// Whether S1 answers this.
+fn answers(alloc: Global, row: &Asked) -> Result<bool> {
+    let (questions, form, lines, all) = *row;
+    let mut out = Vec::new(alloc);
+    let answered = ask(alloc, s1(alloc)?, questions, form, &mut out)?;
+    Ok(answered == all && out.as_slice() == lines.as_bytes())
+}
+
+#[test]
+fn asked(rt: HostRuntime) -> std::result::Result<(), Fail> {
+    for row in ASKED {
+        let (questions, _, lines, _) = row;
+        let is_answered = answers(rt.alloc(), row)?;
+        assert!(rt; is_answered, "{questions:?} {lines}");
+    }
+    Ok(())
+}

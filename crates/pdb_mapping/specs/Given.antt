@@ -1,0 +1,36 @@
+-- The address map of a file, or one that is made of given streams.
+use Rattle.std.specs.Prelude.{ℕ, ◌&&◌, if◌then◌else◌, Bool, List, [], Option, Ok, unwrap_or}
+use Rattle.std.specs.Option.{is_none}
+use Rattle.pdb_base.specs.Answer.{Answer, ◌>>=◌}
+use Rattle.pdb_msf.specs.Header.{Head}
+use Rattle.pdb_roles.specs.File.{file_address_map, said_by, stream_numbered}
+use Rattle.pdb_roles.specs.SectionHeaders.{section_headers_of}
+use Rattle.pdb_space.specs.Conversions.{Arrangement}
+use Rattle.pdb_space.specs.Omap.{Mapping, table_of}
+use Rattle.pdb_space.specs.declared.section_header.ImageSectionHeader.{ImageSectionHeader}
+use Rattle.pdb_mapping.specs.declared.given.MapStreams.{MapStreams}
+
+-- the section headers in the stream of a number, if one is given
+unfoldable pub sections_in : List ℕ → Head → Option ℕ → Answer (Option (List ImageSectionHeader))
+sections_in file head number = stream_numbered file head number >>= said_by section_headers_of
+
+-- the OMAP table in the stream of a number, if one is given
+unfoldable pub omap_in : List ℕ → Head → Option ℕ → Answer (Option (List Mapping))
+omap_in file head number = stream_numbered file head number >>= said_by table_of
+
+-- the address map that given streams make
+unfoldable pub given_map : List ℕ → Head → MapStreams → Answer Arrangement
+given_map file head streams = do
+  sections ← sections_in file head streams.sections
+  transformed ← sections_in file head streams.transformed
+  to_original ← omap_in file head streams.to_original
+  to_transformed ← omap_in file head streams.to_transformed
+  Ok (record { original_sections = unwrap_or sections []; transformed_sections = transformed; transformed_to_original = to_original; original_to_transformed = to_transformed })
+
+-- whether no stream is given
+abbrev pub gives_none : MapStreams → Bool
+gives_none streams = is_none streams.sections && is_none streams.transformed && is_none streams.to_original && is_none streams.to_transformed
+
+-- the address map that given streams make; the file's own where none is given
+unfoldable pub map_in : List ℕ → Head → MapStreams → Answer Arrangement
+map_in file head streams = if gives_none streams then file_address_map file head else given_map file head streams

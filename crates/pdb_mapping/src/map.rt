@@ -1,0 +1,53 @@
+//! An address by a file's address map.
+
+ghost use Rattle.pdb_mapping.specs.Given.{map_in};
+ghost use Rattle.pdb_mapping.specs.Mapped.{IsMapped};
+ghost use Rattle.std.specs.Prelude.{Ok};
+
+use crate::given::{MapStreams, map_in};
+use crate::made::{made_of_internal, made_of_loaded};
+use crate::written::write_made;
+use pdb_base::Result;
+use pdb_msf::BigMSF;
+use pdb_rows::Form;
+use pdb_space::{AddressMap, PdbInternalRva, Rva};
+use std::alloc::Global;
+use std::io::Write;
+
+/// Writes what a map makes of a number, as an address of the image as it is loaded and of the original.
+fn write_map<W: Write>(
+    alloc: Global,
+    map: &AddressMap,
+    address: u32,
+    form: Form,
+    out: &mut W,
+) -> Result<()>
+    ensures { IsMapped form (Ok map.now) address (W.contents out.old) (W.contents out.new) result }
+{
+    let loaded = made_of_loaded(map, Rva(address));
+    let internal = made_of_internal(map, PdbInternalRva(address));
+    write_made(alloc, &loaded, &internal, form, out)
+}
+
+/// Lists what an address map makes of a number, a line for each conversion, also where it has no answer:
+/// first as an address of the image as it is loaded, and then as one of the original image. The map is the
+/// file's own, unless streams are given that make another.
+///
+/// # Errors
+/// If no stream is given, what `address_map` refuses. Else of the streams that are given, in the order of
+/// the fields of `MapStreams`, what `Msf::get` refuses, and then `UnexpectedEof` if a section header is cut,
+/// or `InvalidStreamLength` if an OMAP record is. `IoError` if the writer fails, and `OutOfMemory` if memory
+/// is refused.
+pub fn list_map<W: Write>(
+    alloc: Global,
+    mut file: BigMSF<Vec<u8>>,
+    address: u32,
+    streams: MapStreams,
+    form: Form,
+    out: &mut W,
+) -> Result<()>
+    ensures { IsMapped form (map_in file.source.items file.head streams) address (W.contents out.old) (W.contents out.new) result }
+{
+    let map = map_in(alloc, &mut file, streams)?;
+    write_map(alloc, &map, address, form, out)
+}

@@ -1,0 +1,36 @@
+//! Why a record or another part of a file is refused.
+
+ghost use Rattle.std.specs.Prelude.{◌≡◌, codes, IfErr, IfOk};
+ghost use Rattle.pdb_base.specs.Refusal.{refusal_of};
+ghost use Rattle.pdb_rows.specs.Refused.{refusal_text};
+ghost use Rattle.pdb_rows.specs.Row.{field_shown};
+ghost use Rattle.pdb_rows.specs.Row.{text as shown_text};
+
+use crate::row::{Field, Value};
+use pdb_base::{Error, RawString, Result};
+use std::alloc::Global;
+
+/// The text of an error; of an error of the source, that it is one.
+///
+/// # Errors
+/// `OutOfMemory` if memory is refused.
+#[tactic(auto, unfolding(crate::specs::Refused::refusal_text))]
+pub fn error_text(alloc: Global, error: &Error) -> Result<Vec<u8>>
+    ensures ok { IfOk result (λ text. text.items ≡ refusal_text (refusal_of error.now)) }
+    ensures want { IfErr result (λ e. e ≡ Error.OutOfMemory) }
+{
+    match error {
+        Error::IoError(_) => Ok(Vec::from_slice(alloc, b"IO error while reading PDB")?),
+        error => Ok(format!(in alloc; "{error}")?.into_bytes()),
+    }
+}
+
+/// The field that tells why something is refused, by the text of the error.
+pub fn error_field(text: &[u8]) -> Field<'_>
+    ensures { field_shown result ≡ (codes "error", shown_text text.now) }
+{
+    Field {
+        name: "error",
+        value: Value::Text(RawString::from(text)),
+    }
+}

@@ -1,0 +1,7 @@
+use Rattle.pdb_rows.proofs.WrittenLemmas.{front_none}
+use Rattle.pdb_summary.specs.Summary.{parts_lines}
+use Rattle.pdb_summary.proofs.summary.write_parts.Goals as goal
+
+pub returns-in-Err-OutOfMemory : goal.returns-in-Err-OutOfMemory
+unfolding parts_lines
+returns-in-Err-OutOfMemory g c = (tt, front_none _ _)

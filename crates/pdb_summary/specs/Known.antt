@@ -1,0 +1,9 @@
+-- What is known of a file's streams, as the code holds it.
+use Rattle.std.specs.Prelude.{map}
+use Rattle.pdb_roles.specs.StreamNames.{named_view}
+use Rattle.pdb_summary.specs.Streams as streams
+use Rattle.pdb_summary.specs.declared.streams.Known.{Known}
+
+-- the same apart from where the names lie
+abbrev pub known_view : Known → streams.Known
+known_view known = record { page_size = known.page_size; roles = known.roles; names = map named_view known.names.now }
