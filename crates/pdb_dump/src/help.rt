@@ -13,7 +13,7 @@ FILE is a path, or `-` for standard input. Without a command it is summary.
   ids [S] [--index I]     each id
   names [S]               each name of the string table, with its offset
   sections [S]            each section header
-  omap [S]                each record of an OMAP table, and whether they are in order
+  omap [S]                each record of the OMAP tables, and whether they are in order
   frames [OLD [NEW]]      each frame; a stream that is absent is `-`
   map RVA [..]            what the address map makes of an address, both ways, with its sections
   ask                     the answers to questions on standard input, a line each
@@ -61,8 +61,8 @@ to. With --index I only the id of that index, with a line for each field."
 size in memory, its place and size in the file, and its flags by name."
         }
         Verb::Omap => {
-            "Each record of the OMAP table in stream S, or in the one that leads from the image as it is loaded to
-the original one; and then whether their sources never fall."
+            "Each record of the OMAP table in stream S, or of both tables of the file, each behind a line that says
+which it is; and then whether their sources never fall."
         }
         Verb::Frames => {
             "Each frame, by its start, of the file's own streams, or of stream OLD of the older format and stream NEW
