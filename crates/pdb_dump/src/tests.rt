@@ -5,8 +5,7 @@ use pdb_container::Result;
 use pdb_rows::Form;
 use pdb_vectors::s1_with;
 use std::alloc::Global;
-use std::io;
-use std::io::{ErrorKind, Write};
+use std::io::Cursor;
 use std::test::Fail;
 
 /// A row: the words behind the file, the bytes of stream 3, what is listed, and the text of the refusal.
@@ -173,40 +172,17 @@ fn listed(rt: HostRuntime) -> std::result::Result<(), Fail> {
     Ok(())
 }
 
-/// A writer that takes a few bytes at a time, and no more in all than it has room for.
-#[derive(Drop)]
-struct Narrow {
-    taken: Vec<u8>,
-    room: usize,
-}
-
-impl Write for Narrow {
-    fn write(&mut self, bytes: &[u8]) -> io::Result<usize> {
-        let count = bytes.len().min(5).min(self.room);
-        if count == 0 && !bytes.is_empty() {
-            return Err(io::Error::from(ErrorKind::StorageFull));
-        }
-        self.taken.extend_from_slice(&bytes[..count])?;
-        self.room -= count;
-        Ok(count)
-    }
-
-    fn flush(&mut self) -> io::Result<()> {
-        Ok(())
-    }
-}
-
 /// What a writer with so much room gets of the sections of S1 with a header as its stream 3, and whether
 /// it was asked for more.
 fn narrowed(alloc: Global, room: usize) -> Result<(Vec<u8>, bool)> {
-    let mut out = Narrow {
-        taken: Vec::new(alloc),
-        room,
-    };
+    let mut taken = vec![in alloc; 0; room]?;
+    let mut out = Cursor::new(taken.as_mut_slice());
     let file = s1_with(alloc, &SECTION[..40])?;
     let command = Command::Sections { stream: Some(3) };
     let is_cut = list(alloc, file, command, Form::Text, &mut out).is_err();
-    Ok((out.taken, is_cut))
+    let count = out.position() as usize;
+    taken.truncate(count);
+    Ok((taken, is_cut))
 }
 
 #[test]
