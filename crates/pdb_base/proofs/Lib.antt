@@ -1,16 +1,6 @@
-pub mod Padding
-pub mod ReadingLemmas
+pub mod lemmas
 pub mod SpellingLemmas
-pub mod Refused
-pub mod Collected
 pub mod MultipleLemmas
 pub mod TextLemmas
-pub mod SpellingLaws
 pub mod NumericLemmas
-pub mod NumericLaws
 pub mod AlignmentLaws
-pub mod CountLemmas
-pub mod HalvingLemmas
-pub mod RecordLemmas
-pub mod DerivedLemmas
-pub mod FrontLaws

@@ -5,8 +5,8 @@ use Rattle.std.proofs.lemmas.List.{length-drop}
 use Rattle.pdb_base.specs.Refusal.{unexpected_eof}
 use Rattle.pdb_base.specs.Place.{Place, left, StaysWithin}
 use Rattle.pdb_base.specs.Reading.{number_at}
-use Rattle.pdb_base.proofs.Collected.{ok_is_no_err}
-use Rattle.pdb_base.proofs.ReadingLemmas.{number_cut}
+use Rattle.pdb_base.proofs.lemmas.Collected.{ok_is_no_err}
+use Rattle.pdb_base.proofs.lemmas.Reading.{number_cut}
 
 -- where a number was read, its bytes were there
 held : (width : ℕ) (bytes : List ℕ) (x : ℕ × List ℕ) → number_at width bytes ≡ Ok x → width ≤ length bytes

@@ -6,7 +6,7 @@ use Rattle.byteorder.specs.Endian.{little_bytes, little_number}
 use Rattle.byteorder.specs.Numbers.{length-bytes_low_first, little_from-take, little_number-reads_back}
 use Rattle.pdb_base.specs.Reading.{number_at}
 use Rattle.pdb_base.specs.Laws.{ReadsSpelling}
-use Rattle.pdb_base.proofs.ReadingLemmas.{number_whole, number_cut}
+use Rattle.pdb_base.proofs.lemmas.Reading.{number_whole, number_cut}
 
 spelled : (width number : ℕ) (rest : List ℕ) → number < 256 ^ width → number_at width (little_bytes width number ++ rest) ≡ Ok (number, rest)
 spelled width number rest small =

@@ -8,8 +8,8 @@ use Rattle.std.proofs.lemmas.List.{length-drop}
 use Rattle.byteorder.specs.Endian.{little_number}
 use Rattle.pdb_base.specs.Place.{Place, left, StaysWithin}
 use Rattle.pdb_base.specs.Reading.{number_at, text_at}
-use Rattle.pdb_base.proofs.Collected.{ok_is, ok_is_no_err}
-use Rattle.pdb_base.proofs.ReadingLemmas.{number_whole, number_cut}
+use Rattle.pdb_base.proofs.lemmas.Collected.{ok_is, ok_is_no_err}
+use Rattle.pdb_base.proofs.lemmas.Reading.{number_whole, number_cut}
 
 -- without a NUL
 text_none : (bytes : List ℕ) → ((k : ℕ) → k < length bytes → ¬ (slice_index bytes k == 0) ≡ true) → text_at bytes ≡ Err unexpected_eof

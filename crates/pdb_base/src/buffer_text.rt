@@ -14,7 +14,7 @@ struct EscapedByte(u8);
 impl fmt::Display for EscapedByte {
     ghost output = { λ byte. Some (escaped byte.0) };
 
-    #[tactic(auto, using(crate::proofs::Padding::padded_to_two))]
+    #[tactic(auto, using(crate::proofs::lemmas::Padding::padded_to_two))]
     fn fmt<W: fmt::Write>(&self, f: &mut fmt::Formatter<W>) -> fmt::Result {
         let byte = self.0;
         write!(f, "\\x{byte:02x}")

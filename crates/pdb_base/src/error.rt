@@ -112,7 +112,7 @@ struct Hexadecimal(u32);
 impl fmt::Display for Hexadecimal {
     ghost output = { λ n. Some (hexadecimal_of_four n.0) };
 
-    #[tactic(auto, using(crate::proofs::Padding::padded_with_zeros))]
+    #[tactic(auto, using(crate::proofs::lemmas::Padding::padded_with_zeros))]
     fn fmt<W: fmt::Write>(&self, f: &mut fmt::Formatter<W>) -> fmt::Result {
         let number = self.0;
         write!(f, "0x{number:04x}")

@@ -32,7 +32,7 @@ pub fn numbers()
 
 /// What is read of bytes is what a front of them spells, and of any bytes at most one front spells a
 /// value.
-#[tactic(auto, using(crate::proofs::SpellingLaws::numbers, crate::proofs::SpellingLaws::signed_numbers, crate::proofs::SpellingLaws::texts, crate::proofs::SpellingLaws::counted_texts, crate::proofs::NumericLaws::nums, crate::proofs::NumericLaws::variants))]
+#[tactic(auto, using(crate::proofs::lemmas::Spelling::numbers, crate::proofs::lemmas::Spelling::signed_numbers, crate::proofs::lemmas::Spelling::texts, crate::proofs::lemmas::Spelling::counted_texts, crate::proofs::lemmas::Numeric::nums, crate::proofs::lemmas::Numeric::variants))]
 pub fn spellings()
     ensures numbers { (width : ℕ) → ReadsWhatIsSpelled (SpellsNumber width) (number_at width) }
     ensures signed { (signed : Width) (width : ℕ) → ReadsWhatIsSpelled (SpellsSigned signed width) (signed_at signed width) }
@@ -43,14 +43,14 @@ pub fn spellings()
 {}
 
 /// The first so many bytes are so many numbers of one byte, one after another.
-#[tactic(auto, using(crate::proofs::FrontLaws::front_is_bytes))]
+#[tactic(auto, using(crate::proofs::lemmas::Front::front_is_bytes))]
 pub fn fronts()
     ensures { (count : ℕ) (bytes : List ℕ) → front_at count bytes ≡ repeated (number_at 1) count bytes }
 {}
 
 /// A number of variable width is refused by its prefix where that is whole and announces no number,
 /// and else only since the bytes end before the number does.
-#[tactic(auto, using(crate::proofs::NumericLaws::num_refusals, crate::proofs::NumericLaws::variant_refusals))]
+#[tactic(auto, using(crate::proofs::lemmas::Numeric::num_refusals, crate::proofs::lemmas::Numeric::variant_refusals))]
 pub fn refused_prefixes()
     ensures nums { RefusesPrefixFirst unsigned_leaves num_at }
     ensures variants { RefusesPrefixFirst numeric_leaves variant_at }
@@ -70,7 +70,7 @@ pub fn conversions<I: ItemIndex>()
 {}
 
 /// A count after so many calls more is their sum, up to the largest number of 64 bits.
-#[tactic(auto, using(crate::proofs::CountLemmas::calls_are))]
+#[tactic(auto, using(crate::proofs::lemmas::Count::calls_are))]
 pub fn counts()
     ensures { (more calls : ℕ) → calls < 2 ^ 64 → after_calls more calls ≡ min (calls + more) (2 ^ 64 - 1) }
 {}

@@ -6,7 +6,7 @@ ghost use Rattle.pdb_bits.specs.Bits.{bits};
 ghost use Rattle.pdb_bits.specs.Parts.{is_set};
 
 /// What is left of a word above the bits below `place`.
-#[tactic(auto, using(crate::proofs::BitLemmas::shifted_out))]
+#[tactic(auto, using(crate::proofs::lemmas::Shifts::shifted_out))]
 fn shifted(word: u32, place: u32) -> u32
     ensures { result ≡ word / 2 ^ place }
 {
@@ -14,7 +14,7 @@ fn shifted(word: u32, place: u32) -> u32
 }
 
 /// The number that `count` bits of a word say, from the bit at `place` on.
-#[tactic(auto, using(crate::proofs::BitLemmas::shifted_and_masked, crate::proofs::BitLemmas::bits_below, crate::proofs::BitLemmas::bits_of_all))]
+#[tactic(auto, using(crate::proofs::lemmas::Shifts::shifted_and_masked, crate::proofs::lemmas::Shifts::bits_below, crate::proofs::lemmas::Shifts::bits_of_all))]
 pub fn part(word: u32, place: u32, count: u32) -> u32
     ensures part { result ≡ bits word place count }
     ensures below { result < 2 ^ count }

@@ -2,7 +2,7 @@
 use Rattle.std.proofs.Common.{◌≡◌, List, [], ◌∷◌, ◌++◌, map, refl, ap, sym, ◌∙◌, ℕ}
 use Rattle.std.specs.List.{flat_map}
 use Rattle.pdb_base.specs.Answer.{Answer}
-use Rattle.pdb_base.proofs.Collected.{ok}
+use Rattle.pdb_base.proofs.lemmas.Collected.{ok}
 use Rattle.pdb_values.specs.declared.field_list.FieldList.{FieldList, fold_out-FieldList}
 use Rattle.pdb_values.specs.declared.type_data.TypeData.{TypeData, fold-roll-TypeData}
 use Rattle.pdb_values.specs.declared.type_data.TypeData.TheVariants as variants
@@ -10,7 +10,7 @@ use Rattle.pdb_values.specs.declared.type_data.TypeData.TheVariants.{rolls-Field
 use Rattle.pdb_values.specs.declared.type_data.TypeData.TheOpen.{TypeData-F}
 use Rattle.pdb_values.specs.TypeValue.{TypeValue}
 use Rattle.pdb_values.specs.TypeView.{type_value, field_list_value, view_step, list_step}
-use Rattle.pdb_values.proofs.FieldLemmas as fields
+use Rattle.pdb_values.proofs.lemmas.Fields as fields
 use Rattle.pdb_c.specs.declared.fields.FieldRow.{FieldRow}
 use Rattle.pdb_c.specs.Records.{Listing, all_found, field_row, fields_in, listing, listings, name_bytes}
 use Rattle.std.specs.Prelude.{Option, Some}

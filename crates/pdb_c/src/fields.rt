@@ -99,7 +99,7 @@ pub fn write_nothing(fault: Fault, count: &mut usize, size: &mut usize) -> Fault
 }
 
 /// The fields that a type lists, for the caller, if it is a list of fields.
-#[tactic(auto, using(pdb_values::proofs::FieldLemmas::listed))]
+#[tactic(auto, using(pdb_values::proofs::lemmas::Fields::listed))]
 fn listing_of(alloc: Global, value: &TypeData<'_>) -> Result<Option<Listing>>
     ensures { Answers (option_map listing_view) result (listings (Ok (fields_in (type_value value.now)))) }
 {

@@ -10,7 +10,7 @@ use Rattle.std.proofs.lemmas.List.Folds.{flat_map-map}
 use Rattle.std.proofs.Math.Seq.{take-append_seam, drop-append_seam}
 use Rattle.std.proofs.lemmas.List.{append-nil, take_more, take_all, map-id, take_min, drop_min, drop-drop, length-drop}
 use Rattle.std.proofs.lemmas.List.FromFn.{map-range_with_len_more}
-use Rattle.pdb_base.proofs.Padding.{padded_with_zeros}
+use Rattle.pdb_base.proofs.lemmas.Padding.{padded_with_zeros}
 use Rattle.pdb_command.specs.Lines.{line, hex_line, hex_lines, line_of, name_text, name_lines}
 
 range_more : (n : ℕ) → range_with_len 0 (n + 1) ≡ range_with_len 0 n ++ n ∷ []

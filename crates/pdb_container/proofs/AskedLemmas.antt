@@ -12,7 +12,7 @@ use Rattle.pdb_container.specs.declared.query.Query.TheVariants as queries
 use Rattle.pdb_container.specs.declared.query.Reply.{Reply}
 use Rattle.pdb_container.specs.declared.query.Reply.TheVariants as replies
 use Rattle.std.specs.Global.{Vec}
-use Rattle.pdb_base.proofs.Collected.{ok}
+use Rattle.pdb_base.proofs.lemmas.Collected.{ok}
 use Rattle.pdb_container.specs.declared.opened.Opened.{Opened}
 use Rattle.pdb_container.specs.declared.opened.Opened.TheVariants as tables
 use Rattle.pdb_tpi.specs.Table.{table_of}

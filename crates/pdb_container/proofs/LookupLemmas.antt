@@ -5,7 +5,7 @@ use Rattle.std.proofs.lemmas.Bool.Decides.{nat_tests}
 use Rattle.std.proofs.lemmas.Option.{slice_get_past}
 use Rattle.pdb_base.specs.Refusal.{unexpected_eof, type_not_found}
 use Rattle.pdb_base.specs.Reading.{number_at, front_at}
-use Rattle.pdb_base.proofs.Collected.{ok_is}
+use Rattle.pdb_base.proofs.lemmas.Collected.{ok_is}
 use Rattle.pdb_tpi.specs.Table.{Table}
 use Rattle.pdb_tpi.specs.Walk.{first_item, fault_of}
 use Rattle.pdb_tpi.specs.Steps.{Stand, walk, walk_rest, place_of, step_of, IsStep}

@@ -3,7 +3,7 @@ use Rattle.std.proofs.Common.{◌≡◌, [], ◌⊎◌, inl, inr, None, Ok, Err,
 use Rattle.pdb_base.specs.declared.error.Error.{Error}
 use Rattle.pdb_base.specs.Answer.{Answer, RefusesUnless}
 use Rattle.pdb_base.specs.Refusal.{Refusal, refusal_of}
-use Rattle.pdb_base.proofs.Collected.{err, err_is, ok_is_no_err}
+use Rattle.pdb_base.proofs.lemmas.Collected.{err, err_is, ok_is_no_err}
 use Rattle.pdb_rows.specs.Written.{IsCut}
 use Rattle.pdb_tables.specs.Listing.{whole}
 use Rattle.pdb_tables.proofs.ListedLemmas.{refused_listed}

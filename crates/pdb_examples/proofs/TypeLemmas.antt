@@ -4,7 +4,7 @@ use Rattle.std.proofs.Math.Seq.{drop-cons}
 use Rattle.std.proofs.lemmas.List.{append_assoc}
 use Rattle.std.proofs.Math.ListN.{drop_of_length-le}
 use Rattle.std.proofs.lemmas.Option.{slice_get_cases}
-use Rattle.pdb_base.proofs.Collected.{ok_is}
+use Rattle.pdb_base.proofs.lemmas.Collected.{ok_is}
 use Rattle.pdb_tpi.specs.Record.{type_of}
 use Rattle.pdb_tpi.specs.Steps.{Stand, walk, place_of, IsStep}
 use Rattle.pdb_tpi.specs.Table.{Table}

@@ -6,7 +6,7 @@ use Rattle.std.proofs.lemmas.List.{get_or-map, length-map}
 use Rattle.std.specs.List.Sorted.{IsStrictlyIncreasing}
 use Rattle.pdb_base.specs.Halving.{Rises, IsFound}
 use Rattle.pdb_base.specs.Records.{spelled}
-use Rattle.pdb_base.proofs.RecordLemmas.{spelled_length, spelled_at}
+use Rattle.pdb_base.proofs.lemmas.Records.{spelled_length, spelled_at}
 use Rattle.pdb_frames.specs.Span.{Span, covers, begins, start_at, from_first, from_last, if_first, from_address}
 use Rattle.pdb_frames.proofs.Rising.{Above, Rising, rising, above-lower}
 

@@ -25,7 +25,7 @@ pub(crate) trait FrameRecord: AddrRange + Copy {
 }
 
 /// The first of the records that bytes spell, and the bytes behind it.
-#[tactic(auto, using(pdb_base::proofs::RecordLemmas::spelled_none, pdb_base::proofs::RecordLemmas::spelled_first))]
+#[tactic(auto, using(pdb_base::proofs::lemmas::Records::spelled_none, pdb_base::proofs::lemmas::Records::spelled_first))]
 pub(crate) fn first<R: FrameRecord>(bytes: &[u8]) -> Option<(R, &[u8])>
     ensures none { IfNone result (spelled R.SIZE R.value bytes.now ≡ []) }
     ensures some { IfSome result

@@ -69,7 +69,7 @@ impl FrameTable {
     }
 
     /// Whether there are no frames.
-    #[tactic(auto, using(pdb_base::proofs::RecordLemmas::spelled_nothing, pdb_base::proofs::RecordLemmas::none_spelled))]
+    #[tactic(auto, using(pdb_base::proofs::lemmas::Records::spelled_nothing, pdb_base::proofs::lemmas::Records::none_spelled))]
     pub fn is_empty(&self) -> bool
         ensures { IsTrue result ↔ ((self.now.old ≡ []) × (self.now.new ≡ [])) }
     {
@@ -132,7 +132,7 @@ impl<'t> Model for FrameDataIter<'t> {
 impl<'t> Default for FrameDataIter<'t> {
     ghost is_default = { λ frames. frames ≡ [] };
 
-    #[tactic(auto, using(pdb_base::proofs::RecordLemmas::spelled_nothing))]
+    #[tactic(auto, using(pdb_base::proofs::lemmas::Records::spelled_nothing))]
     fn default() -> Self {
         FrameDataIter { old: &[], new: &[] }
     }

@@ -107,7 +107,7 @@ impl FrameRecord for NewFrameData {
 impl Parse<Le> for NewFrameData {
     ghost reads = { λ _ bytes. read_as new_frame (front_at 32 bytes) };
 
-    #[tactic(auto, using(pdb_base::proofs::RecordLemmas::front_length))]
+    #[tactic(auto, using(pdb_base::proofs::lemmas::Records::front_length))]
     fn parse_from(bytes: &[u8], _: Le) -> Result<(NewFrameData, usize)> {
         let mut buffer = ParseBuffer::from(bytes);
         let front = buffer.take(NewFrameData::SIZE)?;

@@ -114,7 +114,7 @@ impl FrameRecord for OldFrameData {
 impl Parse<Le> for OldFrameData {
     ghost reads = { λ _ bytes. read_as old_frame (front_at 16 bytes) };
 
-    #[tactic(auto, using(pdb_base::proofs::RecordLemmas::front_length))]
+    #[tactic(auto, using(pdb_base::proofs::lemmas::Records::front_length))]
     fn parse_from(bytes: &[u8], _: Le) -> Result<(OldFrameData, usize)> {
         let mut buffer = ParseBuffer::from(bytes);
         let front = buffer.take(OldFrameData::SIZE)?;

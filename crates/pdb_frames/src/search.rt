@@ -32,7 +32,7 @@ struct Found {
 /// The part of the stream that is left to search halves with each comparison, whichever way it falls.
 /// How far the address is behind the start is kept beside the place, since one subtraction compares
 /// and says how far. So the step needs no branch.
-#[tactic(auto, using(pdb_base::proofs::HalvingLemmas::halving_begins, pdb_base::proofs::HalvingLemmas::halving_takes, pdb_base::proofs::HalvingLemmas::halving_passes, pdb_base::proofs::HalvingLemmas::halving_ends))]
+#[tactic(auto, using(pdb_base::proofs::lemmas::Halving::halving_begins, pdb_base::proofs::lemmas::Halving::halving_takes, pdb_base::proofs::lemmas::Halving::halving_passes, pdb_base::proofs::lemmas::Halving::halving_ends))]
 fn search<R: FrameRecord>(bytes: &[u8], address: u32) -> Found
     ensures { IsFound (start_at R.span (spelled R.SIZE R.value bytes.now)) (length bytes.now / R.SIZE) address result.place result.start }
 {

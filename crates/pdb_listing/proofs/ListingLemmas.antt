@@ -4,14 +4,14 @@ use Rattle.std.specs.Io.KnownBytes.{Appends}
 use Rattle.std.proofs.KnownBytes.{Appends-nil, Appends-trans}
 use Rattle.std.proofs.lemmas.List.{append-nil, take_all, take_more, length-take}
 use Rattle.std.proofs.lemmas.Option.{slice_get_cases}
-use Rattle.pdb_base.proofs.Collected.{ok_is}
+use Rattle.pdb_base.proofs.lemmas.Collected.{ok_is}
 use Rattle.pdb_listing.specs.Lines.{lines_from}
 use Rattle.pdb_base.specs.declared.error.Error.{Error}
 use Rattle.std.specs.declared.io.Error as io
 use Rattle.pdb_base.specs.declared.error.Error.TheVariants.{IoError, OutOfMemory}
 use Rattle.pdb_listing.specs.Listed.{IsWalked, all_lines, cut, lacking, lines_of, stopped, whole}
 use Rattle.pdb_rows.specs.Written.{IsFront}
-use Rattle.pdb_rows.proofs.WrittenLemmas.{front_more}
+use Rattle.pdb_rows.proofs.lemmas.Written.{front_more}
 use Rattle.pdb_tpi.proofs.StepLemmas.{step_err, step_gives, step_none, step_some}
 use Rattle.pdb_tpi.proofs.WalkLemmas.{nth_some}
 use Rattle.pdb_tpi.specs.Steps.{Stand, walk, walk_rest, place_of, IsStep}

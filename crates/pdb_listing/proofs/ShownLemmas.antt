@@ -3,7 +3,7 @@ use Rattle.std.proofs.Common.{◌≡◌, ◌⊎◌, inl, inr, ℕ, List, [], ◌
 use Rattle.std.proofs.lemmas.List.{append-nil}
 use Rattle.std.specs.Io.KnownBytes.{Appends}
 use Rattle.std.proofs.KnownBytes.{Appends-trans, Keeps-refl}
-use Rattle.pdb_base.proofs.Collected.{ok}
+use Rattle.pdb_base.proofs.lemmas.Collected.{ok}
 use Rattle.pdb_base.specs.Answer.{Answer, ◌>>=◌}
 use Rattle.pdb_base.specs.Refusal.{refusal_of}
 use Rattle.pdb_base.specs.declared.error.Error.{Error}
@@ -14,7 +14,7 @@ use Rattle.pdb_listing.specs.Listed.{IsShown, cut_shown, lacking_shown, members_
 use Rattle.pdb_rows.specs.declared.form.Form.{Form}
 use Rattle.pdb_listing.proofs.ListingLemmas.{front_written, line_written}
 use Rattle.pdb_rows.specs.Written.{IsFront}
-use Rattle.pdb_rows.proofs.WrittenLemmas.{front_first, front_second}
+use Rattle.pdb_rows.proofs.lemmas.Written.{front_first, front_second}
 use Rattle.pdb_rows.specs.IdRows.{id_row}
 use Rattle.pdb_rows.specs.Lines.{full_text}
 use Rattle.pdb_rows.specs.Row.{ShownRow}

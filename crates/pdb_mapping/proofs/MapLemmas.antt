@@ -8,7 +8,7 @@ use Rattle.pdb_base.specs.declared.error.Error.{Error}
 use Rattle.pdb_base.specs.declared.error.Error.TheVariants.{OutOfMemory}
 use Rattle.pdb_rows.specs.declared.form.Form.{Form}
 use Rattle.pdb_rows.specs.Written.{Writes}
-use Rattle.pdb_rows.proofs.WrittenLemmas.{want_is_cut}
+use Rattle.pdb_rows.proofs.lemmas.Written.{want_is_cut}
 use Rattle.pdb_space.specs.Conversions.{Arrangement}
 use Rattle.pdb_mapping.specs.Mapped.{AreLinesOf, IsMapped, nothing, front}
 

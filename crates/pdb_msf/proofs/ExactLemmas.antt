@@ -5,7 +5,7 @@ use Rattle.std.specs.List.{range_with_len}
 use Rattle.pdb_base.specs.declared.error.Error.{Error}
 use Rattle.pdb_base.specs.Refusal.{refusal_of}
 use Rattle.pdb_base.specs.Answer.{Answer, ◌>>=◌, collected}
-use Rattle.pdb_base.proofs.Collected.{bind_ok}
+use Rattle.pdb_base.proofs.lemmas.Collected.{bind_ok}
 use Rattle.pdb_msf.specs.Exactly.{RefusesExactly}
 use Rattle.pdb_msf.specs.Pages.{page_number, page_numbers}
 

@@ -11,8 +11,8 @@ use Rattle.std.specs.List.{list_all, range_with_len, slice_get}
 use Rattle.pdb_base.specs.Refusal.{Refusal, page_reference_out_of_range}
 use Rattle.pdb_base.specs.Answer.{Answer, collected}
 use Rattle.pdb_base.specs.Reading.{number_at}
-use Rattle.pdb_base.proofs.ReadingLemmas.{front_whole, number_whole}
-use Rattle.pdb_base.proofs.Collected.{ok, err, ok_is, err_is, ok_is_no_err, bind_ok, collects_all}
+use Rattle.pdb_base.proofs.lemmas.Reading.{front_whole, number_whole}
+use Rattle.pdb_base.proofs.lemmas.Collected.{ok, err, ok_is, err_is, ok_is_no_err, bind_ok, collects_all, collected_more, collected_stops}
 use Rattle.pdb_msf.specs.Source.{bytes_at, found}
 use Rattle.pdb_msf.specs.Pages.{pages, place_of, scatter, words, present, judged, page_number, page_numbers}
 use Rattle.pdb_msf.specs.Header.{Head, fields_of}
@@ -20,7 +20,6 @@ use Rattle.pdb_msf.specs.Directory.{entry_of, directory_of}
 use Rattle.pdb_msf.specs.File.{stream_of}
 use Rattle.pdb_msf.specs.Laws.{IsLeast, Scatters, word_at, StandAtOffsets, AreGood, FirstFault, CutsOnly}
 use Rattle.pdb_msf.proofs.PageLemmas.{pages_reach, pages_tight}
-use Rattle.pdb_msf.proofs.WordLemmas.{collected_more, collected_stops}
 
 -- ---- pages
 

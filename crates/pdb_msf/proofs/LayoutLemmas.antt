@@ -3,7 +3,7 @@ use Rattle.std.proofs.Common.{◌≡◌, ℕ, List, refl, ap, sym, ◌∙◌, Op
 use Rattle.pdb_base.specs.Place.{Place, left}
 use Rattle.pdb_base.specs.Reading.{number_at}
 use Rattle.pdb_base.specs.Refusal.{Refusal}
-use Rattle.pdb_base.proofs.Collected.{ok_is, bind_ok}
+use Rattle.pdb_base.proofs.lemmas.Collected.{ok_is, bind_ok}
 use Rattle.pdb_msf.specs.Pages.{present, words}
 use Rattle.pdb_msf.specs.Header.{Head, opened}
 use Rattle.pdb_msf.specs.Directory.{directory_of}

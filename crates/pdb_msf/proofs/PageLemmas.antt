@@ -16,7 +16,7 @@ use Rattle.pdb_msf.specs.Header.{is_page_size}
 use Rattle.pdb_msf.specs.PageList.{page_places}
 use Rattle.pdb_msf.specs.Source.{bytes_at, found}
 use Rattle.pdb_msf.specs.Pages.{pages, place_of}
-use Rattle.pdb_base.proofs.Collected.{ok_is}
+use Rattle.pdb_base.proofs.lemmas.Collected.{ok_is}
 
 -- the places of all bytes of these pages
 abbrev pub all_places : ℕ → List ℕ → List ℕ

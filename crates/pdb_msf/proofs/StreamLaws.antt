@@ -8,7 +8,7 @@ use Rattle.std.proofs.lemmas.Option.{slice_get-get_or}
 use Rattle.pdb_base.specs.declared.error.Error.{Error}
 use Rattle.pdb_base.specs.Refusal.{Refusal, refusal_of, unexpected_eof, stream_not_found}
 use Rattle.pdb_base.specs.Answer.{Answer, AnswersUnless, collected, required}
-use Rattle.pdb_base.proofs.Collected.{ok_is, err_is, ok_is_no_err, bind_ok}
+use Rattle.pdb_base.proofs.lemmas.Collected.{ok_is, err_is, ok_is_no_err, bind_ok, collected_more}
 use Rattle.pdb_msf.specs.declared.directory.StreamPlace.{StreamPlace}
 use Rattle.pdb_msf.specs.Source.{HasFailed, found}
 use Rattle.pdb_msf.specs.Pages.{pages, page_number, page_numbers, present, scatter, words}
@@ -17,7 +17,6 @@ use Rattle.pdb_msf.specs.Directory.{Entry, absent, directory_of, entry_of, place
 use Rattle.pdb_msf.specs.File.{limited, stream_of}
 use Rattle.pdb_msf.specs.Laws.{AreGood, IsDirectory, IsStream, Moment, IsLater, AnswersAlike, AgreeUnless}
 use Rattle.pdb_msf.proofs.Kept.{kept_here, kept_then}
-use Rattle.pdb_msf.proofs.WordLemmas.{collected_more}
 use Rattle.pdb_msf.proofs.PlaceLemmas.{HasSize, entry_found, stands}
 use Rattle.pdb_msf.proofs.LawLemmas.{are_good, found_there, scatters, word_there}
 

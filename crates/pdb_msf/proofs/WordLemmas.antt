@@ -1,17 +1,15 @@
 -- Reading numbers from bytes, and the words that bytes spell.
-use Rattle.std.proofs.Common.{◌≡◌, ℕ, zero, suc, ◌+◌, ◌-◌, ◌*◌, ◌<◌, ◌≤◌, List, [], ◌∷◌, ◌++◌, length, take, drop, map, refl, sym, ap, ◌∙◌, arith, Some, None, Ok, Err, inl, inr}
+use Rattle.std.proofs.Common.{◌≡◌, ℕ, zero, suc, ◌+◌, ◌*◌, ◌<◌, ◌≤◌, List, [], ◌∷◌, length, take, drop, refl, sym, ap, ◌∙◌, arith, Some, None, Ok, Err, inl, inr}
 use Rattle.std.proofs.lemmas.Bool.{cases_lt}
-use Rattle.std.specs.List.{slice_get, range_with_len, sum_by}
-use Rattle.std.proofs.lemmas.List.{map-append, drop-drop}
-use Rattle.std.proofs.lemmas.List.FromFn.{map-range_with_len_more}
+use Rattle.std.specs.List.{slice_get, sum_by}
+use Rattle.std.proofs.lemmas.List.{drop-drop}
 use Rattle.std.proofs.lemmas.Option.{slice_get_within, get_or_from_slice_get}
 use Rattle.std.proofs.lemmas.List.Sums.{sum_by_more}
 use Rattle.pdb_base.specs.Endian.{little_number}
 use Rattle.pdb_base.specs.Refusal.{Refusal, unexpected_eof}
-use Rattle.pdb_base.specs.Answer.{Answer, collected}
-use Rattle.pdb_base.proofs.Collected.{ok_is, err_is, ok_is_no_err, collected-append_ok, collected-append_err}
+use Rattle.pdb_base.proofs.lemmas.Collected.{ok_is, err_is, ok_is_no_err}
 use Rattle.pdb_base.specs.Reading.{front_at, number_at}
-use Rattle.pdb_base.proofs.ReadingLemmas.{front_whole, front_cut, number_whole}
+use Rattle.pdb_base.proofs.lemmas.Reading.{front_whole, front_cut, number_whole}
 use Rattle.pdb_msf.specs.Pages.{words}
 
 -- ---- one word
@@ -115,30 +113,3 @@ word_past (word ∷ all) (suc i) is = let rest = word_past all i is in omega ari
 pub total_more : (f : ℕ → ℕ) (all : List ℕ) (i word : ℕ) → slice_get all i ≡ Some word → sum_by f (take (i + 1) all) ≡ sum_by f (take i all) + f word
 total_more f all i word is =
     sum_by_more f all i 0 (slice_get_within all i word is) ∙ ap (λ (w : ℕ). sum_by f (take i all) + f w) (get_or_from_slice_get all i word 0 is)
-
--- numbers up to one, that one, and those behind
-range_split : (from i more : ℕ) → range_with_len from (i + suc more) ≡ range_with_len from i ++ (from + i) ∷ range_with_len (from + i + 1) more
-range_split from zero more =
-    let count : 0 + suc more ≡ suc more = omega arith in
-    let first : from ≡ from + 0 = omega arith in
-    ap (range_with_len from) count ∙ ap (λ (n : ℕ). n ∷ range_with_len (n + 1) more) first
-range_split from (suc i) more =
-    let count : suc i + suc more ≡ suc (i + suc more) = omega arith in
-    let first : from + 1 + i ≡ from + suc i = omega arith in
-    ap (range_with_len from) count
-    ∙ ap (λ (r : List ℕ). from ∷ r) (range_split (from + 1) i more ∙ ap (λ (n : ℕ). range_with_len (from + 1) i ++ n ∷ range_with_len (n + 1) more) first)
-
--- the answers in turn, one more of which gives a value
-pub collected_more : {A : Type 0} (f : ℕ → Answer A) (i : ℕ) (xs : List A) (x : A) → collected (map f (range_with_len 0 i)) ≡ Ok xs → f i ≡ Ok x → collected (map f (range_with_len 0 (i + 1))) ≡ Ok (xs ++ x ∷ [])
-collected_more f i xs x so_far here =
-    ap collected (map-range_with_len_more f 0 i i (omega arith))
-    ∙ collected-append_ok (map f (range_with_len 0 i)) (f i ∷ []) xs (x ∷ []) so_far (rw here refl)
-
--- the first of them that refuses is the refusal of all
-pub collected_stops : {A : Type 0} (f : ℕ → Answer A) (i count : ℕ) (xs : List A) (r : Refusal) → i < count → collected (map f (range_with_len 0 i)) ≡ Ok xs → f i ≡ Err r → collected (map f (range_with_len 0 count)) ≡ Err r
-collected_stops f i count xs r within so_far here =
-    let all : count ≡ i + suc (count - i - 1) = omega arith in
-    ap (λ (n : ℕ). collected (map f (range_with_len 0 n))) all
-    ∙ ap (λ (r : List ℕ). collected (map f r)) (range_split 0 i (count - i - 1) ∙ ap (λ (n : ℕ). range_with_len 0 i ++ n ∷ range_with_len (n + 1) (count - i - 1)) (omega arith))
-    ∙ ap collected (map-append f (range_with_len 0 i) (i ∷ range_with_len (i + 1) (count - i - 1)))
-    ∙ collected-append_err (map f (range_with_len 0 i)) (f i ∷ map f (range_with_len (i + 1) (count - i - 1))) xs r so_far (rw here refl)

@@ -4,8 +4,8 @@ use Rattle.pdb_base.specs.declared.error.Error.{Error}
 use Rattle.pdb_base.specs.declared.error.Error.TheVariants.{UnexpectedEof}
 use Rattle.pdb_base.specs.Refusal.{Refusal, refusal_of, unexpected_eof}
 use Rattle.pdb_base.specs.Answer.{Answer, Answers, ◌>>=◌}
-use Rattle.pdb_base.proofs.Collected.{ok_is, err_is, ok_is_no_err}
-use Rattle.pdb_grammar.specs.Agreement.{Agrees}
+use Rattle.pdb_base.proofs.lemmas.Collected.{ok_is, err_is, ok_is_no_err}
+use Rattle.pdb_records.specs.Agreement.{Agrees}
 use Rattle.pdb_records.specs.Assigned.{SaysAssigned, ShowsOrLacks, RefusesOrLacks}
 
 pub says_assigned : {X Y : Type 0} (view : X → Y) (read : List ℕ → Answer (Y × List ℕ)) (Is : List ℕ → Y → List ℕ → Type 0) (No : List ℕ → Refusal → Type 0) → Agrees read Is No

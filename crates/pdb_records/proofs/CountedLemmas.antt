@@ -11,16 +11,16 @@ use Rattle.pdb_base.specs.Memory.{HasItem}
 use Rattle.pdb_base.specs.Reading.{number_at}
 use Rattle.pdb_base.specs.Repeated.{SpellsEach, repeated}
 use Rattle.pdb_base.specs.Spelling.{SpellsNumber, Begins}
-use Rattle.pdb_base.proofs.Collected.{ok}
-use Rattle.pdb_base.proofs.SpellingLaws.{numbers}
-use Rattle.pdb_grammar.specs.Agreement.{Agrees}
-use Rattle.pdb_grammar.specs.Row.{Row, Assigns, Stops, row}
-use Rattle.pdb_grammar.specs.Shape.{SpellsIndex, SpellsTimes, as_id, as_type, index_at, id_index, type_index}
-use Rattle.pdb_grammar.proofs.Agreeing.{answer_cases, bind_at, bind_no}
-use Rattle.pdb_grammar.proofs.RowLaws.{rows}
-use Rattle.pdb_grammar.proofs.ShapeLaws.{number_ends}
-use Rattle.pdb_grammar.proofs.StepLemmas.{indexes_short}
-use Rattle.pdb_grammar.proofs.TakesLemmas.{begins_length}
+use Rattle.pdb_base.proofs.lemmas.Collected.{ok}
+use Rattle.pdb_base.proofs.lemmas.Spelling.{numbers}
+use Rattle.pdb_records.specs.Agreement.{Agrees}
+use Rattle.pdb_records.specs.Row.{Row, Assigns, Stops, row}
+use Rattle.pdb_records.specs.Shape.{SpellsIndex, SpellsTimes, as_id, as_type, index_at, id_index, type_index}
+use Rattle.pdb_records.proofs.Agreeing.{answer_cases, bind_at, bind_no}
+use Rattle.pdb_records.proofs.RowLaws.{rows}
+use Rattle.pdb_records.proofs.ShapeLaws.{number_ends}
+use Rattle.pdb_records.proofs.StepLemmas.{indexes_short}
+use Rattle.pdb_records.proofs.TakesLemmas.{begins_length}
 use Rattle.pdb_records.specs.declared.parse.counted.CountWidth.{CountWidth}
 use Rattle.pdb_records.specs.declared.parse.counted.CountWidth.TheVariants.{Bits16, Bits32}
 use Rattle.pdb_records.specs.Counted.{count_bytes, counted_at}

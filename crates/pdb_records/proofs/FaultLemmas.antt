@@ -1,9 +1,9 @@
 -- Records are refused for what their bytes are.
 use Rattle.std.proofs.Common.{inl, inr, ℕ, ◌==◌, Bool, true, false, List, Option, Some, None, sym}
 use Rattle.pdb_base.specs.Refusal.{Refusal}
-use Rattle.pdb_grammar.specs.Shape.{u16}
-use Rattle.pdb_grammar.specs.Fault.{IsFaultOfBytes}
-use Rattle.pdb_grammar.proofs.NoWant.{is_fault, shape_fault, stops_fault, padding_fault, dimensions_fault}
+use Rattle.pdb_records.specs.Shape.{u16}
+use Rattle.pdb_records.specs.Fault.{IsFaultOfBytes}
+use Rattle.pdb_records.proofs.NoWant.{is_fault, shape_fault, stops_fault, padding_fault, dimensions_fault}
 use Rattle.pdb_records.specs.declared.leaf.Leaf.{Leaf}
 use Rattle.pdb_records.specs.declared.leaf.Leaf.TheVariants.{Plain, ArgumentList, MethodList, Array}
 use Rattle.pdb_records.specs.Rows.{listed_method_row, continuation_row}

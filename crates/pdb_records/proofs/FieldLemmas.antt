@@ -3,10 +3,10 @@ use Rattle.std.proofs.Common.{◌≡◌, ◌≢◌, ℕ, ◌<◌, List, [], ◌�
 use Rattle.std.specs.Option.{option_or}
 use Rattle.pdb_base.specs.declared.index.TypeIndex.{TypeIndex}
 use Rattle.pdb_base.specs.Refusal.{Refusal}
-use Rattle.pdb_base.proofs.Collected.{ok}
-use Rattle.pdb_grammar.specs.ToEnd.{to_end}
-use Rattle.pdb_grammar.proofs.Agreeing.{bind_at, bind_no}
-use Rattle.pdb_grammar.proofs.StepLemmas.{behind, to_end_step, to_end_ends, to_end_stops}
+use Rattle.pdb_base.proofs.lemmas.Collected.{ok}
+use Rattle.pdb_records.specs.ToEnd.{to_end}
+use Rattle.pdb_records.proofs.Agreeing.{bind_at, bind_no}
+use Rattle.pdb_records.proofs.StepLemmas.{behind, to_end_step, to_end_ends, to_end_stops}
 use Rattle.pdb_values.specs.declared.type_data.TypeData.{TypeData}
 use Rattle.pdb_values.specs.TypeValue.{TypeValue, Fields}
 use Rattle.pdb_values.specs.TypeView.{type_value, fields_value}

@@ -4,21 +4,21 @@ use Rattle.pdb_base.specs.Refusal.{Refusal, unexpected_eof}
 use Rattle.pdb_base.specs.Answer.{◌>>=◌}
 use Rattle.pdb_base.specs.Spelling.{SpellsNumber, Begins}
 use Rattle.pdb_base.specs.Reading.{number_at}
-use Rattle.pdb_base.proofs.Collected.{ok, err, ok_is, err_is, ok_is_no_err}
-use Rattle.pdb_grammar.specs.Agreement.{Agrees, NoTwoValues}
-use Rattle.pdb_grammar.specs.Shape.{u16, Spells, as_type}
-use Rattle.pdb_grammar.specs.Fault.{Refuses}
-use Rattle.pdb_grammar.specs.Row.{Assigns, Stops, row}
-use Rattle.pdb_grammar.specs.ToEnd.{TakesBytes, Sequence, Fills, FailsBehind, to_end}
-use Rattle.pdb_grammar.specs.Padding.{BeginsPad, IsPadded, IsPaddedShort, padding_at}
-use Rattle.pdb_grammar.specs.Dimensions.{AreDimensions, NoDimensions, dimensions_at}
-use Rattle.pdb_grammar.proofs.Agreeing.{reworded, mapped, chained, one_value}
-use Rattle.pdb_grammar.proofs.ShapeLaws.{shapes}
-use Rattle.pdb_grammar.proofs.RowLaws.{rows}
-use Rattle.pdb_grammar.proofs.ToEndLaws.{to_end_agrees}
-use Rattle.pdb_grammar.proofs.PaddingLaws.{padding_agrees}
-use Rattle.pdb_grammar.proofs.DimensionLaws.{dimensions_agree}
-use Rattle.pdb_grammar.proofs.TakesLemmas.{TakesTwo, begins_length, row_leaves, two_takes}
+use Rattle.pdb_base.proofs.lemmas.Collected.{ok, err, ok_is, err_is, ok_is_no_err}
+use Rattle.pdb_records.specs.Agreement.{Agrees, NoTwoValues}
+use Rattle.pdb_records.specs.Shape.{u16, Spells, as_type}
+use Rattle.pdb_records.specs.Fault.{Refuses}
+use Rattle.pdb_records.specs.Row.{Assigns, Stops, row}
+use Rattle.pdb_records.specs.ToEnd.{TakesBytes, Sequence, Fills, FailsBehind, to_end}
+use Rattle.pdb_records.specs.Padding.{BeginsPad, IsPadded, IsPaddedShort, padding_at}
+use Rattle.pdb_records.specs.Dimensions.{AreDimensions, NoDimensions, dimensions_at}
+use Rattle.pdb_records.proofs.Agreeing.{reworded, mapped, chained, one_value}
+use Rattle.pdb_records.proofs.ShapeLaws.{shapes}
+use Rattle.pdb_records.proofs.RowLaws.{rows}
+use Rattle.pdb_records.proofs.ToEndLaws.{to_end_agrees}
+use Rattle.pdb_records.proofs.PaddingLaws.{padding_agrees}
+use Rattle.pdb_records.proofs.DimensionLaws.{dimensions_agree}
+use Rattle.pdb_records.proofs.TakesLemmas.{TakesTwo, begins_length, row_leaves, two_takes}
 use Rattle.pdb_records.specs.declared.leaf.Leaf.{Leaf}
 use Rattle.pdb_records.specs.declared.leaf.Leaf.TheVariants.{Plain, ArgumentList, MethodList, Array}
 use Rattle.pdb_values.specs.TypeValue.{TypeValue}

@@ -2,13 +2,13 @@
 use Rattle.std.proofs.Common.{ℕ}
 use Rattle.pdb_base.specs.Spelling.{Begins}
 use Rattle.pdb_base.specs.Reading.{number_at}
-use Rattle.pdb_grammar.specs.Agreement.{Agrees, NoTwoValues}
-use Rattle.pdb_grammar.specs.Shape.{u16, Spells, as_id, as_type}
-use Rattle.pdb_grammar.specs.Fault.{Refuses}
-use Rattle.pdb_grammar.specs.Row.{Assigns, Stops, row}
-use Rattle.pdb_grammar.proofs.Agreeing.{chained, mapped, one_value}
-use Rattle.pdb_grammar.proofs.ShapeLaws.{shapes}
-use Rattle.pdb_grammar.proofs.RowLaws.{rows}
+use Rattle.pdb_records.specs.Agreement.{Agrees, NoTwoValues}
+use Rattle.pdb_records.specs.Shape.{u16, Spells, as_id, as_type}
+use Rattle.pdb_records.specs.Fault.{Refuses}
+use Rattle.pdb_records.specs.Row.{Assigns, Stops, row}
+use Rattle.pdb_records.proofs.Agreeing.{chained, mapped, one_value}
+use Rattle.pdb_records.proofs.ShapeLaws.{shapes}
+use Rattle.pdb_records.proofs.RowLaws.{rows}
 use Rattle.pdb_values.specs.IdValue as values
 use Rattle.pdb_records.specs.declared.id_leaf.IdLeaf.{IdLeaf}
 use Rattle.pdb_records.specs.declared.id_leaf.IdLeaf.TheVariants.{Plain, BuildInfo, StringList}

@@ -8,11 +8,11 @@ use Rattle.pdb_base.specs.Answer.{Answer, Answers, ◌>>=◌}
 use Rattle.pdb_base.specs.Memory.{LacksOnlyIf, HasItem}
 use Rattle.pdb_base.specs.Reading.{number_at}
 use Rattle.pdb_base.specs.Spelling.{SpellsNumber}
-use Rattle.pdb_base.proofs.Collected.{ok, ok_is_no_err, err_is}
-use Rattle.pdb_base.proofs.SpellingLaws.{numbers}
-use Rattle.pdb_grammar.specs.Shape.{as_id, as_type}
-use Rattle.pdb_grammar.proofs.Agreeing.{bind_at, bind_no}
-use Rattle.pdb_grammar.proofs.TakesLemmas.{begins_length}
+use Rattle.pdb_base.proofs.lemmas.Collected.{ok, ok_is_no_err, err_is}
+use Rattle.pdb_base.proofs.lemmas.Spelling.{numbers}
+use Rattle.pdb_records.specs.Shape.{as_id, as_type}
+use Rattle.pdb_records.proofs.Agreeing.{bind_at, bind_no}
+use Rattle.pdb_records.proofs.TakesLemmas.{begins_length}
 use Rattle.pdb_values.specs.declared.id_data.IdData.{IdData}
 use Rattle.pdb_values.specs.IdValue.{IdValue, id_value}
 use Rattle.pdb_values.specs.IdValue as values

@@ -2,8 +2,8 @@
 use Rattle.std.proofs.Common.{ℕ, List, sym, ap, Option, Some, None}
 use Rattle.pdb_base.specs.Refusal.{Refusal, unimplemented_type_kind}
 use Rattle.pdb_base.specs.Answer.{Answer}
-use Rattle.pdb_base.proofs.Collected.{err, err_is, ok_is_no_err}
-use Rattle.pdb_grammar.specs.Agreement.{Agrees}
+use Rattle.pdb_base.proofs.lemmas.Collected.{err, err_is, ok_is_no_err}
+use Rattle.pdb_records.specs.Agreement.{Agrees}
 use Rattle.pdb_records.specs.Known.{IsKnown, NoKnown, known_at}
 
 pub known_agrees : {L A : Type 0} (number : ℕ) (read : L → List ℕ → Answer (A × List ℕ)) (Is : L → List ℕ → A → List ℕ → Type 0) (No : L → List ℕ → Refusal → Type 0)

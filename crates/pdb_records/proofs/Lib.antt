@@ -1,3 +1,13 @@
+pub mod Agreeing
+pub mod ShapeLaws
+pub mod RowLaws
+pub mod ToEndLaws
+pub mod PaddingLaws
+pub mod DimensionLaws
+pub mod StepLemmas
+pub mod TakesLemmas
+pub mod DimensionSteps
+pub mod NoWant
 pub mod ListLemmas
 pub mod KnownLaws
 pub mod GrammarLaws

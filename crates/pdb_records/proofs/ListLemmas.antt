@@ -1,13 +1,13 @@
 -- Lists in records, step by step.
 use Rattle.std.proofs.Common.{◌≡◌, ℕ, ◌<◌, List, [], ◌∷◌, ◌++◌, length, sym, ap, ◌∙◌, Result, Ok, Err}
 use Rattle.pdb_base.specs.declared.error.Error.{Error}
-use Rattle.pdb_base.proofs.Collected.{ok}
-use Rattle.pdb_grammar.specs.Row.{Assigns, Stops, row}
-use Rattle.pdb_grammar.specs.Agreement.{Agrees}
-use Rattle.pdb_grammar.specs.ToEnd.{TakesBytes, to_end}
-use Rattle.pdb_grammar.proofs.RowLaws.{rows}
-use Rattle.pdb_grammar.proofs.StepLemmas.{behind, to_end_step, to_end_ends}
-use Rattle.pdb_grammar.proofs.TakesLemmas.{TakesTwo, word_row_long, two_takes}
+use Rattle.pdb_base.proofs.lemmas.Collected.{ok}
+use Rattle.pdb_records.specs.Row.{Assigns, Stops, row}
+use Rattle.pdb_records.specs.Agreement.{Agrees}
+use Rattle.pdb_records.specs.ToEnd.{TakesBytes, to_end}
+use Rattle.pdb_records.proofs.RowLaws.{rows}
+use Rattle.pdb_records.proofs.StepLemmas.{behind, to_end_step, to_end_ends}
+use Rattle.pdb_records.proofs.TakesLemmas.{TakesTwo, word_row_long, two_takes}
 use Rattle.pdb_values.specs.declared.method.MethodListEntry.{MethodListEntry}
 use Rattle.pdb_records.specs.Rows.{listed_method_row}
 

@@ -10,18 +10,18 @@ use Rattle.pdb_base.specs.Answer.{Answer, Gives, ◌>>=◌}
 use Rattle.pdb_base.specs.Memory.{LacksOnlyIf}
 use Rattle.pdb_base.specs.Spelling.{Begins}
 use Rattle.pdb_base.specs.Reading.{number_at}
-use Rattle.pdb_base.proofs.Collected.{ok, err, ok_is, err_is, ok_is_no_err}
-use Rattle.pdb_base.proofs.Refused.{passed_on}
-use Rattle.pdb_grammar.specs.Shape.{u16, u32, type_index, when, Spells, as_type, read_shape}
-use Rattle.pdb_grammar.specs.Row.{Row, row}
-use Rattle.pdb_grammar.specs.ToEnd.{Sequence, to_end}
-use Rattle.pdb_grammar.specs.Padding.{padding_at}
-use Rattle.pdb_grammar.specs.Dimensions.{dimension_at}
-use Rattle.pdb_grammar.proofs.Agreeing.{bind_at, bind_no}
-use Rattle.pdb_grammar.proofs.ShapeLaws.{shapes}
-use Rattle.pdb_grammar.proofs.NoWant.{row_no_want}
-use Rattle.pdb_grammar.proofs.StepLemmas.{to_end_starts, to_end_stops}
-use Rattle.pdb_grammar.proofs.DimensionLaws.{dimension_agrees}
+use Rattle.pdb_base.proofs.lemmas.Collected.{ok, err, ok_is, err_is, ok_is_no_err}
+use Rattle.pdb_base.proofs.lemmas.Refused.{passed_on}
+use Rattle.pdb_records.specs.Shape.{u16, u32, type_index, when, Spells, as_type, read_shape}
+use Rattle.pdb_records.specs.Row.{Row, row}
+use Rattle.pdb_records.specs.ToEnd.{Sequence, to_end}
+use Rattle.pdb_records.specs.Padding.{padding_at}
+use Rattle.pdb_records.specs.Dimensions.{dimension_at}
+use Rattle.pdb_records.proofs.Agreeing.{bind_at, bind_no}
+use Rattle.pdb_records.proofs.ShapeLaws.{shapes}
+use Rattle.pdb_records.proofs.NoWant.{row_no_want}
+use Rattle.pdb_records.proofs.StepLemmas.{to_end_starts, to_end_stops}
+use Rattle.pdb_records.proofs.DimensionLaws.{dimension_agrees}
 use Rattle.pdb_values.specs.declared.method.MethodListEntry.{MethodListEntry}
 use Rattle.pdb_values.specs.TypeValue.{PlainValue, TypeValue}
 use Rattle.pdb_values.specs.TypeValue as values

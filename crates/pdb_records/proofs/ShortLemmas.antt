@@ -1,11 +1,11 @@
 -- Every list that the grammar assigns has at most half as many items as its record has bytes.
 use Rattle.std.proofs.Common.{ℕ, ◌≤◌, ◌==◌, Bool, true, false, List, [], ◌∷◌, length, subst, arith, Option, Some, None}
 use Rattle.pdb_base.specs.Spelling.{SpellsNumber}
-use Rattle.pdb_grammar.specs.Row.{Assigns}
-use Rattle.pdb_grammar.specs.ToEnd.{Sequence}
-use Rattle.pdb_grammar.specs.Dimensions.{AreDimensions}
-use Rattle.pdb_grammar.proofs.DimensionLaws.{num_long}
-use Rattle.pdb_grammar.proofs.TakesLemmas.{TakesTwo, begins_length, row_leaves}
+use Rattle.pdb_records.specs.Row.{Assigns}
+use Rattle.pdb_records.specs.ToEnd.{Sequence}
+use Rattle.pdb_records.specs.Dimensions.{AreDimensions}
+use Rattle.pdb_records.proofs.DimensionLaws.{num_long}
+use Rattle.pdb_records.proofs.TakesLemmas.{TakesTwo, begins_length, row_leaves}
 use Rattle.pdb_values.specs.TypeValue.{TypeValue, Fields, values_in}
 use Rattle.pdb_values.specs.TypeValue as values
 use Rattle.pdb_records.specs.declared.leaf.Leaf.{Leaf}

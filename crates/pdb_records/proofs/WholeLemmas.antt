@@ -5,7 +5,7 @@ use Rattle.pdb_base.specs.declared.error.Error.TheVariants.{UnexpectedEof}
 use Rattle.pdb_base.specs.Refusal.{refusal_of, unexpected_eof}
 use Rattle.pdb_base.specs.Answer.{Answers}
 use Rattle.pdb_base.specs.Memory.{LacksOnlyIf}
-use Rattle.pdb_base.proofs.Collected.{err_is, ok_is_no_err}
+use Rattle.pdb_base.proofs.lemmas.Collected.{err_is, ok_is_no_err}
 use Rattle.pdb_values.specs.declared.type_data.TypeData.{TypeData}
 use Rattle.pdb_values.specs.TypeValue.{TypeValue}
 use Rattle.pdb_values.specs.TypeView.{type_value}

@@ -2,9 +2,9 @@
 use Rattle.std.specs.Prelude.{ℕ, Bool, List, [], ◌∷◌, Ok, Err}
 use Rattle.pdb_base.specs.Refusal.{unexpected_eof}
 use Rattle.pdb_base.specs.Answer.{Answer, ◌>>=◌}
-use Rattle.pdb_grammar.specs.Row.{row}
-use Rattle.pdb_grammar.specs.Dimensions.{dimensions_at}
-use Rattle.pdb_grammar.specs.Padding.{padding_at}
+use Rattle.pdb_records.specs.Row.{row}
+use Rattle.pdb_records.specs.Dimensions.{dimensions_at}
+use Rattle.pdb_records.specs.Padding.{padding_at}
 use Rattle.pdb_records.specs.Lists.{ArrayHead, array_row}
 use Rattle.pdb_values.specs.Array.{ArrayValue}
 

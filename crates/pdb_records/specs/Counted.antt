@@ -3,7 +3,7 @@ use Rattle.std.specs.Prelude.{ℕ, List, Ok}
 use Rattle.pdb_base.specs.Answer.{Answer, ◌>>=◌}
 use Rattle.pdb_base.specs.Reading.{number_at}
 use Rattle.pdb_base.specs.Repeated.{repeated}
-use Rattle.pdb_grammar.specs.Shape.{index_at}
+use Rattle.pdb_records.specs.Shape.{index_at}
 use Rattle.pdb_records.specs.declared.parse.counted.CountWidth.{CountWidth}
 use Rattle.pdb_records.specs.declared.parse.counted.CountWidth.TheVariants.{Bits16, Bits32}
 

@@ -1,7 +1,7 @@
 -- What the code's entries and lists of fields say.
 use Rattle.std.specs.Prelude.{List, ℕ, Ok}
 use Rattle.pdb_base.specs.Answer.{Answer, ◌>>=◌}
-use Rattle.pdb_grammar.specs.ToEnd.{to_end}
+use Rattle.pdb_records.specs.ToEnd.{to_end}
 use Rattle.pdb_records.specs.declared.parse.entry.FieldEntry.{FieldEntry}
 use Rattle.pdb_records.specs.declared.parse.entry.FieldEntry.TheVariants.{Field, Continues}
 use Rattle.pdb_values.specs.TypeValue.{TypeValue}

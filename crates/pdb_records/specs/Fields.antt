@@ -4,9 +4,9 @@ use Rattle.std.specs.Option.{option_or}
 use Rattle.pdb_base.specs.declared.index.TypeIndex.{TypeIndex}
 use Rattle.pdb_base.specs.Answer.{Answer, ◌>>=◌}
 use Rattle.pdb_base.specs.Reading.{number_at}
-use Rattle.pdb_grammar.specs.Row.{row}
-use Rattle.pdb_grammar.specs.ToEnd.{to_end}
-use Rattle.pdb_grammar.specs.Padding.{padding_at}
+use Rattle.pdb_records.specs.Row.{row}
+use Rattle.pdb_records.specs.ToEnd.{to_end}
+use Rattle.pdb_records.specs.Padding.{padding_at}
 use Rattle.pdb_values.specs.TypeValue.{TypeValue, Fields}
 use Rattle.pdb_values.specs.TypeValue as values
 use Rattle.pdb_records.specs.Rows.{continuation_row}

@@ -3,12 +3,12 @@ use Rattle.std.specs.Prelude.{◌≡◌, ◌≢◌, ◌⊎◌, ℕ, Bool, true, 
 use Rattle.pdb_base.specs.declared.index.TypeIndex.{TypeIndex}
 use Rattle.pdb_base.specs.Refusal.{Refusal, unexpected_eof}
 use Rattle.pdb_base.specs.Spelling.{Begins}
-use Rattle.pdb_grammar.specs.Shape.{u16, Spells}
-use Rattle.pdb_grammar.specs.Fault.{Refuses}
-use Rattle.pdb_grammar.specs.Row.{Assigns, Stops}
-use Rattle.pdb_grammar.specs.ToEnd.{Fills, FailsBehind}
-use Rattle.pdb_grammar.specs.Padding.{IsPadded, IsPaddedShort}
-use Rattle.pdb_grammar.specs.Dimensions.{AreDimensions, NoDimensions}
+use Rattle.pdb_records.specs.Shape.{u16, Spells}
+use Rattle.pdb_records.specs.Fault.{Refuses}
+use Rattle.pdb_records.specs.Row.{Assigns, Stops}
+use Rattle.pdb_records.specs.ToEnd.{Fills, FailsBehind}
+use Rattle.pdb_records.specs.Padding.{IsPadded, IsPaddedShort}
+use Rattle.pdb_records.specs.Dimensions.{AreDimensions, NoDimensions}
 use Rattle.pdb_records.specs.declared.leaf.Leaf.{Leaf}
 use Rattle.pdb_records.specs.declared.leaf.Leaf.TheVariants.{Plain, ArgumentList, MethodList, Array}
 use Rattle.pdb_values.specs.TypeValue.{PlainValue, TypeValue}

@@ -3,9 +3,9 @@
 use Rattle.std.specs.Prelude.{ℕ, List}
 use Rattle.pdb_base.specs.declared.index.TypeIndex.{TypeIndex}
 use Rattle.pdb_base.specs.declared.index.IdIndex.{IdIndex}
-use Rattle.pdb_grammar.specs.Shape.{u16, u32, type_index, id_index, some_id, text}
-use Rattle.pdb_grammar.specs.Row.{Row, gives}
-use Rattle.pdb_grammar.specs.InOrder.{◌>>=◌}
+use Rattle.pdb_records.specs.Shape.{u16, u32, type_index, id_index, some_id, text}
+use Rattle.pdb_records.specs.Row.{Row, gives}
+use Rattle.pdb_records.specs.InOrder.{◌>>=◌}
 use Rattle.pdb_values.specs.declared.source_id.UserDefinedTypeSourceFileRef.TheVariants.{Local, Remote}
 use Rattle.pdb_values.specs.IdValue.{PlainIdValue}
 use Rattle.pdb_values.specs.IdValue as values

@@ -9,9 +9,9 @@ use Rattle.pdb_base.specs.Refusal.{Refusal}
 use Rattle.pdb_base.specs.Answer.{Answer, ◌>>=◌}
 use Rattle.pdb_base.specs.Reading.{number_at}
 use Rattle.pdb_base.specs.Spelling.{Begins}
-use Rattle.pdb_grammar.specs.Shape.{u16, Spells, as_id, as_type}
-use Rattle.pdb_grammar.specs.Fault.{Refuses}
-use Rattle.pdb_grammar.specs.Row.{Row, Assigns, Stops, row}
+use Rattle.pdb_records.specs.Shape.{u16, Spells, as_id, as_type}
+use Rattle.pdb_records.specs.Fault.{Refuses}
+use Rattle.pdb_records.specs.Row.{Row, Assigns, Stops, row}
 use Rattle.pdb_values.specs.IdValue.{PlainIdValue, IdValue}
 use Rattle.pdb_values.specs.IdValue as values
 use Rattle.pdb_records.specs.declared.id_leaf.IdLeaf.{IdLeaf}

@@ -1,3 +1,11 @@
+pub mod Agreement
+pub mod Shape
+pub mod Fault
+pub mod Row
+pub mod InOrder
+pub mod ToEnd
+pub mod Padding
+pub mod Dimensions
 pub mod LeafNumbers
 pub mod Rows
 pub mod Lists
@@ -19,4 +27,4 @@ pub mod Assigned
 -- the words of the libraries below that the contracts of this one speak in
 pub use Rattle.pdb_base.specs.Answer
 pub use Rattle.pdb_base.specs.Place
-pub use Rattle.pdb_grammar.specs.Row
+pub use Rattle.pdb_base.specs.Spelling

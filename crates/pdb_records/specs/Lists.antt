@@ -1,9 +1,9 @@
 -- The records that are lists, or hold one.
 use Rattle.std.specs.Prelude.{ℕ, Bool, List, Option}
 use Rattle.pdb_base.specs.declared.index.TypeIndex.{TypeIndex}
-use Rattle.pdb_grammar.specs.Shape.{Shape, Value, u16, u32, type_index, when, times}
-use Rattle.pdb_grammar.specs.Row.{Row, gives}
-use Rattle.pdb_grammar.specs.InOrder.{◌>>=◌}
+use Rattle.pdb_records.specs.Shape.{Shape, Value, u16, u32, type_index, when, times}
+use Rattle.pdb_records.specs.Row.{Row, gives}
+use Rattle.pdb_records.specs.InOrder.{◌>>=◌}
 use Rattle.pdb_records.specs.declared.parse.counted.CountWidth.{CountWidth}
 use Rattle.pdb_records.specs.declared.parse.counted.CountWidth.TheVariants.{Bits16, Bits32}
 

@@ -4,10 +4,10 @@ use Rattle.std.specs.Prelude.{◌⊎◌, ℕ, Bool, true, false, ◌==◌, List,
 use Rattle.pdb_base.specs.declared.index.TypeIndex.{TypeIndex}
 use Rattle.pdb_base.specs.Memory.{HasItem}
 use Rattle.pdb_base.specs.Spelling.{Begins}
-use Rattle.pdb_grammar.specs.Shape.{u16, Spells}
-use Rattle.pdb_grammar.specs.Row.{Row, Assigns}
-use Rattle.pdb_grammar.specs.ToEnd.{Sequence}
-use Rattle.pdb_grammar.specs.Dimensions.{IsDimension}
+use Rattle.pdb_records.specs.Shape.{u16, Spells}
+use Rattle.pdb_records.specs.Row.{Row, Assigns}
+use Rattle.pdb_records.specs.ToEnd.{Sequence}
+use Rattle.pdb_records.specs.Dimensions.{IsDimension}
 use Rattle.pdb_values.specs.declared.method.MethodListEntry.{MethodListEntry}
 use Rattle.pdb_records.specs.declared.leaf.Leaf.{Leaf}
 use Rattle.pdb_records.specs.declared.leaf.Leaf.TheVariants.{Plain, ArgumentList, MethodList, Array}

@@ -1,9 +1,9 @@
 -- What is read of what stands behind a leaf.
 use Rattle.std.specs.Prelude.{ℕ, List, Ok}
 use Rattle.pdb_base.specs.Answer.{Answer, ◌>>=◌}
-use Rattle.pdb_grammar.specs.Row.{Row, row}
-use Rattle.pdb_grammar.specs.Shape.{as_type}
-use Rattle.pdb_grammar.specs.ToEnd.{to_end}
+use Rattle.pdb_records.specs.Row.{Row, row}
+use Rattle.pdb_records.specs.Shape.{as_type}
+use Rattle.pdb_records.specs.ToEnd.{to_end}
 use Rattle.pdb_records.specs.declared.leaf.Leaf.{Leaf}
 use Rattle.pdb_records.specs.declared.leaf.Leaf.TheVariants.{Plain, ArgumentList, MethodList, Array}
 use Rattle.pdb_records.specs.declared.parse.counted.CountWidth.TheVariants.{Bits32}

@@ -7,9 +7,9 @@ use Rattle.pdb_bits.specs.Parts.{is_set}
 use Rattle.pdb_flags.specs.TypeProperties.{has_unique_name}
 use Rattle.pdb_flags.specs.FieldAttributes.{is_intro_virtual}
 use Rattle.pdb_flags.specs.PointerAttributes.{pointer_to_member}
-use Rattle.pdb_grammar.specs.Shape.{u8, u16, u32, num, variant, type_index, some_type, pointer_word, text, when, times}
-use Rattle.pdb_grammar.specs.Row.{Row, gives}
-use Rattle.pdb_grammar.specs.InOrder.{◌>>=◌}
+use Rattle.pdb_records.specs.Shape.{u8, u16, u32, num, variant, type_index, some_type, pointer_word, text, when, times}
+use Rattle.pdb_records.specs.Row.{Row, gives}
+use Rattle.pdb_records.specs.InOrder.{◌>>=◌}
 use Rattle.pdb_values.specs.declared.class.ClassKind.{ClassKind}
 use Rattle.pdb_values.specs.declared.method.MethodListEntry.{MethodListEntry}
 use Rattle.pdb_values.specs.TypeValue.{PlainValue}

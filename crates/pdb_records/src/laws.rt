@@ -1,18 +1,62 @@
 //! What the definitions that contracts cite say in other words. The functions do nothing: each
 //! contract is a law.
 
-ghost use Rattle.std.specs.Prelude.{◌≡◌, ℕ, List, length};
-ghost use Rattle.pdb_base.specs.Refusal.{Refusal};
-ghost use Rattle.pdb_grammar.specs.Agreement.{Agrees, NoTwoValues};
-ghost use Rattle.pdb_grammar.specs.Fault.{IsFaultOfBytes};
+ghost use Rattle.std.specs.Prelude.{ℕ, List, ◌≡◌, length};
+ghost use Rattle.pdb_base.specs.Refusal.{Refusal, out_of_memory};
+ghost use Rattle.pdb_base.specs.Spelling.{Begins};
+ghost use Rattle.pdb_records.specs.Agreement.{Agrees, NoTwoValues};
+ghost use Rattle.pdb_records.specs.Dimensions.{AreDimensions, NoDimensions, dimensions_at};
+ghost use Rattle.pdb_records.specs.Fault.{IsFaultOfBytes, Refuses};
 ghost use Rattle.pdb_records.specs.Fields.{record_at};
 ghost use Rattle.pdb_records.specs.Grammar.{IsRecord, NoRecord};
 ghost use Rattle.pdb_records.specs.Ids.{id_at, IsId, NoId};
 ghost use Rattle.pdb_records.specs.LeafNumbers.{CountUpFrom, old_type_leaves, old_inner_leaves, old_entry_leaves, type_leaves, inner_leaves, entry_leaves, named_leaves, last_leaves, id_leaves, last_id_leaves, prefixes, later_prefixes, pads};
+ghost use Rattle.pdb_records.specs.Padding.{IsPadded, IsPaddedShort, padding_at};
+ghost use Rattle.pdb_records.specs.Row.{Row, Assigns, Stops, row};
+ghost use Rattle.pdb_records.specs.Shape.{Shape, Spells, read_shape};
 ghost use Rattle.pdb_records.specs.Short.{IsShort};
+ghost use Rattle.pdb_records.specs.ToEnd.{TakesBytes, Fills, FailsBehind, to_end};
 ghost use Rattle.pdb_values.specs.TypeValue.{TypeValue};
 
 use crate::constants::{LF_ENDOFLEAFRECORD, LF_NUMERIC};
+
+/// Of each shape, what is read is what a front of the bytes spells, and bytes are refused as the
+/// first fault says.
+pub fn shapes()
+    ensures { (shape : Shape) → Agrees (read_shape shape) (Begins (Spells shape)) (Refuses shape) }
+{}
+
+/// Of each row, what is read is what the row assigns to the bytes, and bytes are refused as the first
+/// shape says that they don't begin with.
+pub fn rows<A>()
+    ensures { (r : Row A) → Agrees (row r) (Assigns r) (Stops r) }
+{}
+
+/// Bytes are refused for what they are, and so never for want of memory.
+#[tactic(auto, using(crate::proofs::NoWant::stops_fault))]
+pub fn refusals<A>()
+    ensures faults { (r : Row A) (bytes : List ℕ) (refusal : Refusal) → Stops r bytes refusal → IsFaultOfBytes refusal }
+    ensures want { (r : Row A) (bytes : List ℕ) → ¬ Stops r bytes out_of_memory }
+{}
+
+/// What is passed by as padding is pads, one after another, up to the end or to a byte that is none;
+/// bytes that end in a pad are refused.
+#[tactic(auto, using(crate::proofs::PaddingLaws::padding_agrees))]
+pub fn padding()
+    ensures { Agrees padding_at IsPadded IsPaddedShort }
+{}
+
+/// Dimensions of arrays are read as they stand, and refused as the first fault says.
+#[tactic(auto, using(crate::proofs::DimensionLaws::dimensions_agree))]
+pub fn dimensions()
+    ensures { Agrees dimensions_at AreDimensions NoDimensions }
+{}
+
+/// Rows that reach to the end of the bytes, where each takes a byte at least, are read as they fill
+/// the bytes; the first that can't be read is refused as its row says.
+pub fn lists<A>()
+    ensures { (r : Row A) → TakesBytes (Assigns r) → Agrees (to_end (row r)) (Fills (Assigns r)) (FailsBehind (Assigns r) (Stops r)) }
+{}
 
 /// What is read of bytes is the one record that the grammar assigns to them, and bytes to which it
 /// assigns none are refused by their first fault. No bytes have two values.

@@ -5,8 +5,8 @@ use Rattle.std.proofs.lemmas.Bool.{cases_lt}
 use Rattle.std.proofs.lemmas.List.{append_assoc, length-append, length-drop, length-take-le, take-append-drop}
 use Rattle.pdb_base.specs.Refusal.{unexpected_eof}
 use Rattle.pdb_base.specs.Reading.{front_at}
-use Rattle.pdb_base.proofs.Collected.{ok, ok_is, ok_is_no_err}
-use Rattle.pdb_base.proofs.ReadingLemmas.{front_whole, front_cut}
+use Rattle.pdb_base.proofs.lemmas.Collected.{ok, ok_is, ok_is_no_err}
+use Rattle.pdb_base.proofs.lemmas.Reading.{front_whole, front_cut}
 use Rattle.pdb_roles.specs.Laws.{IsCut, LieInOrder}
 
 -- a part that was taken lies there

@@ -5,8 +5,8 @@ use Rattle.std.proofs.lemmas.Bool.Decides.{nat_tests}
 use Rattle.pdb_base.specs.Refusal.{Refusal, unexpected_eof, unimplemented_feature}
 use Rattle.pdb_base.specs.Answer.{◌>>=◌, required}
 use Rattle.pdb_base.specs.Reading.{front_at}
-use Rattle.pdb_base.proofs.Collected.{ok, ok_is, ok_is_no_err, bind_ok}
-use Rattle.pdb_base.proofs.ReadingLemmas.{front_cut, number_whole, number_cut}
+use Rattle.pdb_base.proofs.lemmas.Collected.{ok, ok_is, ok_is_no_err, bind_ok}
+use Rattle.pdb_base.proofs.lemmas.Reading.{front_cut, number_whole, number_cut}
 use Rattle.pdb_roles.specs.Fields.{u32_in}
 use Rattle.pdb_roles.specs.DbiHeader.{signature, header_size, dbi_header, dbi_header_of}
 use Rattle.pdb_roles.specs.DebugHeader.{sizes_before, debug_header_behind}

@@ -8,8 +8,8 @@ use Rattle.pdb_base.specs.Reading.{front_at, number_at}
 use Rattle.pdb_base.specs.Refusal.{refusal_of, unexpected_eof}
 use Rattle.pdb_base.specs.declared.error.Error.{Error}
 use Rattle.pdb_base.specs.declared.error.Error.TheVariants.{OutOfMemory}
-use Rattle.pdb_base.proofs.Collected.{err_is, ok_is_no_err}
-use Rattle.pdb_base.proofs.ReadingLemmas.{front_whole, front_cut, number_whole, number_cut}
+use Rattle.pdb_base.proofs.lemmas.Collected.{err_is, ok_is_no_err}
+use Rattle.pdb_base.proofs.lemmas.Reading.{front_whole, front_cut, number_whole, number_cut}
 use Rattle.pdb_space.specs.StringTable.{name_of}
 use Rattle.pdb_space.proofs.NameLemmas.{finds_name}
 use Rattle.pdb_roles.specs.Information.{information_of}

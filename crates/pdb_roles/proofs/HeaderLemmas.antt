@@ -2,9 +2,9 @@
 use Rattle.std.proofs.Common.{◌≡◌, ℕ, ◌-◌, ◌<◌, ◌≤◌, ◌%◌, ◌==◌, true, eq-eqb, List, [], ◌∷◌, ◌++◌, length, take, drop, refl, sym, ap, ◌∙◌, arith, Ok, Err}
 use Rattle.std.proofs.lemmas.List.{append_assoc, append-nil, length-drop}
 use Rattle.pdb_base.specs.Records.{spelled}
-use Rattle.pdb_base.proofs.Collected.{ok, ok_is, ok_is_no_err}
-use Rattle.pdb_base.proofs.ReadingLemmas.{front_whole}
-use Rattle.pdb_base.proofs.RecordLemmas.{spelled_first, spelled_none}
+use Rattle.pdb_base.proofs.lemmas.Collected.{ok, ok_is, ok_is_no_err}
+use Rattle.pdb_base.proofs.lemmas.Reading.{front_whole}
+use Rattle.pdb_base.proofs.lemmas.Records.{spelled_first, spelled_none}
 use Rattle.pdb_base.specs.Refusal.{Refusal}
 use Rattle.pdb_space.specs.SectionHeader.{section_header, section_header_at}
 use Rattle.pdb_space.specs.declared.section_header.ImageSectionHeader.{ImageSectionHeader}

@@ -6,8 +6,8 @@ use Rattle.pdb_base.specs.Index.{no_stream}
 use Rattle.pdb_base.specs.Answer.{Answer}
 use Rattle.pdb_base.specs.Reading.{front_at, number_at}
 use Rattle.pdb_base.specs.Spelling.{SpellsNumber, Begins}
-use Rattle.pdb_base.proofs.Collected.{ok, ok_is, bind_ok, collects_all}
-use Rattle.pdb_base.proofs.SpellingLaws.{numbers}
+use Rattle.pdb_base.proofs.lemmas.Collected.{ok, ok_is, bind_ok, collects_all}
+use Rattle.pdb_base.proofs.lemmas.Spelling.{numbers}
 use Rattle.std.proofs.lemmas.List.{append_assoc}
 use Rattle.pdb_space.specs.StringTable.{name_of}
 use Rattle.pdb_space.proofs.NameLemmas.{finds_name}

@@ -7,9 +7,9 @@ use Rattle.pdb_base.specs.Index.{no_stream}
 use Rattle.pdb_base.specs.Refusal.{unexpected_eof}
 use Rattle.pdb_base.specs.Answer.{◌>>=◌, required}
 use Rattle.pdb_base.specs.Spelling.{SpellsNumber, Begins}
-use Rattle.pdb_base.proofs.Collected.{ok, ok_is, ok_is_no_err, err_is}
-use Rattle.pdb_base.proofs.ReadingLemmas.{number_whole}
-use Rattle.pdb_base.proofs.SpellingLaws.{numbers}
+use Rattle.pdb_base.proofs.lemmas.Collected.{ok, ok_is, ok_is_no_err, err_is}
+use Rattle.pdb_base.proofs.lemmas.Reading.{number_whole}
+use Rattle.pdb_base.proofs.lemmas.Spelling.{numbers}
 use Rattle.pdb_base.specs.declared.index.StreamIndex.{StreamIndex}
 use Rattle.pdb_roles.specs.Fields.{u16_in}
 use Rattle.pdb_roles.specs.DebugHeader.{listed, roles_in, is_whole, extra_streams}

@@ -1,3 +1,4 @@
+pub mod lemmas
 pub mod Digits
 pub mod LineLaws
 pub mod PlainText
@@ -5,4 +6,3 @@ pub mod RowLemmas
 pub mod Separated
 pub mod StringLaws
 pub mod WordLemmas
-pub mod WrittenLemmas

@@ -41,7 +41,7 @@ pub fn write_bytes<W: Write>(bytes: &[u8], out: &mut W) -> io::Result<()>
 /// # Errors
 /// `IoError` if the writer fails, which may then have got a front of the line. `OutOfMemory` if memory is
 /// refused.
-#[tactic(auto, using(crate::proofs::WrittenLemmas::front_none))]
+#[tactic(auto, using(crate::proofs::lemmas::Written::front_none))]
 pub fn write_row<W: Write>(form: Form, row: &Row<'_>, line: &mut Vec<u8>, out: &mut W) -> Result<()>
     ensures { Writes (row_text form (row_shown row.now)) (W.contents out.old) (W.contents out.new) result }
 {

@@ -2,7 +2,7 @@
 use Rattle.std.proofs.Common.{ℕ, ◌^◌, arith}
 use Rattle.std.proofs.lemmas.Bool.Decides.{nat_tests}
 use Rattle.pdb_bits.specs.Parts.{is_set}
-use Rattle.pdb_bits.proofs.BitLaws.{one_bit}
+use Rattle.pdb_bits.proofs.lemmas.Parts.{one_bit}
 use Rattle.pdb_space.specs.SectionFlags.{HasMask}
 
 -- the flag of one bit is told by the power of two that is the bit

@@ -9,8 +9,8 @@ use Rattle.pdb_base.specs.Refusal.{Refusal, unexpected_eof, out_of_memory}
 use Rattle.pdb_base.specs.Answer.{Answer, ◌>>=◌}
 use Rattle.pdb_base.specs.Reading.{text_at}
 use Rattle.pdb_base.specs.Spelling.{SpellsText, Begins}
-use Rattle.pdb_base.proofs.Collected.{err, ok_is, err_is, ok_is_no_err, bind_ok}
-use Rattle.pdb_base.proofs.SpellingLaws.{texts}
+use Rattle.pdb_base.proofs.lemmas.Collected.{err, ok_is, err_is, ok_is_no_err, bind_ok}
+use Rattle.pdb_base.proofs.lemmas.Spelling.{texts}
 use Rattle.pdb_space.specs.StringTable.{name_of}
 use Rattle.pdb_space.specs.StringTableLaws.{IsNameAt, HasNoNul, FindsName}
 

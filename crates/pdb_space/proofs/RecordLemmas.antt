@@ -3,7 +3,7 @@ use Rattle.std.proofs.Common.{◌≡◌, ℕ, ◌+◌, ◌-◌, ◌*◌, ◌/◌
 use Rattle.std.proofs.lemmas.List.{get_or-map, drop-drop, drop-take, take_rest}
 use Rattle.byteorder.specs.Endian.{little_number}
 use Rattle.byteorder.specs.Numbers.{little_from-take}
-use Rattle.pdb_base.proofs.RecordLemmas.{spelled_length, spelled_at}
+use Rattle.pdb_base.proofs.lemmas.Records.{spelled_length, spelled_at}
 use Rattle.pdb_space.specs.Omap.{Mapping, mapping_of, mappings_of, source_at, target_at}
 
 nowhere : Mapping

@@ -7,7 +7,7 @@ use Rattle.std.proofs.lemmas.List.{get_or-map, length-drop}
 use Rattle.std.proofs.lemmas.List.Elements.{Contains-get_or}
 use Rattle.std.proofs.lemmas.List.Sorted.{IsNonDecreasingBy-drop}
 use Rattle.pdb_base.specs.Halving.{Rises, IsFound}
-use Rattle.pdb_base.proofs.RecordLemmas.{spelled_length}
+use Rattle.pdb_base.proofs.lemmas.Records.{spelled_length}
 use Rattle.pdb_space.specs.Omap.{Mapping, IsSortedBySource, last_at_or_below, mapping_of, mappings_of, shift, source_at, target_at}
 use Rattle.pdb_space.specs.Ranges.{part, next_source, parts, parts_until, end_to_end, pointwise, IsNotEmpty}
 use Rattle.pdb_space.proofs.RangeLemmas.{part-none, parts_until_sorted, parts_until_few, parts_until_not_empty, parts_are_pointwise, length-cons_option, part-not_empty, All-cons_option}

@@ -49,7 +49,7 @@ impl<'t> OMAPRecords<'t> {
     }
 
     /// No record.
-    #[tactic(auto, using(pdb_base::proofs::RecordLemmas::spelled_none))]
+    #[tactic(auto, using(pdb_base::proofs::lemmas::Records::spelled_none))]
     pub(crate) fn empty() -> Self
         ensures { result ≡ [] }
     {
@@ -57,7 +57,7 @@ impl<'t> OMAPRecords<'t> {
     }
 
     /// The first record and those behind it, or nothing where there is none.
-    #[tactic(auto, using(pdb_base::proofs::RecordLemmas::spelled_none, pdb_base::proofs::RecordLemmas::spelled_first))]
+    #[tactic(auto, using(pdb_base::proofs::lemmas::Records::spelled_none, pdb_base::proofs::lemmas::Records::spelled_first))]
     pub(crate) fn split_first(&self) -> Option<(OMAPRecord, OMAPRecords<'t>)>
         ensures { MatchOption result (self.now ≡ []) (λ split. self.now ≡ split.0 ∷ split.1) }
     {

@@ -95,7 +95,7 @@ impl OMAPTable {
     }
 
     /// The last record at or below an address; over a table that isn't sorted, some such record.
-    #[tactic(auto, using(pdb_base::proofs::RecordLemmas::spelled_length))]
+    #[tactic(auto, using(pdb_base::proofs::lemmas::Records::spelled_length))]
     fn last_at_or_below(&self, address: u32, count: &mut Count) -> Option<OMAPRecord>
         ensures exact { IsSortedBySource self.now → result ≡ last_at_or_below self.now address }
         ensures somehow { IfSome result (λ mapping. Contains self.now mapping × (mapping.source ≤ address)) }
@@ -108,7 +108,7 @@ impl OMAPTable {
     }
 
     /// The records from a place on.
-    #[tactic(auto, using(pdb_base::proofs::RecordLemmas::spelled_length))]
+    #[tactic(auto, using(pdb_base::proofs::lemmas::Records::spelled_length))]
     fn records_from(&self, place: usize) -> OMAPRecords<'_>
         requires { place ≤ length self.now }
         ensures { result ≡ drop place self.now }
@@ -129,7 +129,7 @@ impl OMAPTable {
     ///
     /// Laid end to end, the ranges are what `lookup` makes of the addresses one by one, but for those
     /// that it moves to 0xffffffff. Over a table that isn't sorted they are at most one for each record.
-    #[tactic(auto, using(crate::proofs::RangeLemmas::parts_until_sorted, crate::proofs::RangeLemmas::parts_until_laid, crate::proofs::RangeLemmas::parts_until_few, crate::proofs::RangeLemmas::parts_until_not_empty, pdb_base::proofs::RecordLemmas::spelled_length))]
+    #[tactic(auto, using(crate::proofs::RangeLemmas::parts_until_sorted, crate::proofs::RangeLemmas::parts_until_laid, crate::proofs::RangeLemmas::parts_until_few, crate::proofs::RangeLemmas::parts_until_not_empty, pdb_base::proofs::lemmas::Records::spelled_length))]
     pub fn lookup_range(&self, range: Range<u32>) -> RangeIter<'_>
         ensures parts { IsSortedBySource self.now → result ≡ parts self.now range }
         ensures laid { IsSortedBySource self.now → end_to_end result ≡ pointwise (shift self.now) range }

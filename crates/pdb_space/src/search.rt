@@ -24,7 +24,7 @@ pub(crate) struct Found {
 /// The part of the table that is left to search halves with each comparison, whichever way it falls.
 /// How far the address is behind the source is kept beside the place, since one subtraction compares
 /// and says how far. So the step needs no branch.
-#[tactic(auto, using(pdb_base::proofs::HalvingLemmas::halving_begins, pdb_base::proofs::HalvingLemmas::halving_takes, pdb_base::proofs::HalvingLemmas::halving_passes, pdb_base::proofs::HalvingLemmas::halving_ends, pdb_base::proofs::HalvingLemmas::halving_counts, pdb_base::proofs::HalvingLemmas::halving_counted))]
+#[tactic(auto, using(pdb_base::proofs::lemmas::Halving::halving_begins, pdb_base::proofs::lemmas::Halving::halving_takes, pdb_base::proofs::lemmas::Halving::halving_passes, pdb_base::proofs::lemmas::Halving::halving_ends, pdb_base::proofs::lemmas::Halving::halving_counts, pdb_base::proofs::lemmas::Halving::halving_counted))]
 pub(crate) fn search(bytes: &[u8], address: u32, count: &mut Count) -> Found
     ensures found { IsFound (source_at (mappings_of bytes.now)) (length bytes.now / 8) address result.place result.source }
     ensures counted { calls_of count.new ≡ after_calls (binary_digits (length bytes.now / 8)) (calls_of count.old) }

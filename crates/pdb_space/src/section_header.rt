@@ -53,7 +53,7 @@ impl ImageSectionHeader {
     ///
     /// # Errors
     /// `UnexpectedEof` if fewer than forty bytes are left. Nothing is read then.
-    #[tactic(auto, unfolding(crate::specs::SectionHeader::section_header_at), using(pdb_base::proofs::RecordLemmas::front_length))]
+    #[tactic(auto, unfolding(crate::specs::SectionHeader::section_header_at), using(pdb_base::proofs::lemmas::Records::front_length))]
     pub fn parse(buffer: &mut ParseBuffer<'_>) -> Result<Self>
         ensures read { Gives (λ header. (header, left buffer.new)) result (section_header_at (left buffer.old)) }
         ensures place { StaysWithin buffer.old buffer.new }

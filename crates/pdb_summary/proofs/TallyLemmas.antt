@@ -11,7 +11,7 @@ use Rattle.std.proofs.lemmas.List.Sums.{count_by-le-length}
 use Rattle.std.proofs.lemmas.Option.{slice_get_cases, slice_get_past, slice_get-get_or}
 use Rattle.pdb_base.specs.declared.error.Error.{Error}
 use Rattle.pdb_base.specs.Refusal.{Refusal, refusal_of}
-use Rattle.pdb_base.proofs.Collected.{ok_is, ok_is_no_err, err_is}
+use Rattle.pdb_base.proofs.lemmas.Collected.{ok_is, ok_is_no_err, err_is}
 use Rattle.pdb_tpi.specs.Record.{kind_of}
 use Rattle.pdb_tpi.specs.Steps.{Stand, IsStep, body, place_of, room, stopped, walk, walk_rest}
 use Rattle.pdb_tpi.specs.Table.{Table}

@@ -53,7 +53,7 @@ fn refused_row<'t>(alloc: Global, part: Part, text: &'t [u8]) -> Result<Row<'t>>
 }
 
 /// Writes which part is refused, and why.
-#[tactic(auto, unfolding(crate::specs::Refused::refused_line), using(pdb_rows::proofs::WrittenLemmas::front_none))]
+#[tactic(auto, unfolding(crate::specs::Refused::refused_line), using(pdb_rows::proofs::lemmas::Written::front_none))]
 pub fn write_refused<W: Write>(
     alloc: Global,
     part: Part,

@@ -74,7 +74,7 @@ fn stream_row<'t>(
 }
 
 /// Writes the line of a stream of this size.
-#[tactic(auto, using(pdb_rows::proofs::WrittenLemmas::front_none))]
+#[tactic(auto, using(pdb_rows::proofs::lemmas::Written::front_none))]
 fn write_size<W: Write>(
     alloc: Global,
     number: u32,
@@ -92,7 +92,7 @@ fn write_size<W: Write>(
 }
 
 /// Writes the line of the stream of a number, if there is one.
-#[tactic(auto, unfolding(crate::specs::Streams::stream_line), using(pdb_rows::proofs::WrittenLemmas::front_none))]
+#[tactic(auto, unfolding(crate::specs::Streams::stream_line), using(pdb_rows::proofs::lemmas::Written::front_none))]
 fn write_stream<W: Write>(
     alloc: Global,
     file: &mut BigMSF<Vec<u8>>,

@@ -95,7 +95,7 @@ fn read_directory(alloc: Global, file: &mut BigMSF<Vec<u8>>) -> Result<()>
 }
 
 /// What stream 3 says of roles. If it is refused that is told, and no stream has a role.
-#[tactic(auto, using(pdb_rows::proofs::WrittenLemmas::front_none))]
+#[tactic(auto, using(pdb_rows::proofs::lemmas::Written::front_none))]
 fn known_roles<W: Write>(
     alloc: Global,
     file: &mut BigMSF<Vec<u8>>,
@@ -118,7 +118,7 @@ fn known_roles<W: Write>(
 }
 
 /// Writes that the names of streams are refused, and then the streams without names.
-#[tactic(auto, using(pdb_rows::proofs::WrittenLemmas::front_none, pdb_rows::proofs::WrittenLemmas::front_first, pdb_rows::proofs::WrittenLemmas::front_second, pdb_rows::proofs::WrittenLemmas::writes_second))]
+#[tactic(auto, using(pdb_rows::proofs::lemmas::Written::front_none, pdb_rows::proofs::lemmas::Written::front_first, pdb_rows::proofs::lemmas::Written::front_second, pdb_rows::proofs::lemmas::Written::writes_second))]
 fn write_unnamed<W: Write>(
     alloc: Global,
     file: &mut BigMSF<Vec<u8>>,
@@ -136,7 +136,7 @@ fn write_unnamed<W: Write>(
 }
 
 /// Writes the streams of a file whose names stream 1 says.
-#[tactic(auto, using(pdb_rows::proofs::WrittenLemmas::front_none, pdb_rows::proofs::WrittenLemmas::front_first, pdb_rows::proofs::WrittenLemmas::front_second, pdb_rows::proofs::WrittenLemmas::writes_second))]
+#[tactic(auto, using(pdb_rows::proofs::lemmas::Written::front_none, pdb_rows::proofs::lemmas::Written::front_first, pdb_rows::proofs::lemmas::Written::front_second, pdb_rows::proofs::lemmas::Written::writes_second))]
 fn write_named<W: Write>(
     alloc: Global,
     file: &mut BigMSF<Vec<u8>>,
@@ -165,7 +165,7 @@ fn write_named<W: Write>(
 }
 
 /// Writes the streams of a file. If their names are refused that is told, and no stream has a name.
-#[tactic(auto, unfolding(crate::specs::Summary::names_of), using(pdb_rows::proofs::WrittenLemmas::front_none, pdb_rows::proofs::WrittenLemmas::front_first, pdb_rows::proofs::WrittenLemmas::front_second, pdb_rows::proofs::WrittenLemmas::writes_second))]
+#[tactic(auto, unfolding(crate::specs::Summary::names_of), using(pdb_rows::proofs::lemmas::Written::front_none, pdb_rows::proofs::lemmas::Written::front_first, pdb_rows::proofs::lemmas::Written::front_second, pdb_rows::proofs::lemmas::Written::writes_second))]
 fn write_all_streams<W: Write>(
     alloc: Global,
     file: &mut BigMSF<Vec<u8>>,
@@ -186,7 +186,7 @@ fn write_all_streams<W: Write>(
 }
 
 /// Writes the streams of a file, and what is refused of their roles and names.
-#[tactic(auto, unfolding(crate::specs::Summary::streams_part), using(pdb_rows::proofs::WrittenLemmas::front_none, pdb_rows::proofs::WrittenLemmas::front_first, pdb_rows::proofs::WrittenLemmas::front_second, pdb_rows::proofs::WrittenLemmas::writes_second))]
+#[tactic(auto, unfolding(crate::specs::Summary::streams_part), using(pdb_rows::proofs::lemmas::Written::front_none, pdb_rows::proofs::lemmas::Written::front_first, pdb_rows::proofs::lemmas::Written::front_second, pdb_rows::proofs::lemmas::Written::writes_second))]
 fn write_streams_part<W: Write>(
     alloc: Global,
     file: &mut BigMSF<Vec<u8>>,
@@ -202,7 +202,7 @@ fn write_streams_part<W: Write>(
 }
 
 /// Writes the tables of types and of ids.
-#[tactic(auto, unfolding(crate::specs::Summary::tables_part), using(pdb_rows::proofs::WrittenLemmas::front_none, pdb_rows::proofs::WrittenLemmas::front_first, pdb_rows::proofs::WrittenLemmas::front_second, pdb_rows::proofs::WrittenLemmas::writes_second))]
+#[tactic(auto, unfolding(crate::specs::Summary::tables_part), using(pdb_rows::proofs::lemmas::Written::front_none, pdb_rows::proofs::lemmas::Written::front_first, pdb_rows::proofs::lemmas::Written::front_second, pdb_rows::proofs::lemmas::Written::writes_second))]
 fn write_tables<W: Write>(
     alloc: Global,
     file: &mut BigMSF<Vec<u8>>,
@@ -216,7 +216,7 @@ fn write_tables<W: Write>(
 }
 
 /// Writes the parts of a file whose directory is read.
-#[tactic(auto, using(pdb_rows::proofs::WrittenLemmas::front_none, pdb_rows::proofs::WrittenLemmas::front_first, pdb_rows::proofs::WrittenLemmas::front_second, pdb_rows::proofs::WrittenLemmas::writes_second))]
+#[tactic(auto, using(pdb_rows::proofs::lemmas::Written::front_none, pdb_rows::proofs::lemmas::Written::front_first, pdb_rows::proofs::lemmas::Written::front_second, pdb_rows::proofs::lemmas::Written::writes_second))]
 fn write_read_parts<W: Write>(
     alloc: Global,
     file: &mut BigMSF<Vec<u8>>,
@@ -230,7 +230,7 @@ fn write_read_parts<W: Write>(
 }
 
 /// Writes all parts of a file, or that its directory is refused.
-#[tactic(auto, unfolding(crate::specs::Summary::parts_lines), using(pdb_rows::proofs::WrittenLemmas::front_none, pdb_rows::proofs::WrittenLemmas::front_first, pdb_rows::proofs::WrittenLemmas::front_second, pdb_rows::proofs::WrittenLemmas::writes_second))]
+#[tactic(auto, unfolding(crate::specs::Summary::parts_lines), using(pdb_rows::proofs::lemmas::Written::front_none, pdb_rows::proofs::lemmas::Written::front_first, pdb_rows::proofs::lemmas::Written::front_second, pdb_rows::proofs::lemmas::Written::writes_second))]
 fn write_parts<W: Write>(
     alloc: Global,
     file: &mut BigMSF<Vec<u8>>,
@@ -247,7 +247,7 @@ fn write_parts<W: Write>(
 }
 
 /// Writes the line of a file, or that its header is refused.
-#[tactic(auto, unfolding(crate::specs::Summary::pages_line), using(pdb_rows::proofs::WrittenLemmas::front_none, pdb_rows::proofs::WrittenLemmas::front_first, pdb_rows::proofs::WrittenLemmas::front_second, pdb_rows::proofs::WrittenLemmas::writes_second))]
+#[tactic(auto, unfolding(crate::specs::Summary::pages_line), using(pdb_rows::proofs::lemmas::Written::front_none, pdb_rows::proofs::lemmas::Written::front_first, pdb_rows::proofs::lemmas::Written::front_second, pdb_rows::proofs::lemmas::Written::writes_second))]
 fn write_pages<W: Write>(alloc: Global, file: &[u8], form: Form, out: &mut W) -> Result<()>
     ensures { Writes (pages_line form file.now) (W.contents out.old) (W.contents out.new) result }
 {
@@ -261,7 +261,7 @@ fn write_pages<W: Write>(alloc: Global, file: &[u8], form: Form, out: &mut W) ->
 }
 
 /// Writes the line of a file, and all its parts.
-#[tactic(auto, using(pdb_rows::proofs::WrittenLemmas::front_none, pdb_rows::proofs::WrittenLemmas::front_first, pdb_rows::proofs::WrittenLemmas::front_second, pdb_rows::proofs::WrittenLemmas::writes_second))]
+#[tactic(auto, using(pdb_rows::proofs::lemmas::Written::front_none, pdb_rows::proofs::lemmas::Written::front_first, pdb_rows::proofs::lemmas::Written::front_second, pdb_rows::proofs::lemmas::Written::writes_second))]
 fn write_summary<W: Write>(
     alloc: Global,
     file: &mut BigMSF<Vec<u8>>,

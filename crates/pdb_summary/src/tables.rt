@@ -41,7 +41,7 @@ fn table_row<'t>(
 }
 
 /// Writes a table: what its records are, and the indexes that its header counts.
-#[tactic(auto, using(pdb_rows::proofs::WrittenLemmas::front_none))]
+#[tactic(auto, using(pdb_rows::proofs::lemmas::Written::front_none))]
 fn write_head<W: Write>(
     alloc: Global,
     number: u32,
@@ -111,7 +111,7 @@ fn write_stop<W: Write>(
 }
 
 /// Writes the kinds of a table's records, and that its walk stops, if it does.
-#[tactic(auto, using(pdb_rows::proofs::WrittenLemmas::front_none, pdb_rows::proofs::WrittenLemmas::front_first, pdb_rows::proofs::WrittenLemmas::front_second, pdb_rows::proofs::WrittenLemmas::writes_second))]
+#[tactic(auto, using(pdb_rows::proofs::lemmas::Written::front_none, pdb_rows::proofs::lemmas::Written::front_first, pdb_rows::proofs::lemmas::Written::front_second, pdb_rows::proofs::lemmas::Written::writes_second))]
 fn write_rest<W: Write>(
     alloc: Global,
     number: u32,
@@ -126,7 +126,7 @@ fn write_rest<W: Write>(
 }
 
 /// Writes a table that was walked over: its line, its kinds, and that its walk stops, if it does.
-#[tactic(auto, using(pdb_rows::proofs::WrittenLemmas::front_none, pdb_rows::proofs::WrittenLemmas::front_first, pdb_rows::proofs::WrittenLemmas::front_second, pdb_rows::proofs::WrittenLemmas::writes_second))]
+#[tactic(auto, using(pdb_rows::proofs::lemmas::Written::front_none, pdb_rows::proofs::lemmas::Written::front_first, pdb_rows::proofs::lemmas::Written::front_second, pdb_rows::proofs::lemmas::Written::writes_second))]
 fn write_walked<W: Write>(
     alloc: Global,
     number: u32,
@@ -143,7 +143,7 @@ fn write_walked<W: Write>(
 }
 
 /// Walks over a table, and writes what it has.
-#[tactic(auto, unfolding(crate::specs::Kinds::table_lines), using(pdb_rows::proofs::WrittenLemmas::front_none))]
+#[tactic(auto, unfolding(crate::specs::Kinds::table_lines), using(pdb_rows::proofs::lemmas::Written::front_none))]
 fn write_found<W: Write>(
     alloc: Global,
     number: u32,
@@ -168,7 +168,7 @@ fn table_found(alloc: Global, file: &mut BigMSF<Vec<u8>>, number: u32) -> Result
 }
 
 /// Writes the table in the stream of a number, or that it is refused.
-#[tactic(auto, unfolding(crate::specs::Kinds::table_part), using(pdb_rows::proofs::WrittenLemmas::front_none))]
+#[tactic(auto, unfolding(crate::specs::Kinds::table_part), using(pdb_rows::proofs::lemmas::Written::front_none))]
 pub fn write_table<W: Write>(
     alloc: Global,
     file: &mut BigMSF<Vec<u8>>,

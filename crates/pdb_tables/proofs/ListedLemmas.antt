@@ -8,7 +8,7 @@ use Rattle.pdb_base.specs.declared.error.Error.TheVariants as errors
 use Rattle.pdb_base.specs.Answer.{Answer, ◌>>=◌, RefusesUnless, IsOtherFault}
 use Rattle.pdb_base.specs.Refusal.{refusal_of}
 use Rattle.pdb_rows.specs.Written.{IsCut, IsFront, Writes}
-use Rattle.pdb_rows.proofs.WrittenLemmas.{front_first, front_none, front_second, want_is_cut}
+use Rattle.pdb_rows.proofs.lemmas.Written.{front_first, front_none, front_second, want_is_cut}
 use Rattle.pdb_tables.specs.Listing.{Listing, IsListed, followed_by, headed, listed_of, whole}
 
 other_is_cut : (e : Error) → IsOtherFault e → IsCut e

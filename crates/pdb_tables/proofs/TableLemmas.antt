@@ -6,7 +6,7 @@ use Rattle.std.specs.Option.{option_map_or}
 use Rattle.pdb_base.specs.Answer.{required}
 use Rattle.pdb_base.specs.Records.{spelled}
 use Rattle.pdb_base.specs.Refusal.{Refusal, unexpected_eof}
-use Rattle.pdb_base.proofs.RecordLemmas.{spelled_none}
+use Rattle.pdb_base.proofs.lemmas.Records.{spelled_none}
 use Rattle.pdb_space.specs.Omap.{Mapping, IsSortedBySource}
 use Rattle.pdb_space.specs.Ranges.{next_source}
 use Rattle.pdb_space.specs.StringTable.{name_of}

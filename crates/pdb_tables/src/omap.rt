@@ -42,7 +42,7 @@ fn order_row<'t>(alloc: Global, is_sorted: bool) -> Result<Row<'t>>
 }
 
 /// Writes a table, and behind its records what is said of them all.
-#[tactic(auto, using(pdb_rows::proofs::WrittenLemmas::front_first, pdb_rows::proofs::WrittenLemmas::writes_second))]
+#[tactic(auto, using(pdb_rows::proofs::lemmas::Written::front_first, pdb_rows::proofs::lemmas::Written::writes_second))]
 fn write_table<W: Write>(alloc: Global, table: &OMAPTable, form: Form, out: &mut W) -> Result<()>
     ensures { Writes (omap_all form table.now) (W.contents out.old) (W.contents out.new) result }
 {

@@ -29,7 +29,7 @@ fn role_row<'t>(alloc: Global, role: &'static str, number: u32) -> Result<Row<'t
 }
 
 /// Writes which role the table that follows has.
-#[tactic(auto, using(pdb_rows::proofs::WrittenLemmas::front_none))]
+#[tactic(auto, using(pdb_rows::proofs::lemmas::Written::front_none))]
 fn write_role<W: Write>(
     alloc: Global,
     role: &'static str,

@@ -13,7 +13,7 @@ use Rattle.pdb_base.specs.declared.error.Error.{Error}
 use Rattle.pdb_base.specs.Refusal.{Refusal, refusal_of}
 use Rattle.pdb_base.specs.Answer.{Answer, Answers, ◌>>=◌}
 use Rattle.pdb_values.specs.declared.type_data.TypeData.{TypeData}
-use Rattle.pdb_base.proofs.Collected.{ok, err, ok_is, err_is, ok_is_no_err}
+use Rattle.pdb_base.proofs.lemmas.Collected.{ok, err, ok_is, err_is, ok_is_no_err}
 use Rattle.pdb_values.specs.TypeValue.{TypeValue}
 use Rattle.pdb_values.specs.TypeView.{type_value}
 use Rattle.pdb_tpi.specs.Chain.{LookUp, Listed, listed_value, list_of, not_below, Lead, IsChain, GoesUp, Breaks, in_front, continued, joined, fields_of, IsChainAnswer}

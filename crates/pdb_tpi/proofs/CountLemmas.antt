@@ -3,7 +3,7 @@ use Rattle.std.proofs.Common.{◌≡◌, ℕ, add-zero, ◌+◌, ◌-◌, ◌≤
 use Rattle.std.proofs.lemmas.Bool.{cases_lt, le-ltb, lt-ltb}
 use Rattle.std.proofs.lemmas.Option.{slice_get_within}
 use Rattle.pdb_base.specs.Count.{one_more, after_calls}
-use Rattle.pdb_base.proofs.CountLemmas.{one_call}
+use Rattle.pdb_base.proofs.lemmas.Count.{one_call}
 use Rattle.pdb_tpi.specs.Table.{Table}
 use Rattle.pdb_tpi.specs.Steps.{Stand, walk, walk_rest, nth_item, place_of, reads_one}
 use Rattle.pdb_tpi.specs.Finder.{reads_between}

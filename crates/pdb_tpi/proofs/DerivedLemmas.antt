@@ -2,7 +2,7 @@
 use Rattle.std.proofs.Common.{ap}
 use Rattle.std.specs.Cmp.{signed_Decides, unsigned_Decides}
 use Rattle.pdb_base.specs.Derived.{TellsApart}
-use Rattle.pdb_base.proofs.DerivedLemmas.{both}
+use Rattle.pdb_base.proofs.lemmas.Derived.{both}
 use Rattle.pdb_tpi.specs.declared.header.Slice.{Slice}
 use Rattle.std.specs.Prelude.{◌&&◌, nat_eq}
 use Rattle.std.specs.Ordering.{int_eq}

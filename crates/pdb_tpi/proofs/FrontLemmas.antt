@@ -7,8 +7,8 @@ use Rattle.byteorder.specs.Endian.{little_number}
 use Rattle.pdb_base.specs.Refusal.{Refusal, unexpected_eof, type_too_short}
 use Rattle.pdb_base.specs.Answer.{◌>>=◌, required}
 use Rattle.pdb_base.specs.Reading.{front_at}
-use Rattle.pdb_base.proofs.Collected.{ok, ok_is, ok_is_no_err, bind_ok}
-use Rattle.pdb_base.proofs.ReadingLemmas.{front_whole, front_cut, number_whole, number_cut}
+use Rattle.pdb_base.proofs.lemmas.Collected.{ok, ok_is, ok_is_no_err, bind_ok}
+use Rattle.pdb_base.proofs.lemmas.Reading.{front_whole, front_cut, number_whole, number_cut}
 use Rattle.pdb_tpi.specs.Walk.{first_item}
 
 -- ---- the parts of a read

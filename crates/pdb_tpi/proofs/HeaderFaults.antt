@@ -6,7 +6,7 @@ use Rattle.std.specs.Int.{w32, cast_signed}
 use Rattle.pdb_base.specs.Refusal.{unexpected_eof}
 use Rattle.pdb_base.specs.Answer.{Answer, ◌>>=◌}
 use Rattle.pdb_base.specs.Reading.{number_at, signed_at}
-use Rattle.pdb_base.proofs.ReadingLemmas.{number_whole, number_cut}
+use Rattle.pdb_base.proofs.lemmas.Reading.{number_whole, number_cut}
 use Rattle.pdb_tpi.specs.Header.{slice_of, header_fields, read_header_of, header_of}
 
 -- a read that takes so many bytes, or is refused where there are fewer

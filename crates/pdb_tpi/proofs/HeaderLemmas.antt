@@ -4,7 +4,7 @@ use Rattle.std.specs.Int.{w32, cast_signed}
 use Rattle.std.proofs.lemmas.Bool.{le-ltb}
 use Rattle.std.proofs.lemmas.List.{drop-drop, length-drop}
 use Rattle.pdb_base.specs.Reading.{front_at, number_at, signed_at}
-use Rattle.pdb_base.proofs.Collected.{ok}
+use Rattle.pdb_base.proofs.lemmas.Collected.{ok}
 use Rattle.pdb_tpi.specs.declared.header.Slice.{Slice}
 use Rattle.pdb_tpi.specs.Header.{slice_of, header_fields}
 use Rattle.pdb_tpi.specs.Laws.{number_in, StandAtOffsets}

@@ -10,7 +10,7 @@ use Rattle.byteorder.specs.Endian.{little_bytes, little_number}
 use Rattle.byteorder.specs.Numbers.{length-bytes_low_first, little_number-reads_back}
 use Rattle.pdb_base.specs.Refusal.{Refusal, unexpected_eof, type_too_short}
 use Rattle.pdb_base.specs.Answer.{Answer}
-use Rattle.pdb_base.proofs.Collected.{ok_is_no_err}
+use Rattle.pdb_base.proofs.lemmas.Collected.{ok_is_no_err}
 use Rattle.pdb_tpi.specs.Table.{Table}
 use Rattle.pdb_tpi.specs.Walk.{framed, IsItem, IsWalk, first_item, behind, items, rest}
 use Rattle.pdb_tpi.specs.Steps.{room, body, walk, walk_rest}

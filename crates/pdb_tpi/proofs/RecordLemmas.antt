@@ -4,8 +4,8 @@ use Rattle.std.specs.Prelude.{nat_lt, if◌then◌else◌}
 use Rattle.pdb_base.specs.declared.error.Error.{Error}
 use Rattle.pdb_base.specs.Refusal.{Refusal, out_of_memory, type_not_found, type_not_indexed}
 use Rattle.pdb_base.specs.Answer.{Answer, Gives, ◌>>=◌}
-use Rattle.pdb_base.proofs.Collected.{ok, err_is, ok_is, ok_is_no_err}
-use Rattle.pdb_grammar.specs.Fault.{IsFaultOfBytes}
+use Rattle.pdb_base.proofs.lemmas.Collected.{ok, err_is, ok_is, ok_is_no_err}
+use Rattle.pdb_records.specs.Fault.{IsFaultOfBytes}
 use Rattle.pdb_values.specs.declared.primitive.PrimitiveType.{PrimitiveType}
 use Rattle.pdb_values.specs.declared.type_data.TypeData.{TypeData}
 use Rattle.pdb_values.specs.Primitive.{first_record, primitive_type}

@@ -7,7 +7,7 @@ use Rattle.std.proofs.lemmas.Option.{slice_get_cases, slice_get_past}
 use Rattle.pdb_base.specs.declared.error.Error.{Error}
 use Rattle.pdb_base.specs.Refusal.{Refusal, refusal_of, unexpected_eof}
 use Rattle.pdb_base.specs.Answer.{Answer}
-use Rattle.pdb_base.proofs.Collected.{err, ok_is, err_is, ok_is_no_err}
+use Rattle.pdb_base.proofs.lemmas.Collected.{err, ok_is, err_is, ok_is_no_err}
 use Rattle.pdb_tpi.specs.Table.{Table}
 use Rattle.pdb_tpi.specs.Walk.{first_item, fault_of}
 use Rattle.pdb_tpi.specs.Steps.{Stand, walk, walk_rest, nth_item, place_of, items_left, stopped, step_of, IsStep}

@@ -3,7 +3,7 @@ use Rattle.std.proofs.Common.{◌≡◌, ℕ, ◌-◌, ◌^◌, ◌≤◌, ◌<�
 use Rattle.std.proofs.lemmas.Bool.Decides.{nat_tests}
 use Rattle.pdb_base.specs.Refusal.{Refusal}
 use Rattle.pdb_base.specs.Answer.{Answer, ◌>>=◌, required}
-use Rattle.pdb_base.proofs.Collected.{ok_is, bind_ok}
+use Rattle.pdb_base.proofs.lemmas.Collected.{ok_is, bind_ok}
 use Rattle.pdb_tpi.specs.declared.header.Header.{Header}
 use Rattle.pdb_tpi.specs.Header.{empty_header, header_fields, checked, read_header_of, header_of}
 use Rattle.pdb_tpi.specs.Table.{Table, IsTable}

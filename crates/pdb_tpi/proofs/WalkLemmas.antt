@@ -7,7 +7,7 @@ use Rattle.std.proofs.lemmas.List.{drop-drop, length-drop}
 use Rattle.std.proofs.lemmas.Option.{slice_get_past}
 use Rattle.pdb_base.specs.Refusal.{Refusal, type_not_found}
 use Rattle.pdb_base.specs.Answer.{Answer}
-use Rattle.pdb_base.proofs.Collected.{err}
+use Rattle.pdb_base.proofs.lemmas.Collected.{err}
 use Rattle.pdb_base.specs.Count.{one_more}
 use Rattle.pdb_tpi.specs.Table.{Table}
 use Rattle.pdb_tpi.specs.Walk.{first_item, behind, items, rest, fault_of}

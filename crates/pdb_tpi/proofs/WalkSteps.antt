@@ -4,7 +4,7 @@ use Rattle.std.specs.List.{slice_get}
 use Rattle.std.proofs.lemmas.Option.{slice_get_cases, slice_get_past}
 use Rattle.pdb_base.specs.declared.error.Error.{Error}
 use Rattle.pdb_base.specs.Refusal.{refusal_of}
-use Rattle.pdb_base.proofs.Collected.{ok_is, ok_is_no_err}
+use Rattle.pdb_base.proofs.lemmas.Collected.{ok_is, ok_is_no_err}
 use Rattle.pdb_tpi.specs.Table.{Table}
 use Rattle.pdb_tpi.specs.Steps.{Stand, walk, walk_rest, place_of, stopped, IsStep}
 use Rattle.pdb_tpi.specs.StepLaws.{AreSteps, first_stand, IsAnswerAt}

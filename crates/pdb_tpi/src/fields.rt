@@ -13,7 +13,7 @@ use pdb_values::{FieldList, TypeData};
 use std::alloc::Global;
 
 /// The list of fields that a type of this kind is.
-#[tactic(auto, using(pdb_values::proofs::FieldLemmas::listed))]
+#[tactic(auto, using(pdb_values::proofs::lemmas::Fields::listed))]
 fn list_in<'t>(value: TypeData<'t>, kind: u16) -> Result<FieldList<'t>>
     ensures { Gives listed_value result (listed kind (type_value value.entry)) }
 {

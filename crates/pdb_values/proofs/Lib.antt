@@ -1,2 +1,2 @@
-pub mod FieldLemmas
+pub mod lemmas
 pub mod PrimitiveLemmas

@@ -16,7 +16,7 @@ pub fn primitives()
 {}
 
 /// The values of a field list are a list, and nothing beside.
-#[tactic(auto, using(crate::proofs::FieldLemmas::listed, crate::proofs::FieldLemmas::unlisted))]
+#[tactic(auto, using(crate::proofs::lemmas::Fields::listed, crate::proofs::lemmas::Fields::unlisted))]
 pub fn field_lists()
     ensures listed { (values : List TypeValue) → values_in (as_fields values) ≡ values }
     ensures unlisted { (fields : Fields) → as_fields (values_in fields) ≡ fields }

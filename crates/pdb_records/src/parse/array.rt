@@ -4,8 +4,8 @@ ghost use Rattle.std.specs.Prelude.{◌≡◌, ◌+◌};
 ghost use Rattle.pdb_base.specs.Answer.{Answers, Gives};
 ghost use Rattle.pdb_base.specs.Memory.{LacksOnlyIf};
 ghost use Rattle.pdb_base.specs.Place.{left};
-ghost use Rattle.pdb_grammar.specs.Dimensions.{dimension_at, dimensions_at, end_at};
-ghost use Rattle.pdb_grammar.specs.Padding.{behind_pad, padding_at};
+ghost use Rattle.pdb_records.specs.Dimensions.{dimension_at, dimensions_at, end_at};
+ghost use Rattle.pdb_records.specs.Padding.{behind_pad, padding_at};
 ghost use Rattle.pdb_values.specs.Array.{array_value};
 ghost use Rattle.pdb_records.specs.Arrays.{array_at, dimensions_to_end};
 ghost use Rattle.pdb_records.specs.Memory.{HoldsDimension, HoldsArray};
@@ -96,7 +96,7 @@ fn parse_last_dimensions(alloc: Global, buffer: &mut ParseBuffer<'_>) -> Result<
 }
 
 /// An array, with a stride or without.
-#[tactic(auto, unfolding(pdb_grammar::specs::Row::row, crate::specs::Lists::array_row, crate::specs::Arrays::array_at))]
+#[tactic(auto, unfolding(crate::specs::Row::row, crate::specs::Lists::array_row, crate::specs::Arrays::array_at))]
 pub(crate) fn parse_array(
     alloc: Global,
     buffer: &mut ParseBuffer<'_>,

@@ -14,7 +14,7 @@ use pdb_flags::TypeProperties;
 use pdb_values::{ClassKind, ClassType, TypeData, UnionType};
 
 /// A class, a struct or an interface.
-#[tactic(auto, unfolding(pdb_grammar::specs::Row::row, crate::specs::Rows::class_row))]
+#[tactic(auto, unfolding(crate::specs::Row::row, crate::specs::Rows::class_row))]
 pub(crate) fn parse_class<'t>(
     buffer: &mut ParseBuffer<'t>,
     leaf: u16,
@@ -38,7 +38,7 @@ pub(crate) fn parse_class<'t>(
 }
 
 /// The same with more room for properties.
-#[tactic(auto, unfolding(pdb_grammar::specs::Row::row, crate::specs::Rows::wide_class_row))]
+#[tactic(auto, unfolding(crate::specs::Row::row, crate::specs::Rows::wide_class_row))]
 pub(crate) fn parse_wide_class<'t>(
     buffer: &mut ParseBuffer<'t>,
     leaf: u16,
@@ -64,7 +64,7 @@ pub(crate) fn parse_wide_class<'t>(
 }
 
 /// A union.
-#[tactic(auto, unfolding(pdb_grammar::specs::Row::row, crate::specs::Rows::union_row))]
+#[tactic(auto, unfolding(crate::specs::Row::row, crate::specs::Rows::union_row))]
 pub(crate) fn parse_union<'t>(buffer: &mut ParseBuffer<'t>, leaf: u16) -> Result<TypeData<'t>>
     ensures { Gives (λ t. (type_value t, left buffer.new)) result (plain_at (union_row leaf) (left buffer.old)) }
 {

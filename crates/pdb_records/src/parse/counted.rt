@@ -6,7 +6,7 @@ ghost use Rattle.pdb_base.specs.Memory.{LacksOnlyIf, HasItem};
 ghost use Rattle.pdb_base.specs.Place.{left};
 ghost use Rattle.pdb_base.specs.Reading.{number_at};
 ghost use Rattle.pdb_base.specs.Repeated.{repeated};
-ghost use Rattle.pdb_grammar.specs.Shape.{index_at};
+ghost use Rattle.pdb_records.specs.Shape.{index_at};
 ghost use Rattle.pdb_records.specs.Counted.{count_bytes, counted_at};
 
 use crate::parse::index::{Index, parse_index};

@@ -14,7 +14,7 @@ use pdb_flags::PointerAttributes;
 use pdb_values::{BitfieldType, ModifierType, PointerType, TypeData};
 
 /// A pointer.
-#[tactic(auto, unfolding(pdb_grammar::specs::Row::row, crate::specs::Rows::pointer_row))]
+#[tactic(auto, unfolding(crate::specs::Row::row, crate::specs::Rows::pointer_row))]
 pub(crate) fn parse_pointer<'t>(buffer: &mut ParseBuffer<'t>) -> Result<TypeData<'t>>
     ensures { Gives (λ t. (type_value t, left buffer.new)) result (plain_at pointer_row (left buffer.old)) }
 {
@@ -35,7 +35,7 @@ pub(crate) fn parse_pointer<'t>(buffer: &mut ParseBuffer<'t>) -> Result<TypeData
 }
 
 /// A type with qualifiers.
-#[tactic(auto, unfolding(pdb_grammar::specs::Row::row, crate::specs::Rows::modifier_row))]
+#[tactic(auto, unfolding(crate::specs::Row::row, crate::specs::Rows::modifier_row))]
 pub(crate) fn parse_modifier<'t>(buffer: &mut ParseBuffer<'t>) -> Result<TypeData<'t>>
     ensures { Gives (λ t. (type_value t, left buffer.new)) result (plain_at modifier_row (left buffer.old)) }
 {
@@ -50,7 +50,7 @@ pub(crate) fn parse_modifier<'t>(buffer: &mut ParseBuffer<'t>) -> Result<TypeDat
 }
 
 /// Some bits of a member.
-#[tactic(auto, unfolding(pdb_grammar::specs::Row::row, crate::specs::Rows::bitfield_row))]
+#[tactic(auto, unfolding(crate::specs::Row::row, crate::specs::Rows::bitfield_row))]
 pub(crate) fn parse_bitfield<'t>(buffer: &mut ParseBuffer<'t>) -> Result<TypeData<'t>>
     ensures { Gives (λ t. (type_value t, left buffer.new)) result (plain_at bitfield_row (left buffer.old)) }
 {

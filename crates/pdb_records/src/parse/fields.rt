@@ -4,7 +4,7 @@ ghost use Rattle.std.specs.Prelude.{◌≡◌, ◌==◌};
 ghost use Rattle.pdb_base.specs.Answer.{Answers, Gives};
 ghost use Rattle.pdb_base.specs.Memory.{LacksOnlyIf};
 ghost use Rattle.pdb_base.specs.Place.{left};
-ghost use Rattle.pdb_grammar.specs.Row.{row};
+ghost use Rattle.pdb_records.specs.Row.{row};
 ghost use Rattle.pdb_values.specs.TypeView.{fields_value, type_value};
 ghost use Rattle.pdb_values.specs.TypeValue as values;
 ghost use Rattle.pdb_records.specs.Fields.{entry_of, field_at, continuation_leaf};
@@ -23,7 +23,7 @@ use std::alloc::Global;
 
 /// The list that goes on, behind two bytes of padding, whatever they are.
 #[inline(always)]
-#[tactic(auto, unfolding(pdb_grammar::specs::Row::row, crate::specs::Rows::continuation_row))]
+#[tactic(auto, unfolding(crate::specs::Row::row, crate::specs::Rows::continuation_row))]
 fn parse_continuation(buffer: &mut ParseBuffer<'_>) -> Result<TypeIndex>
     ensures { Gives (λ index. (index, left buffer.new)) result (row continuation_row (left buffer.old)) }
 {

@@ -2,7 +2,7 @@
 
 ghost use Rattle.pdb_base.specs.Answer.{Gives};
 ghost use Rattle.pdb_base.specs.Place.{left};
-ghost use Rattle.pdb_grammar.specs.Row.{row};
+ghost use Rattle.pdb_records.specs.Row.{row};
 ghost use Rattle.pdb_values.specs.TypeView.{type_value};
 ghost use Rattle.pdb_records.specs.Records.{plain_at};
 ghost use Rattle.pdb_records.specs.Rows.{procedure_row, member_function_row, overloaded_method_row, method_row, listed_method_row};
@@ -15,7 +15,7 @@ use pdb_values::{
 };
 
 /// A function.
-#[tactic(auto, unfolding(pdb_grammar::specs::Row::row, crate::specs::Rows::procedure_row))]
+#[tactic(auto, unfolding(crate::specs::Row::row, crate::specs::Rows::procedure_row))]
 pub(crate) fn parse_procedure<'t>(buffer: &mut ParseBuffer<'t>) -> Result<TypeData<'t>>
     ensures { Gives (λ t. (type_value t, left buffer.new)) result (plain_at procedure_row (left buffer.old)) }
 {
@@ -28,7 +28,7 @@ pub(crate) fn parse_procedure<'t>(buffer: &mut ParseBuffer<'t>) -> Result<TypeDa
 }
 
 /// A method.
-#[tactic(auto, unfolding(pdb_grammar::specs::Row::row, crate::specs::Rows::member_function_row))]
+#[tactic(auto, unfolding(crate::specs::Row::row, crate::specs::Rows::member_function_row))]
 pub(crate) fn parse_member_function<'t>(buffer: &mut ParseBuffer<'t>) -> Result<TypeData<'t>>
     ensures { Gives (λ t. (type_value t, left buffer.new)) result (plain_at member_function_row (left buffer.old)) }
 {
@@ -44,7 +44,7 @@ pub(crate) fn parse_member_function<'t>(buffer: &mut ParseBuffer<'t>) -> Result<
 }
 
 /// All methods of one name.
-#[tactic(auto, unfolding(pdb_grammar::specs::Row::row, crate::specs::Rows::overloaded_method_row))]
+#[tactic(auto, unfolding(crate::specs::Row::row, crate::specs::Rows::overloaded_method_row))]
 pub(crate) fn parse_overloaded_method<'t>(
     buffer: &mut ParseBuffer<'t>,
     leaf: u16,
@@ -59,7 +59,7 @@ pub(crate) fn parse_overloaded_method<'t>(
 }
 
 /// The one method of a name.
-#[tactic(auto, unfolding(pdb_grammar::specs::Row::row, crate::specs::Rows::method_row))]
+#[tactic(auto, unfolding(crate::specs::Row::row, crate::specs::Rows::method_row))]
 pub(crate) fn parse_method<'t>(buffer: &mut ParseBuffer<'t>, leaf: u16) -> Result<TypeData<'t>>
     ensures { Gives (λ t. (type_value t, left buffer.new)) result (plain_at (method_row leaf) (left buffer.old)) }
 {
@@ -77,7 +77,7 @@ pub(crate) fn parse_method<'t>(buffer: &mut ParseBuffer<'t>, leaf: u16) -> Resul
 }
 
 /// A method in a list of methods.
-#[tactic(auto, unfolding(pdb_grammar::specs::Row::row, crate::specs::Rows::listed_method_row))]
+#[tactic(auto, unfolding(crate::specs::Row::row, crate::specs::Rows::listed_method_row))]
 pub(crate) fn parse_listed_method(buffer: &mut ParseBuffer<'_>) -> Result<MethodListEntry>
     ensures { Gives (λ t. (t, left buffer.new)) result (row listed_method_row (left buffer.old)) }
 {

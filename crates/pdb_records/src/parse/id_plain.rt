@@ -71,7 +71,7 @@ pub(crate) fn parse_plain_id<'t>(
 }
 
 /// A function.
-#[tactic(auto, unfolding(pdb_grammar::specs::Row::row, crate::specs::IdRows::function_id_row))]
+#[tactic(auto, unfolding(crate::specs::Row::row, crate::specs::IdRows::function_id_row))]
 fn parse_function_id<'t>(buffer: &mut ParseBuffer<'t>, leaf: u16) -> Result<IdData<'t>>
     ensures { Gives (λ id. (id_value id, left buffer.new)) result (plain_id_at (function_id_row leaf) (left buffer.old)) }
 {
@@ -83,7 +83,7 @@ fn parse_function_id<'t>(buffer: &mut ParseBuffer<'t>, leaf: u16) -> Result<IdDa
 }
 
 /// A method.
-#[tactic(auto, unfolding(pdb_grammar::specs::Row::row, crate::specs::IdRows::member_function_id_row))]
+#[tactic(auto, unfolding(crate::specs::Row::row, crate::specs::IdRows::member_function_id_row))]
 fn parse_member_function_id<'t>(buffer: &mut ParseBuffer<'t>, leaf: u16) -> Result<IdData<'t>>
     ensures { Gives (λ id. (id_value id, left buffer.new)) result (plain_id_at (member_function_id_row leaf) (left buffer.old)) }
 {
@@ -95,7 +95,7 @@ fn parse_member_function_id<'t>(buffer: &mut ParseBuffer<'t>, leaf: u16) -> Resu
 }
 
 /// A text.
-#[tactic(auto, unfolding(pdb_grammar::specs::Row::row, crate::specs::IdRows::string_id_row))]
+#[tactic(auto, unfolding(crate::specs::Row::row, crate::specs::IdRows::string_id_row))]
 fn parse_string_id<'t>(buffer: &mut ParseBuffer<'t>, leaf: u16) -> Result<IdData<'t>>
     ensures { Gives (λ id. (id_value id, left buffer.new)) result (plain_id_at (string_id_row leaf) (left buffer.old)) }
 {
@@ -106,7 +106,7 @@ fn parse_string_id<'t>(buffer: &mut ParseBuffer<'t>, leaf: u16) -> Result<IdData
 }
 
 /// Where a type is declared.
-#[tactic(auto, unfolding(pdb_grammar::specs::Row::row, crate::specs::IdRows::source_row))]
+#[tactic(auto, unfolding(crate::specs::Row::row, crate::specs::IdRows::source_row))]
 fn parse_source<'t>(buffer: &mut ParseBuffer<'t>) -> Result<IdData<'t>>
     ensures { Gives (λ id. (id_value id, left buffer.new)) result (plain_id_at source_row (left buffer.old)) }
 {
@@ -118,7 +118,7 @@ fn parse_source<'t>(buffer: &mut ParseBuffer<'t>) -> Result<IdData<'t>>
 }
 
 /// Where a type is declared, and in which module.
-#[tactic(auto, unfolding(pdb_grammar::specs::Row::row, crate::specs::IdRows::remote_source_row))]
+#[tactic(auto, unfolding(crate::specs::Row::row, crate::specs::IdRows::remote_source_row))]
 fn parse_remote_source<'t>(buffer: &mut ParseBuffer<'t>) -> Result<IdData<'t>>
     ensures { Gives (λ id. (id_value id, left buffer.new)) result (plain_id_at remote_source_row (left buffer.old)) }
 {

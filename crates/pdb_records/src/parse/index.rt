@@ -3,7 +3,7 @@
 ghost use Rattle.std.specs.Prelude.{◌≡◌, ℕ};
 ghost use Rattle.pdb_base.specs.Answer.{Gives};
 ghost use Rattle.pdb_base.specs.Place.{left};
-ghost use Rattle.pdb_grammar.specs.Shape.{as_id, as_type, index_at};
+ghost use Rattle.pdb_records.specs.Shape.{as_id, as_type, index_at};
 
 use pdb_base::{IdIndex, ParseBuffer, Result, TypeIndex};
 

@@ -3,8 +3,8 @@
 ghost use Rattle.pdb_base.specs.Answer.{Answers};
 ghost use Rattle.pdb_base.specs.Memory.{LacksOnlyIf};
 ghost use Rattle.pdb_base.specs.Place.{left};
-ghost use Rattle.pdb_grammar.specs.Row.{row};
-ghost use Rattle.pdb_grammar.specs.ToEnd.{to_end};
+ghost use Rattle.pdb_records.specs.Row.{row};
+ghost use Rattle.pdb_records.specs.ToEnd.{to_end};
 ghost use Rattle.pdb_records.specs.Rows.{listed_method_row};
 ghost use Rattle.pdb_records.specs.Memory.{HoldsMethod};
 

@@ -15,7 +15,7 @@ use pdb_values::{
 };
 
 /// A data member of each object.
-#[tactic(auto, unfolding(pdb_grammar::specs::Row::row, crate::specs::Rows::member_row))]
+#[tactic(auto, unfolding(crate::specs::Row::row, crate::specs::Rows::member_row))]
 pub(crate) fn parse_member<'t>(buffer: &mut ParseBuffer<'t>, leaf: u16) -> Result<TypeData<'t>>
     ensures { Gives (λ t. (type_value t, left buffer.new)) result (plain_at (member_row leaf) (left buffer.old)) }
 {
@@ -28,7 +28,7 @@ pub(crate) fn parse_member<'t>(buffer: &mut ParseBuffer<'t>, leaf: u16) -> Resul
 }
 
 /// A data member of the class itself.
-#[tactic(auto, unfolding(pdb_grammar::specs::Row::row, crate::specs::Rows::static_member_row))]
+#[tactic(auto, unfolding(crate::specs::Row::row, crate::specs::Rows::static_member_row))]
 pub(crate) fn parse_static_member<'t>(
     buffer: &mut ParseBuffer<'t>,
     leaf: u16,
@@ -43,7 +43,7 @@ pub(crate) fn parse_static_member<'t>(
 }
 
 /// A type that is defined in a class. Its first word is its attributes, or says nothing.
-#[tactic(auto, unfolding(pdb_grammar::specs::Row::row, crate::specs::Rows::nested_row))]
+#[tactic(auto, unfolding(crate::specs::Row::row, crate::specs::Rows::nested_row))]
 pub(crate) fn parse_nested<'t>(
     buffer: &mut ParseBuffer<'t>,
     leaf: u16,
@@ -60,7 +60,7 @@ pub(crate) fn parse_nested<'t>(
 }
 
 /// A base class.
-#[tactic(auto, unfolding(pdb_grammar::specs::Row::row, crate::specs::Rows::base_row))]
+#[tactic(auto, unfolding(crate::specs::Row::row, crate::specs::Rows::base_row))]
 pub(crate) fn parse_base_class<'t>(
     buffer: &mut ParseBuffer<'t>,
     kind: ClassKind,
@@ -76,7 +76,7 @@ pub(crate) fn parse_base_class<'t>(
 }
 
 /// A virtual base class.
-#[tactic(auto, unfolding(pdb_grammar::specs::Row::row, crate::specs::Rows::virtual_base_row))]
+#[tactic(auto, unfolding(crate::specs::Row::row, crate::specs::Rows::virtual_base_row))]
 pub(crate) fn parse_virtual_base_class<'t>(
     buffer: &mut ParseBuffer<'t>,
     direct: bool,
@@ -94,7 +94,7 @@ pub(crate) fn parse_virtual_base_class<'t>(
 }
 
 /// A pointer to a table of virtual functions.
-#[tactic(auto, unfolding(pdb_grammar::specs::Row::row, crate::specs::Rows::table_pointer_row))]
+#[tactic(auto, unfolding(crate::specs::Row::row, crate::specs::Rows::table_pointer_row))]
 pub(crate) fn parse_table_pointer<'t>(buffer: &mut ParseBuffer<'t>) -> Result<TypeData<'t>>
     ensures { Gives (λ t. (type_value t, left buffer.new)) result (plain_at table_pointer_row (left buffer.old)) }
 {

@@ -4,7 +4,7 @@ ghost use Rattle.std.specs.Prelude.{◌≡◌};
 ghost use Rattle.std.specs.Option.{option_map};
 ghost use Rattle.pdb_base.specs.Answer.{Gives};
 ghost use Rattle.pdb_base.specs.Place.{left};
-ghost use Rattle.pdb_grammar.specs.Shape.{read_shape, type_index, id_index, some_type, some_id, text, when};
+ghost use Rattle.pdb_records.specs.Shape.{read_shape, type_index, id_index, some_type, some_id, text, when};
 ghost use Rattle.pdb_records.specs.Rows.{low_16, low_32};
 
 use crate::constants::LF_ST_MAX;

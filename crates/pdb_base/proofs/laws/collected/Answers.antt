@@ -1,4 +1,4 @@
-use Rattle.pdb_base.proofs.Collected.{collects_all, refuses_as_first}
+use Rattle.pdb_base.proofs.lemmas.Collected.{collects_all, refuses_as_first}
 use Rattle.pdb_base.proofs.laws.collected.Goals as goal
 
 pub returns-clause-all : goal.returns-clause-all

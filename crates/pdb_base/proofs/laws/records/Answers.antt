@@ -1,4 +1,4 @@
-use Rattle.pdb_base.proofs.RecordLemmas.{read_in_turn}
+use Rattle.pdb_base.proofs.lemmas.Records.{read_in_turn}
 use Rattle.pdb_base.proofs.laws.records.Goals as goal
 
 pub returns : goal.returns

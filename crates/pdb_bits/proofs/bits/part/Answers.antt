@@ -1,6 +1,6 @@
 use Rattle.std.proofs.Common.{◌≡◌, ◌*◌, ◌%◌, ◌^◌}
 use Rattle.std.proofs.lemmas.Nat.{one_shl}
-use Rattle.pdb_bits.proofs.BitLemmas.{shifted_and_masked, bits_below, bits_of_all}
+use Rattle.pdb_bits.proofs.lemmas.Shifts.{shifted_and_masked, bits_below, bits_of_all}
 use Rattle.pdb_bits.proofs.bits.part.Goals as goal
 
 pub returns-then-count-lt32-clause-part : goal.returns-then-count-lt32-clause-part

@@ -1,6 +1,6 @@
 use Rattle.std.proofs.Common.{ℕ, List, Option, map, ap, sym, ◌∙◌}
 use Rattle.std.proofs.lemmas.Simd.{map-map}
-use Rattle.pdb_base.proofs.Collected.{ok}
+use Rattle.pdb_base.proofs.lemmas.Collected.{ok}
 use Rattle.pdb_values.specs.declared.type_data.TypeData.{TypeData}
 use Rattle.pdb_values.specs.TypeValue.{name_of}
 use Rattle.pdb_values.specs.TypeView.{type_value}

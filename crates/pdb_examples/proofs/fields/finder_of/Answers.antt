@@ -1,5 +1,5 @@
 use Rattle.std.proofs.Common.{sym}
-use Rattle.pdb_base.proofs.Collected.{ok_is}
+use Rattle.pdb_base.proofs.lemmas.Collected.{ok_is}
 use Rattle.pdb_container.proofs.LookupLemmas.{shown_first, shown_more, shown_whole}
 use Rattle.pdb_tpi.proofs.StepLemmas.{step_none}
 use Rattle.pdb_examples.proofs.fields.finder_of.Goals as goal

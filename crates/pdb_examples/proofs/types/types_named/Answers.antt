@@ -1,6 +1,6 @@
 use Rattle.std.proofs.Common.{ℕ, List, ap}
 use Rattle.std.proofs.lemmas.Result.{IfOk-weaker}
-use Rattle.pdb_base.proofs.Collected.{ok}
+use Rattle.pdb_base.proofs.lemmas.Collected.{ok}
 use Rattle.pdb_examples.proofs.types.types_named.Goals as goal
 
 pub returns : goal.returns

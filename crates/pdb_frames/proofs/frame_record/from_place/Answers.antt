@@ -2,7 +2,7 @@ use Rattle.std.proofs.Common.{◌≡◌, ◌*◌, ◌<◌, ◌∙◌, ap, drop, 
 use Rattle.std.proofs.lemmas.List.{take_rest}
 use Rattle.std.proofs.Math.Nat.{mul_comm}
 use Rattle.pdb_base.specs.Records.{spelled}
-use Rattle.pdb_base.proofs.RecordLemmas.{spelled_behind}
+use Rattle.pdb_base.proofs.lemmas.Records.{spelled_behind}
 use Rattle.pdb_frames.proofs.frame_record.from_place.Goals as goal
 
 pub returns : goal.returns

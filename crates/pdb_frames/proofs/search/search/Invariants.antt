@@ -1,6 +1,6 @@
 use Rattle.std.proofs.Common.{◌-◌, ◌/◌, ◌≤◌, length}
 use Rattle.pdb_base.specs.Records.{spelled}
-use Rattle.pdb_base.proofs.HalvingLemmas.{IsHalved}
+use Rattle.pdb_base.proofs.lemmas.Halving.{IsHalved}
 use Rattle.pdb_frames.specs.Span.{start_at}
 use Rattle.pdb_frames.proofs.search.search.Given as goal
 

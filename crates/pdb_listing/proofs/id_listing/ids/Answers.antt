@@ -1,6 +1,6 @@
 -- The table's listing, or its refusal.
 use Rattle.std.proofs.KnownBytes.{Keeps-refl}
-use Rattle.pdb_base.proofs.Refused.{passed_on}
+use Rattle.pdb_base.proofs.lemmas.Refused.{passed_on}
 use Rattle.pdb_listing.specs.Listed.{refused, walked}
 use Rattle.pdb_listing.proofs.id_listing.ids.Goals as goal
 

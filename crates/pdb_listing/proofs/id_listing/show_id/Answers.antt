@@ -1,5 +1,5 @@
 -- What stands there at each exit.
-use Rattle.pdb_base.proofs.Refused.{passed_on}
+use Rattle.pdb_base.proofs.lemmas.Refused.{passed_on}
 use Rattle.pdb_base.specs.declared.error.Error.TheVariants.{IoError}
 use Rattle.pdb_listing.proofs.ShownLemmas.{cut_record, full_cut, full_written, id_meant, id_unfound, id_unparsed, lacks_early, refuses_early, shows_record}
 use Rattle.pdb_rows.specs.IdRows.{id_row}

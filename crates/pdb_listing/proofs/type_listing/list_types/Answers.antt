@@ -1,5 +1,5 @@
 -- What stands there at each exit.
-use Rattle.pdb_base.proofs.Refused.{passed_on}
+use Rattle.pdb_base.proofs.lemmas.Refused.{passed_on}
 use Rattle.pdb_base.specs.declared.error.Error.TheVariants.{IoError}
 use Rattle.pdb_listing.proofs.ListingLemmas.{ends_cut, ends_lacking, ends_stopped, ends_whole, front_written, line_written, so_far_more}
 use Rattle.pdb_listing.proofs.type_listing.list_types.Goals as goal

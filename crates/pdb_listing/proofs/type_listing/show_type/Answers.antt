@@ -1,6 +1,6 @@
 -- What stands there at each exit.
 use Rattle.std.proofs.Common.{ap}
-use Rattle.pdb_base.proofs.Refused.{passed_on}
+use Rattle.pdb_base.proofs.lemmas.Refused.{passed_on}
 use Rattle.pdb_base.specs.declared.error.Error.TheVariants.{IoError}
 use Rattle.pdb_base.specs.declared.index.TypeIndex.{TypeIndex}
 use Rattle.pdb_listing.proofs.ListingLemmas.{front_written, line_written}

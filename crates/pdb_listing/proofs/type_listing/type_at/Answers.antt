@@ -1,5 +1,5 @@
 -- What the table shows, or its refusal.
-use Rattle.pdb_base.proofs.Refused.{passed_on}
+use Rattle.pdb_base.proofs.lemmas.Refused.{passed_on}
 use Rattle.pdb_listing.proofs.ShownLemmas.{refuses_table, shows_table}
 use Rattle.pdb_listing.specs.Lines.{type_at}
 use Rattle.pdb_listing.proofs.type_listing.type_at.Goals as goal

@@ -1,4 +1,4 @@
-use Rattle.pdb_base.proofs.Refused.{passed_on}
+use Rattle.pdb_base.proofs.lemmas.Refused.{passed_on}
 use Rattle.pdb_mapping.proofs.MapLemmas.{map_refused}
 use Rattle.pdb_mapping.proofs.map.list_map.Goals as goal
 

@@ -1,5 +1,5 @@
-use Rattle.pdb_base.proofs.Refused.{passed_on}
-use Rattle.pdb_rows.proofs.WrittenLemmas.{front_first, writes_second}
+use Rattle.pdb_base.proofs.lemmas.Refused.{passed_on}
+use Rattle.pdb_rows.proofs.lemmas.Written.{front_first, writes_second}
 use Rattle.pdb_mapping.proofs.written.write_loaded_of_internal.Goals as goal
 
 pub returns-in_err-write_address : goal.returns-in_err-write_address

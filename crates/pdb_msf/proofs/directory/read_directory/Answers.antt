@@ -1,7 +1,7 @@
 use Rattle.std.proofs.Common.{ℕ, Vec, Global, ◌≡◌, ◌*◌, length, arith, ap, ◌∙◌}
 use Rattle.pdb_msf.specs.Header.{location_pages, directory_pages}
 use Rattle.pdb_msf.proofs.PageLemmas.{page_size_bounds, pages_reach, pages_le}
-use Rattle.pdb_base.proofs.Refused.{passed_on}
+use Rattle.pdb_base.proofs.lemmas.Refused.{passed_on}
 use Rattle.pdb_msf.proofs.KindLemmas.{tells_numbers}
 use Rattle.pdb_msf.proofs.directory.read_directory.Goals as goal
 

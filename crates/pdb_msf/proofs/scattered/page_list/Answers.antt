@@ -6,7 +6,7 @@ use Rattle.std.proofs.lemmas.Nat.{mul-le}
 use Rattle.pdb_msf.specs.declared.source.SourceSlice.{SourceSlice}
 use Rattle.pdb_msf.specs.Source.{places}
 use Rattle.pdb_msf.specs.Pages.{place_of}
-use Rattle.pdb_base.proofs.Collected.{ok}
+use Rattle.pdb_base.proofs.lemmas.Collected.{ok}
 use Rattle.pdb_msf.proofs.PageLemmas.{all_places, length-all_places, places_by_index}
 use Rattle.pdb_msf.proofs.scattered.page_list.Goals as goal
 

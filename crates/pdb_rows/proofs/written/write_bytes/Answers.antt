@@ -2,7 +2,7 @@ use Rattle.std.proofs.Common.{◌≡◌, ℕ, ◌-◌, ◌++◌, List, ap, subst
 use Rattle.std.proofs.lemmas.List.{take_rest, take-append-drop}
 use Rattle.std.specs.Io.KnownBytes.{Appends, Keeps}
 use Rattle.pdb_rows.specs.Written.{IsWritten}
-use Rattle.pdb_rows.proofs.WrittenLemmas.{written_more, written_kept}
+use Rattle.pdb_rows.proofs.lemmas.Written.{written_more, written_kept}
 use Rattle.pdb_rows.proofs.written.write_bytes.Goals.{in-Ok, in-Err}
 use Rattle.pdb_rows.proofs.written.write_bytes.Goals as goal
 

@@ -1,7 +1,7 @@
 use Rattle.std.proofs.Common.{◌≡◌, ◌-◌, ◌/◌, ◌≤◌, length}
 use Rattle.pdb_base.specs.Count.{calls_of, after_calls}
 use Rattle.pdb_base.specs.Halving.{binary_digits}
-use Rattle.pdb_base.proofs.HalvingLemmas.{IsHalved}
+use Rattle.pdb_base.proofs.lemmas.Halving.{IsHalved}
 use Rattle.pdb_space.specs.Omap.{mappings_of, source_at}
 use Rattle.pdb_space.proofs.search.search.Given as goal
 

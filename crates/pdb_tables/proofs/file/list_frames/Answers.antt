@@ -1,4 +1,4 @@
-use Rattle.pdb_base.proofs.Refused.{passed_on}
+use Rattle.pdb_base.proofs.lemmas.Refused.{passed_on}
 use Rattle.pdb_tables.specs.Files.{file_frames}
 use Rattle.pdb_tables.specs.Tables.{frames_listing}
 use Rattle.pdb_tables.proofs.ListedLemmas.{refused_listed}

@@ -1,4 +1,4 @@
-use Rattle.pdb_base.proofs.Refused.{passed_on}
+use Rattle.pdb_base.proofs.lemmas.Refused.{passed_on}
 use Rattle.pdb_tables.specs.Files.{file_names}
 use Rattle.pdb_tables.specs.Listing.{whole}
 use Rattle.pdb_tables.specs.Tables.{all_names, name_lines}

@@ -1,4 +1,4 @@
-use Rattle.pdb_base.proofs.Refused.{passed_on}
+use Rattle.pdb_base.proofs.lemmas.Refused.{passed_on}
 use Rattle.pdb_tables.specs.Files.{file_sections, stream_listing}
 use Rattle.pdb_tables.specs.Tables.{sections_listing}
 use Rattle.pdb_tables.proofs.ListedLemmas.{answered_then, refused_listed, refused_then}

@@ -1,5 +1,5 @@
 -- One table behind the other.
-use Rattle.pdb_base.proofs.Refused.{passed_on}
+use Rattle.pdb_base.proofs.lemmas.Refused.{passed_on}
 use Rattle.pdb_tables.specs.Files.{both_omaps}
 use Rattle.pdb_tables.proofs.ListedLemmas.{listed_first, listed_second}
 use Rattle.pdb_tables.proofs.omap_roles.list_both.Goals as goal

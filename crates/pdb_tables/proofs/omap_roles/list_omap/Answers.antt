@@ -1,4 +1,4 @@
-use Rattle.pdb_base.proofs.Refused.{passed_on}
+use Rattle.pdb_base.proofs.lemmas.Refused.{passed_on}
 use Rattle.pdb_tables.specs.Files.{both_omaps, file_omap}
 use Rattle.pdb_tables.proofs.ListedLemmas.{refused_listed}
 use Rattle.pdb_tables.proofs.omap_roles.list_omap.Goals as goal

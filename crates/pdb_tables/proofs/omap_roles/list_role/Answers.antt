@@ -1,7 +1,7 @@
 -- The listing behind the line of the role.
 use Rattle.std.proofs.Common.{refl}
 use Rattle.std.proofs.KnownBytes.{Appends-nil}
-use Rattle.pdb_base.proofs.Refused.{passed_on}
+use Rattle.pdb_base.proofs.lemmas.Refused.{passed_on}
 use Rattle.pdb_tables.specs.Files.{role_omap}
 use Rattle.pdb_tables.proofs.ListedLemmas.{head_cut, listed_headed}
 use Rattle.pdb_tables.proofs.omap_roles.list_role.Goals as goal

@@ -1,10 +1,10 @@
 use Rattle.std.proofs.Common.{◌<◌, ◌≤◌, length, sym, ap, arith, inl, inr}
 use Rattle.pdb_base.specs.Place.{left}
-use Rattle.pdb_base.proofs.Refused.{passed_on}
+use Rattle.pdb_base.proofs.lemmas.Refused.{passed_on}
 use Rattle.pdb_roles.proofs.HeaderLemmas.{header_refused}
 use Rattle.pdb_tables.specs.Tables.{sections_listing}
 use Rattle.pdb_tables.proofs.TableLemmas.{section_next, read_first, whole_end, cut_end, no_section}
-use Rattle.pdb_rows.proofs.WrittenLemmas.{cut_more, lacks_more, written_more, written_all}
+use Rattle.pdb_rows.proofs.lemmas.Written.{cut_more, lacks_more, written_more, written_all}
 use Rattle.pdb_tables.proofs.sections.write_sections.Goals as goal
 
 pub returns-in_err-header : goal.returns-in_err-header

@@ -1,5 +1,5 @@
 use Rattle.std.proofs.Common.{◌≡◌, List, map, ap, ◌∙◌, sym}
-use Rattle.pdb_base.proofs.Collected.{ok}
+use Rattle.pdb_base.proofs.lemmas.Collected.{ok}
 use Rattle.pdb_values.specs.declared.field_list.FieldList.{FieldList}
 use Rattle.pdb_values.specs.declared.field_list.FieldList.{fold_out-FieldList}
 use Rattle.pdb_values.specs.declared.type_data.TypeData.TheVariants as variants
@@ -8,7 +8,7 @@ use Rattle.pdb_values.specs.declared.type_data.TypeData.{fold-roll-TypeData}
 use Rattle.pdb_values.specs.declared.type_data.TypeData.TheOpen.{TypeData-F}
 use Rattle.pdb_values.specs.TypeValue.{TypeValue}
 use Rattle.pdb_values.specs.TypeView.{type_value, field_list_value, view_step, list_step}
-use Rattle.pdb_values.proofs.FieldLemmas as fields
+use Rattle.pdb_values.proofs.lemmas.Fields as fields
 use Rattle.pdb_tpi.specs.Chain.{Listed, listed}
 use Rattle.pdb_tpi.proofs.fields.list_in.Goals as goal
 

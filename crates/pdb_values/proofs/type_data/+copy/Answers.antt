@@ -1,4 +1,4 @@
-use Rattle.pdb_values.proofs.FieldLemmas.{field_there}
+use Rattle.pdb_values.proofs.lemmas.Fields.{field_there}
 use Rattle.pdb_values.proofs.type_data.+copy.Goals as goal
 
 pub copy_fields-returns-in_err-copies-clause-want : goal.copy_fields-returns-in_err-copies-clause-want

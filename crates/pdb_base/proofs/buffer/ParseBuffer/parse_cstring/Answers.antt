@@ -2,7 +2,7 @@ use Rattle.std.proofs.Common.{◌≡◌, ◌∙◌, ◌+◌, ap, sym, drop, List
 use Rattle.std.proofs.lemmas.List.{drop-drop}
 use Rattle.pdb_base.specs.Place.{left}
 use Rattle.pdb_base.specs.Reading.{text_at}
-use Rattle.pdb_base.proofs.Collected.{ok}
+use Rattle.pdb_base.proofs.lemmas.Collected.{ok}
 use Rattle.pdb_base.proofs.TextLemmas.{text_found}
 use Rattle.pdb_base.proofs.buffer.ParseBuffer.parse_cstring.Goals as goal
 

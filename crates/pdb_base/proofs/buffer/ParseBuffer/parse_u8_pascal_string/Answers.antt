@@ -1,5 +1,5 @@
 use Rattle.std.proofs.Common.{◌∙◌}
-use Rattle.pdb_base.proofs.Refused.{passed_on}
+use Rattle.pdb_base.proofs.lemmas.Refused.{passed_on}
 use Rattle.pdb_base.proofs.TextLemmas.{none_left, one_read}
 use Rattle.pdb_base.proofs.buffer.ParseBuffer.parse_u8_pascal_string.Goals as goal
 

@@ -1,5 +1,5 @@
 use Rattle.std.proofs.Common.{inl, ap, ◌∙◌}
-use Rattle.pdb_base.proofs.Refused.{passed_on}
+use Rattle.pdb_base.proofs.lemmas.Refused.{passed_on}
 use Rattle.pdb_container.specs.Lookup.{Walked, is_known}
 use Rattle.pdb_container.proofs.FieldsLemmas.{fields_unfound, fields_shown}
 use Rattle.pdb_container.proofs.lookup.Lookup+TypeIndex.fields.Goals as goal

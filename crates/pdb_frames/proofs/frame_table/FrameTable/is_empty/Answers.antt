@@ -1,6 +1,6 @@
 use Rattle.std.proofs.Common.{lit<}
 use Rattle.pdb_frames.specs.Stored.{old_frame, new_frame}
-use Rattle.pdb_base.proofs.RecordLemmas.{none_where_empty}
+use Rattle.pdb_base.proofs.lemmas.Records.{none_where_empty}
 use Rattle.pdb_frames.proofs.frame_table.FrameTable.is_empty.Goals as goal
 
 pub returns-then-is_empty : goal.returns-then-is_empty

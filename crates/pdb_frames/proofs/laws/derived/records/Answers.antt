@@ -3,7 +3,7 @@ use Rattle.std.specs.Prelude.{nat_eq}
 use Rattle.std.specs.Cmp.{unsigned_Decides, booleans_Decides}
 use denote.Enum.Bare.{sameb, same_true, true_same}
 use Rattle.pdb_base.specs.Derived.{TellsApart}
-use Rattle.pdb_base.proofs.DerivedLemmas.{both, options}
+use Rattle.pdb_base.proofs.lemmas.Derived.{both, options}
 use Rattle.pdb_frames.specs.declared.frame_data.FrameData.{FrameData}
 use Rattle.pdb_frames.specs.contracts.frame_type.FrameType.{the_type}
 use Rattle.pdb_frames.proofs.laws.derived.records.Goals as goal

@@ -1,5 +1,5 @@
 use Rattle.std.proofs.Common.{inl, inr, arith}
-use Rattle.pdb_base.proofs.Refused.{passed_on}
+use Rattle.pdb_base.proofs.lemmas.Refused.{passed_on}
 use Rattle.pdb_msf.proofs.PlaceLemmas.{entry_found, entry_refused, numbers_read}
 use Rattle.pdb_msf.proofs.directory.Directory.entry.Goals as goal
 

@@ -1,6 +1,6 @@
 -- Each exit says how far the look-up came; `PlaceLemmas` says what is assigned there.
 use Rattle.std.proofs.Common.{ℕ, ap, sym, ◌∙◌, arith, Ok}
-use Rattle.pdb_base.proofs.Refused.{passed_on}
+use Rattle.pdb_base.proofs.lemmas.Refused.{passed_on}
 use Rattle.pdb_msf.proofs.PlaceLemmas.{count_read, count_missing, not_counted, size_there, no_size_there, absent_stream, unreached, stands, start_within, start_is}
 use Rattle.pdb_msf.proofs.directory.Directory.place.Goals as goal
 

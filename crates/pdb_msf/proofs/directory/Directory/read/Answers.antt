@@ -1,5 +1,5 @@
 use Rattle.std.proofs.Common.{length, ap, ◌∙◌, arith}
-use Rattle.pdb_base.proofs.Refused.{passed_on}
+use Rattle.pdb_base.proofs.lemmas.Refused.{passed_on}
 use Rattle.pdb_msf.proofs.directory.Directory.read.Goals as goal
 
 pub starts_of-requires-clause-short : goal.starts_of-requires-clause-short

@@ -3,10 +3,11 @@ use Rattle.pdb_base.specs.declared.error.Error.{Error}
 use Rattle.std.specs.List.{range_with_len}
 use Rattle.pdb_base.specs.Place.{left}
 use Rattle.pdb_base.specs.Answer.{collected}
-use Rattle.pdb_base.proofs.Refused.{passed_on}
+use Rattle.pdb_base.proofs.lemmas.Refused.{passed_on}
 use Rattle.pdb_base.specs.Refusal.{refusal_of}
 use Rattle.pdb_msf.specs.Pages.{words, page_number, page_numbers}
-use Rattle.pdb_msf.proofs.WordLemmas.{next_word, no_word, collected_more, collected_stops}
+use Rattle.pdb_msf.proofs.WordLemmas.{next_word, no_word}
+use Rattle.pdb_base.proofs.lemmas.Collected.{collected_more, collected_stops}
 use Rattle.pdb_msf.proofs.ExactLemmas.{first_there, first_refused}
 use Rattle.pdb_msf.proofs.header.Geometry.page_numbers.Goals as goal
 

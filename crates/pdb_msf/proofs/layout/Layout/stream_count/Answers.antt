@@ -1,4 +1,4 @@
-use Rattle.pdb_base.proofs.Refused.{passed_on}
+use Rattle.pdb_base.proofs.lemmas.Refused.{passed_on}
 use Rattle.pdb_msf.proofs.LayoutLemmas.{counted, uncounted}
 use Rattle.pdb_msf.proofs.layout.Layout.stream_count.Goals as goal
 

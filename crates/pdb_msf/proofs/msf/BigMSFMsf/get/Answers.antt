@@ -1,5 +1,5 @@
 use Rattle.std.proofs.Common.{◌≡◌, length, ap, sym, ◌∙◌, arith}
-use Rattle.pdb_base.proofs.Refused.{passed_on}
+use Rattle.pdb_base.proofs.lemmas.Refused.{passed_on}
 use Rattle.pdb_msf.specs.Pages.{pages}
 use Rattle.std.proofs.Common.{List, ℕ}
 use Rattle.pdb_msf.specs.Directory.{entry_view}

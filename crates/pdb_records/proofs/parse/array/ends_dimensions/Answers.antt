@@ -1,6 +1,6 @@
 use Rattle.pdb_base.specs.Place.{left}
-use Rattle.pdb_base.proofs.Refused.{passed_on}
-use Rattle.pdb_grammar.proofs.DimensionSteps.{end_unseen, end_unread, end_no, end_yes}
+use Rattle.pdb_base.proofs.lemmas.Refused.{passed_on}
+use Rattle.pdb_records.proofs.DimensionSteps.{end_unseen, end_unread, end_no, end_yes}
 use Rattle.pdb_records.proofs.parse.array.ends_dimensions.Goals as goal
 
 pub returns-in_err-peek_u8 : goal.returns-in_err-peek_u8

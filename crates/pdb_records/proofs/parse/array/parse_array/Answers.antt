@@ -1,7 +1,7 @@
 use Rattle.pdb_base.specs.Place.{left}
 use Rattle.pdb_base.specs.Reading.{number_at}
-use Rattle.pdb_grammar.specs.Shape.{type_index, read_shape}
-use Rattle.pdb_grammar.proofs.NoWant.{number_no_want, shape_no_want}
+use Rattle.pdb_records.specs.Shape.{type_index, read_shape}
+use Rattle.pdb_records.proofs.NoWant.{number_no_want, shape_no_want}
 use Rattle.pdb_records.specs.Memory.{HoldsDimension}
 use Rattle.pdb_records.proofs.MemoryLemmas.{passes_no_want, wants_on, stride_read, no_stride_read, array_there}
 use Rattle.pdb_records.proofs.parse.array.parse_array.Goals.{then-strided+in_ok-parse_u32, else-strided}

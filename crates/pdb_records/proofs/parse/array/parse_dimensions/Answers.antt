@@ -1,9 +1,9 @@
 use Rattle.std.proofs.Common.{inl, inr, ◌∙◌}
 use Rattle.pdb_base.specs.Place.{left}
-use Rattle.pdb_base.proofs.Refused.{passed_on}
-use Rattle.pdb_grammar.specs.Dimensions.{dimension_at, end_at}
-use Rattle.pdb_grammar.proofs.DimensionSteps.{step_refused, loop_ends, loop_fails, loop_goes, loop_shorter}
-use Rattle.pdb_grammar.proofs.NoWant.{dimension_no_want, end_no_want}
+use Rattle.pdb_base.proofs.lemmas.Refused.{passed_on}
+use Rattle.pdb_records.specs.Dimensions.{dimension_at, end_at}
+use Rattle.pdb_records.proofs.DimensionSteps.{step_refused, loop_ends, loop_fails, loop_goes, loop_shorter}
+use Rattle.pdb_records.proofs.NoWant.{dimension_no_want, end_no_want}
 use Rattle.pdb_records.specs.Memory.{HoldsDimension}
 use Rattle.pdb_records.proofs.MemoryLemmas.{passes_no_want, holds_now, dimension_there}
 use Rattle.pdb_records.proofs.parse.array.parse_dimensions.Goals as goal

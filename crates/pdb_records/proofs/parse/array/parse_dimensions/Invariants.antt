@@ -2,8 +2,8 @@
 -- dimension is there.
 use Rattle.std.proofs.Common.{◌≡◌, ◌⊎◌, length}
 use Rattle.pdb_base.specs.Place.{left}
-use Rattle.pdb_grammar.specs.Dimensions.{dimensions_at}
-use Rattle.pdb_grammar.proofs.StepLemmas.{behind}
+use Rattle.pdb_records.specs.Dimensions.{dimensions_at}
+use Rattle.pdb_records.proofs.StepLemmas.{behind}
 use Rattle.pdb_records.specs.Memory.{HoldsDimension}
 use Rattle.pdb_records.proofs.parse.array.parse_dimensions.Given as goal
 

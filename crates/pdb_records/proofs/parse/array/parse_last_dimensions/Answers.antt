@@ -1,6 +1,6 @@
 use Rattle.pdb_base.specs.Place.{left}
-use Rattle.pdb_grammar.specs.Padding.{padding_at}
-use Rattle.pdb_grammar.proofs.NoWant.{padding_no_want}
+use Rattle.pdb_records.specs.Padding.{padding_at}
+use Rattle.pdb_records.proofs.NoWant.{padding_no_want}
 use Rattle.pdb_records.proofs.MemoryLemmas.{passes_no_want}
 use Rattle.pdb_records.proofs.parse.array.parse_last_dimensions.Goals as goal
 

@@ -1,8 +1,8 @@
 use Rattle.std.proofs.Common.{◌≢◌, [], refl, ◌∙◌}
 use Rattle.std.proofs.lemmas.Bool.{false≢true}
 use Rattle.pdb_base.specs.Place.{left}
-use Rattle.pdb_base.proofs.Refused.{passed_on}
-use Rattle.pdb_grammar.proofs.DimensionSteps.{peeked_some, padding_none, padding_ends, padding_cut, padding_step}
+use Rattle.pdb_base.proofs.lemmas.Refused.{passed_on}
+use Rattle.pdb_records.proofs.DimensionSteps.{peeked_some, padding_none, padding_ends, padding_cut, padding_step}
 use Rattle.pdb_records.proofs.parse.array.skip_padding.Goals as goal
 
 pub returns-in_err-byte : goal.returns-in_err-byte

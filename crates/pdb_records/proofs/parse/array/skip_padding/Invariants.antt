@@ -1,7 +1,7 @@
 -- What is left has the same padding in front.
 use Rattle.std.proofs.Common.{◌≡◌, length}
 use Rattle.pdb_base.specs.Place.{left}
-use Rattle.pdb_grammar.specs.Padding.{padding_at}
+use Rattle.pdb_records.specs.Padding.{padding_at}
 use Rattle.pdb_records.proofs.parse.array.skip_padding.Given as goal
 
 abbrev pub invariant-loop-buffer : goal.invariant-loop-buffer

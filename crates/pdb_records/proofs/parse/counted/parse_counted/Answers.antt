@@ -1,8 +1,8 @@
 use Rattle.std.proofs.Common.{inl, refl, ◌∙◌, sym}
 use Rattle.pdb_base.specs.Place.{left}
 use Rattle.pdb_base.specs.Repeated.{repeated}
-use Rattle.pdb_base.proofs.Refused.{passed_on}
-use Rattle.pdb_grammar.specs.Shape.{index_at}
+use Rattle.pdb_base.proofs.lemmas.Refused.{passed_on}
+use Rattle.pdb_records.specs.Shape.{index_at}
 use Rattle.pdb_records.specs.Counted.{count_bytes}
 use Rattle.pdb_records.proofs.ListLemmas.{cause_is}
 use Rattle.pdb_records.proofs.CountedLemmas.{number_is_no_want, counted_is, counted_cut}

@@ -1,10 +1,10 @@
 use Rattle.std.proofs.Common.{◌≡◌, ℕ, ◌+◌, ◌-◌, ◌<◌, ◌∷◌, ◌++◌, [], length, ap, ◌∙◌, inl, arith}
 use Rattle.std.proofs.lemmas.List.{length_push}
 use Rattle.pdb_base.specs.Place.{left}
-use Rattle.pdb_base.proofs.Refused.{passed_on}
+use Rattle.pdb_base.proofs.lemmas.Refused.{passed_on}
 use Rattle.pdb_base.specs.Repeated.{repeated}
-use Rattle.pdb_grammar.specs.Shape.{index_at}
-use Rattle.pdb_grammar.proofs.StepLemmas.{behind, repeated_step, repeated_stops}
+use Rattle.pdb_records.specs.Shape.{index_at}
+use Rattle.pdb_records.proofs.StepLemmas.{behind, repeated_step, repeated_stops}
 use Rattle.pdb_records.proofs.parse.counted.parse_held_indexes.Goals as goal
 
 pub returns-in_err-parse_index-clause-read : goal.returns-in_err-parse_index-clause-read

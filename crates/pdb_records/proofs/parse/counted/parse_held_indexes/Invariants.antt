@@ -2,8 +2,8 @@
 use Rattle.std.proofs.Common.{◌≡◌, ◌-◌, ◌≤◌, length}
 use Rattle.pdb_base.specs.Place.{left}
 use Rattle.pdb_base.specs.Repeated.{repeated}
-use Rattle.pdb_grammar.specs.Shape.{index_at}
-use Rattle.pdb_grammar.proofs.StepLemmas.{behind}
+use Rattle.pdb_records.specs.Shape.{index_at}
+use Rattle.pdb_records.proofs.StepLemmas.{behind}
 use Rattle.pdb_records.proofs.parse.counted.parse_held_indexes.Given as goal
 
 abbrev pub invariant-loop-indexes : goal.invariant-loop-indexes

@@ -1,6 +1,6 @@
 use Rattle.std.proofs.Common.{inl, arith}
 use Rattle.pdb_base.specs.Place.{left}
-use Rattle.pdb_grammar.proofs.StepLemmas.{indexes_short, indexes_item}
+use Rattle.pdb_records.proofs.StepLemmas.{indexes_short, indexes_item}
 use Rattle.pdb_records.proofs.parse.counted.parse_indexes.Goals as goal
 
 pub returns-then-len-count-clause-read : goal.returns-then-len-count-clause-read

@@ -1,6 +1,6 @@
 use Rattle.pdb_base.specs.Place.{left}
-use Rattle.pdb_grammar.specs.Row.{row}
-use Rattle.pdb_grammar.proofs.NoWant.{row_no_want}
+use Rattle.pdb_records.specs.Row.{row}
+use Rattle.pdb_records.proofs.NoWant.{row_no_want}
 use Rattle.pdb_records.specs.Rows.{continuation_row}
 use Rattle.pdb_records.proofs.MemoryLemmas.{passes_no_want}
 use Rattle.pdb_records.proofs.parse.fields.parse_behind_entry.Goals as goal

@@ -1,9 +1,9 @@
 use Rattle.pdb_base.specs.Place.{left}
 use Rattle.pdb_base.specs.Reading.{number_at}
-use Rattle.pdb_grammar.specs.Padding.{padding_at}
-use Rattle.pdb_grammar.specs.Shape.{u16}
-use Rattle.pdb_grammar.proofs.NoWant.{number_no_want, padding_no_want}
-use Rattle.pdb_grammar.proofs.ShapeLaws.{shapes}
+use Rattle.pdb_records.specs.Padding.{padding_at}
+use Rattle.pdb_records.specs.Shape.{u16}
+use Rattle.pdb_records.proofs.NoWant.{number_no_want, padding_no_want}
+use Rattle.pdb_records.proofs.ShapeLaws.{shapes}
 use Rattle.pdb_records.proofs.MemoryLemmas.{passes_no_want, wants_as}
 use Rattle.pdb_records.proofs.parse.fields.parse_field.Goals as goal
 

@@ -2,8 +2,8 @@
 -- none of them is a field, or the list holds an item.
 use Rattle.std.proofs.Common.{◌≡◌, List, length}
 use Rattle.pdb_base.specs.Place.{left}
-use Rattle.pdb_grammar.specs.ToEnd.{to_end}
-use Rattle.pdb_grammar.proofs.StepLemmas.{behind}
+use Rattle.pdb_records.specs.ToEnd.{to_end}
+use Rattle.pdb_records.proofs.StepLemmas.{behind}
 use Rattle.pdb_records.specs.Fields.{Entry, fields_among, continuation_of, field_at}
 use Rattle.pdb_values.specs.TypeView.{fields_value}
 use Rattle.pdb_records.proofs.MemoryLemmas.{NoFieldYet}

@@ -1,5 +1,5 @@
 use Rattle.pdb_base.specs.Place.{left}
-use Rattle.pdb_grammar.specs.Shape.{as_id, as_type}
+use Rattle.pdb_records.specs.Shape.{as_id, as_type}
 use Rattle.pdb_values.specs.IdValue as values
 use Rattle.pdb_records.specs.declared.parse.counted.CountWidth.TheVariants.{Bits16, Bits32}
 use Rattle.pdb_records.specs.Counted.{counted_at}

@@ -1,6 +1,6 @@
 use Rattle.std.proofs.Common.{◌∙◌, sym}
 use Rattle.pdb_base.specs.Place.{left}
-use Rattle.pdb_base.proofs.Refused.{passed_on}
+use Rattle.pdb_base.proofs.lemmas.Refused.{passed_on}
 use Rattle.pdb_records.proofs.ListLemmas.{cause_is}
 use Rattle.pdb_records.proofs.CountedLemmas.{number_is_no_want}
 use Rattle.pdb_records.proofs.parse.id_data.parse_id_record.Goals as goal

@@ -1,9 +1,9 @@
 use Rattle.std.proofs.Common.{◌≡◌, ◌≢◌, [], inl, inr, refl, ◌∙◌}
 use Rattle.std.proofs.lemmas.Bool.{false≢true}
 use Rattle.pdb_base.specs.Place.{left}
-use Rattle.pdb_grammar.specs.Row.{row}
-use Rattle.pdb_grammar.proofs.NoWant.{row_no_want}
-use Rattle.pdb_grammar.proofs.StepLemmas.{to_end_stops}
+use Rattle.pdb_records.specs.Row.{row}
+use Rattle.pdb_records.proofs.NoWant.{row_no_want}
+use Rattle.pdb_records.proofs.StepLemmas.{to_end_stops}
 use Rattle.pdb_records.specs.Rows.{listed_method_row}
 use Rattle.pdb_records.specs.Memory.{HoldsMethod}
 use Rattle.pdb_records.proofs.ListLemmas.{method_shorter, methods_end, methods_step}

@@ -2,9 +2,9 @@
 -- method is there.
 use Rattle.std.proofs.Common.{◌≡◌, ◌⊎◌, length}
 use Rattle.pdb_base.specs.Place.{left}
-use Rattle.pdb_grammar.specs.Row.{row}
-use Rattle.pdb_grammar.specs.ToEnd.{to_end}
-use Rattle.pdb_grammar.proofs.StepLemmas.{behind}
+use Rattle.pdb_records.specs.Row.{row}
+use Rattle.pdb_records.specs.ToEnd.{to_end}
+use Rattle.pdb_records.proofs.StepLemmas.{behind}
 use Rattle.pdb_records.specs.Rows.{listed_method_row}
 use Rattle.pdb_records.specs.Memory.{HoldsMethod}
 use Rattle.pdb_records.proofs.parse.list.parse_method_list.Given as goal

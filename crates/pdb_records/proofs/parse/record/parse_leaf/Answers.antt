@@ -1,5 +1,5 @@
 use Rattle.pdb_base.specs.Place.{left}
-use Rattle.pdb_grammar.specs.Shape.{as_type}
+use Rattle.pdb_records.specs.Shape.{as_type}
 use Rattle.pdb_records.specs.declared.parse.counted.CountWidth.TheVariants.{Bits32}
 use Rattle.pdb_records.specs.Counted.{counted_at}
 use Rattle.pdb_records.specs.Leaves.{row_of}

@@ -3,9 +3,9 @@ use Rattle.pdb_base.specs.Place.{left}
 use Rattle.pdb_base.specs.Reading.{number_at}
 use Rattle.pdb_base.specs.Refusal.{refusal_of}
 use Rattle.pdb_base.specs.Repeated.{repeated}
-use Rattle.pdb_base.proofs.FrontLaws.{front_is_bytes}
-use Rattle.pdb_base.proofs.Refused.{passed_on}
-use Rattle.pdb_grammar.specs.Row.{row}
+use Rattle.pdb_base.proofs.lemmas.Front.{front_is_bytes}
+use Rattle.pdb_base.proofs.lemmas.Refused.{passed_on}
+use Rattle.pdb_records.specs.Row.{row}
 use Rattle.pdb_values.specs.declared.table_shape.VirtualTableShapeType.{VirtualTableShapeType}
 use Rattle.pdb_values.specs.declared.type_data.TypeData.{fold-roll-TypeData}
 use Rattle.pdb_values.specs.declared.type_data.TypeData.TheVariants.{VirtualTableShape, rolls-VirtualTableShape}

@@ -1,6 +1,6 @@
 use Rattle.pdb_base.specs.Place.{left}
 use Rattle.pdb_base.specs.Reading.{number_at}
-use Rattle.pdb_grammar.proofs.NoWant.{number_no_want}
+use Rattle.pdb_records.proofs.NoWant.{number_no_want}
 use Rattle.pdb_records.proofs.MemoryLemmas.{passes_no_want, needs_fields, needs_behind}
 use Rattle.pdb_records.proofs.parse.type_data.parse_record.Goals as goal
 

@@ -1,5 +1,5 @@
 use Rattle.std.proofs.Common.{sym, ◌∙◌}
-use Rattle.pdb_base.proofs.Refused.{passed_on}
+use Rattle.pdb_base.proofs.lemmas.Refused.{passed_on}
 use Rattle.pdb_roles.proofs.EndLemmas.{no_want_before, cause_is}
 use Rattle.pdb_roles.proofs.information.PDBInformation.stream_names.Goals as goal
 

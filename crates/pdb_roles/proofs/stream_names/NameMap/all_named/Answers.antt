@@ -1,8 +1,7 @@
 use Rattle.std.proofs.Common.{◌∙◌, ap, sym, arith, inl, List, [], ◌∷◌, map}
 use Rattle.std.proofs.lemmas.List.{map-append}
-use Rattle.pdb_base.proofs.Collected.{ok}
-use Rattle.pdb_base.proofs.Refused.{passed_on}
-use Rattle.pdb_msf.proofs.WordLemmas.{collected_more, collected_stops}
+use Rattle.pdb_base.proofs.lemmas.Collected.{ok, collected_more, collected_stops}
+use Rattle.pdb_base.proofs.lemmas.Refused.{passed_on}
 use Rattle.pdb_roles.specs.StreamNames.{Named, map_view, named_at, named_in, named_view}
 use Rattle.pdb_roles.proofs.stream_names.NameMap.all_named.Goals as goal
 

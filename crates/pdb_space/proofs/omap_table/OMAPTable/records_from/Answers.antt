@@ -1,5 +1,5 @@
 use Rattle.std.proofs.Common.{◌*◌, ◌∙◌, ap, drop, List, lit<, arith}
-use Rattle.pdb_base.proofs.RecordLemmas.{spelled_behind}
+use Rattle.pdb_base.proofs.lemmas.Records.{spelled_behind}
 use Rattle.pdb_space.specs.Omap.{Mapping, mapping_of, mappings_of}
 use Rattle.pdb_space.proofs.RecordLemmas.{from_place}
 use Rattle.pdb_space.proofs.omap_table.OMAPTable.records_from.Goals as goal

@@ -1,5 +1,5 @@
 use Rattle.std.proofs.Common.{sym, ap, ◌∙◌}
-use Rattle.pdb_base.proofs.Collected.{ok}
+use Rattle.pdb_base.proofs.lemmas.Collected.{ok}
 use Rattle.pdb_space.specs.StringTable.{names_of}
 use Rattle.pdb_space.proofs.StringTableLemmas.{names_held}
 use Rattle.pdb_space.proofs.string_table.StringTable.parse.Goals as goal

@@ -2,7 +2,7 @@ use Rattle.std.proofs.Common.{◌≡◌, ◌-◌, ◌/◌, ◌≤◌, ◌<◌, l
 use Rattle.pdb_base.specs.Count.{calls_of}
 use Rattle.pdb_tpi.specs.declared.header.Header.{Header}
 use Rattle.pdb_tpi.specs.Finder.{block_of, max_index_of, reads_of}
-use Rattle.pdb_base.proofs.CountLemmas.{few_calls}
+use Rattle.pdb_base.proofs.lemmas.Count.{few_calls}
 use Rattle.pdb_tpi.proofs.FinderLemmas.{find_below, reads_below, find_above, reads_above, find_unknown, reads_unknown, found_by, counted_by, few_reads}
 use Rattle.pdb_tpi.proofs.finder.ItemFinder.find_counted.Goals as goal
 

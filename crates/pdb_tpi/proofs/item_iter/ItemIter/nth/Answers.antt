@@ -1,10 +1,10 @@
 use Rattle.std.proofs.Common.{◌≡◌, ◌+◌, ◌≤◌, sym, ap, ◌∙◌, arith}
 use Rattle.pdb_base.specs.Count.{calls_of, one_more}
-use Rattle.pdb_base.proofs.Refused.{passed_on}
+use Rattle.pdb_base.proofs.lemmas.Refused.{passed_on}
 use Rattle.pdb_tpi.specs.Table.{Table}
 use Rattle.pdb_tpi.specs.Steps.{Stand, place_of, nth_item, reads_one}
 use Rattle.pdb_tpi.proofs.StepLemmas.{nth_further, nth_err}
-use Rattle.pdb_base.proofs.CountLemmas.{one_call}
+use Rattle.pdb_base.proofs.lemmas.Count.{one_call}
 use Rattle.pdb_tpi.proofs.CountLemmas.{nth_within, reads_item, last_count}
 use Rattle.pdb_tpi.proofs.item_iter.ItemIter.nth.Goals as goal
 

@@ -1,6 +1,6 @@
 use Rattle.std.proofs.Common.{ℕ, ◌≤◌, ◌^◌, List, ap, sym, ◌∙◌, arith}
 use Rattle.pdb_base.specs.Count.{calls_of}
-use Rattle.pdb_base.proofs.Refused.{passed_on}
+use Rattle.pdb_base.proofs.lemmas.Refused.{passed_on}
 use Rattle.pdb_tpi.specs.Walk.{first_item}
 use Rattle.pdb_tpi.proofs.FrontLemmas.{front_item}
 use Rattle.pdb_tpi.proofs.WalkLemmas.{place_end, place_full, place_next, read_next, read_fault, read_full, reads_next, reads_behind, counted}

@@ -1,5 +1,5 @@
 use Rattle.std.proofs.Common.{◌≢◌, [], drop, refl, sym, ap, ◌∙◌}
-use Rattle.pdb_base.proofs.Refused.{passed_on}
+use Rattle.pdb_base.proofs.lemmas.Refused.{passed_on}
 use Rattle.pdb_tpi.specs.Steps.{Stand}
 use Rattle.pdb_tpi.proofs.StepLemmas.{none_left, some_left, step_ends, step_faults, step_gives, leaves_fewer}
 use Rattle.pdb_tpi.proofs.item_iter.ItemIterFallibleIterator.next.Goals as goal

@@ -1,6 +1,6 @@
 use Rattle.std.proofs.Common.{ap}
 use Rattle.std.specs.Cmp.{unsigned_Decides}
-use Rattle.pdb_base.proofs.DerivedLemmas.{both}
+use Rattle.pdb_base.proofs.lemmas.Derived.{both}
 use Rattle.pdb_tpi.specs.declared.header.Header.{Header}
 use Rattle.pdb_tpi.proofs.DerivedLemmas.{slices}
 use Rattle.pdb_tpi.proofs.laws.derived.headers.Goals as goal

@@ -7,7 +7,7 @@ use denote.Enum.Bare.{sameb, same_true, true_same}
 use Rattle.pdb_base.specs.declared.index.TypeIndex.{TypeIndex}
 use Rattle.pdb_base.specs.declared.raw_string.RawString.{RawString}
 use Rattle.pdb_base.specs.Derived.{TellsApart}
-use Rattle.pdb_base.proofs.DerivedLemmas.{both, options}
+use Rattle.pdb_base.proofs.lemmas.Derived.{both, options}
 use Rattle.pdb_values.specs.Text.{text_bytes}
 use Rattle.pdb_values.specs.Class.{ClassValue}
 use Rattle.pdb_values.specs.Derived.{TellsApartBy}

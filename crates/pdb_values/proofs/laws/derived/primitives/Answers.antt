@@ -1,7 +1,7 @@
 use Rattle.std.proofs.Common.{ap}
 use denote.Enum.Bare.{sameb, same_true, true_same}
 use Rattle.pdb_base.specs.Derived.{TellsApart}
-use Rattle.pdb_base.proofs.DerivedLemmas.{both, options}
+use Rattle.pdb_base.proofs.lemmas.Derived.{both, options}
 use Rattle.pdb_values.specs.declared.primitive.PrimitiveType.{PrimitiveType}
 use Rattle.pdb_values.specs.contracts.primitive.PrimitiveKind.{the_type}
 use Rattle.pdb_values.specs.contracts.primitive.Indirection as indirection

@@ -1,6 +1,0 @@
-use Rattle.pdb_base.specs.Refusal.{out_of_memory}
-use Rattle.pdb_grammar.proofs.NoWant.{stops_fault}
-use Rattle.pdb_grammar.proofs.laws.refusals.Goals as goal
-
-pub returns : goal.returns
-returns g c = record { faults = stops_fault; want = λ r bytes. stops_fault r bytes out_of_memory }
