@@ -1,5 +1,5 @@
 -- The lemmas that proofs here and in the crates above want again and again: on answers, bytes, records, counts
--- and searches by halving. They are public, as those of std are; no other module of `proofs` is.
+-- and searches by halving. They are public, as those of std are.
 pub mod Collected
 pub mod Count
 pub mod Derived

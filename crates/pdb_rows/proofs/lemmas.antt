@@ -1,3 +1,3 @@
--- The lemmas of which every listing is proved: what stands behind a writer after some lines. They are public, as those
--- of std are; no other module of `proofs` is.
+-- The lemmas of which every listing is proved: what stands behind a writer after some lines. They are public,
+-- as those of std are.
 pub mod Written
