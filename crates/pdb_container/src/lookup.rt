@@ -7,6 +7,7 @@ ghost use Rattle.pdb_tpi.specs.Finder.{known_first, item_of};
 ghost use Rattle.pdb_tpi.specs.Chain.{fields_of};
 ghost use Rattle.pdb_values.specs.TypeView.{type_value};
 ghost use Rattle.pdb_container.specs.Lookup.{IsShown, is_known};
+ghost use Rattle.pdb_tpi.specs.Item.{bytes_of, index_of};
 
 use pdb_base::{Error, FallibleIterator, ItemIndex, Result, TypeIndex};
 use pdb_tpi::{Item, ItemFinder, ItemInformation, ItemIter, TypeInformation};
@@ -114,8 +115,8 @@ impl<'t, I: ItemIndex> Lookup<'t, I> {
     /// `TypeNotFound` from the table's maximum on; the refusal at which the walk stops before the item;
     /// `UnexpectedEof` if the walk ends before the item.
     pub fn item(&mut self, index: I) -> Result<Item<'t, I>>
-        ensures item { Gives (λ item. item.bytes.now) result (item_of self.old.table (I.number index)) }
-        ensures index { IfOk result (λ item. item.index ≡ index) }
+        ensures item { Gives bytes_of result (item_of self.old.table (I.number index)) }
+        ensures index { IfOk result (λ item. index_of item ≡ index) }
         ensures table { self.new.table ≡ self.old.table }
     {
         self.learn(index)?;
@@ -150,8 +151,8 @@ pub fn look_up<'t, I: ItemIndex>(
     table: &'t ItemInformation<I>,
     index: I,
 ) -> Result<Item<'t, I>>
-    ensures item { Answers (λ item. item.bytes.now) result (item_of table.now (I.number index)) }
-    ensures index { IfOk result (λ item. item.index ≡ index) }
+    ensures item { Answers bytes_of result (item_of table.now (I.number index)) }
+    ensures index { IfOk result (λ item. index_of item ≡ index) }
 {
     Lookup::new(alloc, table)?.item(index)
 }

@@ -4,6 +4,7 @@ ghost use Rattle.std.specs.Prelude.{◌≡◌, Ok};
 ghost use Rattle.std.specs.Option.{option_map};
 ghost use Rattle.pdb_values.specs.Text.{text_bytes};
 ghost use Rattle.pdb_values.specs.IdValue.{id_name, id_value};
+ghost use Rattle.pdb_tpi.specs.Item.{bytes_of, index_of};
 ghost use Rattle.pdb_tpi.specs.Record.{kind_of};
 ghost use Rattle.pdb_container.specs.Reply.{Replies, entry, id_in, type_in};
 
@@ -21,7 +22,7 @@ fn reply<I: ItemIndex>(
     item: &Item<'_, I>,
     name: Option<RawString<'_>>,
 ) -> Result<Reply>
-    ensures { Replies result (Ok (entry (I.number item.now.index) (kind_of item.now.bytes.now) (option_map text_bytes name.entry))) }
+    ensures { Replies result (Ok (entry (I.number (index_of item.now)) (kind_of (bytes_of item.now)) (option_map text_bytes name.entry))) }
 {
     Ok(Reply::Record {
         index: item.index().into(),

@@ -2,6 +2,7 @@
 
 ghost use Rattle.std.specs.Prelude.{◌≡◌, ◌++◌, IfErr, OnOk};
 ghost use Rattle.pdb_listing.specs.Lines.{id_line, type_line};
+ghost use Rattle.pdb_tpi.specs.Item.{bytes_of, index_of};
 
 use crate::refused::push_refused;
 use pdb_base::{Error, IdIndex, Result, TypeIndex};
@@ -20,7 +21,7 @@ pub(crate) fn push_type(
     item: &Item<'_, TypeIndex>,
     line: &mut Vec<u8>,
 ) -> Result<()>
-    ensures ok { OnOk result (line.new.items ≡ line.old.items ++ type_line form item.now.index.0 item.now.bytes.now) }
+    ensures ok { OnOk result (line.new.items ≡ line.old.items ++ type_line form (index_of item.now).0 (bytes_of item.now)) }
     ensures want { IfErr result (λ e. e ≡ Error.OutOfMemory) }
 {
     let index = item.index().0;
@@ -46,7 +47,7 @@ pub(crate) fn push_id(
     item: &Item<'_, IdIndex>,
     line: &mut Vec<u8>,
 ) -> Result<()>
-    ensures ok { OnOk result (line.new.items ≡ line.old.items ++ id_line form item.now.index.0 item.now.bytes.now) }
+    ensures ok { OnOk result (line.new.items ≡ line.old.items ++ id_line form (index_of item.now).0 (bytes_of item.now)) }
     ensures want { IfErr result (λ e. e ≡ Error.OutOfMemory) }
 {
     let index = item.index().0;

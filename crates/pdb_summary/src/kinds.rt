@@ -4,6 +4,7 @@ ghost use Rattle.std.specs.Prelude.{◌≡◌, ℕ, ◌+◌, ◌<◌, ◌≤◌,
 ghost use Rattle.std.specs.List.{range_with_len};
 ghost use Rattle.pdb_summary.specs.Kinds.{goes_on, present, ranked};
 ghost use Rattle.pdb_summary.specs.Tally.{IsTally, IsWalked};
+ghost use Rattle.pdb_tpi.specs.Item.{bytes_of, index_of};
 
 use pdb_base::{Error, FallibleIterator, Result, TypeIndex};
 use pdb_records::constants::LF_FIELDLIST;
@@ -91,7 +92,7 @@ fn zeros(alloc: Global, count: usize) -> Result<Vec<u64>>
 /// Whether a record is a list of fields that goes on in another.
 #[tactic(auto, unfolding(crate::specs::Kinds::goes_on))]
 fn goes_on(alloc: Global, item: &Item<'_, TypeIndex>) -> Result<bool>
-    ensures ok { IfOk result (λ is. is ≡ goes_on item.now.index.0 item.now.bytes.now) }
+    ensures ok { IfOk result (λ is. is ≡ goes_on (index_of item.now).0 (bytes_of item.now)) }
     ensures want { IfErr result (λ e. e ≡ Error.OutOfMemory) }
 {
     if item.raw_kind() != LF_FIELDLIST {

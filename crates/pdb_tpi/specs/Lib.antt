@@ -4,6 +4,7 @@ pub mod Walk
 pub mod Steps
 pub mod Place
 pub mod Finder
+pub mod Item
 pub mod Record
 pub mod Chain
 pub mod Laws

@@ -3,6 +3,7 @@
 ghost use Rattle.std.specs.Prelude.{◌≡◌, ◌+◌, ◌≤◌, All, length, map, vec_capacity, IsOk, IfOk, Ok};
 ghost use Rattle.pdb_base.specs.Answer.{Answers, Gives};
 ghost use Rattle.pdb_base.specs.Count.{calls_of, after_calls};
+ghost use Rattle.pdb_tpi.specs.Item.{bytes_of, index_of};
 ghost use Rattle.pdb_tpi.specs.Steps.{Stand};
 ghost use Rattle.pdb_tpi.specs.Table.{count_of};
 ghost use Rattle.pdb_tpi.specs.Place.{ArePlaces};
@@ -141,8 +142,8 @@ impl<'t, I: ItemIndex> ItemFinder<'t, I> {
     /// known; if the walk stops before the item, the refusal at which it stops; `UnexpectedEof`
     /// if it ends before the item.
     pub fn find_counted(&self, index: I, count: &mut Count) -> Result<Item<'t, I>>
-        ensures item { Gives (λ item. item.bytes.now) result (find_of self.now.table self.now.known (I.number index)) }
-        ensures index { IfOk result (λ item. item.index ≡ index) }
+        ensures item { Gives bytes_of result (find_of self.now.table self.now.known (I.number index)) }
+        ensures index { IfOk result (λ item. index_of item ≡ index) }
         ensures counted { calls_of count.new ≡ after_calls (reads_of self.now.table self.now.known (I.number index)) (calls_of count.old) }
         ensures few { calls_of count.new ≤ calls_of count.old + 8 }
     {
@@ -172,8 +173,8 @@ impl<'t, I: ItemIndex> ItemFinder<'t, I> {
     /// # Errors
     /// As `find_counted`.
     pub fn find(&self, index: I) -> Result<Item<'t, I>>
-        ensures item { Gives (λ item. item.bytes.now) result (find_of self.now.table self.now.known (I.number index)) }
-        ensures index { IfOk result (λ item. item.index ≡ index) }
+        ensures item { Gives bytes_of result (find_of self.now.table self.now.known (I.number index)) }
+        ensures index { IfOk result (λ item. index_of item ≡ index) }
     {
         self.find_counted(index, &mut Count::new())
     }

@@ -9,6 +9,7 @@ ghost use Rattle.pdb_values.specs.IdValue.{IdValue, id_value};
 ghost use Rattle.pdb_records.specs.Ids.{IsId, NoId};
 ghost use Rattle.pdb_records.specs.IdLists.{item_count, HoldsIdItem, IsCutIdList};
 ghost use Rattle.pdb_records.specs.Assigned.{SaysAssigned, ShowsOrLacks, RefusesOrLacks};
+ghost use Rattle.pdb_tpi.specs.Item.{bytes_of};
 ghost use Rattle.pdb_tpi.specs.Record.{id_of};
 
 use crate::item::Item;
@@ -27,13 +28,13 @@ impl<'t> Item<'t, IdIndex> {
     /// no record here; and `OutOfMemory` if memory for a list that the bytes hold is refused.
     #[tactic(auto, unfolding(crate::specs::Record::id_of))]
     pub fn parse(&self, alloc: Global) -> Result<IdData<'t>>
-        ensures read { Answers id_value result (id_of self.now.bytes.now) }
-        ensures answers { SaysAssigned id_value (IsId self.now.bytes.now) (NoId self.now.bytes.now) result }
-        ensures answered { (value : IdValue) (rest : List ℕ) → IsId self.now.bytes.now value rest → ShowsOrLacks id_value value result }
-        ensures refused { (refusal : Refusal) → NoId self.now.bytes.now refusal → RefusesOrLacks refusal result }
-        ensures want { LacksOnlyIf result (HoldsIdItem self.now.bytes.now) }
-        ensures cut { IsCutIdList self.now.bytes.now → result ≡ Err UnexpectedEof }
-        ensures short { IfOk result (λ id. 2 * item_count (id_value id) ≤ length self.now.bytes.now) }
+        ensures read { Answers id_value result (id_of (bytes_of self.now)) }
+        ensures answers { SaysAssigned id_value (IsId (bytes_of self.now)) (NoId (bytes_of self.now)) result }
+        ensures answered { (value : IdValue) (rest : List ℕ) → IsId (bytes_of self.now) value rest → ShowsOrLacks id_value value result }
+        ensures refused { (refusal : Refusal) → NoId (bytes_of self.now) refusal → RefusesOrLacks refusal result }
+        ensures want { LacksOnlyIf result (HoldsIdItem (bytes_of self.now)) }
+        ensures cut { IsCutIdList (bytes_of self.now) → result ≡ Err UnexpectedEof }
+        ensures short { IfOk result (λ id. 2 * item_count (id_value id) ≤ length (bytes_of self.now)) }
     {
         parse_id_data(alloc, self.bytes)
     }

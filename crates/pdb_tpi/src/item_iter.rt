@@ -3,6 +3,7 @@
 ghost use Rattle.std.specs.Prelude.{◌≡◌, ◌+◌, ◌≤◌, ℕ, length, nat_lt, ⊤, if◌then◌else◌, IfOk, OnOk, OnErr};
 ghost use Rattle.pdb_base.specs.Answer.{Gives};
 ghost use Rattle.pdb_base.specs.Count.{calls_of, one_more, after_calls};
+ghost use Rattle.pdb_tpi.specs.Item.{bytes_of, index_of};
 ghost use Rattle.pdb_tpi.specs.Walk.{first_item};
 ghost use Rattle.pdb_tpi.specs.Steps.{Stand, walk, place_of, nth_item, IsStep, reads_one};
 ghost use Rattle.pdb_tpi.specs.Finder.{reads_between};
@@ -75,8 +76,8 @@ impl<'t, I: ItemIndex> ItemIter<'t, I> {
 
     /// The next item, or the fault at which the walk stops before it.
     pub(crate) fn read(&mut self, count: &mut Count) -> Result<Item<'t, I>>
-        ensures item { Gives (λ item. item.bytes.now) result (nth_item self.old.table (place_of self.old)) }
-        ensures index { IfOk result (λ item. I.number item.index ≡ self.old.index) }
+        ensures item { Gives bytes_of result (nth_item self.old.table (place_of self.old)) }
+        ensures index { IfOk result (λ item. I.number (index_of item) ≡ self.old.index) }
         ensures moved { OnOk result (self.new ≡ record self.old { index = self.old.index + 1 }) }
         ensures kept { OnErr result (self.new ≡ self.old) }
         ensures reached { (self.old.table.header.minimum_index ≤ self.old.index) × (place_of self.old ≤ length (walk self.old.table)) }
@@ -98,8 +99,8 @@ impl<'t, I: ItemIndex> ItemIter<'t, I> {
     /// The item that stands so many behind the next one, or the fault at which the walk stops before
     /// it.
     pub(crate) fn nth(mut self, steps: u32, count: &mut Count) -> Result<Item<'t, I>>
-        ensures item { Gives (λ item. item.bytes.now) result (nth_item self.entry.table (place_of self.entry + steps)) }
-        ensures index { IfOk result (λ item. I.number item.index ≡ self.entry.index + steps) }
+        ensures item { Gives bytes_of result (nth_item self.entry.table (place_of self.entry + steps)) }
+        ensures index { IfOk result (λ item. I.number (index_of item) ≡ self.entry.index + steps) }
         ensures counted { calls_of count.new ≡ after_calls (reads_between self.entry.table (place_of self.entry) (place_of self.entry + steps)) (calls_of count.old) }
     {
         for _ in 0..steps {
@@ -114,7 +115,7 @@ impl<'t, I: ItemIndex> FallibleIterator for ItemIter<'t, I> {
 
     type Error = Error;
 
-    ghost next_gives = { IsStep (λ item. (I.number item.index, item.bytes.now)) };
+    ghost next_gives = { IsStep (λ item. (I.number (index_of item), bytes_of item)) };
 
     fn next(&mut self) -> Result<Option<Item<'t, I>>> {
         let table = self.table;

@@ -2,6 +2,7 @@
 
 ghost use Rattle.std.specs.Prelude.{◌≡◌, ◌↔◌, IsTrue};
 ghost use Rattle.pdb_base.specs.Derived.{DefaultsTo, TellsApart};
+ghost use Rattle.pdb_tpi.specs.Item.{bytes_of, index_of};
 ghost use Rattle.pdb_tpi.specs.declared.item.Item.{Item};
 ghost use Rattle.pdb_tpi.specs.Header.{empty_header, empty_slice};
 
@@ -19,6 +20,6 @@ pub fn headers()
 
 /// Items are equal just where their indexes are, and the bytes of their records.
 pub fn items()
-    ensures types { (a b : Item TypeIndex) → IsTrue (⟦<Item<'static, TypeIndex> as PartialEq>⟧.eq a b) ↔ ((a.index ≡ b.index) × (a.bytes.now ≡ b.bytes.now)) }
-    ensures ids { (a b : Item IdIndex) → IsTrue (⟦<Item<'static, IdIndex> as PartialEq>⟧.eq a b) ↔ ((a.index ≡ b.index) × (a.bytes.now ≡ b.bytes.now)) }
+    ensures types { (a b : Item TypeIndex) → IsTrue (⟦<Item<'static, TypeIndex> as PartialEq>⟧.eq a b) ↔ ((index_of a ≡ index_of b) × (bytes_of a ≡ bytes_of b)) }
+    ensures ids { (a b : Item IdIndex) → IsTrue (⟦<Item<'static, IdIndex> as PartialEq>⟧.eq a b) ↔ ((index_of a ≡ index_of b) × (bytes_of a ≡ bytes_of b)) }
 {}
