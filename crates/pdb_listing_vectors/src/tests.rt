@@ -1,4 +1,5 @@
 //! The rows, a file a topic.
 
+mod classes;
 mod listings;
 mod rows;

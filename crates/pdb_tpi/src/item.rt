@@ -1,7 +1,6 @@
 //! One item of a table.
 
 ghost use Rattle.std.specs.Prelude.{◌≡◌, ◌≤◌, ◌↔◌, [], length, IsTrue, ⊤};
-ghost use Rattle.pdb_tpi.specs.Item.{bytes_of, index_of};
 ghost use Rattle.pdb_tpi.specs.Record.{kind_of};
 
 use byteorder::{ByteOrder, LittleEndian};
@@ -35,35 +34,35 @@ impl<'t, I: Copy> Copy for Item<'t, I> {}
 impl<'t, I: Copy> Item<'t, I> {
     /// The index.
     pub fn index(&self) -> I
-        ensures { result ≡ index_of self.now }
+        ensures { result ≡ self.now.index }
     {
         self.index
     }
 
     /// How many bytes the record has, without the length that stands before it.
     pub fn len(&self) -> usize
-        ensures { result ≡ length (bytes_of self.now) }
+        ensures { result ≡ length self.now.bytes.now }
     {
         self.bytes.len()
     }
 
     /// The bytes of the record, without the length that stands before it.
     pub fn as_bytes(&self) -> &'t [u8]
-        ensures { result.now ≡ bytes_of self.now }
+        ensures { result.now ≡ self.now.bytes.now }
     {
         self.bytes
     }
 
     /// Whether the record has no byte, which is so of none.
     pub fn is_empty(&self) -> bool
-        ensures { IsTrue result ↔ (bytes_of self.now ≡ []) }
+        ensures { IsTrue result ↔ (self.now.bytes.now ≡ []) }
     {
         self.bytes.is_empty()
     }
 
     /// The kind of the record: its first two bytes, the lowest first.
     pub fn raw_kind(&self) -> u16
-        ensures { result ≡ kind_of (bytes_of self.now) }
+        ensures { result ≡ kind_of self.now.bytes.now }
     {
         LittleEndian::read_u16(self.bytes)
     }
