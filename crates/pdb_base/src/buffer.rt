@@ -323,7 +323,8 @@ impl<'b> ParseBuffer<'b> {
     pub fn parse_u8_pascal_string(&mut self) -> Result<RawString<'b>>
         ensures read { Gives (λ text. (text.0.now, left self.new)) result (counted_at (left self.old)) }
         ensures place { StaysWithin self.old self.new }
-        ensures err { OnErr result (self.new ≡ record self.old { pos = self.old.pos + min 1 (length (left self.old)) }) }
+        ensures err { OnErr result (
+            self.new ≡ record self.old { pos = self.old.pos + min 1 (length (left self.old)) }) }
     {
         let len = self.parse_u8()?;
         let text = self.take(len as usize)?;

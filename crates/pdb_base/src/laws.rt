@@ -35,7 +35,8 @@ pub fn numbers()
 #[tactic(auto, using(crate::proofs::lemmas::Spelling::numbers, crate::proofs::lemmas::Spelling::signed_numbers, crate::proofs::lemmas::Spelling::texts, crate::proofs::lemmas::Spelling::counted_texts, crate::proofs::lemmas::Numeric::nums, crate::proofs::lemmas::Numeric::variants))]
 pub fn spellings()
     ensures numbers { (width : ℕ) → ReadsWhatIsSpelled (SpellsNumber width) (number_at width) }
-    ensures signed { (signed : Width) (width : ℕ) → ReadsWhatIsSpelled (SpellsSigned signed width) (signed_at signed width) }
+    ensures signed { (signed : Width) (width : ℕ) →
+        ReadsWhatIsSpelled (SpellsSigned signed width) (signed_at signed width) }
     ensures texts { ReadsWhatIsSpelled SpellsText text_at }
     ensures counted { ReadsWhatIsSpelled SpellsCounted counted_at }
     ensures nums { ReadsWhatIsSpelled SpellsNum num_at }

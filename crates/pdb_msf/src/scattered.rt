@@ -34,7 +34,8 @@ fn page_list(alloc: Global, page_size: u32, numbers: &[u32], size: usize) -> Res
     requires size { (0 < page_size) × (page_size ≤ 0x800000) }
     requires reached { size ≤ length numbers.now * page_size }
     requires few { length numbers.now ≤ 2 ^ 40 }
-    ensures places { Answers (λ l. places l.slices) result (Ok (map (place_of page_size numbers.now) (range_with_len 0 size))) }
+    ensures places { Answers (λ l. places l.slices) result
+        (Ok (map (place_of page_size numbers.now) (range_with_len 0 size))) }
     ensures len { IfOk result (λ l. length (places l.slices) ≡ size) }
 {
     let mut list = PageList::new(alloc, page_size);
