@@ -64,7 +64,9 @@ pub fn conversions()
 pub fn string_refs()
     ensures equal { TellsApart ⟦<StringRef as PartialEq>⟧.eq }
     ensures order { OrdersByNumber ⟦<StringRef as Ord>⟧.cmp }
-    ensures conversions { UndoEachOther ⟦<StringRef as From<u32>>⟧.from_gives ⟦<u32 as From<StringRef>>⟧.from_gives }
+    ensures conversions { UndoEachOther
+        ⟦<StringRef as From<u32>>⟧.from_gives
+        ⟦<u32 as From<StringRef>>⟧.from_gives }
 {}
 
 /// The names of a stream are those that stand behind a good header in it, as many bytes as that says.
@@ -86,14 +88,17 @@ pub fn names()
 /// addresses one by one.
 #[tactic(auto, using(crate::proofs::RangeLemmas::parts_are_pointwise))]
 pub fn parts()
-    ensures { (table : List Mapping) (asked : Range ℕ) → IsSortedBySource table → end_to_end (parts table asked) ≡ pointwise (shift table) asked }
+    ensures { (table : List Mapping) (asked : Range ℕ) → IsSortedBySource table →
+        end_to_end (parts table asked) ≡ pointwise (shift table) asked }
 {}
 
 /// The place of an address is in the first section that reaches it, and leads back to it.
 #[tactic(auto, using(crate::proofs::SectionLemmas::section_back))]
 pub fn places()
-    ensures first { (sections : List ImageSectionHeader) (address : ℕ) (place : SectionPlace) → (section_of sections address ≡ Some place) ↔ IsFirstToReach sections address place }
-    ensures back { (sections : List ImageSectionHeader) (address : ℕ) (place : SectionPlace) → Fits address → section_of sections address ≡ Some place → address_of sections place ≡ Some address }
+    ensures first { (sections : List ImageSectionHeader) (address : ℕ) (place : SectionPlace) →
+        (section_of sections address ≡ Some place) ↔ IsFirstToReach sections address place }
+    ensures back { (sections : List ImageSectionHeader) (address : ℕ) (place : SectionPlace) → Fits address →
+        section_of sections address ≡ Some place → address_of sections place ≡ Some address }
 {}
 
 /// Without a table that leads to the other image, an address keeps its number.
