@@ -22,7 +22,7 @@ pub fn ranges()
     ensures { (span : Span) (address : ℕ) → CoversToItsEnd span address }
 {}
 
-/// Frames by their starts are the same frames, in order.
+/// Frames that are put in the order of their starts are the same frames, each as often as before.
 pub fn sorted()
     ensures { (frames : List FrameData) → IsSortedByStart frames }
 {}

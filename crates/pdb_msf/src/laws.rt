@@ -54,7 +54,8 @@ pub fn page_numbers()
         page_numbers pages_used count words ≡ Err fault → FirstFault pages_used count words fault }
 {}
 
-/// Of a stream that is answered whole, a limit takes the front.
+/// If a stream is answered without a limit, then with one the answer is its first bytes, no more than the
+/// limit.
 #[tactic(auto, using(crate::proofs::LawLemmas::cuts_only))]
 pub fn limits()
     ensures { (file : List ℕ) (head : Head) (n limit : ℕ) → CutsOnly file head n limit }
@@ -70,8 +71,8 @@ pub fn streams()
         IsStream file head n limit bytes → stream_of file head n limit ≡ Ok bytes }
 {}
 
-/// Over the bytes that it is of, a plan has the header that opens the file, and each stream that the file
-/// has, or its refusal.
+/// A plan that was read from a file's bytes has the header with which that file opens, and reads from those
+/// bytes each stream, or refuses it, just as the file does.
 #[tactic(auto, using(crate::proofs::LayoutLemmas::head_read, crate::proofs::LayoutLemmas::same_stream))]
 pub fn plans()
     ensures head { (file : List ℕ) (plan : Plan) → plan_of file ≡ Ok plan → opened file ≡ Ok plan.head }

@@ -13,7 +13,8 @@ use pdb_base::{Error, Result};
 use std::alloc::Global;
 use std::io::ErrorKind;
 
-/// Views a source. Its want of memory is the library's own, and any other error keeps its kind.
+/// Views a source. An error of the kind `OutOfMemory` is answered as `Error::OutOfMemory`, and any other
+/// as an `IoError`, which keeps it.
 pub fn view<S: Source>(source: &mut S, alloc: Global, slices: &[SourceSlice]) -> Result<ReadView>
     ensures bytes { AnswersUnless (HasFailed (S.state source.old) (S.state source.new)) (λ v. v) result
         (found (bytes_at (S.state source.old).bytes (places slices.now))) }

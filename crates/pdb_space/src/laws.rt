@@ -26,7 +26,8 @@ use crate::string_ref::StringRef;
 pub mod derived;
 pub mod flags;
 
-/// Sums that fit 32 bits are what they are under every way to add, and distances lead back.
+/// Each way to add gives the plain sum where that fits 32 bits, and a start and the distance from it to a
+/// number add up to that number.
 pub fn sums()
     ensures cut { (number : ℕ) → IsCutToFit number }
     ensures reached { (start number : ℕ) → IsReached start number }
