@@ -15,7 +15,8 @@ use std::marker::Model;
 
 /// A slice of bytes and a position in it, from which fields are read one after another.
 ///
-/// A read that is refused moves nothing.
+/// A read that is refused leaves the position where it was; `parse_u8_pascal_string` may have passed
+/// the length.
 #[derive(Clone, Debug, Drop)]
 pub struct ParseBuffer<'b> {
     slice: &'b [u8],
@@ -316,14 +317,15 @@ impl<'b> ParseBuffer<'b> {
     /// Reads the text behind a `u8` that says its length.
     ///
     /// # Errors
-    /// `UnexpectedEof` if no byte is left, or fewer than the length says. A length byte that was
-    /// there is then read, and nothing else.
+    /// `UnexpectedEof` if no byte is left, or fewer than the length says. In the second case the
+    /// position is behind the length.
     #[inline(always)]
     #[tactic(auto, unfolding(crate::specs::Reading::counted_at))]
     pub fn parse_u8_pascal_string(&mut self) -> Result<RawString<'b>>
         ensures read { Gives (λ text. (text.0.now, left self.new)) result (counted_at (left self.old)) }
         ensures place { StaysWithin self.old self.new }
-        ensures err { OnErr result (self.new ≡ record self.old { pos = self.old.pos + min 1 (length (left self.old)) }) }
+        ensures err { OnErr result (
+            self.new ≡ record self.old { pos = self.old.pos + min 1 (length (left self.old)) }) }
     {
         let len = self.parse_u8()?;
         let text = self.take(len as usize)?;

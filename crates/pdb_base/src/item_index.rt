@@ -41,7 +41,8 @@ pub trait ItemIndex: Copy
     ghost is_equal_by_number: { (left right : Self) → Self.eq left right ≡ (number left == number right) };
 
     // Indexes stand in the order of their numbers.
-    ghost is_ordered_by_number: { (left right : Self) → Self.partial_cmp left right ≡ Some (nat_cmp (number left) (number right)) };
+    ghost is_ordered_by_number: { (left right : Self) →
+        Self.partial_cmp left right ≡ Some (nat_cmp (number left) (number right)) };
 }
 
 impl ItemIndex for TypeIndex {

@@ -35,14 +35,15 @@ pub fn numbers()
 #[tactic(auto, using(crate::proofs::lemmas::Spelling::numbers, crate::proofs::lemmas::Spelling::signed_numbers, crate::proofs::lemmas::Spelling::texts, crate::proofs::lemmas::Spelling::counted_texts, crate::proofs::lemmas::Numeric::nums, crate::proofs::lemmas::Numeric::variants))]
 pub fn spellings()
     ensures numbers { (width : ℕ) → ReadsWhatIsSpelled (SpellsNumber width) (number_at width) }
-    ensures signed { (signed : Width) (width : ℕ) → ReadsWhatIsSpelled (SpellsSigned signed width) (signed_at signed width) }
+    ensures signed { (signed : Width) (width : ℕ) →
+        ReadsWhatIsSpelled (SpellsSigned signed width) (signed_at signed width) }
     ensures texts { ReadsWhatIsSpelled SpellsText text_at }
     ensures counted { ReadsWhatIsSpelled SpellsCounted counted_at }
     ensures nums { ReadsWhatIsSpelled SpellsNum num_at }
     ensures variants { ReadsWhatIsSpelled SpellsVariant variant_at }
 {}
 
-/// The first so many bytes are so many numbers of one byte, one after another.
+/// The bytes at the front are numbers of one byte, one after another, as many as there are bytes.
 #[tactic(auto, using(crate::proofs::lemmas::Front::front_is_bytes))]
 pub fn fronts()
     ensures { (count : ℕ) (bytes : List ℕ) → front_at count bytes ≡ repeated (number_at 1) count bytes }
@@ -69,7 +70,7 @@ pub fn conversions<I: ItemIndex>()
     ensures forth { (n again : ℕ) (index : I) → I.from_gives n index → I.converts index again → again ≡ n }
 {}
 
-/// A count after so many calls more is their sum, up to the largest number of 64 bits.
+/// Counting calls adds their number to a count, up to the largest number of 64 bits.
 #[tactic(auto, using(crate::proofs::lemmas::Count::calls_are))]
 pub fn counts()
     ensures { (more calls : ℕ) → calls < 2 ^ 64 → after_calls more calls ≡ min (calls + more) (2 ^ 64 - 1) }

@@ -65,7 +65,8 @@ impl<'b> ParseBuffer<'b> {
     #[tactic(auto, unfolding(crate::specs::Numeric::numeral_behind))]
     fn num_behind(&mut self, prefix: u16) -> Result<u64>
         requires { self.old.pos ≤ length self.old.slice }
-        ensures read { Gives (λ number. (number, left self.new)) result (as_num (numeral_behind unsigned_leaves prefix (left self.old))) }
+        ensures read { Gives (λ number. (number, left self.new)) result
+            (as_num (numeral_behind unsigned_leaves prefix (left self.old))) }
         ensures place { StaysWithin self.old self.new }
     {
         if prefix < LF_NUMERIC {
@@ -85,7 +86,8 @@ impl<'b> ParseBuffer<'b> {
     #[tactic(auto, unfolding(crate::specs::Numeric::numeral_behind, crate::specs::Reading::signed_at))]
     fn variant_behind(&mut self, prefix: u16) -> Result<Variant>
         requires { self.old.pos ≤ length self.old.slice }
-        ensures read { Gives (λ value. (value, left self.new)) result (as_variant (numeral_behind numeric_leaves prefix (left self.old))) }
+        ensures read { Gives (λ value. (value, left self.new)) result
+            (as_variant (numeral_behind numeric_leaves prefix (left self.old))) }
         ensures place { StaysWithin self.old self.new }
     {
         if prefix < LF_NUMERIC {

@@ -15,8 +15,8 @@ start_at span records place = slice_index (map (λ record_there. (span record_th
 abbrev pub covers : Span → ℕ → Bool
 covers span address = nat_le span.start address && nat_lt (address - span.start) span.size
 
--- whether a record starts at an address or covers it: where the next record starts above the address, the
--- records from the address on then begin at this one, and else at the next
+-- Whether a record starts at an address, or its code covers it. The records from an address on begin with
+-- the last that starts at or below it, if it does so, and else with the one behind it.
 abbrev pub begins : Span → ℕ → Bool
 begins span address = span.start == address || covers span address
 

@@ -5,8 +5,10 @@ use Rattle.pdb_base.specs.Records.{spelled}
 use Rattle.pdb_frames.specs.Span.{Span}
 use Rattle.pdb_frames.specs.declared.old_frame_data.OldFrameData.{OldFrameData}
 use Rattle.pdb_frames.specs.declared.new_frame_data.NewFrameData.{NewFrameData}
+use Rattle.pdb_frames.specs.declared.old_frame_data.TheConstants.{OLD_SIZE}
+use Rattle.pdb_frames.specs.declared.new_frame_data.TheConstants.{NEW_SIZE}
 
--- the old record that 16 bytes spell
+-- the record of the older format that bytes spell
 unfoldable pub old_frame : List ℕ → OldFrameData
 old_frame bytes = record {
   code_start = little_number 4 bytes;
@@ -16,7 +18,7 @@ old_frame bytes = record {
   flags = little_number 2 (drop 14 bytes);
 }
 
--- the new record that 32 bytes spell
+-- the record of the newer format that bytes spell
 unfoldable pub new_frame : List ℕ → NewFrameData
 new_frame bytes = record {
   code_start = little_number 4 bytes;
@@ -38,10 +40,10 @@ old_span frame = record { start = frame.code_start; size = frame.code_size }
 abbrev pub new_span : NewFrameData → Span
 new_span frame = record { start = frame.code_start; size = frame.code_size }
 
--- the old records that bytes spell, 16 bytes each
+-- the old records that bytes spell, one after another
 abbrev pub old_frames : List ℕ → List OldFrameData
-old_frames bytes = spelled 16 old_frame bytes
+old_frames bytes = spelled OLD_SIZE old_frame bytes
 
--- the new records that bytes spell, 32 bytes each
+-- the new records that bytes spell, one after another
 abbrev pub new_frames : List ℕ → List NewFrameData
-new_frames bytes = spelled 32 new_frame bytes
+new_frames bytes = spelled NEW_SIZE new_frame bytes

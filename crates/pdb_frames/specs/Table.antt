@@ -9,6 +9,8 @@ use Rattle.pdb_frames.specs.Merge.{merge, by_heads}
 use Rattle.pdb_frames.specs.declared.frame_data.FrameData.{FrameData}
 use Rattle.pdb_frames.specs.declared.old_frame_data.OldFrameData.{OldFrameData}
 use Rattle.pdb_frames.specs.declared.new_frame_data.NewFrameData.{NewFrameData}
+use Rattle.pdb_frames.specs.declared.old_frame_data.TheConstants.{OLD_SIZE}
+use Rattle.pdb_frames.specs.declared.new_frame_data.TheConstants.{NEW_SIZE}
 
 -- the records of both formats, each in the order of their stream
 pub record Frames : Type 0 where
@@ -19,8 +21,8 @@ pub record Frames : Type 0 where
 -- has none.
 unfoldable pub table_of : Option (List ℕ) → Option (List ℕ) → Answer Frames
 table_of old new = do
-  whole_old ← required (length (unwrap_or old []) % 16 == 0) (invalid_stream_length (codes "FPO"))
-  whole_new ← required (length (unwrap_or new []) % 32 == 0) (invalid_stream_length (codes "FrameData"))
+  whole_old ← required (length (unwrap_or old []) % OLD_SIZE == 0) (invalid_stream_length (codes "FPO"))
+  whole_new ← required (length (unwrap_or new []) % NEW_SIZE == 0) (invalid_stream_length (codes "FrameData"))
   Ok (record { old = old_frames (unwrap_or old []); new = new_frames (unwrap_or new []) })
 
 -- In each stream every record starts above the one before it.

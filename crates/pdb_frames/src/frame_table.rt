@@ -31,12 +31,18 @@ impl Model for FrameTable {
     ghost use Rattle.std.specs.Prelude.{◌≡◌, ◌%◌, [], length, unwrap_or};
     ghost use Rattle.pdb_frames.specs.Table.{Frames};
     ghost use Rattle.pdb_frames.specs.Stored.{old_frames, new_frames};
+    ghost use Rattle.pdb_frames.specs.declared.old_frame_data.TheConstants.{OLD_SIZE};
+    ghost use Rattle.pdb_frames.specs.declared.new_frame_data.TheConstants.{NEW_SIZE};
 
     ghost Value = { Frames };
 
-    ghost view = { λ t. record { old = old_frames (unwrap_or t.old []); new = new_frames (unwrap_or t.new []) } };
+    ghost view = { λ t. record {
+      old = old_frames (unwrap_or t.old []);
+      new = new_frames (unwrap_or t.new []);
+    } };
 
-    ghost invariant = { λ t. (length (unwrap_or t.old []) % 16 ≡ 0) × (length (unwrap_or t.new []) % 32 ≡ 0) };
+    ghost invariant = { λ t.
+        (length (unwrap_or t.old []) % OLD_SIZE ≡ 0) × (length (unwrap_or t.new []) % NEW_SIZE ≡ 0) };
 }
 
 /// The bytes of a stream that may be absent.

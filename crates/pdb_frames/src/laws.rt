@@ -22,7 +22,7 @@ pub fn ranges()
     ensures { (span : Span) (address : ℕ) → CoversToItsEnd span address }
 {}
 
-/// Frames by their starts are the same frames, in order.
+/// Frames that are put in the order of their starts are the same frames, each as often as before.
 pub fn sorted()
     ensures { (frames : List FrameData) → IsSortedByStart frames }
 {}
@@ -43,7 +43,8 @@ pub fn woven()
 /// Each step that gives a frame leaves fewer, and None comes only at the end, and then for good.
 #[tactic(auto, using(crate::proofs::LawLemmas::ends_for_good))]
 pub fn steps()
-    ensures { (left others : List FrameData) (result : Result (Option FrameData) Error) → IsStep left result others → EndsForGood left result others }
+    ensures { (left others : List FrameData) (result : Result (Option FrameData) Error) →
+        IsStep left result others → EndsForGood left result others }
 {}
 
 /// Kinds of frames compare as their numbers, and two are equal just where they are one. Equal ones hash

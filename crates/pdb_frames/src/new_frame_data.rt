@@ -5,12 +5,16 @@ ghost use Rattle.std.proofs.Common.{lit<};
 ghost use Rattle.pdb_bits.specs.Parts.{is_set};
 ghost use Rattle.pdb_base.specs.Reading.{front_at, read_as};
 ghost use Rattle.pdb_frames.specs.Stored.{new_frame, new_span};
+ghost use Rattle.pdb_frames.specs.declared.new_frame_data.TheConstants.{NEW_SIZE};
 
 use crate::addr_range::AddrRange;
 use crate::frame_record::FrameRecord;
 use byteorder::{ByteOrder, LittleEndian};
 use pdb_base::{Le, Parse, ParseBuffer, Result};
 use pdb_bits::is_set;
+
+/// How many bytes a record of the newer format takes.
+pub(crate) const NEW_SIZE: usize = 32;
 
 /// A record of the newer format: 32 bytes, `FRAMEDATA` in Microsoft's cvinfo.h.
 #[derive(Clone, Copy, Debug, PartialEq, Eq)]
@@ -79,9 +83,9 @@ impl AddrRange for NewFrameData {
 }
 
 impl FrameRecord for NewFrameData {
-    ghost SIZE = { 32 };
+    ghost SIZE = { NEW_SIZE };
 
-    const SIZE: usize = 32;
+    const SIZE: usize = NEW_SIZE;
 
     ghost some = { lit< tt };
 
@@ -105,7 +109,7 @@ impl FrameRecord for NewFrameData {
 
 /// The fields in their order, the lowest byte of each first.
 impl Parse<Le> for NewFrameData {
-    ghost reads = { λ _ bytes. read_as new_frame (front_at 32 bytes) };
+    ghost reads = { λ _ bytes. read_as new_frame (front_at NEW_SIZE bytes) };
 
     #[tactic(auto, using(pdb_base::proofs::lemmas::Records::front_length))]
     fn parse_from(bytes: &[u8], _: Le) -> Result<(NewFrameData, usize)> {

@@ -7,6 +7,7 @@ ghost use Rattle.pdb_bits.specs.Parts.{is_set};
 ghost use Rattle.pdb_base.specs.Reading.{front_at, read_as};
 ghost use Rattle.pdb_frames.specs.FrameNumbers.{frame_type_of};
 ghost use Rattle.pdb_frames.specs.Stored.{old_frame, old_span};
+ghost use Rattle.pdb_frames.specs.declared.old_frame_data.TheConstants.{OLD_SIZE};
 
 use crate::addr_range::AddrRange;
 use crate::frame_record::FrameRecord;
@@ -14,6 +15,9 @@ use crate::frame_type::FrameType;
 use byteorder::{ByteOrder, LittleEndian};
 use pdb_base::{Le, Parse, ParseBuffer, Result};
 use pdb_bits::{is_set, part};
+
+/// How many bytes a record of the older format takes.
+pub(crate) const OLD_SIZE: usize = 16;
 
 /// A record of the older format: 16 bytes, `FPO_DATA` in the PE specification.
 #[derive(Clone, Copy, Debug, PartialEq, Eq)]
@@ -90,9 +94,9 @@ impl AddrRange for OldFrameData {
 }
 
 impl FrameRecord for OldFrameData {
-    ghost SIZE = { 16 };
+    ghost SIZE = { OLD_SIZE };
 
-    const SIZE: usize = 16;
+    const SIZE: usize = OLD_SIZE;
 
     ghost some = { lit< tt };
 
@@ -112,7 +116,7 @@ impl FrameRecord for OldFrameData {
 
 /// The fields in their order, the lowest byte of each first.
 impl Parse<Le> for OldFrameData {
-    ghost reads = { λ _ bytes. read_as old_frame (front_at 16 bytes) };
+    ghost reads = { λ _ bytes. read_as old_frame (front_at OLD_SIZE bytes) };
 
     #[tactic(auto, using(pdb_base::proofs::lemmas::Records::front_length))]
     fn parse_from(bytes: &[u8], _: Le) -> Result<(OldFrameData, usize)> {

@@ -34,7 +34,8 @@ struct Found {
 /// and says how far. So the step needs no branch.
 #[tactic(auto, using(pdb_base::proofs::lemmas::Halving::halving_begins, pdb_base::proofs::lemmas::Halving::halving_takes, pdb_base::proofs::lemmas::Halving::halving_passes, pdb_base::proofs::lemmas::Halving::halving_ends))]
 fn search<R: FrameRecord>(bytes: &[u8], address: u32) -> Found
-    ensures { IsFound (start_at R.span (spelled R.SIZE R.value bytes.now)) (length bytes.now / R.SIZE) address result.place result.start }
+    ensures { IsFound (start_at R.span (spelled R.SIZE R.value bytes.now)) (length bytes.now / R.SIZE) address
+        result.place result.start }
 {
     let (mut place, mut distance) = (0, address);
     let mut size = bytes.len() / R::SIZE;
@@ -51,8 +52,7 @@ fn search<R: FrameRecord>(bytes: &[u8], address: u32) -> Found
     Found { place, start }
 }
 
-/// Whether the records from an address on begin at one that starts there or below it and has so many
-/// bytes of code, where every later one starts above it.
+/// Whether code of this start and size starts at an address or covers it, where it starts no later.
 fn begins_at(start: u32, size: u32, address: u32) -> bool
     requires { start ≤ address }
     ensures { result ≡ begins (record { start = start; size = size }) address }

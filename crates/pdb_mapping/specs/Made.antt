@@ -1,15 +1,9 @@
 -- What is made of an address by an address map.
-use Rattle.std.specs.Prelude.{◌≡◌, ℕ, List, Option, Some, IfSome}
-use Rattle.pdb_space.specs.Conversions.{Arrangement, ComesSomehow, rva_to_internal_rva, rva_to_section_offset, rva_to_internal_offset, internal_rva_to_rva, internal_rva_to_section_offset, internal_rva_to_internal_offset}
-use Rattle.pdb_space.specs.Omap.{Mapping, IsSortedBySource, MovesSomehow}
+use Rattle.std.specs.Prelude.{◌≡◌, ℕ, Some}
+use Rattle.pdb_space.specs.Conversions.{Arrangement, ComesSomehow, IsByTable, rva_to_internal_rva, rva_to_section_offset, rva_to_internal_offset, internal_rva_to_rva, internal_rva_to_section_offset, internal_rva_to_internal_offset}
+use Rattle.pdb_space.specs.Omap.{MovesSomehow}
 use Rattle.pdb_mapping.specs.declared.made.OfInternal.{OfInternal}
 use Rattle.pdb_mapping.specs.declared.made.OfLoaded.{OfLoaded}
-
--- What is made by way of a table: what is meant, where there is none or its sources never fall; and over
--- another nothing, or what the table makes somehow.
-pub record IsByTable {A : Type 0} (table : Option (List Mapping)) (meant : Option A) (somehow : List Mapping → A → Type 0) (result : Option A) : Type 0 where
-  pub exact : IfSome table IsSortedBySource → result ≡ meant
-  pub bound : IfSome table (λ records. IfSome result (somehow records))
 
 -- what is made of an address in the image as it is loaded
 pub record IsMadeOfLoaded (map : Arrangement) (address : ℕ) (made : OfLoaded) : Type 0 where

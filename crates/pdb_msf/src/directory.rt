@@ -117,7 +117,8 @@ impl Directory {
         header: &Header,
     ) -> Result<Directory>
         requires { IsHeader header.now }
-        ensures bytes { AnswersUnless (HasFailed (S.state source.old.source) (S.state source.new.source)) (λ d. d.bytes.items) result
+        ensures bytes { AnswersUnless (HasFailed (S.state source.old.source) (S.state source.new.source))
+            (λ d. d.bytes.items) result
             (directory_of (S.state source.old.source).bytes (header_view header.now)) }
         ensures places { IfOk result (HasStarts header.now.geometry.page_size) }
         ensures kept { IsKept (S.state source.old.source) (S.state source.new.source) }

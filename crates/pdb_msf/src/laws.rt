@@ -21,7 +21,8 @@ pub fn pages()
 pub fn worked_rows()
     ensures counts { map (pages 4096) (0 ∷ 1 ∷ 4095 ∷ 4096 ∷ 4097 ∷ []) ≡ 0 ∷ 1 ∷ 1 ∷ 1 ∷ 2 ∷ [] }
     ensures good { map (judged 15) (1 ∷ 14 ∷ 15 ∷ []) ≡ Ok 1 ∷ Ok 14 ∷ Ok 15 ∷ [] }
-    ensures bad { map (judged 15) (0 ∷ 16 ∷ 17 ∷ []) ≡ Err (page_reference_out_of_range 0) ∷ Err (page_reference_out_of_range 16) ∷ Err (page_reference_out_of_range 17) ∷ [] }
+    ensures bad { map (judged 15) (0 ∷ 16 ∷ 17 ∷ []) ≡
+        map (λ number. Err (page_reference_out_of_range number)) (0 ∷ 16 ∷ 17 ∷ []) }
 {}
 
 /// What is scattered over pages is found byte by byte: byte i in page i / page size of the list, at
@@ -47,11 +48,14 @@ pub fn header()
 
 /// Page numbers are read as they stand, where all are good, and else refused by the first fault.
 pub fn page_numbers()
-    ensures good { (pages_used count : ℕ) (words numbers : List ℕ) → page_numbers pages_used count words ≡ Ok numbers → AreGood pages_used count words numbers }
-    ensures fault { (pages_used count : ℕ) (words : List ℕ) (fault : Refusal) → page_numbers pages_used count words ≡ Err fault → FirstFault pages_used count words fault }
+    ensures good { (pages_used count : ℕ) (words numbers : List ℕ) →
+        page_numbers pages_used count words ≡ Ok numbers → AreGood pages_used count words numbers }
+    ensures fault { (pages_used count : ℕ) (words : List ℕ) (fault : Refusal) →
+        page_numbers pages_used count words ≡ Err fault → FirstFault pages_used count words fault }
 {}
 
-/// Of a stream that is answered whole, a limit takes the front.
+/// If a stream is answered without a limit, then with one the answer is its first bytes, no more than the
+/// limit.
 #[tactic(auto, using(crate::proofs::LawLemmas::cuts_only))]
 pub fn limits()
     ensures { (file : List ℕ) (head : Head) (n limit : ℕ) → CutsOnly file head n limit }
@@ -61,16 +65,19 @@ pub fn limits()
 /// for c streams of which those before it take s pages, and byte i of the stream is the file's byte in
 /// page i / page size of these, at i % page size.
 pub fn streams()
-    ensures is { (file : List ℕ) (head : Head) (n : ℕ) (limit : Option ℕ) (bytes : List ℕ) → stream_of file head n limit ≡ Ok bytes → IsStream file head n limit bytes }
-    ensures only { (file : List ℕ) (head : Head) (n : ℕ) (limit : Option ℕ) (bytes : List ℕ) → IsStream file head n limit bytes → stream_of file head n limit ≡ Ok bytes }
+    ensures is { (file : List ℕ) (head : Head) (n : ℕ) (limit : Option ℕ) (bytes : List ℕ) →
+        stream_of file head n limit ≡ Ok bytes → IsStream file head n limit bytes }
+    ensures only { (file : List ℕ) (head : Head) (n : ℕ) (limit : Option ℕ) (bytes : List ℕ) →
+        IsStream file head n limit bytes → stream_of file head n limit ≡ Ok bytes }
 {}
 
-/// Over the bytes that it is of, a plan has the header that opens the file, and each stream that the file
-/// has, or its refusal.
+/// A plan that was read from a file's bytes has the header with which that file opens, and reads from those
+/// bytes each stream, or refuses it, just as the file does.
 #[tactic(auto, using(crate::proofs::LayoutLemmas::head_read, crate::proofs::LayoutLemmas::same_stream))]
 pub fn plans()
     ensures head { (file : List ℕ) (plan : Plan) → plan_of file ≡ Ok plan → opened file ≡ Ok plan.head }
-    ensures stream { (file : List ℕ) (plan : Plan) (n : ℕ) (limit : Option ℕ) → plan_of file ≡ Ok plan → stream_by plan file n limit ≡ stream_of file plan.head n limit }
+    ensures stream { (file : List ℕ) (plan : Plan) (n : ℕ) (limit : Option ℕ) →
+        plan_of file ≡ Ok plan → stream_by plan file n limit ≡ stream_of file plan.head n limit }
 {}
 
 /// A stream has one answer, whatever was asked before: each call of `get` leads to a later moment of
@@ -78,6 +85,8 @@ pub fn plans()
 #[tactic(auto, using(crate::proofs::StreamLaws::later_here, crate::proofs::StreamLaws::later_then, crate::proofs::StreamLaws::alike))]
 pub fn answers()
     ensures here { (moment : Moment) → IsLater moment moment }
-    ensures then_later { (before middle after : Moment) → IsLater before middle → IsLater middle after → IsLater before after }
-    ensures alike { (before after : Moment) (n : ℕ) (limit : Option ℕ) → IsLater before after → AnswersAlike before after n limit }
+    ensures then_later { (before middle after : Moment) →
+        IsLater before middle → IsLater middle after → IsLater before after }
+    ensures alike { (before after : Moment) (n : ℕ) (limit : Option ℕ) →
+        IsLater before after → AnswersAlike before after n limit }
 {}

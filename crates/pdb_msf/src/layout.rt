@@ -104,7 +104,8 @@ impl Layout {
         limit: Option<usize>,
     ) -> Result<Stream>
         ensures stream { Answers (λ stream. stream) result (stream_by self.now file.now stream_number limit) }
-        ensures exact { RefusesExactly result (place_in self.now.head.geometry.page_size stream_number self.now.directory) }
+        ensures exact { RefusesExactly result
+            (place_in self.now.head.geometry.page_size stream_number self.now.directory) }
     {
         let geometry = self.header.geometry;
         let entry = self.directory.entry(alloc, geometry, stream_number)?;

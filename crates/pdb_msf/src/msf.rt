@@ -44,7 +44,8 @@ pub trait Msf<S: Source> {
     /// memory is asked for and refused; once the directory is kept, never in place of a refusal that
     /// comes before the stream's own page numbers.
     fn get(&mut self, alloc: Global, stream_number: u32, limit: Option<usize>) -> Result<Stream>
-        ensures answer { AnswersUnless (HasFailed (S.state (file self.old).source) (S.state (file self.new).source)) (λ stream. stream) result
+        ensures answer { AnswersUnless (HasFailed (S.state (file self.old).source) (S.state (file self.new).source))
+            (λ stream. stream) result
             (stream_of (S.state (file self.old).source).bytes (file self.old).head stream_number limit) }
         ensures source { IsKept (S.state (file self.old).source) (S.state (file self.new).source) }
         ensures head { (file self.new).head ≡ (file self.old).head }
@@ -53,13 +54,16 @@ pub trait Msf<S: Source> {
         // The directory is asked for where it is not kept yet, and of the stream what is answered.
         ensures asked { Asks (file self.old).asked (file self.new).asked
             (locating (file self.old).located (file self.old).head.geometry
-            + wanted (described (S.state (file self.old).source).bytes (file self.old).head stream_number) limit) result }
+            + wanted (described (S.state (file self.old).source).bytes (file self.old).head stream_number) limit)
+            result }
         // The directory stays where it is kept, and is kept but where reading or keeping it is refused.
         ensures stays { IsTrue (file self.old).located → IsTrue (file self.new).located }
         ensures located { MatchResult result (λ _. IsTrue (file self.new).located)
-            (λ e. (file self.new).located ≡ false → RefusesUnless (HasFailed (S.state (file self.old).source) (S.state (file self.new).source)) e
+            (λ e. (file self.new).located ≡ false →
+            RefusesUnless (HasFailed (S.state (file self.old).source) (S.state (file self.new).source)) e
             (directory_of (S.state (file self.old).source).bytes (file self.old).head)) }
-        ensures read { IsTrue (file self.new).located → IsOk (directory_of (S.state (file self.old).source).bytes (file self.old).head) }
+        ensures read { IsTrue (file self.new).located →
+            IsOk (directory_of (S.state (file self.old).source).bytes (file self.old).head) }
         // Where the directory is kept, what it says of the stream's place needs no memory.
         ensures exact { IsTrue (file self.old).located → RefusesExactly result
             (placed (S.state (file self.old).source).bytes (file self.old).head stream_number) };
@@ -80,7 +84,12 @@ impl<S: Source> Model for BigMSF<S> {
 
     ghost Value = { Opened S };
 
-    ghost view = { λ m. record { source = m.source.source; head = header_view m.header; asked = m.source.asked; located = is_some m.directory } };
+    ghost view = { λ m. record {
+      source = m.source.source;
+      head = header_view m.header;
+      asked = m.source.asked;
+      located = is_some m.directory;
+    } };
 
     ghost invariant = { λ m. IsOpen (S.state m.source.source).bytes m.header m.directory };
 }
@@ -137,7 +146,8 @@ impl<S: Source> BigMSF<S> {
         ensures fits { self.old.asked < 2 ^ 64 }
         ensures kept { IsTrue self.old.located → IsOk result × (self.new ≡ self.old) }
         ensures located { MatchResult result (λ _. IsTrue self.new.located)
-            (λ e. (self.new.located ≡ false) × RefusesUnless (HasFailed (S.state self.old.source) (S.state self.new.source)) e
+            (λ e. (self.new.located ≡ false) ×
+            RefusesUnless (HasFailed (S.state self.old.source) (S.state self.new.source)) e
             (directory_of (S.state self.old.source).bytes self.old.head)) }
         ensures source { IsKept (S.state self.old.source) (S.state self.new.source) }
         ensures head { self.new.head ≡ self.old.head }
@@ -211,7 +221,8 @@ pub(crate) fn view_front<S: Source>(source: &mut S, alloc: Global, size: usize) 
 /// missing or bad. `OutOfMemory` if memory is asked for and refused.
 #[tactic(auto, unfolding(crate::specs::Header::opened), using(crate::proofs::Kept::unsound))]
 pub fn open_msf<S: Source + Drop>(alloc: Global, mut source: S) -> Result<BigMSF<S>>
-    ensures head { AnswersUnless (¬ IsTrue (S.state source).is_sound) (λ m. m.head) result (opened (S.state source).bytes) }
+    ensures head { AnswersUnless (¬ IsTrue (S.state source).is_sound)
+        (λ m. m.head) result (opened (S.state source).bytes) }
     ensures kept { IfOk result (λ m. IsKept (S.state source) (S.state m.source)) }
     ensures fresh { IfOk result (λ m. IsFresh m) }
 {

@@ -56,10 +56,13 @@ impl PageList {
     pub fn push(&mut self, page: u32) -> Result<()>
         requires whole { self.old.is_truncated ≡ false }
         requires room { length (places self.old.slices) + self.old.page_size < 2 ^ 64 }
-        ensures slices { OnOk result (self.new ≡ record self.old { slices = with_slice self.old.slices (page_slice self.old.page_size page) }) }
-        ensures places { OnOk result (places self.new.slices ≡ places self.old.slices ++ page_places self.old.page_size page) }
+        ensures slices { OnOk result (self.new ≡
+            record self.old { slices = with_slice self.old.slices (page_slice self.old.page_size page) }) }
+        ensures places { OnOk result (
+            places self.new.slices ≡ places self.old.slices ++ page_places self.old.page_size page) }
         ensures want { IfErr result (λ e. e ≡ Error.OutOfMemory) }
-        ensures begins { OnErr result (with_slice self.old.slices (page_slice self.old.page_size page) ≡ self.old.slices ++ page_slice self.old.page_size page ∷ []) }
+        ensures begins { OnErr result (with_slice self.old.slices (page_slice self.old.page_size page) ≡
+            self.old.slices ++ page_slice self.old.page_size page ∷ []) }
         ensures err { OnErr result (self.new ≡ self.old) }
     {
         let size = self.page_size as usize;

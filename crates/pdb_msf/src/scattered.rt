@@ -13,7 +13,8 @@ use pdb_base::{Error, Result};
 use std::alloc::Global;
 use std::io::ErrorKind;
 
-/// Views a source. Its want of memory is the library's own, and any other error keeps its kind.
+/// Views a source. An error of the kind `OutOfMemory` is answered as `Error::OutOfMemory`, and any other
+/// as an `IoError`, which keeps it.
 pub fn view<S: Source>(source: &mut S, alloc: Global, slices: &[SourceSlice]) -> Result<ReadView>
     ensures bytes { AnswersUnless (HasFailed (S.state source.old) (S.state source.new)) (λ v. v) result
         (found (bytes_at (S.state source.old).bytes (places slices.now))) }
@@ -34,7 +35,8 @@ fn page_list(alloc: Global, page_size: u32, numbers: &[u32], size: usize) -> Res
     requires size { (0 < page_size) × (page_size ≤ 0x800000) }
     requires reached { size ≤ length numbers.now * page_size }
     requires few { length numbers.now ≤ 2 ^ 40 }
-    ensures places { Answers (λ l. places l.slices) result (Ok (map (place_of page_size numbers.now) (range_with_len 0 size))) }
+    ensures places { Answers (λ l. places l.slices) result
+        (Ok (map (place_of page_size numbers.now) (range_with_len 0 size))) }
     ensures len { IfOk result (λ l. length (places l.slices) ≡ size) }
 {
     let mut list = PageList::new(alloc, page_size);

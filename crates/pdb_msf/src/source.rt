@@ -99,7 +99,8 @@ impl Source for Vec<u8> {
     /// `OutOfMemory` if it is refused, or if the sizes have a sum above `usize::MAX`.
     fn view(&mut self, alloc: Global, slices: &[SourceSlice]) -> Result<ReadView, io::Error>
         ensures view { Shows ⊥ (λ v. v) result (bytes_at self.old.items (places slices.now)) }
-        ensures exact { bytes_at self.old.items (places slices.now) ≡ None → IsErrAnd result (λ e. error_kind e ≡ ErrorKind.UnexpectedEof) }
+        ensures exact { bytes_at self.old.items (places slices.now) ≡ None →
+            IsErrAnd result (λ e. error_kind e ≡ ErrorKind.UnexpectedEof) }
         ensures kept { self.new ≡ self.old }
     {
         view_of(self.as_slice(), alloc, slices)
@@ -120,7 +121,8 @@ impl<'b> Source for &'b [u8] {
 #[tactic(auto, using(crate::proofs::PlacesLemmas::bytes_within, crate::proofs::PlacesLemmas::bytes_past))]
 fn view_of(file: &[u8], alloc: Global, slices: &[SourceSlice]) -> Result<ReadView, io::Error>
     ensures view { Shows ⊥ (λ v. v) result (bytes_at file.now (places slices.now)) }
-    ensures exact { bytes_at file.now (places slices.now) ≡ None → IsErrAnd result (λ e. error_kind e ≡ ErrorKind.UnexpectedEof) }
+    ensures exact { bytes_at file.now (places slices.now) ≡ None →
+        IsErrAnd result (λ e. error_kind e ≡ ErrorKind.UnexpectedEof) }
 {
     if !all_within(file.len(), slices) {
         return Err(io::Error::from(ErrorKind::UnexpectedEof));

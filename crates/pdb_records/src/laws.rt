@@ -55,7 +55,8 @@ pub fn dimensions()
 /// Rows that reach to the end of the bytes, where each takes a byte at least, are read as they fill
 /// the bytes; the first that can't be read is refused as its row says.
 pub fn lists<A>()
-    ensures { (r : Row A) → TakesBytes (Assigns r) → Agrees (to_end (row r)) (Fills (Assigns r)) (FailsBehind (Assigns r) (Stops r)) }
+    ensures { (r : Row A) → TakesBytes (Assigns r) →
+        Agrees (to_end (row r)) (Fills (Assigns r)) (FailsBehind (Assigns r) (Stops r)) }
 {}
 
 /// What is read of bytes is the one record that the grammar assigns to them, and bytes to which it
@@ -81,7 +82,8 @@ pub fn faults()
 
 /// Lists are short beside their record: each has at most half as many items as the record has bytes.
 pub fn short_lists()
-    ensures { (bytes : List ℕ) (value : TypeValue) (rest : List ℕ) → IsRecord bytes value rest → IsShort (length bytes) value }
+    ensures { (bytes : List ℕ) (value : TypeValue) (rest : List ℕ) →
+        IsRecord bytes value rest → IsShort (length bytes) value }
 {}
 
 /// The constants are the numbers of `LEAF_ENUM_e` in Microsoft's cvinfo.h: its leaves, prefixes and pads

@@ -33,8 +33,8 @@ fn stream_at<S: Source>(
     file: &mut BigMSF<S>,
     index: StreamIndex,
 ) -> Result<Option<Stream>>
-    ensures stream { AnswersUnless (HasFailed (S.state file.old.source) (S.state file.new.source)) (λ stream. stream) result
-        (stream_at (S.state file.old.source).bytes file.old.head index) }
+    ensures stream { AnswersUnless (HasFailed (S.state file.old.source) (S.state file.new.source))
+        (λ stream. stream) result (stream_at (S.state file.old.source).bytes file.old.head index) }
     ensures source { IsKept (S.state file.old.source) (S.state file.new.source) }
     ensures head { file.new.head ≡ file.old.head }
 {
@@ -50,8 +50,8 @@ fn stream_at<S: Source>(
 /// What `Msf::get` refuses of stream 1, and what `PDBInformation::parse` does.
 #[tactic(auto, unfolding(crate::specs::File::file_information))]
 pub fn pdb_information<S: Source>(alloc: Global, file: &mut BigMSF<S>) -> Result<PDBInformation>
-    ensures information { AnswersUnless (HasFailed (S.state file.old.source) (S.state file.new.source)) (λ information. information) result
-        (file_information (S.state file.old.source).bytes file.old.head) }
+    ensures information { AnswersUnless (HasFailed (S.state file.old.source) (S.state file.new.source))
+        (λ information. information) result (file_information (S.state file.old.source).bytes file.old.head) }
     ensures source { IsKept (S.state file.old.source) (S.state file.new.source) }
     ensures head { file.new.head ≡ file.old.head }
 {
@@ -64,8 +64,8 @@ pub fn pdb_information<S: Source>(alloc: Global, file: &mut BigMSF<S>) -> Result
 /// What `Msf::get` refuses of stream 3, and what `DBIExtraStreams::new` does.
 #[tactic(auto, unfolding(crate::specs::File::file_roles))]
 pub fn extra_streams<S: Source>(alloc: Global, file: &mut BigMSF<S>) -> Result<DBIExtraStreams>
-    ensures roles { AnswersUnless (HasFailed (S.state file.old.source) (S.state file.new.source)) (λ roles. roles) result
-        (file_roles (S.state file.old.source).bytes file.old.head) }
+    ensures roles { AnswersUnless (HasFailed (S.state file.old.source) (S.state file.new.source))
+        (λ roles. roles) result (file_roles (S.state file.old.source).bytes file.old.head) }
     ensures source { IsKept (S.state file.old.source) (S.state file.new.source) }
     ensures head { file.new.head ≡ file.old.head }
 {
@@ -90,7 +90,8 @@ fn sections_at<S: Source>(
     file: &mut BigMSF<S>,
     index: StreamIndex,
 ) -> Result<Option<Vec<ImageSectionHeader>>>
-    ensures sections { AnswersUnless (HasFailed (S.state file.old.source) (S.state file.new.source)) (option_map (λ sections. sections.items)) result
+    ensures sections { AnswersUnless (HasFailed (S.state file.old.source) (S.state file.new.source))
+        (option_map (λ sections. sections.items)) result
         (sections_at (S.state file.old.source).bytes file.old.head index) }
     ensures source { IsKept (S.state file.old.source) (S.state file.new.source) }
     ensures head { file.new.head ≡ file.old.head }
@@ -116,8 +117,8 @@ fn omap_at<S: Source>(
     file: &mut BigMSF<S>,
     index: StreamIndex,
 ) -> Result<Option<OMAPTable>>
-    ensures table { AnswersUnless (HasFailed (S.state file.old.source) (S.state file.new.source)) (λ table. table) result
-        (omap_at (S.state file.old.source).bytes file.old.head index) }
+    ensures table { AnswersUnless (HasFailed (S.state file.old.source) (S.state file.new.source))
+        (λ table. table) result (omap_at (S.state file.old.source).bytes file.old.head index) }
     ensures source { IsKept (S.state file.old.source) (S.state file.new.source) }
     ensures head { file.new.head ≡ file.old.head }
 {
@@ -134,7 +135,8 @@ fn rearranged<S: Source>(
     sections: Vec<ImageSectionHeader>,
     original: Vec<ImageSectionHeader>,
 ) -> Result<AddressMap>
-    ensures map { AnswersUnless (HasFailed (S.state file.old.source) (S.state file.new.source)) (λ map. map) result
+    ensures map { AnswersUnless (HasFailed (S.state file.old.source) (S.state file.new.source))
+        (λ map. map) result
         (rearranged (S.state file.old.source).bytes file.old.head roles.now sections.items original.items) }
     ensures source { IsKept (S.state file.old.source) (S.state file.new.source) }
     ensures head { file.new.head ≡ file.old.head }
@@ -158,8 +160,8 @@ fn rearranged<S: Source>(
 /// `InvalidStreamLength` if an OMAP record is. `OutOfMemory` if memory is refused.
 #[tactic(auto, unfolding(crate::specs::File::file_address_map))]
 pub fn address_map<S: Source>(alloc: Global, file: &mut BigMSF<S>) -> Result<AddressMap>
-    ensures map { AnswersUnless (HasFailed (S.state file.old.source) (S.state file.new.source)) (λ map. map) result
-        (file_address_map (S.state file.old.source).bytes file.old.head) }
+    ensures map { AnswersUnless (HasFailed (S.state file.old.source) (S.state file.new.source))
+        (λ map. map) result (file_address_map (S.state file.old.source).bytes file.old.head) }
     ensures source { IsKept (S.state file.old.source) (S.state file.new.source) }
     ensures head { file.new.head ≡ file.old.head }
 {
@@ -180,8 +182,8 @@ pub fn address_map<S: Source>(alloc: Global, file: &mut BigMSF<S>) -> Result<Add
 /// frame data, as `Msf::get` refuses them, and of the table, as `FrameTable::parse` does.
 #[tactic(auto, unfolding(crate::specs::File::file_frame_table))]
 pub fn frame_table<S: Source>(alloc: Global, file: &mut BigMSF<S>) -> Result<FrameTable>
-    ensures table { AnswersUnless (HasFailed (S.state file.old.source) (S.state file.new.source)) (λ table. table) result
-        (file_frame_table (S.state file.old.source).bytes file.old.head) }
+    ensures table { AnswersUnless (HasFailed (S.state file.old.source) (S.state file.new.source))
+        (λ table. table) result (file_frame_table (S.state file.old.source).bytes file.old.head) }
     ensures source { IsKept (S.state file.old.source) (S.state file.new.source) }
     ensures head { file.new.head ≡ file.old.head }
 {
@@ -194,8 +196,8 @@ pub fn frame_table<S: Source>(alloc: Global, file: &mut BigMSF<S>) -> Result<Fra
 /// The number of the first stream of a name.
 #[tactic(auto, unfolding(crate::specs::File::file_number))]
 fn number_named<S: Source>(alloc: Global, file: &mut BigMSF<S>, name: &[u8]) -> Result<u32>
-    ensures number { AnswersUnless (HasFailed (S.state file.old.source) (S.state file.new.source)) (λ number. number) result
-        (file_number (S.state file.old.source).bytes file.old.head name.now) }
+    ensures number { AnswersUnless (HasFailed (S.state file.old.source) (S.state file.new.source))
+        (λ number. number) result (file_number (S.state file.old.source).bytes file.old.head name.now) }
     ensures source { IsKept (S.state file.old.source) (S.state file.new.source) }
     ensures head { file.new.head ≡ file.old.head }
 {
@@ -212,8 +214,8 @@ fn number_named<S: Source>(alloc: Global, file: &mut BigMSF<S>, name: &[u8]) -> 
 /// name, or if the first that has it is none, and else what `Msf::get` refuses of its number.
 #[tactic(auto, unfolding(crate::specs::File::file_named_stream))]
 pub fn named_stream<S: Source>(alloc: Global, file: &mut BigMSF<S>, name: &[u8]) -> Result<Stream>
-    ensures stream { AnswersUnless (HasFailed (S.state file.old.source) (S.state file.new.source)) (λ stream. stream) result
-        (file_named_stream (S.state file.old.source).bytes file.old.head name.now) }
+    ensures stream { AnswersUnless (HasFailed (S.state file.old.source) (S.state file.new.source))
+        (λ stream. stream) result (file_named_stream (S.state file.old.source).bytes file.old.head name.now) }
     ensures source { IsKept (S.state file.old.source) (S.state file.new.source) }
     ensures head { file.new.head ≡ file.old.head }
 {
@@ -227,8 +229,8 @@ pub fn named_stream<S: Source>(alloc: Global, file: &mut BigMSF<S>, name: &[u8])
 /// What `named_stream` refuses, and then what `StringTable::parse` does.
 #[tactic(auto, unfolding(crate::specs::File::file_string_table))]
 pub fn string_table<S: Source>(alloc: Global, file: &mut BigMSF<S>) -> Result<StringTable>
-    ensures names { AnswersUnless (HasFailed (S.state file.old.source) (S.state file.new.source)) (λ names. names) result
-        (file_string_table (S.state file.old.source).bytes file.old.head) }
+    ensures names { AnswersUnless (HasFailed (S.state file.old.source) (S.state file.new.source))
+        (λ names. names) result (file_string_table (S.state file.old.source).bytes file.old.head) }
     ensures source { IsKept (S.state file.old.source) (S.state file.new.source) }
     ensures head { file.new.head ≡ file.old.head }
 {

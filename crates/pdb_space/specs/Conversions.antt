@@ -1,12 +1,12 @@
 -- Addresses and places of an image before and after a tool rearranged it, and how each is made of
 -- another. "Internal" are those of before, of which the parts of a program database speak.
-use Rattle.std.specs.Prelude.{◌≡◌, ℕ, if◌then◌else◌, List, [], Option, Some, None, unwrap_or}
+use Rattle.std.specs.Prelude.{◌≡◌, ℕ, if◌then◌else◌, List, [], Option, Some, None, IfSome, unwrap_or}
 use Rattle.std.specs.declared.ops.Range.{Range}
 use Rattle.std.specs.List.{cons_option}
 use Rattle.std.specs.Option.{is_none}
 use Rattle.pdb_space.specs.declared.section_header.ImageSectionHeader.{ImageSectionHeader}
 use Rattle.pdb_space.specs.SectionPlace.{SectionPlace}
-use Rattle.pdb_space.specs.Omap.{Mapping, MovesSomehow, shift}
+use Rattle.pdb_space.specs.Omap.{Mapping, IsSortedBySource, MovesSomehow, shift}
 use Rattle.pdb_space.specs.Ranges.{parts, unless_empty}
 use Rattle.pdb_space.specs.Sections.{section_of, address_of}
 use Rattle.pdb_space.specs.Steps.{◌>>=◌}
@@ -110,3 +110,9 @@ pub record ComesSomehow {A : Type 0} (start : Option ℕ) (made : ℕ → Option
   pub goes_to : ℕ
   pub moves : MovesSomehow table address goes_to
   pub comes : made goes_to ≡ Some result
+
+-- What comes of a conversion by way of a table: what is meant, where there is no table or its sources never
+-- fall; and over another table nothing, or what that table makes somehow.
+pub record IsByTable {A : Type 0} (table : Option (List Mapping)) (meant : Option A) (somehow : List Mapping → A → Type 0) (result : Option A) : Type 0 where
+  pub exact : IfSome table IsSortedBySource → result ≡ meant
+  pub bound : IfSome table (λ records. IfSome result (somehow records))

@@ -70,7 +70,7 @@ impl Rva {
     }
 }
 
-/// The address so many bytes behind. Its caller shows that it fits 32 bits.
+/// The address a number of bytes behind this one. The caller shows that it fits 32 bits.
 impl Add<u32> for Rva {
     type Output = Rva;
 
@@ -83,7 +83,7 @@ impl Add<u32> for Rva {
     }
 }
 
-/// Moves the address so many bytes on. Its caller shows that it fits 32 bits.
+/// Moves the address a number of bytes on. The caller shows that it fits 32 bits.
 impl AddAssign<u32> for Rva {
     ghost can_add_assign = { λ address offset. Fits (address + offset) };
 
@@ -94,7 +94,7 @@ impl AddAssign<u32> for Rva {
     }
 }
 
-/// How many bytes an address lies behind another. Its caller shows that it doesn't lie before it.
+/// How many bytes this address lies behind another. The caller shows that it doesn't lie before it.
 impl Sub<Rva> for Rva {
     type Output = u32;
 

@@ -85,8 +85,10 @@ impl AddressMap {
     /// but for those that it moves to 0xffffffff. Without a table it is the range itself. Over a table
     /// that isn't sorted they are at most one for each of its records.
     pub fn rva_ranges(&self, range: Range<PdbInternalRva>) -> RvaRangeIter<'_>
-        ensures parts { IfSome self.now.original_to_transformed IsSortedBySource → result ≡ translated_parts self.now.original_to_transformed range }
-        ensures laid { IfSome self.now.original_to_transformed IsSortedBySource → end_to_end result ≡ pointwise (translated self.now.original_to_transformed) range }
+        ensures parts { IfSome self.now.original_to_transformed IsSortedBySource →
+            result ≡ translated_parts self.now.original_to_transformed range }
+        ensures laid { IfSome self.now.original_to_transformed IsSortedBySource →
+            end_to_end result ≡ pointwise (translated self.now.original_to_transformed) range }
         ensures few { IfSome self.now.original_to_transformed (λ table. length result ≤ length table) }
         ensures not_empty { All IsNotEmpty result }
     {
@@ -101,8 +103,10 @@ impl AddressMap {
     /// but for those that it moves to 0xffffffff. Without a table it is the range itself. Over a table
     /// that isn't sorted they are at most one for each of its records.
     pub fn internal_rva_ranges(&self, range: Range<Rva>) -> PdbInternalRvaRangeIter<'_>
-        ensures parts { IfSome self.now.transformed_to_original IsSortedBySource → result ≡ translated_parts self.now.transformed_to_original range }
-        ensures laid { IfSome self.now.transformed_to_original IsSortedBySource → end_to_end result ≡ pointwise (translated self.now.transformed_to_original) range }
+        ensures parts { IfSome self.now.transformed_to_original IsSortedBySource →
+            result ≡ translated_parts self.now.transformed_to_original range }
+        ensures laid { IfSome self.now.transformed_to_original IsSortedBySource →
+            end_to_end result ≡ pointwise (translated self.now.transformed_to_original) range }
         ensures few { IfSome self.now.transformed_to_original (λ table. length result ≤ length table) }
         ensures not_empty { All IsNotEmpty result }
     {

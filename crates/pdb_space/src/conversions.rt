@@ -5,8 +5,8 @@
 //! some record at or below moves the first one.
 
 ghost use Rattle.std.specs.Prelude.{◌≡◌, None, Some, IfSome};
-ghost use Rattle.pdb_space.specs.Omap.{IsSortedBySource, MovesSomehow};
-ghost use Rattle.pdb_space.specs.Conversions.{ComesSomehow, rva_to_internal_rva, rva_to_section_offset, rva_to_internal_offset, internal_rva_to_rva, internal_rva_to_section_offset, internal_rva_to_internal_offset, section_offset_to_rva, section_offset_to_internal_rva, section_offset_to_internal_offset, internal_offset_to_internal_rva, internal_offset_to_rva, internal_offset_to_section_offset};
+ghost use Rattle.pdb_space.specs.Omap.{MovesSomehow};
+ghost use Rattle.pdb_space.specs.Conversions.{ComesSomehow, IsByTable, rva_to_internal_rva, rva_to_section_offset, rva_to_internal_offset, internal_rva_to_rva, internal_rva_to_section_offset, internal_rva_to_internal_offset, section_offset_to_rva, section_offset_to_internal_rva, section_offset_to_internal_offset, internal_offset_to_internal_rva, internal_offset_to_rva, internal_offset_to_section_offset};
 
 use crate::address::Rva;
 use crate::address_map::{AddressMap, translate};
@@ -20,8 +20,8 @@ impl Rva {
     /// none. Without a table it is the same number.
     #[tactic(auto, unfolding(crate::specs::Conversions::rva_to_internal_rva))]
     pub fn to_internal_rva(self, map: &AddressMap) -> Option<PdbInternalRva>
-        ensures exact { IfSome map.now.transformed_to_original IsSortedBySource → result ≡ rva_to_internal_rva map.now self }
-        ensures somehow { IfSome map.now.transformed_to_original (λ table. IfSome result (MovesSomehow table self)) }
+        ensures { IsByTable map.now.transformed_to_original (rva_to_internal_rva map.now self)
+            (λ table. MovesSomehow table self) result }
     {
         translate(&map.transformed_to_original, self.0).map(|address| PdbInternalRva(address))
     }
@@ -39,8 +39,8 @@ impl Rva {
     /// The place of the internal address in a section of the original image.
     #[tactic(auto, unfolding(crate::specs::Conversions::rva_to_internal_offset, crate::specs::Conversions::internal_rva_to_internal_offset))]
     pub fn to_internal_offset(self, map: &AddressMap) -> Option<PdbInternalSectionOffset>
-        ensures exact { IfSome map.now.transformed_to_original IsSortedBySource → result ≡ rva_to_internal_offset map.now self }
-        ensures somehow { IfSome map.now.transformed_to_original (λ table. IfSome result (ComesSomehow (Some self) (internal_rva_to_internal_offset map.now) table)) }
+        ensures { IsByTable map.now.transformed_to_original (rva_to_internal_offset map.now self)
+            (ComesSomehow (Some self) (internal_rva_to_internal_offset map.now)) result }
     {
         self.to_internal_rva(map)?.to_internal_offset(map)
     }
@@ -51,8 +51,8 @@ impl PdbInternalRva {
     /// left out. Without a table it is the same number.
     #[tactic(auto, unfolding(crate::specs::Conversions::internal_rva_to_rva))]
     pub fn to_rva(self, map: &AddressMap) -> Option<Rva>
-        ensures exact { IfSome map.now.original_to_transformed IsSortedBySource → result ≡ internal_rva_to_rva map.now self }
-        ensures somehow { IfSome map.now.original_to_transformed (λ table. IfSome result (MovesSomehow table self)) }
+        ensures { IsByTable map.now.original_to_transformed (internal_rva_to_rva map.now self)
+            (λ table. MovesSomehow table self) result }
     {
         translate(&map.original_to_transformed, self.0).map(|address| Rva(address))
     }
@@ -60,8 +60,8 @@ impl PdbInternalRva {
     /// The place in a section of the image as it is loaded to which this address was moved.
     #[tactic(auto, unfolding(crate::specs::Conversions::internal_rva_to_section_offset, crate::specs::Conversions::rva_to_section_offset))]
     pub fn to_section_offset(self, map: &AddressMap) -> Option<SectionOffset>
-        ensures exact { IfSome map.now.original_to_transformed IsSortedBySource → result ≡ internal_rva_to_section_offset map.now self }
-        ensures somehow { IfSome map.now.original_to_transformed (λ table. IfSome result (ComesSomehow (Some self) (rva_to_section_offset map.now) table)) }
+        ensures { IsByTable map.now.original_to_transformed (internal_rva_to_section_offset map.now self)
+            (ComesSomehow (Some self) (rva_to_section_offset map.now)) result }
     {
         self.to_rva(map)?.to_section_offset(map)
     }
@@ -90,8 +90,8 @@ impl SectionOffset {
     /// The address in the original image from which the place was moved.
     #[tactic(auto, unfolding(crate::specs::Conversions::section_offset_to_internal_rva))]
     pub fn to_internal_rva(self, map: &AddressMap) -> Option<PdbInternalRva>
-        ensures exact { IfSome map.now.transformed_to_original IsSortedBySource → result ≡ section_offset_to_internal_rva map.now self }
-        ensures somehow { IfSome map.now.transformed_to_original (λ table. IfSome result (ComesSomehow (section_offset_to_rva map.now self) Some table)) }
+        ensures { IsByTable map.now.transformed_to_original (section_offset_to_internal_rva map.now self)
+            (ComesSomehow (section_offset_to_rva map.now self) Some) result }
     {
         self.to_rva(map)?.to_internal_rva(map)
     }
@@ -100,8 +100,10 @@ impl SectionOffset {
     /// has the same numbers, even where there is no such section.
     #[tactic(auto, unfolding(crate::specs::Conversions::section_offset_to_internal_offset))]
     pub fn to_internal_offset(self, map: &AddressMap) -> Option<PdbInternalSectionOffset>
-        ensures exact { IfSome map.now.transformed_to_original IsSortedBySource → result ≡ section_offset_to_internal_offset map.now self }
-        ensures somehow { IfSome map.now.transformed_sections (λ _. IfSome map.now.transformed_to_original (λ table. IfSome result (ComesSomehow (section_offset_to_rva map.now self) (internal_rva_to_internal_offset map.now) table))) }
+        ensures by_table { IsByTable map.now.transformed_to_original (section_offset_to_internal_offset map.now self)
+            (λ table place. IfSome map.now.transformed_sections (λ _.
+            ComesSomehow (section_offset_to_rva map.now self) (internal_rva_to_internal_offset map.now) table place))
+            result }
         ensures same { map.now.transformed_sections ≡ None → result ≡ Some self }
     {
         if map.transformed_sections.is_none() {
@@ -125,8 +127,8 @@ impl PdbInternalSectionOffset {
     /// The address in the image as it is loaded to which the place was moved.
     #[tactic(auto, unfolding(crate::specs::Conversions::internal_offset_to_rva))]
     pub fn to_rva(self, map: &AddressMap) -> Option<Rva>
-        ensures exact { IfSome map.now.original_to_transformed IsSortedBySource → result ≡ internal_offset_to_rva map.now self }
-        ensures somehow { IfSome map.now.original_to_transformed (λ table. IfSome result (ComesSomehow (internal_offset_to_internal_rva map.now self) Some table)) }
+        ensures { IsByTable map.now.original_to_transformed (internal_offset_to_rva map.now self)
+            (ComesSomehow (internal_offset_to_internal_rva map.now self) Some) result }
     {
         self.to_internal_rva(map)?.to_rva(map)
     }
@@ -135,8 +137,10 @@ impl PdbInternalSectionOffset {
     /// it has the same numbers, even where there is no such section.
     #[tactic(auto, unfolding(crate::specs::Conversions::internal_offset_to_section_offset))]
     pub fn to_section_offset(self, map: &AddressMap) -> Option<SectionOffset>
-        ensures exact { IfSome map.now.original_to_transformed IsSortedBySource → result ≡ internal_offset_to_section_offset map.now self }
-        ensures somehow { IfSome map.now.transformed_sections (λ _. IfSome map.now.original_to_transformed (λ table. IfSome result (ComesSomehow (internal_offset_to_internal_rva map.now self) (rva_to_section_offset map.now) table))) }
+        ensures by_table { IsByTable map.now.original_to_transformed (internal_offset_to_section_offset map.now self)
+            (λ table place. IfSome map.now.transformed_sections (λ _.
+            ComesSomehow (internal_offset_to_internal_rva map.now self) (rva_to_section_offset map.now) table place))
+            result }
         ensures same { map.now.transformed_sections ≡ None → result ≡ Some self }
     {
         if map.transformed_sections.is_none() {

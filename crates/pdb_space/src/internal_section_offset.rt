@@ -40,7 +40,7 @@ impl PdbInternalSectionOffset {
         PdbInternalSectionOffset { offset, section }
     }
 
-    /// Whether the number of the section is that of a section, which 0 isn't.
+    /// Whether the place is in a section: whether the section's number isn't 0.
     pub fn is_valid(self) -> bool
         ensures { IsTrue result ↔ (self.section ≢ 0) }
     {
@@ -73,7 +73,7 @@ impl PdbInternalSectionOffset {
     }
 }
 
-/// The place so many bytes behind. Its caller shows that its offset fits 32 bits.
+/// The place a number of bytes behind this one. The caller shows that its offset fits 32 bits.
 impl Add<u32> for PdbInternalSectionOffset {
     type Output = PdbInternalSectionOffset;
 
@@ -86,7 +86,7 @@ impl Add<u32> for PdbInternalSectionOffset {
     }
 }
 
-/// Moves the place so many bytes on. Its caller shows that its offset fits 32 bits.
+/// Moves the place a number of bytes on. The caller shows that its offset fits 32 bits.
 impl AddAssign<u32> for PdbInternalSectionOffset {
     ghost can_add_assign = { λ place offset. Fits (place.offset + offset) };
 

@@ -26,7 +26,8 @@ use crate::string_ref::StringRef;
 pub mod derived;
 pub mod flags;
 
-/// Sums that fit 32 bits are what they are under every way to add, and distances lead back.
+/// Each way to add gives the plain sum where that fits 32 bits, and a start and the distance from it to a
+/// number add up to that number.
 pub fn sums()
     ensures cut { (number : ℕ) → IsCutToFit number }
     ensures reached { (start number : ℕ) → IsReached start number }
@@ -64,7 +65,9 @@ pub fn conversions()
 pub fn string_refs()
     ensures equal { TellsApart ⟦<StringRef as PartialEq>⟧.eq }
     ensures order { OrdersByNumber ⟦<StringRef as Ord>⟧.cmp }
-    ensures conversions { UndoEachOther ⟦<StringRef as From<u32>>⟧.from_gives ⟦<u32 as From<StringRef>>⟧.from_gives }
+    ensures conversions { UndoEachOther
+        ⟦<StringRef as From<u32>>⟧.from_gives
+        ⟦<u32 as From<StringRef>>⟧.from_gives }
 {}
 
 /// The names of a stream are those that stand behind a good header in it, as many bytes as that says.
@@ -86,14 +89,17 @@ pub fn names()
 /// addresses one by one.
 #[tactic(auto, using(crate::proofs::RangeLemmas::parts_are_pointwise))]
 pub fn parts()
-    ensures { (table : List Mapping) (asked : Range ℕ) → IsSortedBySource table → end_to_end (parts table asked) ≡ pointwise (shift table) asked }
+    ensures { (table : List Mapping) (asked : Range ℕ) → IsSortedBySource table →
+        end_to_end (parts table asked) ≡ pointwise (shift table) asked }
 {}
 
 /// The place of an address is in the first section that reaches it, and leads back to it.
 #[tactic(auto, using(crate::proofs::SectionLemmas::section_back))]
 pub fn places()
-    ensures first { (sections : List ImageSectionHeader) (address : ℕ) (place : SectionPlace) → (section_of sections address ≡ Some place) ↔ IsFirstToReach sections address place }
-    ensures back { (sections : List ImageSectionHeader) (address : ℕ) (place : SectionPlace) → Fits address → section_of sections address ≡ Some place → address_of sections place ≡ Some address }
+    ensures first { (sections : List ImageSectionHeader) (address : ℕ) (place : SectionPlace) →
+        (section_of sections address ≡ Some place) ↔ IsFirstToReach sections address place }
+    ensures back { (sections : List ImageSectionHeader) (address : ℕ) (place : SectionPlace) → Fits address →
+        section_of sections address ≡ Some place → address_of sections place ≡ Some address }
 {}
 
 /// Without a table that leads to the other image, an address keeps its number.

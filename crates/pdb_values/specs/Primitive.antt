@@ -6,6 +6,7 @@ use Rattle.std.specs.Map.{lookup}
 use Rattle.pdb_bits.specs.Bits.{bits}
 use Rattle.pdb_base.specs.Refusal.{type_not_found}
 use Rattle.pdb_base.specs.Answer.{Answer, ◌>>=◌}
+use Rattle.pdb_values.specs.declared.primitive.TheConstants.{FIRST_RECORD}
 use Rattle.pdb_values.specs.declared.primitive.Indirection.{Indirection}
 use Rattle.pdb_values.specs.declared.primitive.Indirection.TheVariants.{Near16, Far16, Huge16, Near32, Far32, Near64, Near128}
 use Rattle.pdb_values.specs.declared.primitive.PrimitiveKind.{PrimitiveKind}
@@ -14,7 +15,7 @@ use Rattle.pdb_values.specs.declared.primitive.PrimitiveType.{PrimitiveType}
 
 -- the least index of a type that has a record
 abbrev pub first_record : ℕ
-first_record = 0x1000
+first_record = FIRST_RECORD
 
 -- each number of a type and the type
 abbrev pub primitive_kinds : List (ℕ × PrimitiveKind)

@@ -38,7 +38,9 @@ pub use member::{MemberType, NestedType, StaticMemberType};
 pub use method::{MethodList, MethodListEntry, MethodType, OverloadedMethodType};
 pub use modifier::ModifierType;
 pub use pointer::PointerType;
-pub use primitive::{Indirection, PrimitiveKind, PrimitiveType, type_data_for_primitive};
+pub use primitive::{
+    FIRST_RECORD, Indirection, PrimitiveKind, PrimitiveType, type_data_for_primitive,
+};
 pub use source_id::{UserDefinedTypeSourceFileRef, UserDefinedTypeSourceId};
 pub use table_shape::VirtualTableShapeType;
 pub use type_data::TypeData;

@@ -247,6 +247,9 @@ impl PrimitiveKind {
     }
 }
 
+/// The least index of a type that has a record: those below stand for primitive types.
+pub const FIRST_RECORD: u32 = 0x1000;
+
 /// The number of the type, in the low byte of an index.
 fn kind_number(index: TypeIndex) -> u32
     ensures { result ≡ bits index.0 0 8 }

@@ -44,7 +44,8 @@ pub(crate) fn parse_wide_class<'t>(
     leaf: u16,
     kind: ClassKind,
 ) -> Result<TypeData<'t>>
-    ensures { Gives (λ t. (type_value t, left buffer.new)) result (plain_at (wide_class_row leaf kind) (left buffer.old)) }
+    ensures { Gives (λ t. (type_value t, left buffer.new)) result
+        (plain_at (wide_class_row leaf kind) (left buffer.old)) }
 {
     let properties = TypeProperties::new(low_16_bits(buffer.parse_u32()?));
     let fields = parse_some_type(buffer)?;

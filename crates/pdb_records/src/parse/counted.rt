@@ -40,7 +40,8 @@ fn parse_held_indexes<I: Index>(
     count: usize,
 ) -> Result<Vec<I>>
     requires { 4 * count ≤ length (left buffer.old) }
-    ensures read { Answers (λ list. (list.items, left buffer.new)) result (repeated (index_at I.said) count (left buffer.old)) }
+    ensures read { Answers (λ list. (list.items, left buffer.new)) result
+        (repeated (index_at I.said) count (left buffer.old)) }
     ensures want { LacksOnlyIf result (0 < count) }
 {
     let mut indexes = Vec::new(alloc);
@@ -59,8 +60,10 @@ fn parse_indexes<I: Index>(
     buffer: &mut ParseBuffer<'_>,
     count: usize,
 ) -> Result<Vec<I>>
-    ensures read { Answers (λ list. (list.items, left buffer.new)) result (repeated (index_at I.said) count (left buffer.old)) }
-    ensures want { LacksOnlyIf result (IsOkAnd (repeated (index_at I.said) count (left buffer.old)) (λ read. HasItem read.0)) }
+    ensures read { Answers (λ list. (list.items, left buffer.new)) result
+        (repeated (index_at I.said) count (left buffer.old)) }
+    ensures want { LacksOnlyIf result
+        (IsOkAnd (repeated (index_at I.said) count (left buffer.old)) (λ read. HasItem read.0)) }
 {
     if buffer.len() / 4 < count {
         return Err(Error::UnexpectedEof);

@@ -38,7 +38,8 @@ fn parse_behind_entry<'t>(
     buffer: &mut ParseBuffer<'t>,
     number: u16,
 ) -> Result<FieldEntry<'t>>
-    ensures read { Answers (λ e. (entry_value e, left buffer.new)) result (entry_of (number == continuation_leaf) number (left buffer.old)) }
+    ensures read { Answers (λ e. (entry_value e, left buffer.new)) result
+        (entry_of (number == continuation_leaf) number (left buffer.old)) }
     ensures want { LacksOnlyIf result (HoldsItemBehind number (left buffer.old)) }
 {
     if number == LF_INDEX {

@@ -49,7 +49,8 @@ pub(crate) fn parse_overloaded_method<'t>(
     buffer: &mut ParseBuffer<'t>,
     leaf: u16,
 ) -> Result<TypeData<'t>>
-    ensures { Gives (λ t. (type_value t, left buffer.new)) result (plain_at (overloaded_method_row leaf) (left buffer.old)) }
+    ensures { Gives (λ t. (type_value t, left buffer.new)) result
+        (plain_at (overloaded_method_row leaf) (left buffer.old)) }
 {
     Ok(TypeData::OverloadedMethod(OverloadedMethodType {
         count: buffer.parse_u16()?,

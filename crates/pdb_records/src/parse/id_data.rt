@@ -84,7 +84,8 @@ fn parse_id_record<'t>(alloc: Global, buffer: &mut ParseBuffer<'t>) -> Result<Id
 pub fn parse_id_data<'t>(alloc: Global, bytes: &'t [u8]) -> Result<IdData<'t>>
     ensures read { Answers id_value result (id_record bytes.now) }
     ensures answers { SaysAssigned id_value (IsId bytes.now) (NoId bytes.now) result }
-    ensures answered { (value : IdValue) (rest : List ℕ) → IsId bytes.now value rest → ShowsOrLacks id_value value result }
+    ensures answered { (value : IdValue) (rest : List ℕ) →
+        IsId bytes.now value rest → ShowsOrLacks id_value value result }
     ensures refused { (refusal : Refusal) → NoId bytes.now refusal → RefusesOrLacks refusal result }
     ensures want { LacksOnlyIf result (HoldsIdItem bytes.now) }
     ensures cut { IsCutIdList bytes.now → result ≡ Err UnexpectedEof }

@@ -59,7 +59,8 @@ pub(crate) fn parse_plain_id<'t>(
     number: u16,
     leaf: PlainIdLeaf,
 ) -> Result<IdData<'t>>
-    ensures { Gives (λ id. (id_value id, left buffer.new)) result (plain_id_at (id_row_of number leaf) (left buffer.old)) }
+    ensures { Gives (λ id. (id_value id, left buffer.new)) result
+        (plain_id_at (id_row_of number leaf) (left buffer.old)) }
 {
     match leaf {
         PlainIdLeaf::Function => parse_function_id(buffer, number),
@@ -73,7 +74,8 @@ pub(crate) fn parse_plain_id<'t>(
 /// A function.
 #[tactic(auto, unfolding(crate::specs::Row::row, crate::specs::IdRows::function_id_row))]
 fn parse_function_id<'t>(buffer: &mut ParseBuffer<'t>, leaf: u16) -> Result<IdData<'t>>
-    ensures { Gives (λ id. (id_value id, left buffer.new)) result (plain_id_at (function_id_row leaf) (left buffer.old)) }
+    ensures { Gives (λ id. (id_value id, left buffer.new)) result
+        (plain_id_at (function_id_row leaf) (left buffer.old)) }
 {
     Ok(IdData::Function(FunctionId {
         scope: parse_some_id(buffer)?,
@@ -85,7 +87,8 @@ fn parse_function_id<'t>(buffer: &mut ParseBuffer<'t>, leaf: u16) -> Result<IdDa
 /// A method.
 #[tactic(auto, unfolding(crate::specs::Row::row, crate::specs::IdRows::member_function_id_row))]
 fn parse_member_function_id<'t>(buffer: &mut ParseBuffer<'t>, leaf: u16) -> Result<IdData<'t>>
-    ensures { Gives (λ id. (id_value id, left buffer.new)) result (plain_id_at (member_function_id_row leaf) (left buffer.old)) }
+    ensures { Gives (λ id. (id_value id, left buffer.new)) result
+        (plain_id_at (member_function_id_row leaf) (left buffer.old)) }
 {
     Ok(IdData::MemberFunction(MemberFunctionId {
         parent: parse_type_index(buffer)?,

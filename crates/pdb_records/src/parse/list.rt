@@ -15,7 +15,8 @@ use std::alloc::Global;
 
 /// All methods of one name, to the end of the bytes.
 pub(crate) fn parse_method_list(alloc: Global, buffer: &mut ParseBuffer<'_>) -> Result<MethodList>
-    ensures read { Answers (λ list. (list.methods.items, left buffer.new)) result (to_end (row listed_method_row) (left buffer.old)) }
+    ensures read { Answers (λ list. (list.methods.items, left buffer.new)) result
+        (to_end (row listed_method_row) (left buffer.old)) }
     ensures want { LacksOnlyIf result (HoldsMethod (left buffer.old)) }
 {
     let mut methods: Vec<MethodListEntry> = Vec::new(alloc);

@@ -33,7 +33,8 @@ pub(crate) fn parse_static_member<'t>(
     buffer: &mut ParseBuffer<'t>,
     leaf: u16,
 ) -> Result<TypeData<'t>>
-    ensures { Gives (λ t. (type_value t, left buffer.new)) result (plain_at (static_member_row leaf) (left buffer.old)) }
+    ensures { Gives (λ t. (type_value t, left buffer.new)) result
+        (plain_at (static_member_row leaf) (left buffer.old)) }
 {
     Ok(TypeData::StaticMember(StaticMemberType {
         attributes: FieldAttributes::new(buffer.parse_u16()?),
@@ -49,7 +50,8 @@ pub(crate) fn parse_nested<'t>(
     leaf: u16,
     has_attributes: bool,
 ) -> Result<TypeData<'t>>
-    ensures { Gives (λ t. (type_value t, left buffer.new)) result (plain_at (nested_row leaf has_attributes) (left buffer.old)) }
+    ensures { Gives (λ t. (type_value t, left buffer.new)) result
+        (plain_at (nested_row leaf has_attributes) (left buffer.old)) }
 {
     let word = buffer.parse_u16()?;
     Ok(TypeData::Nested(NestedType {
@@ -81,7 +83,8 @@ pub(crate) fn parse_virtual_base_class<'t>(
     buffer: &mut ParseBuffer<'t>,
     direct: bool,
 ) -> Result<TypeData<'t>>
-    ensures { Gives (λ t. (type_value t, left buffer.new)) result (plain_at (virtual_base_row direct) (left buffer.old)) }
+    ensures { Gives (λ t. (type_value t, left buffer.new)) result
+        (plain_at (virtual_base_row direct) (left buffer.old)) }
 {
     Ok(TypeData::VirtualBaseClass(VirtualBaseClassType {
         direct,

@@ -68,7 +68,8 @@ pub(crate) fn parse_some_text<'t>(
     leaf: u16,
     is_there: bool,
 ) -> Result<Option<RawString<'t>>>
-    ensures { Gives (λ name. (option_map (λ text. text.0.now) name, left buffer.new)) result (read_shape (when is_there (text leaf)) (left buffer.old)) }
+    ensures { Gives (λ name. (option_map (λ text. text.0.now) name, left buffer.new)) result
+        (read_shape (when is_there (text leaf)) (left buffer.old)) }
 {
     if is_there {
         Ok(Some(parse_text(buffer, leaf)?))

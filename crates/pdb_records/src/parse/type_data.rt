@@ -55,7 +55,8 @@ fn parse_record<'t>(alloc: Global, buffer: &mut ParseBuffer<'t>) -> Result<TypeD
 pub fn parse_type_data<'t>(alloc: Global, bytes: &'t [u8]) -> Result<TypeData<'t>>
     ensures read { Answers type_value result (type_record bytes.now) }
     ensures answers { SaysAssigned type_value (IsRecord bytes.now) (NoRecord bytes.now) result }
-    ensures answered { (value : TypeValue) (rest : List ℕ) → IsRecord bytes.now value rest → ShowsOrLacks type_value value result }
+    ensures answered { (value : TypeValue) (rest : List ℕ) →
+        IsRecord bytes.now value rest → ShowsOrLacks type_value value result }
     ensures refused { (refusal : Refusal) → NoRecord bytes.now refusal → RefusesOrLacks refusal result }
     ensures want { LacksOnlyIf result (NeedsMemory bytes.now) }
     ensures cut { IsFalseCount bytes.now → result ≡ Err UnexpectedEof }

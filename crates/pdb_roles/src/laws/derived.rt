@@ -35,5 +35,6 @@ pub fn roles()
 
 /// A named stream is equal to another just where its name has the same bytes and the stream is the same.
 pub fn named_streams()
-    ensures { (a b : StreamName) → IsTrue (⟦<StreamName<'static> as PartialEq>⟧.eq a b) ↔ (named_view a ≡ named_view b) }
+    ensures { (a b : StreamName) →
+        IsTrue (⟦<StreamName<'static> as PartialEq>⟧.eq a b) ↔ (named_view a ≡ named_view b) }
 {}

@@ -20,7 +20,9 @@ pub fn addresses()
 /// A place is offset 0 of section 0 by default, which is in no section.
 pub fn section_offsets()
     ensures default { DefaultsTo ⟦<SectionOffset as Default>⟧.is_default (record { section = 0; offset = 0 }) }
-    ensures internal_default { DefaultsTo ⟦<PdbInternalSectionOffset as Default>⟧.is_default (record { section = 0; offset = 0 }) }
+    ensures internal_default { DefaultsTo
+        ⟦<PdbInternalSectionOffset as Default>⟧.is_default
+        (record { section = 0; offset = 0 }) }
 {}
 
 /// No flag is set by default. Flags are equal just where their words are.

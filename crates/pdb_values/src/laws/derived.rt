@@ -64,7 +64,9 @@ pub fn named_parts()
     ensures static_members { TellsApartBy static_member_value ⟦<StaticMemberType<'static> as PartialEq>⟧.eq }
     ensures nested { TellsApartBy nested_value ⟦<NestedType<'static> as PartialEq>⟧.eq }
     ensures methods { TellsApartBy method_value ⟦<MethodType<'static> as PartialEq>⟧.eq }
-    ensures overloaded_methods { TellsApartBy overloaded_method_value ⟦<OverloadedMethodType<'static> as PartialEq>⟧.eq }
+    ensures overloaded_methods { TellsApartBy
+        overloaded_method_value
+        ⟦<OverloadedMethodType<'static> as PartialEq>⟧.eq }
     ensures enumerates { TellsApartBy enumerate_value ⟦<EnumerateType<'static> as PartialEq>⟧.eq }
 {}
 
