@@ -42,7 +42,7 @@ text_at [] = Err unexpected_eof
 text_at (byte ∷ bytes) = if byte == 0 then Ok ([], bytes) else text_at bytes >>= λ text. Ok (byte ∷ text.0, text.1)
 
 -- the text behind a byte that says its length
-unfoldable pub counted_at : List ℕ → Answer (List ℕ × List ℕ)
-counted_at bytes = do
+unfoldable pub pascal_text_at : List ℕ → Answer (List ℕ × List ℕ)
+pascal_text_at bytes = do
   len ← number_at 1 bytes
   front_at len.0 len.1

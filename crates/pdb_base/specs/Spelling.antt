@@ -24,8 +24,8 @@ pub record SpellsText (text front : List ℕ) : Type 0 where
   pub is : text ++ 0 ∷ [] ≡ front
 
 -- a byte that says how long a text is, and the text
-abbrev pub SpellsCounted : List ℕ → List ℕ → Type 0
-SpellsCounted text front = length text ∷ text ≡ front
+abbrev pub SpellsPascalText : List ℕ → List ℕ → Type 0
+SpellsPascalText text front = length text ∷ text ≡ front
 
 -- a number below 0x8000, which stands for itself in two bytes
 pub record SpellsItself (numeral : Numeral) (front : List ℕ) : Type 0 where

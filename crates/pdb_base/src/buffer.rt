@@ -4,7 +4,7 @@ ghost use Rattle.std.specs.Prelude.{◌≡◌, ◌≢◌, ◌+◌, ◌↔◌, []
 ghost use Rattle.std.specs.Int.{w16, w32, w64};
 ghost use Rattle.pdb_base.specs.Answer.{Gives};
 ghost use Rattle.pdb_base.specs.Place.{left, StaysWithin, aligned, cut};
-ghost use Rattle.pdb_base.specs.Reading.{front_at, lowest_first, number_at, signed_at, peeked, text_at, counted_at};
+ghost use Rattle.pdb_base.specs.Reading.{front_at, lowest_first, number_at, signed_at, peeked, text_at, pascal_text_at};
 
 use crate::error::{Error, Result};
 use crate::parse::{Le, Parse};
@@ -320,9 +320,9 @@ impl<'b> ParseBuffer<'b> {
     /// `UnexpectedEof` if no byte is left, or fewer than the length says. In the second case the
     /// position is behind the length.
     #[inline(always)]
-    #[tactic(auto, unfolding(crate::specs::Reading::counted_at))]
+    #[tactic(auto, unfolding(crate::specs::Reading::pascal_text_at))]
     pub fn parse_u8_pascal_string(&mut self) -> Result<RawString<'b>>
-        ensures read { Gives (λ text. (text.0.now, left self.new)) result (counted_at (left self.old)) }
+        ensures read { Gives (λ text. (text.0.now, left self.new)) result (pascal_text_at (left self.old)) }
         ensures place { StaysWithin self.old self.new }
         ensures err { OnErr result (
             self.new ≡ record self.old { pos = self.old.pos + min 1 (length (left self.old)) }) }

@@ -8,10 +8,10 @@ ghost use Rattle.pdb_base.specs.Count.{after_calls};
 ghost use Rattle.pdb_base.specs.Halving.{binary_digits};
 ghost use Rattle.pdb_base.specs.Laws.{CollectsAll, RefusesAsFirst, ReadsSpelling, RefusesPrefixFirst, AlignsToNext, IsLeastToHold, AreReadInTurn};
 ghost use Rattle.pdb_base.specs.Place.{Place};
-ghost use Rattle.pdb_base.specs.Reading.{front_at, number_at, signed_at, text_at, counted_at};
+ghost use Rattle.pdb_base.specs.Reading.{front_at, number_at, signed_at, text_at, pascal_text_at};
 ghost use Rattle.pdb_base.specs.Repeated.{repeated};
 ghost use Rattle.pdb_base.specs.Numeric.{unsigned_leaves, numeric_leaves, num_at, variant_at};
-ghost use Rattle.pdb_base.specs.Spelling.{ReadsWhatIsSpelled, SpellsNumber, SpellsSigned, SpellsText, SpellsCounted, SpellsNum, SpellsVariant};
+ghost use Rattle.pdb_base.specs.Spelling.{ReadsWhatIsSpelled, SpellsNumber, SpellsSigned, SpellsText, SpellsPascalText, SpellsNum, SpellsVariant};
 
 use crate::item_index::ItemIndex;
 
@@ -32,13 +32,13 @@ pub fn numbers()
 
 /// What is read of bytes is what a front of them spells, and of any bytes at most one front spells a
 /// value.
-#[tactic(auto, using(crate::proofs::lemmas::Spelling::numbers, crate::proofs::lemmas::Spelling::signed_numbers, crate::proofs::lemmas::Spelling::texts, crate::proofs::lemmas::Spelling::counted_texts, crate::proofs::lemmas::Numeric::nums, crate::proofs::lemmas::Numeric::variants))]
+#[tactic(auto, using(crate::proofs::lemmas::Spelling::numbers, crate::proofs::lemmas::Spelling::signed_numbers, crate::proofs::lemmas::Spelling::texts, crate::proofs::lemmas::Spelling::pascal_texts, crate::proofs::lemmas::Numeric::nums, crate::proofs::lemmas::Numeric::variants))]
 pub fn spellings()
     ensures numbers { (width : ℕ) → ReadsWhatIsSpelled (SpellsNumber width) (number_at width) }
     ensures signed { (signed : Width) (width : ℕ) →
         ReadsWhatIsSpelled (SpellsSigned signed width) (signed_at signed width) }
     ensures texts { ReadsWhatIsSpelled SpellsText text_at }
-    ensures counted { ReadsWhatIsSpelled SpellsCounted counted_at }
+    ensures pascal_texts { ReadsWhatIsSpelled SpellsPascalText pascal_text_at }
     ensures nums { ReadsWhatIsSpelled SpellsNum num_at }
     ensures variants { ReadsWhatIsSpelled SpellsVariant variant_at }
 {}

@@ -22,9 +22,16 @@ impl<'q> Model for Asked<'q> {
 
     ghost Value = { Progress };
 
-    ghost view = { λ a. record { queries = a.queries.now; replies = a.replies.items; answered = a.answered.items } };
+    ghost view = { λ a. record {
+      queries = a.queries.now;
+      replies = a.replies.items;
+      answered = a.answered.items;
+    } };
 
-    ghost invariant = { λ a. record { replies : length a.replies.items ≡ length a.queries.now; answered : length a.answered.items ≡ length a.queries.now } };
+    ghost invariant = { λ a. record {
+      replies : length a.replies.items ≡ length a.queries.now;
+      answered : length a.answered.items ≡ length a.queries.now;
+    } };
 }
 
 impl<'q> Asked<'q> {

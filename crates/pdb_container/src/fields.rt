@@ -15,7 +15,9 @@ use std::alloc::Global;
 
 /// Copies of the names of fields, for each of them that has one.
 fn names_of(alloc: Global, fields: &[TypeData<'_>]) -> Result<Vec<Option<Vec<u8>>>>
-    ensures ok { IfOk result (λ names. map (λ name. option_map (λ copy. copy.items) name) names.items ≡ map (λ field. name_of (type_value field)) fields.now) }
+    ensures ok { IfOk result (λ names.
+        map (λ name. option_map (λ copy. copy.items) name) names.items ≡
+        map (λ field. name_of (type_value field)) fields.now) }
     ensures want { IfErr result (λ e. e ≡ Error.OutOfMemory) }
 {
     let mut names = Vec::with_capacity(alloc, fields.len())?;

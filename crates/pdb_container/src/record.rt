@@ -22,7 +22,8 @@ fn reply<I: ItemIndex>(
     item: &Item<'_, I>,
     name: Option<RawString<'_>>,
 ) -> Result<Reply>
-    ensures { Replies result (Ok (entry (I.number (index_of item.now)) (kind_of (bytes_of item.now)) (option_map text_bytes name.entry))) }
+    ensures { Replies result
+        (Ok (entry (I.number (index_of item.now)) (kind_of (bytes_of item.now)) (option_map text_bytes name.entry))) }
 {
     Ok(Reply::Record {
         index: item.index().into(),

@@ -34,7 +34,8 @@ fn stream_asked(query: Query) -> (u32, Option<usize>)
 fn offer(alloc: Global, number: u32, opened: &mut Opened<'_>, at: usize, asked: &mut Asked<'_>)
     requires { at < length asked.old.queries }
     ensures on { IsAnsweredOn (MeansTable number opened.old) asked.old asked.new }
-    ensures answered { (stream_asked (query_at asked.old at)).0 ≡ number → IsSome (said_by opened.old (query_at asked.old at)) → is_answered asked.new at ≡ true }
+    ensures answered { (stream_asked (query_at asked.old at)).0 ≡ number →
+        IsSome (said_by opened.old (query_at asked.old at)) → is_answered asked.new at ≡ true }
     ensures kept { (query : Query) → said_by opened.new query ≡ said_by opened.old query }
 {
     let query = asked.query(at);
@@ -51,7 +52,8 @@ fn offer(alloc: Global, number: u32, opened: &mut Opened<'_>, at: usize, asked: 
 fn share(alloc: Global, number: u32, opened: &mut Opened<'_>, from: usize, asked: &mut Asked<'_>)
     requires { from < length asked.old.queries }
     ensures on { IsAnsweredOn (MeansTable number opened.old) asked.old asked.new }
-    ensures answered { (stream_asked (query_at asked.old from)).0 ≡ number → IsSome (said_by opened.old (query_at asked.old from)) → is_answered asked.new from ≡ true }
+    ensures answered { (stream_asked (query_at asked.old from)).0 ≡ number →
+        IsSome (said_by opened.old (query_at asked.old from)) → is_answered asked.new from ≡ true }
 {
     for at in from..asked.len() {
         offer(alloc, number, opened, at, asked);
@@ -141,7 +143,8 @@ fn attempt<S: Source>(
     asked: &mut Asked<'_>,
 ) -> Result<()>
     requires { at < length asked.old.queries }
-    ensures answer { AnswersFrom (HasFailed (S.state file.old.source) (S.state file.new.source)) (reply_of (S.state file.old.source).bytes file.old.head) at asked.old result asked.new }
+    ensures answer { AnswersFrom (HasFailed (S.state file.old.source) (S.state file.new.source))
+        (reply_of (S.state file.old.source).bytes file.old.head) at asked.old result asked.new }
     ensures source { IsKept (S.state file.old.source) (S.state file.new.source) }
     ensures head { file.new.head ≡ file.old.head }
 {
@@ -154,7 +157,8 @@ fn attempt<S: Source>(
 /// that query alone.
 fn answer<S: Source>(alloc: Global, file: &mut BigMSF<S>, at: usize, asked: &mut Asked<'_>)
     requires { at < length asked.old.queries }
-    ensures answer { IsAnsweredFrom (HasFailed (S.state file.old.source) (S.state file.new.source)) (reply_of (S.state file.old.source).bytes file.old.head) at asked.old asked.new }
+    ensures answer { IsAnsweredFrom (HasFailed (S.state file.old.source) (S.state file.new.source))
+        (reply_of (S.state file.old.source).bytes file.old.head) at asked.old asked.new }
     ensures source { IsKept (S.state file.old.source) (S.state file.new.source) }
     ensures head { file.new.head ≡ file.old.head }
 {

@@ -14,7 +14,7 @@ use Rattle.pdb_base.specs.Reading.{number_at}
 use Rattle.pdb_base.proofs.lemmas.Reading.{front_whole, number_whole}
 use Rattle.pdb_base.proofs.lemmas.Collected.{ok, err, ok_is, err_is, ok_is_no_err, bind_ok, collects_all, collected_more, collected_stops}
 use Rattle.pdb_msf.specs.Source.{bytes_at, found}
-use Rattle.pdb_msf.specs.Pages.{pages, place_of, scatter, words, present, judged, page_number, page_numbers}
+use Rattle.pdb_msf.specs.Pages.{pages, position_of, scatter, words, present, judged, page_number, page_numbers}
 use Rattle.pdb_msf.specs.Header.{Head, fields_of}
 use Rattle.pdb_msf.specs.Directory.{entry_of, directory_of}
 use Rattle.pdb_msf.specs.File.{stream_of}
@@ -110,9 +110,9 @@ only_by_index file f size bytes len each = elim (option_cases (bytes_at file (ma
 pub scatters : (file : List ℕ) (page_size : ℕ) (numbers : List ℕ) (size : ℕ) → Scatters file page_size numbers size
 unfolding scatter
 scatters file page_size numbers size = record {
-  found = λ bytes e. let are = found_by_index file (place_of page_size numbers) size bytes e in record { len = are.0; each = are.1 };
-  only = λ bytes are. only_by_index file (place_of page_size numbers) size bytes are.len are.each;
-  missing = missing_by_index file (place_of page_size numbers) size;
+  found = λ bytes e. let are = found_by_index file (position_of page_size numbers) size bytes e in record { len = are.0; each = are.1 };
+  only = λ bytes are. only_by_index file (position_of page_size numbers) size bytes are.len are.each;
+  missing = missing_by_index file (position_of page_size numbers) size;
 }
 
 -- ---- the header

@@ -1,4 +1,4 @@
-pub mod PlacesLemmas
+pub mod PositionLemmas
 pub mod SliceLemmas
 pub mod RunLemmas
 pub mod WordLemmas

@@ -1,4 +1,4 @@
--- The places of whole pages, by the index of each byte.
+-- The positions of whole pages, by the index of each byte.
 use Rattle.std.proofs.Common.{◌≡◌, ℕ, ◌+◌, ◌*◌, ◌/◌, ◌%◌, ◌<◌, ◌≤◌, List, [], ◌∷◌, ◌++◌, length, get_or, take, map, sym, ap, ◌∙◌, arith, slice_index, length-append, ◌^◌, inl, inr, Result, Ok, Err, Some, None, Bool, cond, ltb, subst}
 use Rattle.std.specs.List.{flat_map, list_all, range_with_len}
 use Rattle.std.proofs.Math.Nat.{mod-lt}
@@ -13,53 +13,53 @@ use Rattle.pdb_base.specs.declared.error.Error.{Error}
 use Rattle.pdb_base.specs.Answer.{AnswersUnless}
 use Rattle.std.proofs.lemmas.Bool.Decides.{nat_tests}
 use Rattle.pdb_msf.specs.Header.{is_page_size}
-use Rattle.pdb_msf.specs.PageList.{page_places}
+use Rattle.pdb_msf.specs.PageList.{page_positions}
 use Rattle.pdb_msf.specs.Source.{bytes_at, found}
-use Rattle.pdb_msf.specs.Pages.{pages, place_of}
+use Rattle.pdb_msf.specs.Pages.{pages, position_of}
 use Rattle.pdb_base.proofs.lemmas.Collected.{ok_is}
 
--- the places of all bytes of these pages
-abbrev pub all_places : ℕ → List ℕ → List ℕ
-all_places page_size numbers = flat_map (page_places page_size) numbers
+-- the positions of all bytes of these pages
+abbrev pub all_positions : ℕ → List ℕ → List ℕ
+all_positions page_size numbers = flat_map (page_positions page_size) numbers
 
-pub length-all_places : (page_size : ℕ) (numbers : List ℕ) → length (all_places page_size numbers) ≡ length numbers * page_size
-length-all_places page_size [] = omega arith
-length-all_places page_size (number ∷ numbers) =
-    let rest = length-all_places page_size numbers in
-    length-append (page_places page_size number) (all_places page_size numbers)
+pub length-all_positions : (page_size : ℕ) (numbers : List ℕ) → length (all_positions page_size numbers) ≡ length numbers * page_size
+length-all_positions page_size [] = omega arith
+length-all_positions page_size (number ∷ numbers) =
+    let rest = length-all_positions page_size numbers in
+    length-append (page_positions page_size number) (all_positions page_size numbers)
     ∙ omega (arith, rest, length-range_with_len (number * page_size) page_size)
 
 -- one page more
-pub all_places_more : (page_size : ℕ) (numbers : List ℕ) (i : ℕ) (d : ℕ) → i < length numbers → all_places page_size (take (i + 1) numbers) ≡ all_places page_size (take i numbers) ++ page_places page_size (get_or numbers i d)
-all_places_more page_size numbers i d within =
-    ap (all_places page_size) (take_more numbers i d within)
-    ∙ flat_map-append (page_places page_size) (take i numbers) (get_or numbers i d ∷ [])
-    ∙ ap (λ (r : List ℕ). all_places page_size (take i numbers) ++ r) (append-nil (page_places page_size (get_or numbers i d)))
+pub all_positions_more : (page_size : ℕ) (numbers : List ℕ) (i : ℕ) (d : ℕ) → i < length numbers → all_positions page_size (take (i + 1) numbers) ≡ all_positions page_size (take i numbers) ++ page_positions page_size (get_or numbers i d)
+all_positions_more page_size numbers i d within =
+    ap (all_positions page_size) (take_more numbers i d within)
+    ∙ flat_map-append (page_positions page_size) (take i numbers) (get_or numbers i d ∷ [])
+    ∙ ap (λ (r : List ℕ). all_positions page_size (take i numbers) ++ r) (append-nil (page_positions page_size (get_or numbers i d)))
 
 -- byte i lies in page i / page_size, at i % page_size
-place_by_index : (page_size : ℕ) (numbers : List ℕ) (i : ℕ) → 0 < page_size → i < length numbers * page_size → get_or (all_places page_size numbers) i 0 ≡ place_of page_size numbers i
-place_by_index page_size numbers i positive within =
+position_by_index : (page_size : ℕ) (numbers : List ℕ) (i : ℕ) → 0 < page_size → i < length numbers * page_size → get_or (all_positions page_size numbers) i 0 ≡ position_of page_size numbers i
+position_by_index page_size numbers i positive within =
     let page : i / page_size < length numbers = div_below i page_size (length numbers) positive within in
     let byte : i % page_size < page_size = mod-lt i positive in
-    let before : length (all_places page_size (take (i / page_size) numbers)) ≡ i / page_size * page_size =
-    length-all_places page_size (take (i / page_size) numbers) ∙ ap (λ (n : ℕ). n * page_size) (length-take-le (i / page_size) numbers (omega arith)) in
-    let at : length (all_places page_size (take (i / page_size) numbers)) + i % page_size ≡ i = ap (λ (n : ℕ). n + i % page_size) before ∙ div-add-mod' i page_size in
-    let in_page : i % page_size < length (page_places page_size (get_or numbers (i / page_size) 0)) =
+    let before : length (all_positions page_size (take (i / page_size) numbers)) ≡ i / page_size * page_size =
+    length-all_positions page_size (take (i / page_size) numbers) ∙ ap (λ (n : ℕ). n * page_size) (length-take-le (i / page_size) numbers (omega arith)) in
+    let at : length (all_positions page_size (take (i / page_size) numbers)) + i % page_size ≡ i = ap (λ (n : ℕ). n + i % page_size) before ∙ div-add-mod' i page_size in
+    let in_page : i % page_size < length (page_positions page_size (get_or numbers (i / page_size) 0)) =
     omega (arith, length-range_with_len (get_or numbers (i / page_size) 0 * page_size) page_size) in
-    ap (λ (n : ℕ). get_or (all_places page_size numbers) n 0) (sym at)
-    ∙ get_or-flat_map (page_places page_size) numbers (i / page_size) (i % page_size) 0 0 page in_page
+    ap (λ (n : ℕ). get_or (all_positions page_size numbers) n 0) (sym at)
+    ∙ get_or-flat_map (page_positions page_size) numbers (i / page_size) (i % page_size) 0 0 page in_page
     ∙ get_or-range_with_len (get_or numbers (i / page_size) 0 * page_size) page_size (i % page_size) 0 byte
 
--- the first places of pages are those of their bytes in order
-pub places_by_index : (page_size : ℕ) (numbers : List ℕ) (size : ℕ) → 0 < page_size → size ≤ length numbers * page_size → take size (all_places page_size numbers) ≡ map (place_of page_size numbers) (range_with_len 0 size)
-places_by_index page_size numbers size positive within =
-    let all = length-all_places page_size numbers in
-    let long : length (take size (all_places page_size numbers)) ≡ size = length-take size (all_places page_size numbers) ∙ omega arith in
-    ext_get_or 0 _ _ (long ∙ sym (length-map-range_with_len (place_of page_size numbers) 0 size))
+-- the first positions of pages are those of their bytes in order
+pub positions_by_index : (page_size : ℕ) (numbers : List ℕ) (size : ℕ) → 0 < page_size → size ≤ length numbers * page_size → take size (all_positions page_size numbers) ≡ map (position_of page_size numbers) (range_with_len 0 size)
+positions_by_index page_size numbers size positive within =
+    let all = length-all_positions page_size numbers in
+    let long : length (take size (all_positions page_size numbers)) ≡ size = length-take size (all_positions page_size numbers) ∙ omega arith in
+    ext_get_or 0 _ _ (long ∙ sym (length-map-range_with_len (position_of page_size numbers) 0 size))
     (λ i lt. let inside : i < size = omega arith in
-    get_or-take size (all_places page_size numbers) i 0 inside
-    ∙ place_by_index page_size numbers i positive (omega arith)
-    ∙ sym (get_or-map-range_with_len (place_of page_size numbers) 0 size i i 0 inside (omega arith)))
+    get_or-take size (all_positions page_size numbers) i 0 inside
+    ∙ position_by_index page_size numbers i positive (omega arith)
+    ∙ sym (get_or-map-range_with_len (position_of page_size numbers) 0 size i i 0 inside (omega arith)))
 
 -- so many pages do hold so many bytes
 pub pages_reach : (page_size bytes : ℕ) → 0 < page_size → bytes ≤ pages page_size bytes * page_size
@@ -93,7 +93,7 @@ pages_le page_size bytes positive =
       | inr few ↦ few
     ]
 
--- what was found at so many places has so many bytes
+-- what was found at so many positions has so many bytes
 pub length_found : (file at bytes : List ℕ) → found (bytes_at file at) ≡ Ok bytes → length bytes ≡ length at
 unfolding bytes_at
 length_found file at bytes e = elim (cases_Bool (list_all (λ place. ltb place (length file)) at)) [

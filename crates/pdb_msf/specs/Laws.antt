@@ -7,7 +7,7 @@ use Rattle.pdb_base.specs.Endian.{little_number}
 use Rattle.pdb_base.specs.Refusal.{Refusal, refusal_of}
 use Rattle.pdb_base.specs.Answer.{AnswersUnless, IsOtherFault}
 use Rattle.pdb_msf.specs.Source.{State, IsKept, HasFailed}
-use Rattle.pdb_msf.specs.Pages.{pages, place_of, scatter, words, page_number, page_numbers}
+use Rattle.pdb_msf.specs.Pages.{pages, position_of, scatter, words, page_number, page_numbers}
 use Rattle.pdb_msf.specs.Header.{Head, fields_of, directory_pages}
 use Rattle.pdb_msf.specs.Directory.{absent, pages_taken, sizes_of}
 use Rattle.pdb_msf.specs.File.{limited, stream_of}
@@ -17,16 +17,16 @@ pub record IsLeast (page_size bytes count : ℕ) : Type 0 where
   pub reaches : bytes ≤ count * page_size
   pub least : (other : ℕ) → bytes ≤ other * page_size → count ≤ other
 
--- Bytes that lie scattered over pages of a file: byte i is the file's byte at its place.
+-- Bytes that lie scattered over pages of a file: byte i is the file's byte at its position.
 pub record IsScattered (file : List ℕ) (page_size : ℕ) (numbers : List ℕ) (size : ℕ) (bytes : List ℕ) : Type 0 where
   pub len : length bytes ≡ size
-  pub each : (i : ℕ) → i < size → slice_get file (place_of page_size numbers i) ≡ Some (slice_index bytes i)
+  pub each : (i : ℕ) → i < size → slice_get file (position_of page_size numbers i) ≡ Some (slice_index bytes i)
 
 -- What is scattered is found just where each of its bytes is in the file.
 pub record Scatters (file : List ℕ) (page_size : ℕ) (numbers : List ℕ) (size : ℕ) : Type 0 where
   pub found : (bytes : List ℕ) → scatter file page_size numbers size ≡ Some bytes → IsScattered file page_size numbers size bytes
   pub only : (bytes : List ℕ) → IsScattered file page_size numbers size bytes → scatter file page_size numbers size ≡ Some bytes
-  pub missing : scatter file page_size numbers size ≡ None → (i : ℕ) × (i < size) × (length file ≤ place_of page_size numbers i)
+  pub missing : scatter file page_size numbers size ≡ None → (i : ℕ) × (i < size) × (length file ≤ position_of page_size numbers i)
 
 -- the u32 that stands at an offset
 abbrev pub word_at : ℕ → List ℕ → ℕ

@@ -1,7 +1,7 @@
 -- What a list of pages stands for: slices of a file, in which pages that follow one another are joined.
 use Rattle.std.specs.Prelude.{ℕ, ◌+◌, ◌-◌, ◌*◌, ◌==◌, nat_le, if◌then◌else◌, Bool, List, [], ◌∷◌, fold}
 use Rattle.pdb_msf.specs.declared.source.SourceSlice.{SourceSlice}
-use Rattle.pdb_msf.specs.Source.{slice_places}
+use Rattle.pdb_msf.specs.Source.{slice_positions}
 
 -- the size of a page, the slices that the pages are joined into, and whether these were truncated
 pub record Listed : Type 0 where
@@ -13,9 +13,9 @@ pub record Listed : Type 0 where
 abbrev pub page_slice : ℕ → ℕ → SourceSlice
 page_slice page_size page = record { offset = page * page_size; size = page_size }
 
--- the places of the bytes of one page
-abbrev pub page_places : ℕ → ℕ → List ℕ
-page_places page_size page = slice_places (page_slice page_size page)
+-- the positions of the bytes of one page
+abbrev pub page_positions : ℕ → ℕ → List ℕ
+page_positions page_size page = slice_positions (page_slice page_size page)
 
 -- two slices, or one where the second begins just where the first ends
 unfoldable pub joined : SourceSlice → SourceSlice → List SourceSlice

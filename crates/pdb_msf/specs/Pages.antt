@@ -12,13 +12,13 @@ use Rattle.pdb_msf.specs.Source.{bytes_at}
 unfoldable pub pages : ℕ → ℕ → ℕ
 pages page_size bytes = div_ceil bytes page_size
 
--- the place in the file of byte i of what is scattered over these pages
-abbrev pub place_of : ℕ → List ℕ → ℕ → ℕ
-place_of page_size numbers i = slice_index numbers (i / page_size) * page_size + i % page_size
+-- the position in the file of byte i of what is scattered over these pages
+abbrev pub position_of : ℕ → List ℕ → ℕ → ℕ
+position_of page_size numbers i = slice_index numbers (i / page_size) * page_size + i % page_size
 
 -- the first so many bytes of these pages of the file, or nothing where one is past the file's end
 unfoldable pub scatter : List ℕ → ℕ → List ℕ → ℕ → Option (List ℕ)
-scatter file page_size numbers size = bytes_at file (map (place_of page_size numbers) (range_with_len 0 size))
+scatter file page_size numbers size = bytes_at file (map (position_of page_size numbers) (range_with_len 0 size))
 
 -- the u32 numbers that bytes spell, four bytes each, the lowest first; what is left over spells none
 abbrev pub words : List ℕ → List ℕ

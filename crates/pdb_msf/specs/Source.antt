@@ -34,15 +34,15 @@ pub record IsKept (old new : State) : Type 0 where
 abbrev pub HasFailed : State → State → Type 0
 HasFailed old new = old.faults < new.faults
 
--- the places of the bytes that a slice names
-abbrev pub slice_places : SourceSlice → List ℕ
-slice_places slice = range_with_len slice.offset slice.size
+-- the positions of the bytes that a slice names
+abbrev pub slice_positions : SourceSlice → List ℕ
+slice_positions slice = range_with_len slice.offset slice.size
 
--- the places that slices name, slice after slice
-abbrev pub places : List SourceSlice → List ℕ
-places slices = flat_map slice_places slices
+-- the positions that slices name, slice after slice
+abbrev pub positions : List SourceSlice → List ℕ
+positions slices = flat_map slice_positions slices
 
--- the bytes at these places of a file, or nothing where one of the places is past its end
+-- the bytes at these positions of a file, or nothing where one of the positions is past its end
 unfoldable pub bytes_at : List ℕ → List ℕ → Option (List ℕ)
 bytes_at file at = if list_all (λ place. nat_lt place (length file)) at then Some (map (slice_index file) at) else None
 

@@ -26,7 +26,7 @@ pub fn worked_rows()
 {}
 
 /// What is scattered over pages is found byte by byte: byte i in page i / page size of the list, at
-/// i % page size. It is not where one of these places is past the end of the file.
+/// i % page size. It is not where one of these positions is past the end of the file.
 #[tactic(auto, using(crate::proofs::LawLemmas::scatters))]
 pub fn scatter()
     ensures { (file : List ℕ) (page_size : ℕ) (numbers : List ℕ) (size : ℕ) → Scatters file page_size numbers size }

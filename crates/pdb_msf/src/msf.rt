@@ -194,7 +194,7 @@ pub(crate) fn limited(size: u32, limit: Option<usize>) -> usize
 }
 
 /// Views the first `size` bytes of a file; one that has fewer is no database.
-#[tactic(auto, unfolding(crate::specs::Header::opening), using(crate::proofs::PlacesLemmas::front_there, crate::proofs::PlacesLemmas::front_cut))]
+#[tactic(auto, unfolding(crate::specs::Header::opening), using(crate::proofs::PositionLemmas::front_there, crate::proofs::PositionLemmas::front_cut))]
 pub(crate) fn view_front<S: Source>(source: &mut S, alloc: Global, size: usize) -> Result<ReadView>
     ensures bytes { AnswersUnless (HasFailed (S.state source.old) (S.state source.new)) (λ v. v) result
         (opening size (S.state source.old).bytes) }

@@ -1,15 +1,15 @@
-//! The places of pages in a file.
+//! The positions of pages in a file.
 
 ghost use Rattle.std.specs.Prelude.{◌≡◌, ◌==◌, ◌+◌, ◌^◌, ◌<◌, ◌≤◌, ◌∷◌, ◌++◌, [], false, true, length, take, IsOk, OnOk, OnErr, IfErr};
-ghost use Rattle.pdb_msf.specs.Source.{places};
-ghost use Rattle.pdb_msf.specs.PageList.{first_of, page_places, page_slice, with_slice};
+ghost use Rattle.pdb_msf.specs.Source.{positions};
+ghost use Rattle.pdb_msf.specs.PageList.{first_of, page_positions, page_slice, with_slice};
 
 use crate::source::SourceSlice;
 use pdb_base::{Error, Result};
 use std::alloc::Global;
 use std::marker::Model;
 
-/// The places in a file of what is scattered over pages, as slices of a source.
+/// The positions in a file of what is scattered over pages, as slices of a source.
 ///
 /// A page whose number is one above that of the page before it lengthens the last slice. Any other
 /// page begins a slice, also one that comes again and one that goes back.
@@ -23,14 +23,14 @@ pub struct PageList {
 
 impl Model for PageList {
     ghost use Rattle.std.specs.Prelude.{◌≡◌, ◌≤◌, length};
-    ghost use Rattle.pdb_msf.specs.Source.{places};
+    ghost use Rattle.pdb_msf.specs.Source.{positions};
     ghost use Rattle.pdb_msf.specs.PageList.{Listed};
 
     ghost Value = { Listed };
 
     ghost view = { λ l. record { page_size = l.page_size; slices = l.slices.items; is_truncated = l.is_truncated } };
 
-    ghost invariant = { λ l. (l.len ≡ length (places l.slices.items)) × (l.page_size ≤ 0x800000) };
+    ghost invariant = { λ l. (l.len ≡ length (positions l.slices.items)) × (l.page_size ≤ 0x800000) };
 }
 
 impl PageList {
@@ -55,11 +55,11 @@ impl PageList {
     /// slice. The list stays as it was.
     pub fn push(&mut self, page: u32) -> Result<()>
         requires whole { self.old.is_truncated ≡ false }
-        requires room { length (places self.old.slices) + self.old.page_size < 2 ^ 64 }
+        requires room { length (positions self.old.slices) + self.old.page_size < 2 ^ 64 }
         ensures slices { OnOk result (self.new ≡
             record self.old { slices = with_slice self.old.slices (page_slice self.old.page_size page) }) }
-        ensures places { OnOk result (
-            places self.new.slices ≡ places self.old.slices ++ page_places self.old.page_size page) }
+        ensures positions { OnOk result (
+            positions self.new.slices ≡ positions self.old.slices ++ page_positions self.old.page_size page) }
         ensures want { IfErr result (λ e. e ≡ Error.OutOfMemory) }
         ensures begins { OnErr result (with_slice self.old.slices (page_slice self.old.page_size page) ≡
             self.old.slices ++ page_slice self.old.page_size page ∷ []) }
@@ -76,7 +76,7 @@ impl PageList {
     /// whatever it had.
     pub fn truncate(&mut self, len: usize)
         ensures slices { self.new ≡ record self.old { slices = first_of len self.old.slices; is_truncated = true } }
-        ensures places { places self.new.slices ≡ take len (places self.old.slices) }
+        ensures positions { positions self.new.slices ≡ take len (positions self.old.slices) }
     {
         self.is_truncated = true;
         while self.len > len {
@@ -96,7 +96,7 @@ impl PageList {
 
     /// How many bytes the list holds.
     pub fn len(&self) -> usize
-        ensures { result ≡ length (places self.now.slices) }
+        ensures { result ≡ length (positions self.now.slices) }
     {
         self.len
     }
@@ -118,7 +118,7 @@ impl PageList {
 
 /// Adds a slice behind others, joined to the last of them where it begins just where that ends.
 fn add_slice(slices: &mut Vec<SourceSlice>, next: SourceSlice) -> Result<()>
-    requires { length (places slices.old.items) + next.size < 2 ^ 64 }
+    requires { length (positions slices.old.items) + next.size < 2 ^ 64 }
     ensures slices { OnOk result (slices.new.items ≡ with_slice slices.old.items next) }
     ensures want { IfErr result (λ e. e ≡ Error.OutOfMemory) }
     ensures begins { OnErr result (with_slice slices.old.items next ≡ slices.old.items ++ next ∷ []) }

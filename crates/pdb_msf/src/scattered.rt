@@ -3,8 +3,8 @@
 ghost use Rattle.std.specs.Prelude.{◌≡◌, ◌*◌, ◌^◌, ◌<◌, ◌≤◌, Ok, length, map, IfOk};
 ghost use Rattle.std.specs.List.{range_with_len};
 ghost use Rattle.pdb_base.specs.Answer.{Answers, AnswersUnless};
-ghost use Rattle.pdb_msf.specs.Source.{HasFailed, IsKept, KeepsKind, bytes_at, found, places};
-ghost use Rattle.pdb_msf.specs.Pages.{place_of, scatter};
+ghost use Rattle.pdb_msf.specs.Source.{HasFailed, IsKept, KeepsKind, bytes_at, found, positions};
+ghost use Rattle.pdb_msf.specs.Pages.{position_of, scatter};
 ghost use Rattle.pdb_msf.specs.Asked.{Asks};
 
 use crate::page_list::PageList;
@@ -17,7 +17,7 @@ use std::io::ErrorKind;
 /// as an `IoError`, which keeps it.
 pub fn view<S: Source>(source: &mut S, alloc: Global, slices: &[SourceSlice]) -> Result<ReadView>
     ensures bytes { AnswersUnless (HasFailed (S.state source.old) (S.state source.new)) (λ v. v) result
-        (found (bytes_at (S.state source.old).bytes (places slices.now))) }
+        (found (bytes_at (S.state source.old).bytes (positions slices.now))) }
     ensures kept { IsKept (S.state source.old) (S.state source.new) }
     ensures kind { KeepsKind (S.state source.new) result }
 {
@@ -30,14 +30,14 @@ pub fn view<S: Source>(source: &mut S, alloc: Global, slices: &[SourceSlice]) ->
     }
 }
 
-/// The places of the first `size` bytes of these pages.
+/// The positions of the first `size` bytes of these pages.
 fn page_list(alloc: Global, page_size: u32, numbers: &[u32], size: usize) -> Result<PageList>
     requires size { (0 < page_size) × (page_size ≤ 0x800000) }
     requires reached { size ≤ length numbers.now * page_size }
     requires few { length numbers.now ≤ 2 ^ 40 }
-    ensures places { Answers (λ l. places l.slices) result
-        (Ok (map (place_of page_size numbers.now) (range_with_len 0 size))) }
-    ensures len { IfOk result (λ l. length (places l.slices) ≡ size) }
+    ensures positions { Answers (λ l. positions l.slices) result
+        (Ok (map (position_of page_size numbers.now) (range_with_len 0 size))) }
+    ensures len { IfOk result (λ l. length (positions l.slices) ≡ size) }
 {
     let mut list = PageList::new(alloc, page_size);
     for number in numbers {

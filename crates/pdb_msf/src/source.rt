@@ -2,7 +2,7 @@
 
 ghost use Rattle.std.specs.Prelude.{◌≡◌, ℕ, List, length, map, true, IsTrue, IfOk, IfErr, IsErrAnd, None, slice_index};
 ghost use Rattle.std.specs.IoError.{error_kind};
-ghost use Rattle.pdb_msf.specs.Source.{State, IsKept, IsLastFault, in_memory, HasFailed, Shows, bytes_at, places, slice_places};
+ghost use Rattle.pdb_msf.specs.Source.{State, IsKept, IsLastFault, in_memory, HasFailed, Shows, bytes_at, positions, slice_positions};
 ghost use Rattle.std.specs.List.{list_all};
 ghost use Rattle.pdb_msf.specs.Within.{is_within, fitting};
 
@@ -84,7 +84,7 @@ pub trait Source {
     /// want of memory, and any other only if the source's count of faults rises.
     fn view(&mut self, alloc: Global, slices: &[SourceSlice]) -> Result<ReadView, io::Error>
         ensures view { Shows (HasFailed (state self.old) (state self.new)) (λ v. v) result
-            (bytes_at (state self.old).bytes (places slices.now)) }
+            (bytes_at (state self.old).bytes (positions slices.now)) }
         ensures kind { IfErr result (λ e. IsLastFault (state self.new) (error_kind e)) }
         ensures kept { IsKept (state self.old) (state self.new) };
 }
@@ -98,8 +98,8 @@ impl Source for Vec<u8> {
     /// Kind `UnexpectedEof` if a slice of any bytes passes the end, before memory is asked for;
     /// `OutOfMemory` if it is refused, or if the sizes have a sum above `usize::MAX`.
     fn view(&mut self, alloc: Global, slices: &[SourceSlice]) -> Result<ReadView, io::Error>
-        ensures view { Shows ⊥ (λ v. v) result (bytes_at self.old.items (places slices.now)) }
-        ensures exact { bytes_at self.old.items (places slices.now) ≡ None →
+        ensures view { Shows ⊥ (λ v. v) result (bytes_at self.old.items (positions slices.now)) }
+        ensures exact { bytes_at self.old.items (positions slices.now) ≡ None →
             IsErrAnd result (λ e. error_kind e ≡ ErrorKind.UnexpectedEof) }
         ensures kept { self.new ≡ self.old }
     {
@@ -118,10 +118,10 @@ impl<'b> Source for &'b [u8] {
 }
 
 // A view of bytes in memory. The slices are judged before memory is asked for.
-#[tactic(auto, using(crate::proofs::PlacesLemmas::bytes_within, crate::proofs::PlacesLemmas::bytes_past))]
+#[tactic(auto, using(crate::proofs::PositionLemmas::bytes_within, crate::proofs::PositionLemmas::bytes_past))]
 fn view_of(file: &[u8], alloc: Global, slices: &[SourceSlice]) -> Result<ReadView, io::Error>
-    ensures view { Shows ⊥ (λ v. v) result (bytes_at file.now (places slices.now)) }
-    ensures exact { bytes_at file.now (places slices.now) ≡ None →
+    ensures view { Shows ⊥ (λ v. v) result (bytes_at file.now (positions slices.now)) }
+    ensures exact { bytes_at file.now (positions slices.now) ≡ None →
         IsErrAnd result (λ e. error_kind e ≡ ErrorKind.UnexpectedEof) }
 {
     if !all_within(file.len(), slices) {
@@ -144,7 +144,7 @@ fn all_within(len: usize, slices: &[SourceSlice]) -> bool
 
 // The sizes of all slices together, if that is a number.
 fn total_size(slices: &[SourceSlice]) -> Option<usize>
-    ensures { result ≡ fitting (length (places slices.now)) }
+    ensures { result ≡ fitting (length (positions slices.now)) }
 {
     let mut total = 0usize;
     for slice in slices {
@@ -161,7 +161,7 @@ fn copied(
     size: usize,
 ) -> Result<Vec<u8>, AllocError>
     requires { IsTrue (list_all (is_within (length file.now)) slices.now) }
-    ensures { IfOk result (λ bytes. bytes.items ≡ map (slice_index file.now) (places slices.now)) }
+    ensures { IfOk result (λ bytes. bytes.items ≡ map (slice_index file.now) (positions slices.now)) }
 {
     let mut bytes = Vec::with_capacity(alloc, size)?;
     for slice in slices {
@@ -171,10 +171,10 @@ fn copied(
 }
 
 // The bytes that one slice names.
-#[tactic(auto, using(crate::proofs::PlacesLemmas::bytes_of_slice))]
+#[tactic(auto, using(crate::proofs::PositionLemmas::bytes_of_slice))]
 fn part(file: &[u8], slice: SourceSlice) -> &[u8]
     requires { IsTrue (is_within (length file.now) slice) }
-    ensures { result.now ≡ map (slice_index file.now) (slice_places slice) }
+    ensures { result.now ≡ map (slice_index file.now) (slice_positions slice) }
 {
     if slice.size == 0 {
         return &[];

@@ -4,12 +4,12 @@ use Rattle.std.proofs.lemmas.Bool.{cases_lt, le-ltb, lt-ltb}
 use Rattle.pdb_base.specs.Endian.{little_number}
 use Rattle.pdb_base.specs.Refusal.{Refusal, unexpected_eof, unexpected_numeric_prefix, unimplemented_type_kind}
 use Rattle.pdb_base.specs.Answer.{Answer, ◌>>=◌}
-use Rattle.pdb_base.specs.Reading.{front_at, number_at, text_at, counted_at}
+use Rattle.pdb_base.specs.Reading.{front_at, number_at, text_at, pascal_text_at}
 use Rattle.pdb_base.specs.Numeric.{NumberKind, numeric_leaves, unsigned_leaves, least_leaf, kind_behind, num_at, variant_at}
-use Rattle.pdb_base.specs.Spelling.{SpellsNumber, SpellsNum, SpellsVariant, SpellsText, SpellsCounted, Begins, ReadsWhatIsSpelled}
+use Rattle.pdb_base.specs.Spelling.{SpellsNumber, SpellsNum, SpellsVariant, SpellsText, SpellsPascalText, Begins, ReadsWhatIsSpelled}
 use Rattle.pdb_base.specs.Laws.{BeginsBadly, RefusesPrefixFirst}
 use Rattle.pdb_base.proofs.lemmas.Collected.{ok, err, ok_is, err_is, ok_is_no_err, bind_ok}
-use Rattle.pdb_base.proofs.lemmas.Spelling.{numbers, texts, counted_texts}
+use Rattle.pdb_base.proofs.lemmas.Spelling.{numbers, texts, pascal_texts}
 use Rattle.pdb_base.proofs.lemmas.Numeric.{nums, variants, num_refusals, variant_refusals}
 use Rattle.pdb_flags.specs.PointerAttributes.{is_pointer_word}
 use Rattle.pdb_records.specs.Agreement.{Agrees}
@@ -46,8 +46,8 @@ text_ends (byte ∷ bytes) e is = elim (bool_cases (byte == 0)) [
   | inr other ↦ text_ends bytes e (mapped_err (text_at bytes) (λ t. (byte ∷ t.0, t.1)) e (rw other at is))
 ]
 
-counted_ends : (bytes : List ℕ) (e : Refusal) → counted_at bytes ≡ Err e → e ≡ unexpected_eof
-unfolding counted_at
+counted_ends : (bytes : List ℕ) (e : Refusal) → pascal_text_at bytes ≡ Err e → e ≡ unexpected_eof
+unfolding pascal_text_at
 counted_ends bytes e is = elim (answer_cases (number_at 1 bytes)) [
   | inl len ↦ front_ends len.0.0 len.0.1 e (sym (bind_at (number_at 1 bytes) (λ n. front_at n.0 n.1) len.0 len.1) ∙ is)
   | inr none ↦ number_ends 1 bytes e (none.1 ∙ ap (λ (r : Refusal). err r) (err_is {A = List ℕ × List ℕ} none.0 e (sym (bind_no (number_at 1 bytes) (λ n. front_at n.0 n.1) none.0 none.1) ∙ is)))
@@ -58,7 +58,7 @@ numbers_agree width = by_end (SpellsNumber width) (number_at width) (numbers wid
 
 texts_agree : (nul : Bool) → Agrees (text_by nul) (Begins (SpellsTextBy nul)) (λ bytes e. BeginsNone (SpellsTextBy nul) bytes × (e ≡ unexpected_eof))
 texts_agree true = by_end SpellsText text_at texts text_ends
-texts_agree false = by_end SpellsCounted counted_at counted_texts counted_ends
+texts_agree false = by_end SpellsPascalText pascal_text_at pascal_texts counted_ends
 
 -- ---- indexes
 

@@ -6,9 +6,9 @@ use Rattle.pdb_base.specs.declared.index.TypeIndex.{TypeIndex}
 use Rattle.pdb_base.specs.declared.variant.Variant.{Variant}
 use Rattle.pdb_base.specs.Refusal.{unimplemented_type_kind}
 use Rattle.pdb_base.specs.Answer.{Answer, ◌>>=◌}
-use Rattle.pdb_base.specs.Reading.{number_at, text_at, counted_at}
+use Rattle.pdb_base.specs.Reading.{number_at, text_at, pascal_text_at}
 use Rattle.pdb_base.specs.Numeric.{num_at, variant_at}
-use Rattle.pdb_base.specs.Spelling.{SpellsNumber, SpellsNum, SpellsVariant, SpellsText, SpellsCounted}
+use Rattle.pdb_base.specs.Spelling.{SpellsNumber, SpellsNum, SpellsVariant, SpellsText, SpellsPascalText}
 use Rattle.pdb_flags.specs.PointerAttributes.{is_pointer_word}
 use Rattle.pdb_base.specs.Repeated.{SpellsEach, repeated}
 
@@ -57,17 +57,17 @@ abbrev pub id_named : ℕ → Option IdIndex
 id_named n = if n == 0 then None else Some (as_id n)
 
 -- the last leaf whose texts have their length before them: LF_ST_MAX
-abbrev pub last_counted_leaf : ℕ
-last_counted_leaf = 0x1500
+abbrev pub last_pascal_leaf : ℕ
+last_pascal_leaf = 0x1500
 
 -- whether texts in records of a leaf end with a NUL; in the others their length stands before them
 abbrev pub ends_texts : ℕ → Bool
-ends_texts leaf = nat_lt last_counted_leaf leaf
+ends_texts leaf = nat_lt last_pascal_leaf leaf
 
 -- a text that ends with a NUL, or one behind its length
 abbrev pub SpellsTextBy : Bool → List ℕ → List ℕ → Type 0
 SpellsTextBy true = SpellsText
-SpellsTextBy false = SpellsCounted
+SpellsTextBy false = SpellsPascalText
 
 -- a number of four bytes, and what it says
 pub record SpellsIndex {A : Type 0} (said : ℕ → A) (value : A) (front : List ℕ) : Type 0 where
@@ -125,7 +125,7 @@ pointer_word_at bytes = number_at 4 bytes >>= λ n. if is_pointer_word n.0 then 
 -- a text that ends with a NUL, or one behind its length
 abbrev pub text_by : Bool → List ℕ → Answer (List ℕ × List ℕ)
 text_by true = text_at
-text_by false = counted_at
+text_by false = pascal_text_at
 
 -- what stands there only under a condition
 abbrev pub when_at : {A : Type 0} → Bool → (List ℕ → Answer (A × List ℕ)) → List ℕ → Answer (Option A × List ℕ)

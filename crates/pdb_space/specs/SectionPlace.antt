@@ -11,8 +11,8 @@ pub record SectionPlace : Type 0 where
   pub offset : ℕ
 
 -- the place at this offset of the same section
-abbrev pub moved_to : SectionPlace → ℕ → SectionPlace
-moved_to place offset = record place { offset = offset }
+abbrev pub at_offset : SectionPlace → ℕ → SectionPlace
+at_offset place offset = record place { offset = offset }
 
 -- offsets compare within one section, and across sections nothing does
 abbrev pub order_within_section : SectionPlace → SectionPlace → Option Ordering

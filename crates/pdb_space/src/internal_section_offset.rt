@@ -3,7 +3,7 @@
 ghost use Rattle.std.specs.Prelude.{◌≡◌, ◌≢◌, ◌↔◌, ◌+◌, IsTrue};
 ghost use Rattle.std.specs.Option.{option_map};
 ghost use Rattle.pdb_space.specs.Sum.{Fits, clipped, fitting, wrapped};
-ghost use Rattle.pdb_space.specs.SectionPlace.{moved_to, order_within_section};
+ghost use Rattle.pdb_space.specs.SectionPlace.{at_offset, order_within_section};
 ghost use Rattle.pdb_space.specs.SectionOrder.{is_partial_order};
 
 use std::cmp::Ordering;
@@ -49,7 +49,7 @@ impl PdbInternalSectionOffset {
 
     /// The place `offset` bytes behind this one, or nothing where its offset doesn't fit 32 bits.
     pub fn checked_add(self, offset: u32) -> Option<Self>
-        ensures { result ≡ option_map (moved_to self) (fitting (self.offset + offset)) }
+        ensures { result ≡ option_map (at_offset self) (fitting (self.offset + offset)) }
     {
         match self.offset.checked_add(offset) {
             Some(sum) => Some(PdbInternalSectionOffset::new(self.section, sum)),
@@ -60,14 +60,14 @@ impl PdbInternalSectionOffset {
     /// The place `offset` bytes behind this one, or at the offset 0xffffffff where that doesn't fit
     /// 32 bits.
     pub fn saturating_add(self, offset: u32) -> Self
-        ensures { result ≡ moved_to self (clipped (self.offset + offset)) }
+        ensures { result ≡ at_offset self (clipped (self.offset + offset)) }
     {
         PdbInternalSectionOffset::new(self.section, self.offset.saturating_add(offset))
     }
 
     /// The place `offset` bytes behind this one, where the offset 0 follows upon 0xffffffff.
     pub fn wrapping_add(self, offset: u32) -> Self
-        ensures { result ≡ moved_to self (wrapped (self.offset + offset)) }
+        ensures { result ≡ at_offset self (wrapped (self.offset + offset)) }
     {
         PdbInternalSectionOffset::new(self.section, self.offset.wrapping_add(offset))
     }
@@ -79,7 +79,7 @@ impl Add<u32> for PdbInternalSectionOffset {
 
     ghost can_add = { λ place offset. Fits (place.offset + offset) };
 
-    ghost add_gives = { λ place offset sum. sum ≡ moved_to place (place.offset + offset) };
+    ghost add_gives = { λ place offset sum. sum ≡ at_offset place (place.offset + offset) };
 
     fn add(self, offset: u32) -> PdbInternalSectionOffset {
         PdbInternalSectionOffset::new(self.section, self.offset + offset)
@@ -90,7 +90,7 @@ impl Add<u32> for PdbInternalSectionOffset {
 impl AddAssign<u32> for PdbInternalSectionOffset {
     ghost can_add_assign = { λ place offset. Fits (place.offset + offset) };
 
-    ghost add_assign_gives = { λ place offset sum. sum ≡ moved_to place (place.offset + offset) };
+    ghost add_assign_gives = { λ place offset sum. sum ≡ at_offset place (place.offset + offset) };
 
     fn add_assign(&mut self, offset: u32) {
         self.offset += offset;

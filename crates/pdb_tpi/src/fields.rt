@@ -49,7 +49,8 @@ impl<'t> ItemFinder<'t, TypeIndex> {
     /// refuses; `UnimplementedFeature` if the list goes on in one whose index is not below its own; and
     /// `OutOfMemory` if memory is refused.
     pub fn fields(&self, alloc: Global, index: TypeIndex) -> Result<Vec<TypeData<'t>>>
-        ensures { Answers (λ fields. map type_value fields.items) result (fields_of (find_of self.now.table self.now.known) index.0) }
+        ensures { Answers (λ fields. map type_value fields.items) result
+            (fields_of (find_of self.now.table self.now.known) index.0) }
     {
         let list = self.field_list(alloc, index)?;
         let mut fields = list.fields;

@@ -30,7 +30,8 @@ impl<'t> Item<'t, IdIndex> {
     pub fn parse(&self, alloc: Global) -> Result<IdData<'t>>
         ensures read { Answers id_value result (id_of (bytes_of self.now)) }
         ensures answers { SaysAssigned id_value (IsId (bytes_of self.now)) (NoId (bytes_of self.now)) result }
-        ensures answered { (value : IdValue) (rest : List ℕ) → IsId (bytes_of self.now) value rest → ShowsOrLacks id_value value result }
+        ensures answered { (value : IdValue) (rest : List ℕ) →
+            IsId (bytes_of self.now) value rest → ShowsOrLacks id_value value result }
         ensures refused { (refusal : Refusal) → NoId (bytes_of self.now) refusal → RefusesOrLacks refusal result }
         ensures want { LacksOnlyIf result (HoldsIdItem (bytes_of self.now)) }
         ensures cut { IsCutIdList (bytes_of self.now) → result ≡ Err UnexpectedEof }

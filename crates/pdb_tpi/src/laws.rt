@@ -21,9 +21,11 @@ pub fn header()
 /// bytes.
 #[tactic(auto, using(crate::proofs::LawLemmas::item_per_four_bytes))]
 pub fn walk()
-    ensures tables { (table : Table) → AreBytes table.bytes → IsWalk (room table) (body table) (walk table) (walk_rest table) }
+    ensures tables { (table : Table) → AreBytes table.bytes →
+        IsWalk (room table) (body table) (walk table) (walk_rest table) }
     ensures once { (limit : ℕ) (bytes : List ℕ) → AreBytes bytes → WalksOnce limit bytes }
-    ensures few { (limit : ℕ) (bytes : List ℕ) → 4 * length (items limit bytes) + length (rest limit bytes) ≤ length bytes }
+    ensures few { (limit : ℕ) (bytes : List ℕ) →
+        4 * length (items limit bytes) + length (rest limit bytes) ≤ length bytes }
 {}
 
 /// Where a walk stops before bytes that are left, their fault is the first that they have.
@@ -36,7 +38,8 @@ pub fn faults()
 /// number is the most.
 pub fn known_blocks()
     ensures is { (table : Table) (known : ℕ) (shown : List ℕ) → IsKnown table known shown (known_of table known shown) }
-    ensures only { (table : Table) (known : ℕ) (shown : List ℕ) (most : ℕ) → IsKnown table known shown most → most ≡ known_of table known shown }
+    ensures only { (table : Table) (known : ℕ) (shown : List ℕ) (most : ℕ) →
+        IsKnown table known shown most → most ≡ known_of table known shown }
 {}
 
 /// A look-up reads few lengths.

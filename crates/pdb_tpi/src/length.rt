@@ -12,7 +12,8 @@ use pdb_base::{Count, ParseBuffer, Result};
 #[tactic(auto, unfolding(pdb_base::specs::Reading::number_at, pdb_base::specs::Reading::front_at))]
 pub fn read_length(buffer: &mut ParseBuffer<'_>, count: &mut Count) -> Result<u16>
     ensures read { Gives (λ len. (len, left buffer.new)) result (number_at 2 (left buffer.old)) }
-    ensures counted { calls_of count.new ≡ (if nat_lt (length (left buffer.old)) 2 then calls_of count.old else one_more (calls_of count.old)) }
+    ensures counted { calls_of count.new ≡
+        (if nat_lt (length (left buffer.old)) 2 then calls_of count.old else one_more (calls_of count.old)) }
 {
     let len = buffer.parse_u16()?;
     count.tick();

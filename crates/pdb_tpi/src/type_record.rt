@@ -18,11 +18,8 @@ ghost use Rattle.pdb_tpi.specs.Record.{type_of};
 use crate::item::Item;
 use pdb_base::{Result, TypeIndex};
 use pdb_records::parse_type_data;
-use pdb_values::{TypeData, type_data_for_primitive};
+use pdb_values::{FIRST_RECORD, TypeData, type_data_for_primitive};
 use std::alloc::Global;
-
-/// The least index of a type that has a record: those below name primitive types.
-const FIRST_RECORD: u32 = 0x1000;
 
 impl<'t> Item<'t, TypeIndex> {
     /// What the type is: the primitive type that the index names, where that is below 0x1000, and
@@ -42,12 +39,17 @@ impl<'t> Item<'t, TypeIndex> {
     #[tactic(auto, unfolding(crate::specs::Record::type_of))]
     pub fn parse(&self, alloc: Global) -> Result<TypeData<'t>>
         ensures read { Answers type_value result (type_of (index_of self.now).0 (bytes_of self.now)) }
-        ensures primitive { (index_of self.now).0 < first_record → Gives type_value result (primitive_of (index_of self.now).0) }
-        ensures answers { first_record ≤ (index_of self.now).0 → SaysAssigned type_value (IsRecord (bytes_of self.now)) (NoRecord (bytes_of self.now)) result }
-        ensures answered { first_record ≤ (index_of self.now).0 → (value : TypeValue) (rest : List ℕ) → IsRecord (bytes_of self.now) value rest → ShowsOrLacks type_value value result }
-        ensures refused { first_record ≤ (index_of self.now).0 → (refusal : Refusal) → NoRecord (bytes_of self.now) refusal → RefusesOrLacks refusal result }
+        ensures primitive { (index_of self.now).0 < first_record →
+            Gives type_value result (primitive_of (index_of self.now).0) }
+        ensures answers { first_record ≤ (index_of self.now).0 →
+            SaysAssigned type_value (IsRecord (bytes_of self.now)) (NoRecord (bytes_of self.now)) result }
+        ensures answered { first_record ≤ (index_of self.now).0 → (value : TypeValue) (rest : List ℕ) →
+            IsRecord (bytes_of self.now) value rest → ShowsOrLacks type_value value result }
+        ensures refused { first_record ≤ (index_of self.now).0 → (refusal : Refusal) →
+            NoRecord (bytes_of self.now) refusal → RefusesOrLacks refusal result }
         ensures want { LacksOnlyIf result ((first_record ≤ (index_of self.now).0) × NeedsMemory (bytes_of self.now)) }
-        ensures cut { first_record ≤ (index_of self.now).0 → IsFalseCount (bytes_of self.now) → result ≡ Err UnexpectedEof }
+        ensures cut { first_record ≤ (index_of self.now).0 →
+            IsFalseCount (bytes_of self.now) → result ≡ Err UnexpectedEof }
         ensures short { IfOk result (λ value. IsShort (length (bytes_of self.now)) (type_value value)) }
     {
         let index = self.index;

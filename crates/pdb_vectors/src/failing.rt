@@ -2,7 +2,7 @@
 
 ghost use Rattle.std.specs.Prelude.{◌≡◌, ◌==◌, IfErr, MatchBool, IsErrAnd};
 ghost use Rattle.std.specs.IoError.{error_kind};
-ghost use Rattle.pdb_msf.specs.Source.{HasFailed, IsKept, IsLastFault, IsOther, Shows, bytes_at, places};
+ghost use Rattle.pdb_msf.specs.Source.{HasFailed, IsKept, IsLastFault, IsOther, Shows, bytes_at, positions};
 ghost use Rattle.pdb_vectors.specs.Failing.{counted_down, state_of};
 
 use pdb_msf::{ReadView, Source, SourceSlice};
@@ -67,11 +67,11 @@ impl Source for Failing {
 
     /// The bytes that the slices name, or a fault of the source's kind where this is the view that fails.
     fn view(&mut self, alloc: Global, slices: &[SourceSlice]) -> Result<ReadView, io::Error>
-        ensures view { Shows (HasFailed (state_of self.old) (state_of self.new)) (λ v. v) result (bytes_at self.old.bytes (places slices.now)) }
+        ensures view { Shows (HasFailed (state_of self.old) (state_of self.new)) (λ v. v) result (bytes_at self.old.bytes (positions slices.now)) }
         ensures kind { IfErr result (λ e. IsLastFault (state_of self.new) (error_kind e)) }
         ensures kept { IsKept (state_of self.old) (state_of self.new) }
         ensures counts { self.new ≡ counted_down self.old }
-        ensures fails { MatchBool (self.old.until == 1) (IsErrAnd result (λ e. error_kind e ≡ self.old.kind)) (Shows ⊥ (λ v. v) result (bytes_at self.old.bytes (places slices.now))) }
+        ensures fails { MatchBool (self.old.until == 1) (IsErrAnd result (λ e. error_kind e ≡ self.old.kind)) (Shows ⊥ (λ v. v) result (bytes_at self.old.bytes (positions slices.now))) }
     {
         if self.until == 1 {
             self.until = 0;

@@ -9,8 +9,8 @@ use Rattle.std.proofs.lemmas.List.{take-append-drop, length-take-le, append_asso
 use Rattle.byteorder.specs.Endian.{little_number}
 use Rattle.pdb_base.specs.Refusal.{unexpected_eof}
 use Rattle.pdb_base.specs.Answer.{◌>>=◌}
-use Rattle.pdb_base.specs.Reading.{front_at, number_at, signed_at, text_at, counted_at}
-use Rattle.pdb_base.specs.Spelling.{SpellsNumber, SpellsSigned, SpellsText, SpellsCounted, Begins, ReadsWhatIsSpelled}
+use Rattle.pdb_base.specs.Reading.{front_at, number_at, signed_at, text_at, pascal_text_at}
+use Rattle.pdb_base.specs.Spelling.{SpellsNumber, SpellsSigned, SpellsText, SpellsPascalText, Begins, ReadsWhatIsSpelled}
 use Rattle.pdb_base.proofs.lemmas.Collected.{ok, ok_is, ok_is_no_err, bind_ok}
 use Rattle.pdb_base.proofs.lemmas.Reading.{front_whole, front_cut}
 
@@ -116,9 +116,9 @@ one_byte [] n len is = absurd (omega (arith, len))
 one_byte (byte ∷ []) n len is = ap (λ (m : ℕ). m ∷ []) (omega (arith, is))
 one_byte (byte ∷ other ∷ front) n len is = absurd (omega (arith, len))
 
-pub counted_texts : ReadsWhatIsSpelled SpellsCounted counted_at
-unfolding counted_at
-counted_texts = record {
+pub pascal_texts : ReadsWhatIsSpelled SpellsPascalText pascal_text_at
+unfolding pascal_text_at
+pascal_texts = record {
   found = λ bytes text rest e.
       let len = bind_ok (number_at 1 bytes) (λ n. front_at n.0 n.1) (text, rest) e in
       let begins = (numbers 1).found bytes len.0.0 len.0.1 len.1 in

@@ -20,6 +20,10 @@ pub fn headers()
 
 /// Items are equal just where their indexes are, and the bytes of their records.
 pub fn items()
-    ensures types { (a b : Item TypeIndex) → IsTrue (⟦<Item<'static, TypeIndex> as PartialEq>⟧.eq a b) ↔ ((index_of a ≡ index_of b) × (bytes_of a ≡ bytes_of b)) }
-    ensures ids { (a b : Item IdIndex) → IsTrue (⟦<Item<'static, IdIndex> as PartialEq>⟧.eq a b) ↔ ((index_of a ≡ index_of b) × (bytes_of a ≡ bytes_of b)) }
+    ensures types { (a b : Item TypeIndex) →
+        IsTrue (⟦<Item<'static, TypeIndex> as PartialEq>⟧.eq a b) ↔
+        ((index_of a ≡ index_of b) × (bytes_of a ≡ bytes_of b)) }
+    ensures ids { (a b : Item IdIndex) →
+        IsTrue (⟦<Item<'static, IdIndex> as PartialEq>⟧.eq a b) ↔
+        ((index_of a ≡ index_of b) × (bytes_of a ≡ bytes_of b)) }
 {}

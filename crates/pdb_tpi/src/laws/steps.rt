@@ -18,6 +18,7 @@ pub fn cut_headers()
 /// None for good where no byte is left, and else one and the same fault for good.
 #[tactic(auto, using(crate::proofs::WalkSteps::steps_give))]
 pub fn steps<X>()
-    ensures { (seen : X → ℕ × List ℕ) (table : Table) (before behind : List (Result (Option X) Error)) (result : Result (Option X) Error)
+    ensures { (seen : X → ℕ × List ℕ) (table : Table)
+        (before behind : List (Result (Option X) Error)) (result : Result (Option X) Error)
         → AreSteps seen (first_stand table) (before ++ result ∷ behind) → IsAnswerAt seen table (length before) result }
 {}

@@ -1,8 +1,8 @@
 use Rattle.std.proofs.Common.{◌≡◌, ◌∙◌, sym, ap, arith, length, take, List}
 use Rattle.std.proofs.lemmas.List.{take_all}
 use Rattle.pdb_msf.specs.declared.source.SourceSlice.{SourceSlice}
-use Rattle.pdb_msf.specs.Source.{places}
-use Rattle.pdb_msf.proofs.PlacesLemmas.{nowhere, size_more, size_past, size_fits}
+use Rattle.pdb_msf.specs.Source.{positions}
+use Rattle.pdb_msf.proofs.PositionLemmas.{nowhere, size_more, size_past, size_fits}
 use Rattle.pdb_msf.proofs.source.total_size.Goals as goal
 
 pub returns-in_err-total : goal.returns-in_err-total
@@ -19,4 +19,4 @@ loop-slice-preserved c = record {
 pub returns : goal.returns
 returns c =
     let all : take c.loop-slice.slice-index c.args.slices.now ≡ c.args.slices.now = take_all c.loop-slice.slice-index c.args.slices.now c.loop-slice-test.false in
-    sym (size_fits c.args.slices.now c.loop-slice.total (c.loop-slice.invariant.is ∙ ap (λ (s : List SourceSlice). length (places s)) all) c.loop-slice.invariant.fits)
+    sym (size_fits c.args.slices.now c.loop-slice.total (c.loop-slice.invariant.is ∙ ap (λ (s : List SourceSlice). length (positions s)) all) c.loop-slice.invariant.fits)
