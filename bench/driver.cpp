@@ -3,6 +3,7 @@
 //   driver check FILE..                  whether both sides' sums agree; the status is 1 where some don't
 //   driver time ROUNDS FILE..            a line of JSON for each row
 //   driver memory SIDE WORK COUNT FILE   the bytes by which the process grew at most for one turn
+#include "border.h"
 #include "library.h"
 #include "llvm_side.h"
 #include "made.h"
@@ -80,6 +81,26 @@ static void add_parse(std::deque<Row> &rows, const std::string &on, const Bytes 
                   repeated([&table] { return llvm_parse(table); })});
 }
 
+// Work through the border to C, beside LLVM's and beside our own.
+static void add_border(std::deque<Row> &rows, const std::string &work, const std::string &on, uint64_t size, Work border, Work theirs, Work own) {
+  rows.push_back({"border_" + work, on, size, border, theirs});
+  rows.push_back({"border_" + work + "_beside_ours", on, size, border, own});
+}
+
+static void add_borders(std::deque<Row> &rows, File &file, const Numbers &indexes, std::shared_ptr<llvm::codeview::LazyRandomTypeCollection> finder) {
+  const Bytes &types = file.types;
+  const TypeTable &table = file.table;
+  add_border(rows, "walk", file.name, table.count, [&types](uint32_t turns) { return border_walk(types, turns); },
+             repeated([&table] { return llvm_walk(table); }),
+             [&types](uint32_t turns) { return bench_walk(types.data(), types.size(), turns); });
+  add_border(rows, "rows", file.name, table.count, [&types](uint32_t turns) { return border_rows(types, turns); },
+             repeated([&table] { return llvm_rows(table); }),
+             [&types](uint32_t turns) { return bench_rows(types.data(), types.size(), turns); });
+  add_border(rows, "find", file.name, table.count, [&types, indexes](uint32_t turns) { return border_find(types, indexes, turns); },
+             repeated([finder, indexes] { return llvm_find(*finder, indexes); }),
+             [&types, indexes](uint32_t turns) { return bench_find(types.data(), types.size(), indexes.data(), indexes.size(), turns); });
+}
+
 static void add_file(std::deque<Row> &rows, File &file) {
   const Bytes &bytes = file.bytes, &types = file.types;
   const TypeTable &table = file.table;
@@ -106,6 +127,7 @@ static void add_file(std::deque<Row> &rows, File &file) {
   };
   rows.push_back({"queries", file.name, table.count, queries, repeated([&bytes, indexes] { return llvm_queries(bytes, indexes); })});
   rows.push_back({"queries_beside_finds", file.name, table.count, queries, build_and_find});
+  add_borders(rows, file, indexes, finder);
 }
 
 // What is made is kept as long as the rows.
@@ -146,9 +168,10 @@ static void add_names(std::deque<Row> &rows, uint32_t count) {
     number = starts[number];
   const Numbers &offsets = kept(std::move(chosen));
   auto names = std::make_shared<NameTable>(bytes);
-  rows.push_back({"names", "made", count,
-                  [&](uint32_t turns) { return bench_names(bytes.data(), bytes.size(), offsets.data(), offsets.size(), turns); },
-                  repeated([names, &offsets] { return llvm_names(*names, offsets); })});
+  Work ours = [&](uint32_t turns) { return bench_names(bytes.data(), bytes.size(), offsets.data(), offsets.size(), turns); };
+  Work theirs = repeated([names, &offsets] { return llvm_names(*names, offsets); });
+  rows.push_back({"names", "made", count, ours, theirs});
+  add_border(rows, "names", "made", count, [&](uint32_t turns) { return border_names(bytes, offsets, turns); }, theirs, ours);
 }
 
 // Rows over what is made, at sizes ten times as large from one to the next, up to a greatest.

@@ -19,6 +19,9 @@ uint64_t bench_walk(const uint8_t *stream, size_t stream_size, uint32_t turns);
 /* 1, the length of the name and the number of the fields of each record. */
 uint64_t bench_parse(const uint8_t *stream, size_t stream_size, uint32_t turns);
 
+/* 1 for each record that is read. */
+uint64_t bench_rows(const uint8_t *stream, size_t stream_size, uint32_t turns);
+
 /* The greatest index that a finder knows once it is built. */
 uint64_t bench_build(const uint8_t *stream, size_t stream_size, uint32_t turns);
 

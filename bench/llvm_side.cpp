@@ -142,6 +142,13 @@ uint64_t llvm_parse(const TypeTable &table) {
   return sum + fields;
 }
 
+uint64_t llvm_rows(const TypeTable &table) {
+  uint64_t sum = 0, fields = 0;
+  for (const CVType &record : table.records)
+    sum += parsed(record, fields) > 0;
+  return sum;
+}
+
 // A collection that has scanned the whole table.
 std::unique_ptr<LazyRandomTypeCollection> llvm_finder(const TypeTable &table) {
   auto types = std::make_unique<LazyRandomTypeCollection>(table.records, table.count);

@@ -54,6 +54,7 @@ using Offsets = llvm::FixedStreamArray<llvm::codeview::TypeIndexOffset>;
 uint64_t llvm_read_streams(const Bytes &file, uint32_t streams);
 uint64_t llvm_walk(const TypeTable &table);
 uint64_t llvm_parse(const TypeTable &table);
+uint64_t llvm_rows(const TypeTable &table);
 std::unique_ptr<llvm::codeview::LazyRandomTypeCollection> llvm_finder(const TypeTable &table);
 uint64_t llvm_build(const TypeTable &table);
 uint64_t llvm_find(llvm::codeview::LazyRandomTypeCollection &types, const Numbers &indexes);

@@ -21,6 +21,14 @@ WORKS = {
     "ranges": ("100,000 OMAP ranges of 256", "records", "C"),
     "frames": ("100,000 frames at an address", "frames", "C"),
     "names": ("100,000 names", "names", "LLVM"),
+    "border_walk": ("walk along the types, through C", "types", "LLVM"),
+    "border_walk_beside_ours": ("the same, beside our own walk", "types", "ours"),
+    "border_rows": ("walk, and parse each type as a row, through C", "types", "LLVM"),
+    "border_rows_beside_ours": ("the same, beside our own walk and parse", "types", "ours"),
+    "border_find": ("100,000 finds, through C", "types", "LLVM"),
+    "border_find_beside_ours": ("the same, beside our own finds", "types", "ours"),
+    "border_names": ("100,000 names, through C", "names", "LLVM"),
+    "border_names_beside_ours": ("the same, beside our own names", "names", "ours"),
 }
 
 # The panels of the plot: a workload, what it is over, and what its size counts.

@@ -15,8 +15,8 @@
  *
  * Where an array has no room for an answer, the status is PDB_TOO_SMALL, nothing is written to the array, and
  * the length says how many items there are. Else the answer stands at the front of the array, and what is
- * behind it is as it was. Where a call is refused, arrays and structures but `fault` are as they were, and
- * lengths are 0.
+ * behind it is as it was. Where a call is refused, arrays and structures are as they were, but for `fault` and
+ * for what pdb_table_next says, and lengths are 0.
  */
 #ifndef PDB_CONTAINER_H
 #define PDB_CONTAINER_H
@@ -289,7 +289,8 @@ uint32_t pdb_frames_at(pdb_handle *frames, uint32_t address, pdb_frame *frame, p
 
 /* ---- tables of types and of ids */
 
-/* Opens the table of types or of ids in a stream, which is copied. Its walk stands before the first item. */
+/* Opens the table of types or of ids in a stream, which is copied. Its walk stands before the first item. Where
+ * its records stand, they stand in the caller's stream as well. */
 uint32_t pdb_table_open(const uint8_t *stream, size_t stream_length, pdb_handle *table, pdb_fault *fault);
 
 /* Gives the index of the first item. */
@@ -298,15 +299,22 @@ uint32_t pdb_table_first_index(pdb_handle *table, uint32_t *index, pdb_fault *fa
 /* Gives how many indexes the header counts. The walk may give fewer items, or more. */
 uint32_t pdb_table_count(pdb_handle *table, uint32_t *count, pdb_fault *fault);
 
-/* Copies the record of an index, which has 65,535 bytes at most, wherever in the table it stands. Calls walk
- * along the table until they have come to the index once, and each later one reads eight lengths at most. An
- * index below the first is that of a primitive type, and its record has the bytes ff ff. */
-uint32_t pdb_table_find(pdb_handle *table, uint32_t index, uint8_t *room, size_t room_length, size_t *length, pdb_fault *fault);
+/* Where a record stands in the stream of its table. Calls on records take the bytes that stand there. */
+typedef struct pdb_record {
+    uint32_t index;
+    uint32_t offset; /* how many bytes of the stream are before the record */
+    uint32_t length; /* how many bytes it has: 65,535 at most */
+} pdb_record;
 
-/* Copies the next record of the walk along the table, and writes its index. Behind the last record this is
- * PDB_NOWHERE, and where the walk stops before, the refusal; the index is then that at which it stopped. Where
- * there is no room for the record, the walk stays. */
-uint32_t pdb_table_next(pdb_handle *table, uint32_t *index, uint8_t *room, size_t room_length, size_t *length, pdb_fault *fault);
+/* Writes where the record of an index stands, wherever in the table that is. Calls walk along the table until
+ * they have come to the index once, and each later one reads eight lengths at most. An index below the first is
+ * that of a primitive type, whose record is PDB_NOWHERE. */
+uint32_t pdb_table_find(pdb_handle *table, uint32_t index, pdb_record *record, pdb_fault *fault);
+
+/* Writes where the next record of the walk along the table stands, and its index. Behind the last record this
+ * is PDB_NOWHERE, and where the walk stops before, the refusal; the index is then that at which it stopped, and
+ * the offset and the length are 0. */
+uint32_t pdb_table_next(pdb_handle *table, pdb_record *record, pdb_fault *fault);
 
 /* Has the walk stand before the first item again. */
 uint32_t pdb_table_rewind(pdb_handle *table, pdb_fault *fault);

@@ -10,7 +10,7 @@
 
 enum { MOST = 0xffff, LIST = 0x1203 };
 
-static uint8_t *stream, record[MOST + 1], *names, *joined_names;
+static uint8_t *stream, unused[MOST], *names, *joined_names;
 static size_t stream_length, count;
 static uint32_t *positions;
 static pdb_field *fields, *joined;
@@ -91,41 +91,35 @@ static void check_numbers(void) {
     EXPECT(pdb_table_count(&table, &indexes, &fault) == PDB_OK && indexes == facts.maximum_index - facts.first_index);
 }
 
-// The walk gives each record with its index, and then the fault at which it stops, again and again.
+// The walk gives the place of each record with its index, and then the fault at which it stops, again and again.
 static void check_walk(size_t most) {
     pdb_fault fault;
-    uint32_t index;
-    size_t length;
+    pdb_record record;
     for (size_t n = 0; n < most; n++) {
-        size_t size = length_at(n);
-        memset(record, 0xa5, sizeof record);
-        EXPECT(pdb_table_next(&table, &index, record, size - 1, &length, &fault) == PDB_TOO_SMALL && length == size && record[0] == 0xa5);
-        EXPECT(pdb_table_next(&table, &index, record, MOST, &length, &fault) == PDB_OK && length == size);
-        EXPECT(index == facts.first_index + n && record[size] == 0xa5 && !memcmp(record, stream + positions[n] + 2, size));
+        EXPECT(pdb_table_next(&table, &record, &fault) == PDB_OK && record.index == facts.first_index + n);
+        EXPECT(record.offset == positions[n] + 2 && record.length == length_at(n));
     }
     for (int again = 0; most == count && again < 2; again++) {
         uint32_t stop = facts.stop.status ? facts.stop.status : PDB_NOWHERE;
-        EXPECT(pdb_table_next(&table, &index, record, MOST, &length, &fault) == stop && !length);
-        EXPECT(index == facts.first_index + count && fault.first == facts.stop.first && fault.second == facts.stop.second);
+        EXPECT(pdb_table_next(&table, &record, &fault) == stop && !record.offset && !record.length);
+        EXPECT(record.index == facts.first_index + count && fault.first == facts.stop.first && fault.second == facts.stop.second);
     }
     EXPECT(pdb_table_rewind(&table, &fault) == PDB_OK);
 }
 
 static void check_find(uint32_t index) {
     pdb_fault fault, wanted = {PDB_OK, 0, 0};
-    size_t length, n = index - facts.first_index;
-    memset(record, 0xa5, sizeof record);
-    uint32_t status = pdb_table_find(&table, index, record, MOST, &length, &fault);
-    if (index < facts.first_index) {
-        EXPECT(status == PDB_OK && length == 2 && !memcmp(record, "\xff\xff\xa5", 3));
-    } else if (index < facts.maximum_index && n < count) {
-        EXPECT(status == PDB_OK && length == length_at(n) && !memcmp(record, stream + positions[n] + 2, length) && record[length] == 0xa5);
-        EXPECT(pdb_table_find(&table, index, record, length - 1, &length, &fault) == PDB_TOO_SMALL && length == length_at(n));
-    } else {
-        if (index >= facts.maximum_index) wanted = (pdb_fault){PDB_TYPE_NOT_FOUND, index, 0};
-        else wanted = facts.stop.status ? facts.stop : (pdb_fault){PDB_UNEXPECTED_EOF, 0, 0};
-        EXPECT(!length && status == wanted.status && same_fault(fault, wanted));
+    pdb_record record = {7, 7, 7};
+    size_t n = index - facts.first_index;
+    uint32_t status = pdb_table_find(&table, index, &record, &fault);
+    if (index >= facts.first_index && index < facts.maximum_index && n < count) {
+        EXPECT(status == PDB_OK && record.index == index && record.offset == positions[n] + 2 && record.length == length_at(n));
+        return;
     }
+    if (index < facts.first_index) wanted = (pdb_fault){PDB_NOWHERE, 0, 0};
+    else if (index >= facts.maximum_index) wanted = (pdb_fault){PDB_TYPE_NOT_FOUND, index, 0};
+    else wanted = facts.stop.status ? facts.stop : (pdb_fault){PDB_UNEXPECTED_EOF, 0, 0};
+    EXPECT(status == wanted.status && same_fault(fault, wanted) && record.index == 7 && record.offset == 7 && record.length == 7);
 }
 
 // Finds in an order that jumps to and fro, and the indexes around both ends.
@@ -144,9 +138,13 @@ static pdb_fault join(uint32_t index, size_t *fields_count, size_t *names_size) 
         pdb_field none[1];
         uint8_t no_name[1];
         pdb_row row = {0};
-        size_t length, some, size;
-        if (pdb_table_find(&table, index, record, MOST, &length, &fault)) return fault;
-        uint32_t kind = record[0] | record[1] << 8;
+        pdb_record place;
+        size_t some, size;
+        uint32_t status = pdb_table_find(&table, index, &place, &fault);
+        if (status == PDB_NOWHERE) return (pdb_fault){PDB_UNIMPLEMENTED_TYPE_KIND, 0xffff, 0};
+        if (status) return fault;
+        const uint8_t *record = stream + place.offset;
+        uint32_t kind = record[0] | record[1] << 8, length = place.length;
         if (kind != LIST) return (pdb_fault){PDB_UNIMPLEMENTED_TYPE_KIND, kind, 0};
         if (had(pdb_type_row(record, length, index, &row, &fault))) return fault;
         EXPECT(had(pdb_type_fields(record, length, index, none, 0, &some, no_name, 0, &size, &fault)) == (some ? PDB_TOO_SMALL : PDB_OK));
@@ -197,12 +195,13 @@ static void check_closed(pdb_handle *closed) {
     uint32_t number = 7;
     size_t length = 7, size = 7;
     pdb_field none[1];
+    pdb_record record = {7, 7, 7};
     EXPECT(pdb_table_first_index(closed, &number, &fault) == PDB_NOT_OPEN && number == 7);
     EXPECT(pdb_table_count(closed, &number, &fault) == PDB_NOT_OPEN && number == 7);
-    EXPECT(pdb_table_find(closed, 0x1000, record, MOST, &length, &fault) == PDB_NOT_OPEN && !length);
-    EXPECT(pdb_table_next(closed, &number, record, MOST, &length, &fault) == PDB_NOT_OPEN && !length && number == 7);
+    EXPECT(pdb_table_find(closed, 0x1000, &record, &fault) == PDB_NOT_OPEN && record.index == 7);
+    EXPECT(pdb_table_next(closed, &record, &fault) == PDB_NOT_OPEN && record.index == 7 && record.length == 7);
     EXPECT(pdb_table_rewind(closed, &fault) == PDB_NOT_OPEN);
-    EXPECT(pdb_fields(closed, 0x1000, none, 1, &length, record, MOST, &size, &fault) == PDB_NOT_OPEN && !length && !size);
+    EXPECT(pdb_fields(closed, 0x1000, none, 1, &length, unused, MOST, &size, &fault) == PDB_NOT_OPEN && !length && !size);
 }
 
 static void check_misuse(void) {
@@ -210,7 +209,7 @@ static void check_misuse(void) {
     pdb_handle closed = {0};
     size_t length = 7;
     EXPECT(had(pdb_table_open(stream, stream_length, &table, &fault)) == PDB_ALREADY_OPEN);
-    EXPECT(pdb_names_get(&table, 0, record, MOST, &length, &fault) == PDB_NOT_OPEN && !length);
+    EXPECT(pdb_names_get(&table, 0, unused, MOST, &length, &fault) == PDB_NOT_OPEN && !length);
     check_closed(&closed);
     pdb_close(&table);
     check_closed(&table);

@@ -61,13 +61,10 @@ static uint32_t read_stream(pdb *file, uint32_t number, bytes *stream, pdb_fault
     return pdb_file_stream(&file->handle, data.at, data.length, number, SIZE_MAX, stream->at, stream->length, &stream->length, fault);
 }
 
-/* The table in a stream. */
-static uint32_t open_table(pdb *file, uint32_t number, pdb_handle *table, pdb_fault *fault) {
-    bytes stream = {0};
-    uint32_t status = read_stream(file, number, &stream, fault);
-    if (!status) status = pdb_table_open(stream.at ? stream.at : (const uint8_t *)"", stream.length, table, fault);
-    free(stream.at);
-    return status;
+/* The table in a stream, and the stream, in which its records stand. */
+static uint32_t open_table(pdb *file, uint32_t number, bytes *stream, pdb_handle *table, pdb_fault *fault) {
+    uint32_t status = read_stream(file, number, stream, fault);
+    return status ? status : pdb_table_open(stream->at ? stream->at : (const uint8_t *)"", stream->length, table, fault);
 }
 
 /* ---- what is printed */
@@ -112,12 +109,14 @@ static uint32_t read_name(copy *copy, const named *of, bytes *name, pdb_fault *f
 }
 
 static uint32_t print_record(pdb *file, uint32_t number, uint32_t index, int is_type, pdb_fault *fault) {
-    static uint8_t room[0xffff]; /* no record is longer */
+    static uint8_t primitive[] = {0xff, 0xff}; /* the kind of a type without a record */
     pdb_handle table = {0};
-    bytes record = {room, 0}, name = {0};
-    uint32_t status = open_table(file, number, &table, fault);
-    if (!status) status = pdb_table_find(&table, index, room, sizeof room, &record.length, fault);
-    if (!status) {
+    pdb_record place = {0};
+    bytes stream = {0}, name = {0}, record = {primitive, sizeof primitive};
+    uint32_t status = open_table(file, number, &stream, &table, fault);
+    if (!status) status = pdb_table_find(&table, index, &place, fault);
+    if (!status) record = (bytes){stream.at + place.offset, place.length};
+    if (!status || status == PDB_NOWHERE) {
         named of = {record, NULL, index};
         status = read_name(is_type ? type_name : id_name, &of, &name, fault);
         if (!status || status == PDB_NOWHERE) {
@@ -129,6 +128,7 @@ static uint32_t print_record(pdb *file, uint32_t number, uint32_t index, int is_
     }
     pdb_close(&table);
     free(name.at);
+    free(stream.at);
     return status;
 }
 
@@ -172,8 +172,9 @@ static uint32_t print_fields(pdb *file, uint32_t number, uint32_t index, pdb_fau
     pdb_handle table = {0};
     pdb_field *fields = NULL;
     uint8_t no_name[1], *names = NULL;
+    bytes stream = {0};
     size_t count = 0, size = 0;
-    uint32_t status = open_table(file, number, &table, fault);
+    uint32_t status = open_table(file, number, &stream, &table, fault);
     if (!status) status = pdb_fields(&table, index, none, 0, &count, no_name, 0, &size, fault);
     if (status == PDB_TOO_SMALL) {
         fields = room_for(count, sizeof *fields);
@@ -185,6 +186,7 @@ static uint32_t print_fields(pdb *file, uint32_t number, uint32_t index, pdb_fau
     pdb_close(&table);
     free(fields);
     free(names);
+    free(stream.at);
     return status;
 }
 

@@ -66,7 +66,7 @@ class Types {
   public:
     explicit Types(const Bytes &file) {
         File opened(file);
-        Bytes stream = answer<uint8_t>([&](uint8_t *room, size_t size, size_t *count, pdb_fault *fault) {
+        stream = answer<uint8_t>([&](uint8_t *room, size_t size, size_t *count, pdb_fault *fault) {
             return pdb_file_stream(&opened.handle, file.data(), file.size(), types_stream, SIZE_MAX, room, size, count, fault);
         });
         pdb_fault fault{};
@@ -79,22 +79,24 @@ class Types {
 
     // Calls with the index and the row of each type, from the first on.
     template <class Call> void walk(Call call) {
-        uint32_t index = 0, status = PDB_OK;
+        uint32_t status = PDB_OK;
+        pdb_record record{};
         pdb_fault fault{};
         expect(pdb_table_rewind(&table, &fault) == PDB_OK, fault);
-        while ((status = pdb_table_next(&table, &index, record.data(), record.size(), &length, &fault)) != PDB_NOWHERE) {
+        while ((status = pdb_table_next(&table, &record, &fault)) != PDB_NOWHERE) {
             expect(status == PDB_OK, fault);
             pdb_row row{};
-            expect(pdb_type_row(record.data(), length, index, &row, &fault) == PDB_OK, fault);
-            call(index, row);
+            expect(pdb_type_row(&stream[record.offset], record.length, record.index, &row, &fault) == PDB_OK, fault);
+            call(record.index, row);
         }
     }
 
     std::string name(uint32_t index) {
         pdb_fault fault{};
-        expect(pdb_table_find(&table, index, record.data(), record.size(), &length, &fault) == PDB_OK, fault);
+        pdb_record record{};
+        expect(pdb_table_find(&table, index, &record, &fault) == PDB_OK, fault);
         auto name = answer<uint8_t>([&](uint8_t *room, size_t size, size_t *count, pdb_fault *fault) {
-            return pdb_type_name(record.data(), length, index, room, size, count, fault);
+            return pdb_type_name(&stream[record.offset], record.length, index, room, size, count, fault);
         });
         return std::string(name.begin(), name.end());
     }
@@ -118,8 +120,7 @@ class Types {
 
   private:
     pdb_handle table{};
-    Bytes record = Bytes(0xffff); // no record is longer
-    size_t length = 0;
+    Bytes stream; // in which the table says where records stand
 };
 
 void print_largest(Types &types) {

@@ -50,6 +50,15 @@ struct RawField {
     has_name: u32,
 }
 
+/// Where the record of an index stands in the stream of its table.
+#[repr(C)]
+#[derive(Clone, Copy, Default)]
+struct Record {
+    index: u32,
+    offset: u32,
+    length: u32,
+}
+
 /// What is open, which is closed when this ends.
 #[repr(C)]
 struct Handle {
@@ -93,8 +102,8 @@ extern "C" {
     fn pdb_file_names(file: *const u8, len: usize, names: *mut Handle, fault: *mut Fault) -> u32;
     fn pdb_names_get(names: *mut Handle, offset: u32, room: *mut u8, size: usize, length: *mut usize, fault: *mut Fault) -> u32;
     fn pdb_table_open(stream: *const u8, len: usize, table: *mut Handle, fault: *mut Fault) -> u32;
-    fn pdb_table_find(table: *mut Handle, index: u32, room: *mut u8, size: usize, length: *mut usize, fault: *mut Fault) -> u32;
-    fn pdb_table_next(table: *mut Handle, index: *mut u32, room: *mut u8, size: usize, length: *mut usize, fault: *mut Fault) -> u32;
+    fn pdb_table_find(table: *mut Handle, index: u32, record: *mut Record, fault: *mut Fault) -> u32;
+    fn pdb_table_next(table: *mut Handle, record: *mut Record, fault: *mut Fault) -> u32;
     fn pdb_table_rewind(table: *mut Handle, fault: *mut Fault) -> u32;
     fn pdb_fields(table: *mut Handle, index: u32, rows: *mut RawField, size: usize, count: *mut usize, names: *mut u8, room: usize, bytes: *mut usize, fault: *mut Fault) -> u32;
     fn pdb_type_row(record: *const u8, len: usize, index: u32, row: *mut Row, fault: *mut Fault) -> u32;
@@ -190,56 +199,57 @@ pub struct Field {
 /// The table of types of a file.
 pub struct Types {
     table: Handle,
-    record: Vec<u8>,
-    length: usize,
+    stream: Vec<u8>,
 }
-
-/// No record is longer.
-const LONGEST: usize = 0xffff;
 
 impl Types {
     pub fn open(file: &[u8]) -> Result<Types, Refused> {
         let stream = File::open(file)?.stream(2)?;
         // SAFETY: as above.
         let table = Handle::open(|table, fault| unsafe { pdb_table_open(stream.as_ptr(), stream.len(), table, fault) })?;
-        Ok(Types { table, record: vec![0; LONGEST], length: 0 })
+        Ok(Types { table, stream })
     }
 
     /// The index and the row of each type, from the first on.
     pub fn rows(&mut self) -> Result<Vec<(u32, Row)>, Refused> {
-        let (mut rows, mut index, mut fault) = (Vec::new(), 0, Fault::default());
+        let (mut rows, mut record, mut fault) = (Vec::new(), Record::default(), Fault::default());
         // SAFETY: as above.
         unsafe { pdb_table_rewind(&mut self.table, &mut fault) };
         loop {
             // SAFETY: as above.
-            match unsafe { pdb_table_next(&mut self.table, &mut index, self.record.as_mut_ptr(), LONGEST, &mut self.length, &mut fault) } {
-                OK => rows.push((index, self.row(index)?)),
+            match unsafe { pdb_table_next(&mut self.table, &mut record, &mut fault) } {
+                OK => rows.push((record.index, self.row(record)?)),
                 NOWHERE => return Ok(rows),
                 _ => return Err(refused(&fault)),
             }
         }
     }
 
-    /// The row of the type whose record was copied last.
-    fn row(&self, index: u32) -> Result<Row, Refused> {
-        let (mut row, mut fault) = (Row::default(), Fault::default());
+    /// The bytes of a record.
+    fn bytes(&self, record: Record) -> &[u8] {
+        &self.stream[record.offset as usize..][..record.length as usize]
+    }
+
+    fn row(&self, record: Record) -> Result<Row, Refused> {
+        let (mut row, mut fault, bytes) = (Row::default(), Fault::default(), self.bytes(record));
         // SAFETY: as above.
-        match unsafe { pdb_type_row(self.record.as_ptr(), self.length, index, &mut row, &mut fault) } {
+        match unsafe { pdb_type_row(bytes.as_ptr(), bytes.len(), record.index, &mut row, &mut fault) } {
             OK => Ok(row),
             _ => Err(refused(&fault)),
         }
     }
 
     pub fn name(&mut self, index: u32) -> Result<Option<String>, Refused> {
-        let mut fault = Fault::default();
+        let (mut record, mut fault) = (Record::default(), Fault::default());
         // SAFETY: as above.
-        let status = unsafe { pdb_table_find(&mut self.table, index, self.record.as_mut_ptr(), LONGEST, &mut self.length, &mut fault) };
+        let status = unsafe { pdb_table_find(&mut self.table, index, &mut record, &mut fault) };
         if status != OK {
             return Err(refused(&fault));
         }
+        let bytes = self.bytes(record);
         // SAFETY: as above.
         let name = answer(|room, size, count, fault| unsafe {
-            pdb_type_name(self.record.as_ptr(), self.length, index, room, size, count, fault)
+            pdb_type_name(bytes.as_ptr(), bytes.len(), index, room, size, count, fault)
         })?;
         Ok(name.map(|name| String::from_utf8_lossy(&name).into_owned()))
     }

@@ -67,3 +67,31 @@ pub extern "C" fn bench_parse(alloc: Global, stream: &[u8], turns: u32) -> u64 {
     }
     sum
 }
+
+/// Walks along a table and parses each record; a sum with 1 for each that is read.
+#[inline(never)]
+fn parse_alone(alloc: Global, table: &TypeInformation, mut sum: u64) -> u64 {
+    let mut items = table.iter();
+    for _ in 0..u32::MAX {
+        let Ok(Some(item)) = items.next() else {
+            break;
+        };
+        if item.parse(alloc).is_ok() {
+            sum = sum.wrapping_add(1);
+        }
+    }
+    sum
+}
+
+/// Walks along the table of types in a stream and parses each record. Sums 1 for each record that is read.
+#[unsafe(no_mangle)]
+pub extern "C" fn bench_rows(alloc: Global, stream: &[u8], turns: u32) -> u64 {
+    let Some(table) = types_in(alloc, stream) else {
+        return 0;
+    };
+    let mut sum = 0;
+    for _ in 0..turns {
+        sum = parse_alone(alloc, &table, sum);
+    }
+    sum
+}

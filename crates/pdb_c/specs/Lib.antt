@@ -10,7 +10,6 @@ pub mod Information
 pub mod Listing
 pub mod Lists
 pub mod Offsets
-pub mod OpenTable
 pub mod Place
 pub mod Places
 pub mod Ranges

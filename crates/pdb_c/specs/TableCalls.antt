@@ -1,28 +1,29 @@
 -- What calls tell of a handle that holds a table.
 use Rattle.std.specs.Prelude.{ℕ, List, Option, Some, None}
 use Rattle.pdb_tpi.specs.StepLaws.{first_stand}
-use Rattle.pdb_tpi.specs.Steps.{Stand, step_of}
+use Rattle.pdb_tpi.specs.OpenTable.{step_located}
+use Rattle.pdb_tpi.specs.Steps.{Stand}
 use Rattle.pdb_c.specs.declared.content.Content.{Content}
 use Rattle.pdb_c.specs.declared.content.Content.TheVariants as contents
 use Rattle.pdb_c.specs.declared.fault.Fault.{Fault}
 use Rattle.pdb_c.specs.declared.fields.FieldRow.{FieldRow}
-use Rattle.pdb_c.specs.Copied.{Copied, untouched}
+use Rattle.pdb_c.specs.declared.located.Located.{Located}
 use Rattle.pdb_c.specs.Fault.{fine, not_open}
 use Rattle.pdb_c.specs.Records.{Fielded, fields_told, unfielded}
 use Rattle.pdb_c.specs.Tables.{Stepped, fields_in_table, stepped}
 
 -- what a step of the walk tells, and what the handle holds afterwards
 pub record Step : Type 0 where
-  pub told : Copied ℕ
-  pub index : ℕ
+  pub fault : Fault
+  pub value : Located
   pub held : Option Content
 
 abbrev pub step_seen : Stepped → Step
-step_seen step = record { told = step.told; index = step.index; held = Some (contents.Table step.stand) }
+step_seen step = record { fault = step.fault; value = step.value; held = Some (contents.Table step.stand) }
 
-abbrev pub step_told : List ℕ → ℕ → Option Content → Step
-step_told room index (Some (contents.Table table)) = step_seen (stepped room table (step_of table))
-step_told room index held = record { told = untouched not_open room; index = index; held = held }
+abbrev pub step_told : Located → Option Content → Step
+step_told old (Some (contents.Table table)) = step_seen (stepped table (step_located table))
+step_told old held = record { fault = not_open; value = old; held = held }
 
 -- how a call ended that sets the walk back to the first item, and what the handle holds afterwards
 pub record Rewound : Type 0 where

@@ -1,36 +1,59 @@
 -- What is told of a table of types or of ids that is open.
-use Rattle.std.specs.Prelude.{ℕ, nat_lt, min, if◌then◌else◌, List, length, Option, Some, None, Ok, Err}
+use Rattle.std.specs.Prelude.{ℕ, min, List, Option, Some, None, Ok, Err}
 use Rattle.pdb_base.specs.Answer.{Answer, ◌>>=◌}
 use Rattle.pdb_values.specs.TypeValue.{TypeValue}
+use Rattle.pdb_tpi.specs.declared.open_table.RecordPlace.{RecordPlace}
 use Rattle.pdb_tpi.specs.Chain.{fields_of}
 use Rattle.pdb_tpi.specs.Finder.{item_of}
+use Rattle.pdb_tpi.specs.OpenTable.{located}
 use Rattle.pdb_tpi.specs.StepLaws.{first_stand}
 use Rattle.pdb_tpi.specs.Steps.{Stand}
 use Rattle.pdb_tpi.specs.Table.{table_of}
-use Rattle.pdb_c.specs.Copied.{Copied, untouched, written}
-use Rattle.pdb_c.specs.Fault.{fault_of, nowhere}
+use Rattle.pdb_c.specs.declared.fault.Fault.{Fault}
+use Rattle.pdb_c.specs.declared.located.Located.{Located}
+use Rattle.pdb_c.specs.Fault.{fault_of, fine, nowhere}
+use Rattle.pdb_c.specs.Found.{Found, not_held}
 use Rattle.pdb_c.specs.Records.{all_found}
 
 -- the table in a stream, whose walk stands before the first item
 abbrev pub table_opened : List ℕ → Answer Stand
 table_opened stream = table_of stream >>= λ table. Ok (first_stand table)
 
--- what a step of a walk tells: the record, its index, and where the walk stands afterwards
+-- the place of the record of an index, for the caller
+abbrev pub located_at : ℕ → RecordPlace → Located
+located_at index place = record { index = index; offset = place.offset; length = place.length }
+
+-- what is told of the record of an index: its place, that it stands nowhere, or the refusal
+abbrev pub located_told : Located → ℕ → Answer (Option RecordPlace) → Found Located
+located_told old index (Ok (Some place)) = record { fault = fine; value = located_at index place }
+located_told old index (Ok None) = record { fault = nowhere; value = old }
+located_told old index (Err refusal) = record { fault = fault_of refusal; value = old }
+
+-- the same of a table that a handle holds
+abbrev pub located_in : Located → ℕ → Option Stand → Found Located
+located_in old index (Some stand) = located_told old index (located stand.table index)
+located_in old index None = not_held old
+
+-- what a step of a walk tells: the place of a record with its index, and where the walk stands afterwards
 pub record Stepped : Type 0 where
-  pub told : Copied ℕ
-  pub index : ℕ
+  pub fault : Fault
+  pub value : Located
   pub stand : Stand
 
 -- an index, or the last one where it is past that
 abbrev pub index_told : ℕ → ℕ
 index_told index = min index 0xffffffff
 
--- The next record is written, and the walk stands behind it, unless there is no room for it. Where no record
--- is left or the next one is refused, the index is that at which the walk stopped, and it stays there.
-abbrev pub stepped : List ℕ → Stand → Answer (Option (ℕ × List ℕ) × Stand) → Stepped
-stepped room stand (Ok (Some item, next)) = record { told = written room item.1; index = index_told stand.index; stand = if nat_lt (length room) (length item.1) then stand else next }
-stepped room stand (Ok (None, next)) = record { told = untouched nowhere room; index = index_told stand.index; stand = stand }
-stepped room stand (Err refusal) = record { told = untouched (fault_of refusal) room; index = index_told stand.index; stand = stand }
+-- no record, at the index at which a walk stopped
+abbrev pub stopped_at : ℕ → Located
+stopped_at index = record { index = index_told index; offset = 0; length = 0 }
+
+-- The place of the next record is told, and the walk stands behind it; or that no record is left, or the
+-- refusal of the next one.
+abbrev pub stepped : Stand → Answer (Option RecordPlace × Stand) → Stepped
+stepped stand (Ok (Some place, next)) = record { fault = fine; value = located_at (index_told stand.index) place; stand = next }
+stepped stand (Ok (None, next)) = record { fault = nowhere; value = stopped_at stand.index; stand = next }
+stepped stand (Err refusal) = record { fault = fault_of refusal; value = stopped_at stand.index; stand = stand }
 
 -- the fields of a list of a table and of the lists in which it goes on
 abbrev pub fields_in_table : ℕ → Stand → Answer (Option (List TypeValue))

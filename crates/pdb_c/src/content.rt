@@ -1,9 +1,10 @@
 //! What can stand behind a handle.
 
-use crate::open_table::OpenTable;
+use pdb_base::TypeIndex;
 use pdb_frames::FrameTable;
 use pdb_msf::Layout;
 use pdb_space::{AddressMap, OMAPTable, StringTable};
+use pdb_tpi::OpenTable;
 
 /// What a handle holds.
 #[derive(Drop)]
@@ -24,5 +25,5 @@ pub enum Content {
     File(Layout),
 
     /// The items of a table of types or of ids.
-    Table(OpenTable),
+    Table(OpenTable<TypeIndex>),
 }

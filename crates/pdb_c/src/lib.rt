@@ -16,6 +16,7 @@ mod ids;
 mod information;
 pub mod laws;
 mod lists;
+mod located;
 mod moved;
 mod names;
 mod offsets;

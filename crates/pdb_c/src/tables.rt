@@ -2,23 +2,21 @@
 
 ghost use Rattle.std.specs.Prelude.{◌≡◌, ◌<◌, length};
 ghost use Rattle.pdb_base.specs.Answer.{Answers};
-ghost use Rattle.pdb_tpi.specs.Finder.{item_of};
 ghost use Rattle.pdb_tpi.specs.Table.{count_of};
 ghost use Rattle.pdb_c.specs.declared.content.Content.TheVariants.{Table};
-ghost use Rattle.pdb_c.specs.Copied.{copied_of};
 ghost use Rattle.pdb_c.specs.Found.{found_of};
 ghost use Rattle.pdb_c.specs.Handle.{OpensStream, held_as, table_held};
 ghost use Rattle.pdb_c.specs.Records.{FieldsOrLacks};
-ghost use Rattle.pdb_c.specs.Tables.{table_opened};
+ghost use Rattle.pdb_c.specs.Tables.{located_in, table_opened};
 ghost use Rattle.pdb_c.specs.TableCalls.{fields_asked, rewound, step_told};
 
 use crate::content::Content;
-use crate::copied::copy_nothing;
 use crate::fault::{ALREADY_OPEN, FINE, Fault, NOT_OPEN, TOO_LONG};
 use crate::fields::{FieldRow, write_found, write_nothing};
 use crate::found::tell_found;
 use crate::handle::Handle;
-use crate::open_table::OpenTable;
+use crate::located::Located;
+use crate::open_table::{counted, find_record, listed_fields, next_record, opened};
 use pdb_base::Result;
 use pdb_msf::Stream;
 use std::alloc::Global;
@@ -29,7 +27,7 @@ fn table_in(alloc: Global, stream: &[u8]) -> Result<Content>
     ensures { Answers (λ content. content) result (held_as Table (table_opened stream.now)) }
 {
     let bytes = stream.to_vec(alloc)?;
-    let table = OpenTable::parse(alloc, Stream::new(bytes))?;
+    let table = opened(alloc, Stream::new(bytes))?;
     Ok(Content::Table(table))
 }
 
@@ -72,7 +70,7 @@ pub extern "C" fn pdb_table_first_index(
         return Fault::status(NOT_OPEN).tell(fault);
     };
     let told = match &*content {
-        Content::Table(open) => tell_found(Some(open.first_index()), index),
+        Content::Table(open) => tell_found(Some(open.items().header().minimum_index), index),
         _ => Fault::status(NOT_OPEN),
     };
     table.put(content);
@@ -96,61 +94,56 @@ pub extern "C" fn pdb_table_count(
         return Fault::status(NOT_OPEN).tell(fault);
     };
     let told = match &*content {
-        Content::Table(open) => tell_found(Some(open.count()), count),
+        Content::Table(open) => tell_found(Some(counted(open)), count),
         _ => Fault::status(NOT_OPEN),
     };
     table.put(content);
     told.tell(fault)
 }
 
-/// Copies the record of an index, wherever in the table it stands. The first calls walk along the table as far
-/// as they must, and each later one reads eight lengths at most.
+/// Writes where the record of an index stands in the stream of a table. The first calls walk along the table
+/// as far as they must, and each later one reads eight lengths at most.
 #[unsafe(no_mangle)]
 pub extern "C" fn pdb_table_find(
     alloc: Global,
     table: &mut Handle,
     index: u32,
-    room: &mut [u8],
-    length: &mut usize,
+    place: &mut Located,
     fault: &mut Fault,
 ) -> u32
-    ensures answer { record { fault = fault.new; length = length.new; room = room.new }
-        ≡ copied_of room.old (λ table. item_of table.table index) (table_held table.old.held.content) }
+    ensures answer { record { fault = fault.new; value = place.new } ≡ located_in place.old index (table_held table.old.held.content) }
     ensures kept { table.new.held.content ≡ table.old.held.content }
     ensures status { result ≡ fault.new.status }
 {
     let Some(mut content) = table.take(alloc) else {
-        return copy_nothing(Fault::status(NOT_OPEN), length).tell(fault);
+        return Fault::status(NOT_OPEN).tell(fault);
     };
     let told = match &mut *content {
-        Content::Table(open) => open.find(alloc, index, room, length),
-        _ => copy_nothing(Fault::status(NOT_OPEN), length),
+        Content::Table(open) => find_record(open, alloc, index, place),
+        _ => Fault::status(NOT_OPEN),
     };
     table.put(content);
     told.tell(fault)
 }
 
-/// Copies the next record of the walk along a table, and gives its index. Where the walk ends, or is refused,
-/// the index is that at which it stopped.
+/// Writes where the next record of the walk along a table stands in its stream, and its index. Where the walk
+/// ends, or is refused, the index is that at which it stopped, and there is no record.
 #[unsafe(no_mangle)]
 pub extern "C" fn pdb_table_next(
     alloc: Global,
     table: &mut Handle,
-    index: &mut u32,
-    room: &mut [u8],
-    length: &mut usize,
+    place: &mut Located,
     fault: &mut Fault,
 ) -> u32
-    ensures answer { record { told = record { fault = fault.new; length = length.new; room = room.new }; index = index.new; held = table.new.held.content }
-        ≡ step_told room.old index.old table.old.held.content }
+    ensures answer { record { fault = fault.new; value = place.new; held = table.new.held.content } ≡ step_told place.old table.old.held.content }
     ensures status { result ≡ fault.new.status }
 {
     let Some(mut content) = table.take(alloc) else {
-        return copy_nothing(Fault::status(NOT_OPEN), length).tell(fault);
+        return Fault::status(NOT_OPEN).tell(fault);
     };
     let told = match &mut *content {
-        Content::Table(open) => open.step(index, room, length),
-        _ => copy_nothing(Fault::status(NOT_OPEN), length),
+        Content::Table(open) => next_record(open, place),
+        _ => Fault::status(NOT_OPEN),
     };
     table.put(content);
     told.tell(fault)
@@ -198,7 +191,13 @@ pub extern "C" fn pdb_fields(
         return write_nothing(Fault::status(NOT_OPEN), count, size).tell(fault);
     };
     let told = match &mut *content {
-        Content::Table(open) => write_found(open.fields(alloc, index), rows, count, names, size),
+        Content::Table(open) => write_found(
+            listed_fields(open, alloc, index),
+            rows,
+            count,
+            names,
+            size,
+        ),
         _ => write_nothing(Fault::status(NOT_OPEN), count, size),
     };
     table.put(content);

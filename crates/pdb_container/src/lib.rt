@@ -91,6 +91,8 @@ pub use pdb_tpi::Item;
 pub use pdb_tpi::ItemFinder;
 pub use pdb_tpi::ItemInformation;
 pub use pdb_tpi::ItemIter;
+pub use pdb_tpi::OpenTable;
+pub use pdb_tpi::RecordPlace;
 pub use pdb_tpi::Slice;
 pub use pdb_tpi::Type;
 pub use pdb_tpi::TypeFinder;

@@ -50,36 +50,6 @@ impl<'t, I: ItemIndex> Lookup<'t, I> {
         })
     }
 
-    /// Looks up items of a table with a finder and an iterator that `into_parts` of a look-up gave.
-    pub fn with_parts(
-        table: &'t ItemInformation<I>,
-        finder: ItemFinder<'t, I>,
-        items: ItemIter<'t, I>,
-    ) -> Self
-        requires { IsShown table.now items finder }
-        ensures { result ≡ record { table = table.now; known = finder.entry.known; index = items.entry.index } }
-    {
-        Lookup {
-            table,
-            finder,
-            items,
-        }
-    }
-
-    /// What it has learned of its table: a finder, and an iterator that stands where its walk does.
-    pub fn into_parts(self) -> (ItemFinder<'t, I>, ItemIter<'t, I>)
-        ensures shown { IsShown self.entry.table result.1 result.0 }
-        ensures finder { result.0.known ≡ self.entry.known }
-        ensures items { result.1.index ≡ self.entry.index }
-    {
-        let Lookup {
-            table: _,
-            finder,
-            items,
-        } = self;
-        (finder, items)
-    }
-
     /// Whether the finder knows the block of an index, or need not know it since the header doesn't count
     /// the index.
     fn knows(&self, index: I) -> bool

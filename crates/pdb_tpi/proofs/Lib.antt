@@ -12,3 +12,4 @@ pub mod HeaderFaults
 pub mod WalkSteps
 pub mod DerivedLemmas
 pub mod ChainLemmas
+pub mod PositionLemmas

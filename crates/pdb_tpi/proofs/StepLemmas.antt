@@ -130,6 +130,20 @@ step_some seen old x new step = elim ((slice_get_cases (walk old.table) (place_o
   | inr past ↦ absurd (no_item old (walk_rest old.table) (seen x) new (sym (step_stops old past.1) ∙ step.gives))
 ]
 
+abbrev item_in : Option (ℕ × List ℕ) → Answer (List ℕ)
+item_in (Some item) = Ok item.1
+item_in None = Err unexpected_eof
+
+-- and is that of its place
+pub step_item : {X : Type 0} (seen : X → ℕ × List ℕ) (old : Stand) (x : X) (new : Stand) → IsStep seen old (Ok (Some x)) new → nth_item old.table (place_of old) ≡ Ok (seen x).1
+step_item seen old x new step = elim ((slice_get_cases (walk old.table) (place_of old)).1) [
+  | inl here ↦
+      let moved : Stand = record old { index = old.index + 1 } in
+      let is : (Some (old.index, here.0), moved) ≡ (Some (seen x), new) = ok_is (Some (old.index, here.0), moved) (Some (seen x), new) (sym (step_gives old here.0 (nth_some old.table (place_of old) here.0 here.2)) ∙ step.gives) in
+      nth_some old.table (place_of old) here.0 here.2 ∙ ap (λ (p : Option (ℕ × List ℕ) × Stand). item_in p.0) is
+  | inr past ↦ absurd (no_item old (walk_rest old.table) (seen x) new (sym (step_stops old past.1) ∙ step.gives))
+]
+
 -- at the end every item of the walk was given, and no byte is left
 pub step_none : {X : Type 0} (seen : X → ℕ × List ℕ) (old new : Stand) → IsStep seen old (Ok None) new → (length (walk old.table) ≤ place_of old) × (walk_rest old.table ≡ [])
 step_none seen old new step = elim ((slice_get_cases (walk old.table) (place_of old)).1) [

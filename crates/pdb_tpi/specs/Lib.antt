@@ -8,4 +8,6 @@ pub mod Item
 pub mod Record
 pub mod Chain
 pub mod Laws
+pub mod OpenTable
+pub mod LookUp
 pub mod StepLaws

@@ -1,12 +1,16 @@
 //! The fields of a class, a union or an enumeration, through all lists in which they stand.
 
-ghost use Rattle.std.specs.Prelude.{map};
+ghost use Rattle.std.specs.Prelude.{◌≡◌, IfOk, map};
 ghost use Rattle.pdb_base.specs.Answer.{Answers, Gives};
 ghost use Rattle.pdb_values.specs.TypeView.{type_value};
-ghost use Rattle.pdb_tpi.specs.Finder.{find_of};
+ghost use Rattle.pdb_tpi.specs.Finder.{find_of, item_of};
+ghost use Rattle.pdb_tpi.specs.Item.{bytes_of, index_of};
+ghost use Rattle.pdb_tpi.specs.LookUp.{answers};
 ghost use Rattle.pdb_tpi.specs.Chain.{fields_of, list_of, listed, listed_value};
 
+use crate::Type;
 use crate::finder::ItemFinder;
+use crate::open_table::OpenTable;
 use pdb_base::{Error, Result, TypeIndex};
 use pdb_records::constants::LF_FIELDLIST;
 use pdb_values::{FieldList, TypeData};
@@ -23,21 +27,63 @@ fn list_in<'t>(value: TypeData<'t>, kind: u16) -> Result<FieldList<'t>>
     }
 }
 
-impl<'t> ItemFinder<'t, TypeIndex> {
-    /// The list of fields of an index.
-    #[tactic(auto, unfolding(crate::specs::Chain::list_of))]
-    fn field_list(&self, alloc: Global, index: TypeIndex) -> Result<FieldList<'t>>
-        ensures { Answers listed_value result (list_of (find_of self.now.table self.now.known) index.0) }
-    {
-        let item = self.find(index)?;
-        let kind = item.raw_kind();
-        if kind != LF_FIELDLIST {
-            return Err(Error::UnimplementedTypeKind(kind));
-        }
-        let value = item.parse(alloc)?;
-        list_in(value, kind)
-    }
+/// Where types are looked up by their indexes.
+#[derive(Clone, Copy)]
+pub(crate) enum Types<'f, 't> {
+    /// Among those that a finder knows.
+    Known(&'f ItemFinder<'t, TypeIndex>),
+    /// In the whole table.
+    All(&'t OpenTable<TypeIndex>),
+}
 
+impl<'f, 't> Types<'f, 't> {
+    /// The type of an index.
+    fn look_up(self, index: TypeIndex) -> Result<Type<'t>>
+        ensures item { Gives bytes_of result (answers self.entry index.0) }
+        ensures index { IfOk result (λ item. (index_of item).0 ≡ index.0) }
+    {
+        match self {
+            Types::Known(finder) => finder.find(index),
+            Types::All(table) => table.item(index.0),
+        }
+    }
+}
+
+/// The list of fields of an index.
+#[tactic(auto, unfolding(crate::specs::Chain::list_of))]
+fn field_list<'t>(types: Types<'_, 't>, alloc: Global, index: TypeIndex) -> Result<FieldList<'t>>
+    ensures { Answers listed_value result (list_of (answers types.entry) index.0) }
+{
+    let item = types.look_up(index)?;
+    let kind = item.raw_kind();
+    if kind != LF_FIELDLIST {
+        return Err(Error::UnimplementedTypeKind(kind));
+    }
+    let value = item.parse(alloc)?;
+    list_in(value, kind)
+}
+
+/// The fields of a list and of the lists in which it goes on, moved out of them.
+fn joined<'t>(types: Types<'_, 't>, alloc: Global, index: TypeIndex) -> Result<Vec<TypeData<'t>>>
+    ensures { Answers (λ fields. map type_value fields.items) result (fields_of (answers types.entry) index.0) }
+{
+    let list = field_list(types, alloc, index)?;
+    let mut fields = list.fields;
+    let mut continuation = list.continuation;
+    let mut above = index;
+    while let Some(next) = continuation {
+        if next >= above {
+            return Err(Error::UnimplementedFeature("field list continuation not below its list"));
+        }
+        let mut list = field_list(types, alloc, next)?;
+        fields.append(&mut list.fields)?;
+        continuation = list.continuation;
+        above = next;
+    }
+    Ok(fields)
+}
+
+impl<'t> ItemFinder<'t, TypeIndex> {
     /// The fields of a list and of the lists in which it goes on: those of the list of this index first,
     /// and then those of its continuations, each of which has an index below the one before.
     ///
@@ -52,21 +98,18 @@ impl<'t> ItemFinder<'t, TypeIndex> {
         ensures { Answers (λ fields. map type_value fields.items) result
             (fields_of (find_of self.now.table self.now.known) index.0) }
     {
-        let list = self.field_list(alloc, index)?;
-        let mut fields = list.fields;
-        let mut continuation = list.continuation;
-        let mut above = index;
-        while let Some(next) = continuation {
-            if next >= above {
-                return Err(Error::UnimplementedFeature(
-                    "field list continuation not below its list",
-                ));
-            }
-            let mut list = self.field_list(alloc, next)?;
-            fields.append(&mut list.fields)?;
-            continuation = list.continuation;
-            above = next;
-        }
-        Ok(fields)
+        joined(Types::Known(self), alloc, index)
+    }
+}
+
+impl OpenTable<TypeIndex> {
+    /// The fields of a list and of the lists in which it goes on, wherever in the table they stand.
+    ///
+    /// # Errors
+    /// As `ItemFinder::fields`, with the refusals of `OpenTable::item` for those of `ItemFinder::find`.
+    pub fn fields(&self, alloc: Global, index: TypeIndex) -> Result<Vec<TypeData<'_>>>
+        ensures { Answers (λ fields. map type_value fields.items) result (fields_of (item_of self.now.table) index.0) }
+    {
+        joined(Types::All(self), alloc, index)
     }
 }

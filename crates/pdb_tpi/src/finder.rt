@@ -1,6 +1,6 @@
 //! Finds items of a table by their indexes.
 
-ghost use Rattle.std.specs.Prelude.{◌≡◌, ◌+◌, ◌≤◌, All, length, map, vec_capacity, IsOk, IfOk, Ok};
+ghost use Rattle.std.specs.Prelude.{◌≡◌, ◌+◌, ◌≤◌, All, length, map, nat_lt, vec_capacity, IsOk, IfOk, Ok};
 ghost use Rattle.pdb_base.specs.Answer.{Answers, Gives};
 ghost use Rattle.pdb_base.specs.Count.{calls_of, after_calls};
 ghost use Rattle.pdb_tpi.specs.Item.{bytes_of, index_of};
@@ -17,10 +17,10 @@ use std::alloc::Global;
 use std::marker::Model;
 
 /// How many items a block has.
-const BLOCK_LEN: u32 = 8;
+pub(crate) const BLOCK_LEN: u32 = 8;
 
 /// The bytes of a primitive type, which has no record.
-const PRIMITIVE: &[u8] = b"\xff\xff";
+pub(crate) const PRIMITIVE: &[u8] = b"\xff\xff";
 
 /// Finds items of a table by their indexes, without a walk from the first one.
 ///
@@ -72,7 +72,7 @@ impl<I: ItemIndex> ItemInformation<I> {
 impl<'t, I: ItemIndex> ItemFinder<'t, I> {
     /// A finder of a table that knows the blocks at these positions, which a finder of the same table knew
     /// and gave by `into_positions`.
-    pub fn with_positions(table: &'t ItemInformation<I>, positions: Vec<u32>) -> Self
+    pub(crate) fn with_positions(table: &'t ItemInformation<I>, positions: Vec<u32>) -> Self
         requires { ArePlaces table.now positions.items (vec_capacity positions) }
         ensures { result ≡ record { table = table.now; known = length positions.items } }
     {
@@ -80,7 +80,7 @@ impl<'t, I: ItemIndex> ItemFinder<'t, I> {
     }
 
     /// Where the blocks that it knows begin, apart from the table.
-    pub fn into_positions(self) -> Vec<u32>
+    pub(crate) fn into_positions(self) -> Vec<u32>
         ensures places { ArePlaces self.entry.table result.items (vec_capacity result) }
         ensures known { length result.items ≡ self.entry.known }
     {
@@ -89,6 +89,13 @@ impl<'t, I: ItemIndex> ItemFinder<'t, I> {
             positions,
         } = self;
         positions
+    }
+
+    /// Whether it knows a block, counted from 0.
+    pub(crate) fn knows(&self, block: usize) -> bool
+        ensures { result ≡ nat_lt block self.now.known }
+    {
+        block < self.positions.len()
     }
 
     /// The last index of the blocks that are known, or 0 where none is.

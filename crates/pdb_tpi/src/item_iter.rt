@@ -55,7 +55,7 @@ fn read_item<'t>(bytes: &'t [u8], count: &mut Count) -> Result<&'t [u8]>
 impl<'t, I: ItemIndex> ItemIter<'t, I> {
     /// An iterator before the item of an index, which begins at a position: where an iterator over the same
     /// table stood once, as `place` said.
-    pub fn at(table: &'t ItemInformation<I>, index: u64, position: usize) -> Self
+    pub(crate) fn at(table: &'t ItemInformation<I>, index: u64, position: usize) -> Self
         requires { IsPlace table.now index position }
         ensures { result ≡ record { table = table.now; index = index } }
     {
@@ -97,16 +97,26 @@ impl<'t, I: ItemIndex> ItemIter<'t, I> {
     }
 
     /// The item that stands so many behind the next one, or the fault at which the walk stops before
-    /// it.
-    pub(crate) fn nth(mut self, steps: u32, count: &mut Count) -> Result<Item<'t, I>>
-        ensures item { Gives bytes_of result (nth_item self.entry.table (place_of self.entry + steps)) }
-        ensures index { IfOk result (λ item. I.number (index_of item) ≡ self.entry.index + steps) }
-        ensures counted { calls_of count.new ≡ after_calls (reads_between self.entry.table (place_of self.entry) (place_of self.entry + steps)) (calls_of count.old) }
+    /// it. The iterator then stands behind that item.
+    pub(crate) fn nth(&mut self, steps: u32, count: &mut Count) -> Result<Item<'t, I>>
+        ensures item { Gives bytes_of result (nth_item self.old.table (place_of self.old + steps)) }
+        ensures index { IfOk result (λ item. I.number (index_of item) ≡ self.old.index + steps) }
+        ensures moved { IfOk result (λ _. self.new ≡ record self.old { index = self.old.index + steps + 1 }) }
+        ensures counted { calls_of count.new ≡ after_calls (reads_between self.old.table (place_of self.old) (place_of self.old + steps)) (calls_of count.old) }
     {
         for _ in 0..steps {
             self.read(count)?;
         }
         self.read(count)
+    }
+
+    /// The same, uncounted.
+    pub(crate) fn skip(&mut self, steps: u32) -> Result<Item<'t, I>>
+        ensures item { Gives bytes_of result (nth_item self.old.table (place_of self.old + steps)) }
+        ensures index { IfOk result (λ item. I.number (index_of item) ≡ self.old.index + steps) }
+        ensures moved { IfOk result (λ _. self.new ≡ record self.old { index = self.old.index + steps + 1 }) }
+    {
+        self.nth(steps, &mut Count::new())
     }
 }
 

@@ -11,6 +11,7 @@ mod item_information;
 mod item_iter;
 pub mod laws;
 mod length;
+mod open_table;
 mod type_record;
 
 pub use finder::ItemFinder;
@@ -18,6 +19,7 @@ pub use header::{Header, Slice};
 pub use item::Item;
 pub use item_information::ItemInformation;
 pub use item_iter::ItemIter;
+pub use open_table::{OpenTable, RecordPlace};
 use pdb_base::{IdIndex, TypeIndex};
 pub use pdb_records::constants;
 

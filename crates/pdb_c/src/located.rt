@@ -1,0 +1,31 @@
+//! Where records stand, as a caller sees it.
+
+ghost use Rattle.std.specs.Prelude.{◌≡◌};
+ghost use Rattle.pdb_c.specs.Tables.{located_at};
+
+use pdb_tpi::RecordPlace;
+
+/// Where the record of an index stands in the stream of its table.
+#[repr(C)]
+#[derive(Clone, Copy)]
+pub struct Located {
+    /// The index.
+    pub index: u32,
+    /// How many bytes of the stream are before the record.
+    pub offset: u32,
+    /// How many bytes the record has.
+    pub length: u32,
+}
+
+impl Located {
+    /// The record of this index at this place.
+    pub fn at(index: u32, place: RecordPlace) -> Located
+        ensures { result ≡ located_at index place }
+    {
+        Located {
+            index,
+            offset: place.offset,
+            length: place.length,
+        }
+    }
+}
