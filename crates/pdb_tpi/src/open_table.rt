@@ -72,7 +72,8 @@ fn start<'t, I: ItemIndex>(
     positions: &[u32],
     place: u32,
 ) -> ItemIter<'t, I>
-    requires { (block : ℕ) → block < length positions.now → IsPlace table.now (first_of table.now block) (slice_index positions.now block) }
+    requires { (block : ℕ) → block < length positions.now →
+        IsPlace table.now (first_of table.now block) (slice_index positions.now block) }
     ensures table { result.table ≡ table.now }
     ensures least { table.now.header.minimum_index ≤ result.index }
     ensures most { result.index ≤ table.now.header.minimum_index + place }
@@ -157,7 +158,8 @@ impl<I: ItemIndex> OpenTable<I> {
     /// before it.
     fn nth(&self, place: u32) -> Result<(Item<'_, I>, RecordPlace)>
         ensures item { Gives (λ found. bytes_of found.0) result (nth_item self.now.table place) }
-        ensures index { IfOk result (λ found. I.number (index_of found.0) ≡ self.now.table.header.minimum_index + place) }
+        ensures index { IfOk result (λ found.
+            I.number (index_of found.0) ≡ self.now.table.header.minimum_index + place) }
         ensures record { IfOk result (λ found. found.1 ≡ record_at self.now.table place (bytes_of found.0)) }
     {
         let minimum = self.items.header().minimum_index;
