@@ -4,8 +4,6 @@
 mod answer;
 mod asked;
 mod question;
-#[cfg(test)]
-mod tests;
 
 pub use asked::ask;
 pub use question::{Question, questions_in};

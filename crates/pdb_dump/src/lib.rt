@@ -7,8 +7,6 @@ mod help;
 mod listed;
 mod process;
 mod served;
-#[cfg(test)]
-mod tests;
 mod words;
 
 pub use asking::serve_questions;

@@ -4,3 +4,4 @@ pub mod MergeLemmas
 pub mod TableLemmas
 pub mod SortLemmas
 pub mod LawLemmas
+pub mod SplitLemmas

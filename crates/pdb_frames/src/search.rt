@@ -27,18 +27,47 @@ struct Found {
     start: u32,
 }
 
+/// How many records lie so near one another that the reads of their starts hardly wait for memory.
+const NEAR: usize = 256;
+
+/// In how many parts the records are split of which several starts are read at once.
+const PARTS: usize = 8;
+
 /// Searches for the last record that starts at or below an address.
 ///
-/// The part of the stream that is left to search halves with each comparison, whichever way it falls.
-/// How far the address is behind the start is kept beside the place, since one subtraction compares
-/// and says how far. So the step needs no branch.
-#[tactic(auto, using(pdb_base::proofs::lemmas::Halving::halving_begins, pdb_base::proofs::lemmas::Halving::halving_takes, pdb_base::proofs::lemmas::Halving::halving_passes, pdb_base::proofs::lemmas::Halving::halving_ends))]
+/// Far records are halved by a branch: by guessing it a processor reads on before it knows which half
+/// counts. Near ones are split in eight by the starts of seven, which are read without waiting for one
+/// another, and the last few are halved. There no step branches: how far the address is behind the start
+/// is kept beside the place, since one subtraction compares and says how far.
+#[tactic(auto, using(pdb_base::proofs::lemmas::Halving::halving_begins, pdb_base::proofs::lemmas::Halving::halving_takes, pdb_base::proofs::lemmas::Halving::halving_passes, pdb_base::proofs::lemmas::Halving::halving_ends, crate::proofs::SplitLemmas::first_part, crate::proofs::SplitLemmas::second_part, crate::proofs::SplitLemmas::known_by_distance, crate::proofs::SplitLemmas::split_begins, crate::proofs::SplitLemmas::part_inside))]
 fn search<R: FrameRecord>(bytes: &[u8], address: u32) -> Found
     ensures { IsFound (start_at R.span (spelled R.SIZE R.value bytes.now)) (length bytes.now / R.SIZE) address
         result.place result.start }
 {
-    let (mut place, mut distance) = (0, address);
-    let mut size = bytes.len() / R::SIZE;
+    let (mut place, mut size) = (0, bytes.len() / R::SIZE);
+    while size > NEAR {
+        let half = size / 2;
+        if start_at::<R>(bytes, place + half) <= address {
+            place += half;
+        }
+        size -= half;
+    }
+    let mut distance = address;
+    if place > 0 {
+        distance -= start_at::<R>(bytes, place);
+    }
+    while size >= PARTS {
+        let (first, step) = (place, size / PARTS);
+        for part in 1..PARTS {
+            let ahead = first + part * step;
+            let next = start_at::<R>(bytes, ahead);
+            if next <= address {
+                place = ahead;
+                distance = address - next;
+            }
+        }
+        size -= (PARTS - 1) * step;
+    }
     while size > 0 {
         let middle = place + size / 2;
         let next = start_at::<R>(bytes, middle);

@@ -1,4 +1,4 @@
-//! Rows of records, and tables as lines, as tests.
+//! Rows of records, tables as lines, questions about a file, and what the second program lists, as tests.
 #![tactic(auto)]
 
 #[cfg(test)]

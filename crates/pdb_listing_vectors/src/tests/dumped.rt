@@ -1,7 +1,7 @@
 //! What is listed of small files, row by row: S1 with other bytes as its stream 3.
 
-use crate::{Command, Task, any_is, asked_of_file, list, plain_words};
 use pdb_container::Result;
+use pdb_dump::{Command, Task, any_is, asked_of_file, list, plain_words};
 use pdb_rows::Form;
 use pdb_vectors::s1_with;
 use std::alloc::Global;

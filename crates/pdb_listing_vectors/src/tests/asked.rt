@@ -1,6 +1,6 @@
 //! What S1 answers to questions, row by row.
 
-use crate::ask;
+use pdb_asking::ask;
 use pdb_container::Result;
 use pdb_rows::Form;
 use pdb_vectors::s1;
