@@ -4,10 +4,10 @@ use Rattle.std.specs.List.{filter_map, range_with_len}
 use Rattle.std.proofs.lemmas.List.Elements.{filter_map-append}
 use Rattle.std.proofs.lemmas.List.FromFn.{map-range_with_len_more}
 use Rattle.std.proofs.lemmas.List.{append-nil, map-id}
-use Rattle.pdb_base.specs.Answer.{RefusesUnless}
+use Rattle.pdb_container.specs.Answer.{RefusesUnless}
 use Rattle.pdb_base.specs.declared.error.Error.TheVariants.{StreamNotFound}
-use Rattle.pdb_msf.specs.Header.{Head}
-use Rattle.pdb_msf.specs.File.{stream_of}
+use Rattle.pdb_container.specs.Header.{Head}
+use Rattle.pdb_container.specs.File.{stream_of}
 use Rattle.pdb_examples.specs.Uses.{sized, sizes_of}
 
 pub none_yet : (file : List ℕ) (head : Head) → [] ≡ sizes_of 0 file head

@@ -5,9 +5,9 @@ use Rattle.std.proofs.lemmas.List.{append_assoc}
 use Rattle.std.proofs.Math.ListN.{drop_of_length-le}
 use Rattle.std.proofs.lemmas.Option.{slice_get_cases}
 use Rattle.pdb_base.proofs.lemmas.Collected.{ok_is}
-use Rattle.pdb_tpi.specs.Record.{type_of}
-use Rattle.pdb_tpi.specs.Steps.{Stand, walk, place_of, IsStep}
-use Rattle.pdb_tpi.specs.Table.{Table}
+use Rattle.pdb_container.specs.Record.{type_of}
+use Rattle.pdb_container.specs.Steps.{Stand, walk, place_of, IsStep}
+use Rattle.pdb_container.specs.ItemTable.{Table}
 use Rattle.pdb_tpi.proofs.WalkLemmas.{nth_some}
 use Rattle.pdb_tpi.proofs.StepLemmas.{step_gives, step_some, step_none}
 use Rattle.pdb_examples.specs.Uses.{has_name, indexes_named, types_in}

@@ -3,24 +3,24 @@ use Rattle.std.specs.Prelude.{ℕ, ◌+◌, Bool, false, if◌then◌else◌, Li
 use Rattle.std.specs.List.{filter, filter_map, range_with_len}
 use Rattle.std.specs.Option.{option_map, option_map_or}
 use Rattle.std.specs.Str.{bytes_eq}
-use Rattle.pdb_base.specs.Answer.{Answer, ◌>>=◌}
-use Rattle.pdb_msf.specs.Header.{Head, opened}
-use Rattle.pdb_msf.specs.File.{stream_of}
-use Rattle.pdb_space.specs.Conversions.{Arrangement, internal_offset_to_rva, rva_to_internal_offset}
-use Rattle.pdb_space.specs.Omap.{IsSortedBySource}
-use Rattle.pdb_space.specs.SectionPlace.{SectionPlace}
-use Rattle.pdb_space.specs.StringTable.{name_of}
-use Rattle.pdb_frames.specs.Merge.{by_heads}
-use Rattle.pdb_frames.specs.Span.{covers}
-use Rattle.pdb_frames.specs.declared.frame_data.FrameData.{FrameData}
+use Rattle.pdb_container.specs.Answer.{Answer, ◌>>=◌}
+use Rattle.pdb_container.specs.Header.{Head, opened}
+use Rattle.pdb_container.specs.File.{stream_of}
+use Rattle.pdb_container.specs.Conversions.{Arrangement, internal_offset_to_rva, rva_to_internal_offset}
+use Rattle.pdb_container.specs.Omap.{IsSortedBySource}
+use Rattle.pdb_container.specs.SectionPlace.{SectionPlace}
+use Rattle.pdb_container.specs.StringTable.{name_of}
+use Rattle.pdb_container.specs.Merge.{by_heads}
+use Rattle.pdb_container.specs.Span.{covers}
+use Rattle.pdb_container.specs.declared.FrameData.{FrameData}
 use Rattle.pdb_base.specs.declared.index.TypeIndex.{TypeIndex}
-use Rattle.pdb_values.specs.TypeValue.{TypeValue, plain, class}
-use Rattle.pdb_values.specs.TypeValue as types
-use Rattle.pdb_tpi.specs.Chain.{LookUp, fields_of}
-use Rattle.pdb_tpi.specs.Record.{type_of}
-use Rattle.pdb_tpi.specs.Steps.{walk}
-use Rattle.pdb_tpi.specs.Table.{Table, table_of}
-use Rattle.pdb_roles.specs.File.{file_address_map, file_frame_table, file_string_table}
+use Rattle.pdb_container.specs.TypeValue.{TypeValue, plain, class}
+use Rattle.pdb_container.specs.TypeValue as types
+use Rattle.pdb_container.specs.Chain.{LookUp, fields_of}
+use Rattle.pdb_container.specs.Record.{type_of}
+use Rattle.pdb_container.specs.Steps.{walk}
+use Rattle.pdb_container.specs.ItemTable.{Table, table_of}
+use Rattle.pdb_container.specs.RoleFile.{file_address_map, file_frame_table, file_string_table}
 
 -- ---- streams
 

@@ -1,7 +1,7 @@
 //! An address of the running image, the section of the original image that it comes from, and the way back.
 
 ghost use Rattle.std.specs.Prelude.{◌≡◌};
-ghost use Rattle.pdb_base.specs.Answer.{Answers};
+ghost use Rattle.pdb_container.specs.Answer.{Answers};
 ghost use Rattle.pdb_examples.specs.Uses.{AreSorted, map_in, there_and_back};
 
 use pdb_container::{AddressMap, PdbInternalSectionOffset, Result, Rva, address_map, open_msf};

@@ -1,12 +1,12 @@
 //! The fields of a class.
 
 ghost use Rattle.std.specs.Prelude.{◌≡◌, IfOk, length, map};
-ghost use Rattle.pdb_base.specs.Answer.{Answers};
+ghost use Rattle.pdb_container.specs.Answer.{Answers};
 ghost use Rattle.pdb_container.specs.Lookup.{KnowsWalked};
 ghost use Rattle.pdb_examples.specs.Uses.{class_fields, list_in};
-ghost use Rattle.pdb_tpi.specs.Finder.{find_of};
-ghost use Rattle.pdb_tpi.specs.Steps.{walk};
-ghost use Rattle.pdb_values.specs.TypeView.{type_value};
+ghost use Rattle.pdb_container.specs.Finder.{find_of};
+ghost use Rattle.pdb_container.specs.Steps.{walk};
+ghost use Rattle.pdb_container.specs.TypeView.{type_value};
 
 use pdb_container::{FallibleIterator, Result, TypeData, TypeFinder, TypeIndex, TypeInformation};
 use std::alloc::Global;

@@ -2,8 +2,8 @@
 
 ghost use Rattle.std.specs.Prelude.{◌≡◌, Ok};
 ghost use Rattle.std.specs.List.{filter};
-ghost use Rattle.pdb_base.specs.Answer.{Answers};
-ghost use Rattle.pdb_frames.specs.Merge.{by_heads};
+ghost use Rattle.pdb_container.specs.Answer.{Answers};
+ghost use Rattle.pdb_container.specs.Merge.{by_heads};
 ghost use Rattle.pdb_examples.specs.Uses.{frames_in, is_at};
 
 use pdb_container::{

@@ -1,6 +1,6 @@
 //! A name of the string table.
 
-ghost use Rattle.pdb_base.specs.Answer.{Answers};
+ghost use Rattle.pdb_container.specs.Answer.{Answers};
 ghost use Rattle.pdb_examples.specs.Uses.{name_in};
 
 use pdb_container::{Result, StringRef, open_msf, string_table};

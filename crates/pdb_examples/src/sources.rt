@@ -1,6 +1,6 @@
 //! A file that is opened through a source of one's own.
 
-ghost use Rattle.pdb_base.specs.Answer.{Answers};
+ghost use Rattle.pdb_container.specs.Answer.{Answers};
 ghost use Rattle.pdb_examples.specs.Uses.{stream_in};
 
 use pdb_container::{Msf, ReadView, Result, Source, SourceSlice, Stream, open_msf};
@@ -15,7 +15,7 @@ pub struct Counting {
 }
 
 impl Source for Counting {
-    ghost use Rattle.pdb_msf.specs.Source.{in_memory};
+    ghost use Rattle.pdb_container.specs.Source.{in_memory};
 
     ghost state = { λ source. in_memory source.bytes.items };
 

@@ -1,7 +1,7 @@
 //! All streams of a file, with their sizes.
 
 ghost use Rattle.std.specs.Prelude.{◌≡◌, IfOk, Ok};
-ghost use Rattle.pdb_msf.specs.Header.{Head, opened};
+ghost use Rattle.pdb_container.specs.Header.{Head, opened};
 ghost use Rattle.pdb_examples.specs.Uses.{sizes_of};
 
 use pdb_container::{Error, Msf, Result, open_msf};

@@ -2,8 +2,8 @@
 
 ghost use Rattle.std.specs.Prelude.{◌≡◌, Ok, IfOk, map};
 ghost use Rattle.pdb_examples.specs.Uses.{has_name, types_in, types_of};
-ghost use Rattle.pdb_tpi.specs.Item.{bytes_of, index_of};
-ghost use Rattle.pdb_tpi.specs.Record.{type_of};
+ghost use Rattle.pdb_container.specs.Item.{bytes_of, index_of};
+ghost use Rattle.pdb_container.specs.Record.{type_of};
 
 use pdb_container::{
     Error, FallibleIterator, Msf, Result, Type, TypeIndex, TypeInformation, open_msf,

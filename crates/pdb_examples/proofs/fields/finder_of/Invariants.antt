@@ -1,4 +1,4 @@
-use Rattle.pdb_tpi.specs.Steps.{items_left}
+use Rattle.pdb_container.specs.Steps.{items_left}
 use Rattle.pdb_container.specs.Lookup.{IsShown}
 use Rattle.pdb_examples.proofs.fields.finder_of.Given as goal
 

@@ -1,6 +1,6 @@
 use Rattle.std.proofs.Common.{◌≡◌, ◌++◌, length}
 use Rattle.std.specs.List.{filter}
-use Rattle.pdb_frames.specs.Merge.{by_heads}
+use Rattle.pdb_container.specs.Merge.{by_heads}
 use Rattle.pdb_examples.specs.Uses.{is_at}
 use Rattle.pdb_examples.proofs.frames.those_at.Given as goal
 

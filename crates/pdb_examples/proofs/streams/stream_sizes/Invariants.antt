@@ -1,5 +1,5 @@
 use Rattle.std.proofs.Common.{◌≡◌, Ok}
-use Rattle.pdb_msf.specs.Header.{opened}
+use Rattle.pdb_container.specs.Header.{opened}
 use Rattle.pdb_examples.specs.Uses.{sizes_of}
 use Rattle.pdb_examples.proofs.streams.stream_sizes.Given as goal
 

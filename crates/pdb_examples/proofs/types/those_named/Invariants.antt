@@ -1,5 +1,5 @@
 use Rattle.std.proofs.Common.{◌≡◌, ◌≤◌, ◌++◌, map}
-use Rattle.pdb_tpi.specs.Steps.{items_left}
+use Rattle.pdb_container.specs.Steps.{items_left}
 use Rattle.pdb_examples.specs.Uses.{types_in}
 use Rattle.pdb_examples.proofs.TypeLemmas.{still_named}
 use Rattle.pdb_examples.proofs.types.those_named.Given as goal
