@@ -15,7 +15,7 @@ use crate::fault::{FINE, Fault, NOWHERE};
 use crate::row::Row;
 use pdb_base::{Error, Result, TypeIndex};
 use pdb_records::parse_type_data;
-use pdb_values::{TypeData, type_data_for_primitive};
+use pdb_values::{FIRST_RECORD, TypeData, type_data_for_primitive};
 use std::alloc::Global;
 
 /// The type of an index that a record says. An index below 0x1000 is that of a primitive type.
@@ -23,7 +23,7 @@ use std::alloc::Global;
 pub fn type_in<'t>(alloc: Global, bytes: &'t [u8], index: u32) -> Result<TypeData<'t>>
     ensures { Answers type_value result (type_of index bytes.now) }
 {
-    if index < 0x1000 {
+    if index < FIRST_RECORD {
         return type_data_for_primitive(TypeIndex(index));
     }
     parse_type_data(alloc, bytes)

@@ -1,7 +1,7 @@
 //! What the definitions that contracts cite say in other words. The functions do nothing: each
 //! contract is a law.
 
-ghost use Rattle.std.specs.Prelude.{ℕ, List, Option, Result};
+ghost use Rattle.std.specs.Prelude.{◌≡◌, ℕ, List, Option, Result};
 ghost use Rattle.pdb_base.specs.declared.error.Error.{Error};
 ghost use Rattle.pdb_frames.specs.declared.frame_data.FrameData.{FrameData};
 ghost use Rattle.pdb_frames.specs.declared.old_frame_data.OldFrameData.{OldFrameData};
@@ -10,6 +10,8 @@ ghost use Rattle.pdb_frames.specs.Span.{Span};
 ghost use Rattle.pdb_frames.specs.Merge.{by_heads};
 ghost use Rattle.pdb_frames.specs.Table.{Frames, IsStep, StartsIncrease};
 ghost use Rattle.pdb_frames.specs.Laws.{CoversToItsEnd, IsSortedByStart, IsMerged, IsWoven, EndsForGood, ComparesByNumber};
+ghost use Rattle.pdb_frames.specs.declared.new_frame_data.TheConstants.{NEW_SIZE};
+ghost use Rattle.pdb_frames.specs.declared.old_frame_data.TheConstants.{OLD_SIZE};
 
 use crate::frame_type::FrameType;
 
@@ -51,4 +53,10 @@ pub fn steps()
 /// alike, which the trait `Hash` demands of each type.
 pub fn kinds()
     ensures { ComparesByNumber ⟦<FrameType as PartialEq>⟧.eq ⟦<FrameType as Ord>⟧.cmp }
+{}
+
+/// A record of the older format has 16 bytes, and one of the newer format 32.
+pub fn sizes()
+    ensures old { OLD_SIZE ≡ 16 }
+    ensures new { NEW_SIZE ≡ 32 }
 {}

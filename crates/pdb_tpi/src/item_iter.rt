@@ -96,8 +96,8 @@ impl<'t, I: ItemIndex> ItemIter<'t, I> {
         })
     }
 
-    /// The item that stands so many behind the next one, or the fault at which the walk stops before
-    /// it. The iterator then stands behind that item.
+    /// The item `steps` items behind the next one, or the fault at which the walk stops before it. The
+    /// iterator then stands behind that item.
     pub(crate) fn nth(&mut self, steps: u32, count: &mut Count) -> Result<Item<'t, I>>
         ensures item { Gives bytes_of result (nth_item self.old.table (place_of self.old + steps)) }
         ensures index { IfOk result (λ item. I.number (index_of item) ≡ self.old.index + steps) }

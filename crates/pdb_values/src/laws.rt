@@ -5,6 +5,7 @@ ghost use Rattle.std.specs.Prelude.{◌≡◌, ℕ, List};
 ghost use Rattle.pdb_values.specs.declared.primitive.PrimitiveType.{PrimitiveType};
 ghost use Rattle.pdb_values.specs.Laws.{HasOneIndex, IsRefusedByIndex};
 ghost use Rattle.pdb_values.specs.TypeValue.{TypeValue, Fields, as_fields, values_in};
+ghost use Rattle.pdb_values.specs.declared.primitive.TheConstants.{FIRST_RECORD};
 
 pub mod derived;
 
@@ -20,4 +21,9 @@ pub fn primitives()
 pub fn field_lists()
     ensures listed { (values : List TypeValue) → values_in (as_fields values) ≡ values }
     ensures unlisted { (fields : Fields) → as_fields (values_in fields) ≡ fields }
+{}
+
+/// The indexes from 0x1000 on are those of records.
+pub fn first_record()
+    ensures { FIRST_RECORD ≡ 0x1000 }
 {}
