@@ -1,4 +1,4 @@
-//! The search for an address among the records of a stream, by halving.
+//! The search for an address among the records of a stream, by halving and by splitting in eight.
 
 ghost use Rattle.std.specs.Prelude.{◌≡◌, ◌<◌, ◌≤◌, ◌/◌, length, map};
 ghost use Rattle.std.specs.List.Sorted.{IsStrictlyIncreasing};
