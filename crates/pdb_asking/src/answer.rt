@@ -54,7 +54,8 @@ fn name_field<'t>(name: Option<&'t [u8]>) -> Field<'t>
 
 /// A record: its index, its kind and its name, if it has one.
 fn record_row<'t>(alloc: Global, index: u32, leaf: u16, name: Option<&'t [u8]>) -> Result<Row<'t>>
-    ensures ok { IfOk result (λ row. row_shown row ≡ record_shown index leaf (option_map (λ name. name.now) name.entry)) }
+    ensures ok { IfOk result (λ row. row_shown row ≡
+        record_shown index leaf (option_map (λ name. name.now) name.entry)) }
     ensures want { IfErr result (λ e. e ≡ Error.OutOfMemory) }
 {
     let fields = vec![in alloc;
@@ -100,7 +101,8 @@ fn write_record<W: Write>(
     line: &mut Vec<u8>,
     out: &mut W,
 ) -> Result<()>
-    ensures { Writes (row_text Form.Json (record_shown index leaf (option_map (λ name. name.now) name.entry))) (W.contents out.old) (W.contents out.new) result }
+    ensures { Writes (row_text Form.Json (record_shown index leaf (option_map (λ name. name.now) name.entry)))
+        (W.contents out.old) (W.contents out.new) result }
 {
     let row = record_row(alloc, index, leaf, name)?;
     write_row(Form::Json, &row, line, out)
@@ -114,7 +116,8 @@ fn write_refused<W: Write>(
     line: &mut Vec<u8>,
     out: &mut W,
 ) -> Result<()>
-    ensures { Writes (row_text form (refusal_shown (refusal_of error.now) ∷ [])) (W.contents out.old) (W.contents out.new) result }
+    ensures { Writes (row_text form (refusal_shown (refusal_of error.now) ∷ []))
+        (W.contents out.old) (W.contents out.new) result }
 {
     let text = error_text(alloc, error)?;
     write_field(alloc, form, error_field(&text), line, out)
@@ -150,7 +153,9 @@ fn write_names<W: Write>(
     line: &mut Vec<u8>,
     out: &mut W,
 ) -> Result<()>
-    ensures { Writes (flat_map (λ name. row_text Form.Json (name_field (option_map (λ copy. copy.items) name) ∷ [])) names.now) (W.contents out.old) (W.contents out.new) result }
+    ensures { Writes (flat_map (λ name.
+        row_text Form.Json (name_field (option_map (λ copy. copy.items) name) ∷ [])) names.now)
+        (W.contents out.old) (W.contents out.new) result }
 {
     for name in names {
         let row = row_of(alloc, name_field(name.as_deref()))?;
@@ -166,7 +171,8 @@ fn write_ranges<W: Write>(
     line: &mut Vec<u8>,
     out: &mut W,
 ) -> Result<()>
-    ensures { Writes (flat_map (λ range. row_text Form.Json (range_shown range)) ranges.now) (W.contents out.old) (W.contents out.new) result }
+    ensures { Writes (flat_map (λ range. row_text Form.Json (range_shown range)) ranges.now)
+        (W.contents out.old) (W.contents out.new) result }
 {
     for range in ranges {
         let row = range_row(alloc, range)?;
@@ -261,7 +267,8 @@ pub(crate) fn write_answered<W: Write>(
     line: &mut Vec<u8>,
     out: &mut W,
 ) -> Result<()>
-    ensures { Writes (answered_text form question.now (option_copied reply.entry)) (W.contents out.old) (W.contents out.new) result }
+    ensures { Writes (answered_text form question.now (option_copied reply.entry))
+        (W.contents out.old) (W.contents out.new) result }
 {
     write_field(alloc, form, text_field("question", question), line, out)?;
     write_answer(alloc, form, reply, line, out)

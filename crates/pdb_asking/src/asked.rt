@@ -49,7 +49,8 @@ fn write_answers<W: Write>(
     replies: &[Reply],
     out: &mut W,
 ) -> Result<bool>
-    ensures lines { Writes (answers_text form (map asked questions.now) replies.now) (W.contents out.old) (W.contents out.new) (done_of result) }
+    ensures lines { Writes (answers_text form (map asked questions.now) replies.now)
+        (W.contents out.old) (W.contents out.new) (done_of result) }
     ensures all { IfOk result (λ all. all ≡ are_answers (map asked questions.now) replies.now) }
 {
     let mut line = Vec::new(alloc);

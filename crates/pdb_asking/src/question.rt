@@ -44,7 +44,8 @@ fn words_of<'t>(alloc: Global, line: &'t [u8]) -> Result<Vec<&'t [u8]>>
 
 /// Words as texts, if each is one.
 fn texts_of<'t>(alloc: Global, words: &[&'t [u8]]) -> Result<Option<Vec<&'t str>>>
-    ensures texts { IfOk result (λ texts. option_map (λ texts. map (λ text. text.now) texts.items) texts ≡ texts_of (map (λ word. word.now) words.now)) }
+    ensures texts { IfOk result (λ texts. option_map (λ texts. map (λ text. text.now) texts.items) texts ≡
+        texts_of (map (λ word. word.now) words.now)) }
     ensures want { IfErr result (λ e. e ≡ Error.OutOfMemory) }
 {
     let mut texts = Vec::with_capacity(alloc, words.len())?;

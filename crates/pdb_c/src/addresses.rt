@@ -26,11 +26,15 @@ pub extern "C" fn pdb_rva_to_internal_rva(
     answer: &mut u32,
     fault: &mut Fault,
 ) -> u32
-    ensures exact { IfSome (addresses_held addresses.old.held.content) (λ map. IfSome map.transformed_to_original IsSortedBySource
+    ensures exact { IfSome (addresses_held addresses.old.held.content) (λ map.
+        IfSome map.transformed_to_original IsSortedBySource
         → record { fault = fault.new; value = answer.new } ≡ found answer.old (rva_to_internal_rva map address)) }
-    ensures somehow { IfSome (addresses_held addresses.old.held.content) (λ map. IfSome map.transformed_to_original (λ table. fault.new ≡ fine → MovesSomehow table address answer.new)) }
-    ensures found { IfSome (addresses_held addresses.old.held.content) (λ _. IsFound answer.old (record { fault = fault.new; value = answer.new })) }
-    ensures closed { IfNone (addresses_held addresses.old.held.content) (record { fault = fault.new; value = answer.new } ≡ not_held answer.old) }
+    ensures somehow { IfSome (addresses_held addresses.old.held.content) (λ map.
+        IfSome map.transformed_to_original (λ table. fault.new ≡ fine → MovesSomehow table address answer.new)) }
+    ensures found { IfSome (addresses_held addresses.old.held.content) (λ _.
+        IsFound answer.old (record { fault = fault.new; value = answer.new })) }
+    ensures closed { IfNone (addresses_held addresses.old.held.content)
+        (record { fault = fault.new; value = answer.new } ≡ not_held answer.old) }
     ensures kept { addresses.new.held.content ≡ addresses.old.held.content }
     ensures status { result ≡ fault.new.status }
 {
@@ -57,8 +61,11 @@ pub extern "C" fn pdb_rva_to_section_offset(
     place: &mut Place,
     fault: &mut Fault,
 ) -> u32
-    ensures exact { IfSome (addresses_held addresses.old.held.content) (λ map. record { fault = fault.new; value = place.new } ≡ found place.old (option_map place_of (rva_to_section_offset map address))) }
-    ensures closed { IfNone (addresses_held addresses.old.held.content) (record { fault = fault.new; value = place.new } ≡ not_held place.old) }
+    ensures exact { IfSome (addresses_held addresses.old.held.content) (λ map.
+        record { fault = fault.new; value = place.new } ≡
+        found place.old (option_map place_of (rva_to_section_offset map address))) }
+    ensures closed { IfNone (addresses_held addresses.old.held.content)
+        (record { fault = fault.new; value = place.new } ≡ not_held place.old) }
     ensures kept { addresses.new.held.content ≡ addresses.old.held.content }
     ensures status { result ≡ fault.new.status }
 {
@@ -87,11 +94,17 @@ pub extern "C" fn pdb_rva_to_internal_offset(
     place: &mut Place,
     fault: &mut Fault,
 ) -> u32
-    ensures exact { IfSome (addresses_held addresses.old.held.content) (λ map. IfSome map.transformed_to_original IsSortedBySource
-        → record { fault = fault.new; value = place.new } ≡ found place.old (option_map place_of (rva_to_internal_offset map address))) }
-    ensures somehow { IfSome (addresses_held addresses.old.held.content) (λ map. IfSome map.transformed_to_original (λ table. fault.new ≡ fine → ComesSomehow (Some address) (internal_rva_to_internal_offset map) table (section_place place.new))) }
-    ensures found { IfSome (addresses_held addresses.old.held.content) (λ _. IsFound place.old (record { fault = fault.new; value = place.new })) }
-    ensures closed { IfNone (addresses_held addresses.old.held.content) (record { fault = fault.new; value = place.new } ≡ not_held place.old) }
+    ensures exact { IfSome (addresses_held addresses.old.held.content) (λ map.
+        IfSome map.transformed_to_original IsSortedBySource
+        → record { fault = fault.new; value = place.new } ≡
+        found place.old (option_map place_of (rva_to_internal_offset map address))) }
+    ensures somehow { IfSome (addresses_held addresses.old.held.content) (λ map.
+        IfSome map.transformed_to_original (λ table. fault.new ≡ fine →
+        ComesSomehow (Some address) (internal_rva_to_internal_offset map) table (section_place place.new))) }
+    ensures found { IfSome (addresses_held addresses.old.held.content) (λ _.
+        IsFound place.old (record { fault = fault.new; value = place.new })) }
+    ensures closed { IfNone (addresses_held addresses.old.held.content)
+        (record { fault = fault.new; value = place.new } ≡ not_held place.old) }
     ensures kept { addresses.new.held.content ≡ addresses.old.held.content }
     ensures status { result ≡ fault.new.status }
 {
@@ -120,11 +133,15 @@ pub extern "C" fn pdb_internal_rva_to_rva(
     answer: &mut u32,
     fault: &mut Fault,
 ) -> u32
-    ensures exact { IfSome (addresses_held addresses.old.held.content) (λ map. IfSome map.original_to_transformed IsSortedBySource
+    ensures exact { IfSome (addresses_held addresses.old.held.content) (λ map.
+        IfSome map.original_to_transformed IsSortedBySource
         → record { fault = fault.new; value = answer.new } ≡ found answer.old (internal_rva_to_rva map address)) }
-    ensures somehow { IfSome (addresses_held addresses.old.held.content) (λ map. IfSome map.original_to_transformed (λ table. fault.new ≡ fine → MovesSomehow table address answer.new)) }
-    ensures found { IfSome (addresses_held addresses.old.held.content) (λ _. IsFound answer.old (record { fault = fault.new; value = answer.new })) }
-    ensures closed { IfNone (addresses_held addresses.old.held.content) (record { fault = fault.new; value = answer.new } ≡ not_held answer.old) }
+    ensures somehow { IfSome (addresses_held addresses.old.held.content) (λ map.
+        IfSome map.original_to_transformed (λ table. fault.new ≡ fine → MovesSomehow table address answer.new)) }
+    ensures found { IfSome (addresses_held addresses.old.held.content) (λ _.
+        IsFound answer.old (record { fault = fault.new; value = answer.new })) }
+    ensures closed { IfNone (addresses_held addresses.old.held.content)
+        (record { fault = fault.new; value = answer.new } ≡ not_held answer.old) }
     ensures kept { addresses.new.held.content ≡ addresses.old.held.content }
     ensures status { result ≡ fault.new.status }
 {
@@ -151,11 +168,17 @@ pub extern "C" fn pdb_internal_rva_to_section_offset(
     place: &mut Place,
     fault: &mut Fault,
 ) -> u32
-    ensures exact { IfSome (addresses_held addresses.old.held.content) (λ map. IfSome map.original_to_transformed IsSortedBySource
-        → record { fault = fault.new; value = place.new } ≡ found place.old (option_map place_of (internal_rva_to_section_offset map address))) }
-    ensures somehow { IfSome (addresses_held addresses.old.held.content) (λ map. IfSome map.original_to_transformed (λ table. fault.new ≡ fine → ComesSomehow (Some address) (rva_to_section_offset map) table (section_place place.new))) }
-    ensures found { IfSome (addresses_held addresses.old.held.content) (λ _. IsFound place.old (record { fault = fault.new; value = place.new })) }
-    ensures closed { IfNone (addresses_held addresses.old.held.content) (record { fault = fault.new; value = place.new } ≡ not_held place.old) }
+    ensures exact { IfSome (addresses_held addresses.old.held.content) (λ map.
+        IfSome map.original_to_transformed IsSortedBySource
+        → record { fault = fault.new; value = place.new } ≡
+        found place.old (option_map place_of (internal_rva_to_section_offset map address))) }
+    ensures somehow { IfSome (addresses_held addresses.old.held.content) (λ map.
+        IfSome map.original_to_transformed (λ table. fault.new ≡ fine →
+        ComesSomehow (Some address) (rva_to_section_offset map) table (section_place place.new))) }
+    ensures found { IfSome (addresses_held addresses.old.held.content) (λ _.
+        IsFound place.old (record { fault = fault.new; value = place.new })) }
+    ensures closed { IfNone (addresses_held addresses.old.held.content)
+        (record { fault = fault.new; value = place.new } ≡ not_held place.old) }
     ensures kept { addresses.new.held.content ≡ addresses.old.held.content }
     ensures status { result ≡ fault.new.status }
 {
@@ -184,8 +207,11 @@ pub extern "C" fn pdb_internal_rva_to_internal_offset(
     place: &mut Place,
     fault: &mut Fault,
 ) -> u32
-    ensures exact { IfSome (addresses_held addresses.old.held.content) (λ map. record { fault = fault.new; value = place.new } ≡ found place.old (option_map place_of (internal_rva_to_internal_offset map address))) }
-    ensures closed { IfNone (addresses_held addresses.old.held.content) (record { fault = fault.new; value = place.new } ≡ not_held place.old) }
+    ensures exact { IfSome (addresses_held addresses.old.held.content) (λ map.
+        record { fault = fault.new; value = place.new } ≡
+        found place.old (option_map place_of (internal_rva_to_internal_offset map address))) }
+    ensures closed { IfNone (addresses_held addresses.old.held.content)
+        (record { fault = fault.new; value = place.new } ≡ not_held place.old) }
     ensures kept { addresses.new.held.content ≡ addresses.old.held.content }
     ensures status { result ≡ fault.new.status }
 {
@@ -215,8 +241,11 @@ pub extern "C" fn pdb_section_offset_to_rva(
     answer: &mut u32,
     fault: &mut Fault,
 ) -> u32
-    ensures exact { IfSome (addresses_held addresses.old.held.content) (λ map. record { fault = fault.new; value = answer.new } ≡ found answer.old (section_offset_to_rva map (record { section = section; offset = offset }))) }
-    ensures closed { IfNone (addresses_held addresses.old.held.content) (record { fault = fault.new; value = answer.new } ≡ not_held answer.old) }
+    ensures exact { IfSome (addresses_held addresses.old.held.content) (λ map.
+        record { fault = fault.new; value = answer.new } ≡
+        found answer.old (section_offset_to_rva map (record { section = section; offset = offset }))) }
+    ensures closed { IfNone (addresses_held addresses.old.held.content)
+        (record { fault = fault.new; value = answer.new } ≡ not_held answer.old) }
     ensures kept { addresses.new.held.content ≡ addresses.old.held.content }
     ensures status { result ≡ fault.new.status }
 {
@@ -246,11 +275,18 @@ pub extern "C" fn pdb_section_offset_to_internal_rva(
     answer: &mut u32,
     fault: &mut Fault,
 ) -> u32
-    ensures exact { IfSome (addresses_held addresses.old.held.content) (λ map. IfSome map.transformed_to_original IsSortedBySource
-        → record { fault = fault.new; value = answer.new } ≡ found answer.old (section_offset_to_internal_rva map (record { section = section; offset = offset }))) }
-    ensures somehow { IfSome (addresses_held addresses.old.held.content) (λ map. IfSome map.transformed_to_original (λ table. fault.new ≡ fine → ComesSomehow (section_offset_to_rva map (record { section = section; offset = offset })) Some table answer.new)) }
-    ensures found { IfSome (addresses_held addresses.old.held.content) (λ _. IsFound answer.old (record { fault = fault.new; value = answer.new })) }
-    ensures closed { IfNone (addresses_held addresses.old.held.content) (record { fault = fault.new; value = answer.new } ≡ not_held answer.old) }
+    ensures exact { IfSome (addresses_held addresses.old.held.content) (λ map.
+        IfSome map.transformed_to_original IsSortedBySource
+        → record { fault = fault.new; value = answer.new } ≡
+        found answer.old (section_offset_to_internal_rva map (record { section = section; offset = offset }))) }
+    ensures somehow { IfSome (addresses_held addresses.old.held.content) (λ map.
+        IfSome map.transformed_to_original (λ table. fault.new ≡ fine →
+        ComesSomehow (section_offset_to_rva map
+        (record { section = section; offset = offset })) Some table answer.new)) }
+    ensures found { IfSome (addresses_held addresses.old.held.content) (λ _.
+        IsFound answer.old (record { fault = fault.new; value = answer.new })) }
+    ensures closed { IfNone (addresses_held addresses.old.held.content)
+        (record { fault = fault.new; value = answer.new } ≡ not_held answer.old) }
     ensures kept { addresses.new.held.content ≡ addresses.old.held.content }
     ensures status { result ≡ fault.new.status }
 {
@@ -280,13 +316,22 @@ pub extern "C" fn pdb_section_offset_to_internal_offset(
     place: &mut Place,
     fault: &mut Fault,
 ) -> u32
-    ensures exact { IfSome (addresses_held addresses.old.held.content) (λ map. IfSome map.transformed_to_original IsSortedBySource
-        → record { fault = fault.new; value = place.new } ≡ found place.old (option_map place_of (section_offset_to_internal_offset map (record { section = section; offset = offset })))) }
-    ensures somehow { IfSome (addresses_held addresses.old.held.content) (λ map. IfSome map.transformed_sections (λ _. IfSome map.transformed_to_original (λ table. fault.new ≡ fine → ComesSomehow (section_offset_to_rva map (record { section = section; offset = offset })) (internal_rva_to_internal_offset map) table (section_place place.new)))) }
+    ensures exact { IfSome (addresses_held addresses.old.held.content) (λ map.
+        IfSome map.transformed_to_original IsSortedBySource
+        → record { fault = fault.new; value = place.new } ≡
+        found place.old (option_map place_of
+        (section_offset_to_internal_offset map (record { section = section; offset = offset })))) }
+    ensures somehow { IfSome (addresses_held addresses.old.held.content) (λ map.
+        IfSome map.transformed_sections (λ _. IfSome map.transformed_to_original (λ table. fault.new ≡ fine →
+        ComesSomehow (section_offset_to_rva map (record { section = section; offset = offset }))
+        (internal_rva_to_internal_offset map) table (section_place place.new)))) }
     ensures same { IfSome (addresses_held addresses.old.held.content) (λ map. map.transformed_sections ≡ None
-        → record { fault = fault.new; value = place.new } ≡ found place.old (Some (place_of (record { section = section; offset = offset })))) }
-    ensures found { IfSome (addresses_held addresses.old.held.content) (λ _. IsFound place.old (record { fault = fault.new; value = place.new })) }
-    ensures closed { IfNone (addresses_held addresses.old.held.content) (record { fault = fault.new; value = place.new } ≡ not_held place.old) }
+        → record { fault = fault.new; value = place.new } ≡
+        found place.old (Some (place_of (record { section = section; offset = offset })))) }
+    ensures found { IfSome (addresses_held addresses.old.held.content) (λ _.
+        IsFound place.old (record { fault = fault.new; value = place.new })) }
+    ensures closed { IfNone (addresses_held addresses.old.held.content)
+        (record { fault = fault.new; value = place.new } ≡ not_held place.old) }
     ensures kept { addresses.new.held.content ≡ addresses.old.held.content }
     ensures status { result ≡ fault.new.status }
 {
@@ -316,8 +361,11 @@ pub extern "C" fn pdb_internal_offset_to_internal_rva(
     answer: &mut u32,
     fault: &mut Fault,
 ) -> u32
-    ensures exact { IfSome (addresses_held addresses.old.held.content) (λ map. record { fault = fault.new; value = answer.new } ≡ found answer.old (internal_offset_to_internal_rva map (record { section = section; offset = offset }))) }
-    ensures closed { IfNone (addresses_held addresses.old.held.content) (record { fault = fault.new; value = answer.new } ≡ not_held answer.old) }
+    ensures exact { IfSome (addresses_held addresses.old.held.content) (λ map.
+        record { fault = fault.new; value = answer.new } ≡
+        found answer.old (internal_offset_to_internal_rva map (record { section = section; offset = offset }))) }
+    ensures closed { IfNone (addresses_held addresses.old.held.content)
+        (record { fault = fault.new; value = answer.new } ≡ not_held answer.old) }
     ensures kept { addresses.new.held.content ≡ addresses.old.held.content }
     ensures status { result ≡ fault.new.status }
 {
@@ -347,11 +395,18 @@ pub extern "C" fn pdb_internal_offset_to_rva(
     answer: &mut u32,
     fault: &mut Fault,
 ) -> u32
-    ensures exact { IfSome (addresses_held addresses.old.held.content) (λ map. IfSome map.original_to_transformed IsSortedBySource
-        → record { fault = fault.new; value = answer.new } ≡ found answer.old (internal_offset_to_rva map (record { section = section; offset = offset }))) }
-    ensures somehow { IfSome (addresses_held addresses.old.held.content) (λ map. IfSome map.original_to_transformed (λ table. fault.new ≡ fine → ComesSomehow (internal_offset_to_internal_rva map (record { section = section; offset = offset })) Some table answer.new)) }
-    ensures found { IfSome (addresses_held addresses.old.held.content) (λ _. IsFound answer.old (record { fault = fault.new; value = answer.new })) }
-    ensures closed { IfNone (addresses_held addresses.old.held.content) (record { fault = fault.new; value = answer.new } ≡ not_held answer.old) }
+    ensures exact { IfSome (addresses_held addresses.old.held.content) (λ map.
+        IfSome map.original_to_transformed IsSortedBySource
+        → record { fault = fault.new; value = answer.new } ≡
+        found answer.old (internal_offset_to_rva map (record { section = section; offset = offset }))) }
+    ensures somehow { IfSome (addresses_held addresses.old.held.content) (λ map.
+        IfSome map.original_to_transformed (λ table. fault.new ≡ fine →
+        ComesSomehow (internal_offset_to_internal_rva map
+        (record { section = section; offset = offset })) Some table answer.new)) }
+    ensures found { IfSome (addresses_held addresses.old.held.content) (λ _.
+        IsFound answer.old (record { fault = fault.new; value = answer.new })) }
+    ensures closed { IfNone (addresses_held addresses.old.held.content)
+        (record { fault = fault.new; value = answer.new } ≡ not_held answer.old) }
     ensures kept { addresses.new.held.content ≡ addresses.old.held.content }
     ensures status { result ≡ fault.new.status }
 {
@@ -381,13 +436,22 @@ pub extern "C" fn pdb_internal_offset_to_section_offset(
     place: &mut Place,
     fault: &mut Fault,
 ) -> u32
-    ensures exact { IfSome (addresses_held addresses.old.held.content) (λ map. IfSome map.original_to_transformed IsSortedBySource
-        → record { fault = fault.new; value = place.new } ≡ found place.old (option_map place_of (internal_offset_to_section_offset map (record { section = section; offset = offset })))) }
-    ensures somehow { IfSome (addresses_held addresses.old.held.content) (λ map. IfSome map.transformed_sections (λ _. IfSome map.original_to_transformed (λ table. fault.new ≡ fine → ComesSomehow (internal_offset_to_internal_rva map (record { section = section; offset = offset })) (rva_to_section_offset map) table (section_place place.new)))) }
+    ensures exact { IfSome (addresses_held addresses.old.held.content) (λ map.
+        IfSome map.original_to_transformed IsSortedBySource
+        → record { fault = fault.new; value = place.new } ≡
+        found place.old (option_map place_of
+        (internal_offset_to_section_offset map (record { section = section; offset = offset })))) }
+    ensures somehow { IfSome (addresses_held addresses.old.held.content) (λ map.
+        IfSome map.transformed_sections (λ _. IfSome map.original_to_transformed (λ table. fault.new ≡ fine →
+        ComesSomehow (internal_offset_to_internal_rva map (record { section = section; offset = offset }))
+        (rva_to_section_offset map) table (section_place place.new)))) }
     ensures same { IfSome (addresses_held addresses.old.held.content) (λ map. map.transformed_sections ≡ None
-        → record { fault = fault.new; value = place.new } ≡ found place.old (Some (place_of (record { section = section; offset = offset })))) }
-    ensures found { IfSome (addresses_held addresses.old.held.content) (λ _. IsFound place.old (record { fault = fault.new; value = place.new })) }
-    ensures closed { IfNone (addresses_held addresses.old.held.content) (record { fault = fault.new; value = place.new } ≡ not_held place.old) }
+        → record { fault = fault.new; value = place.new } ≡
+        found place.old (Some (place_of (record { section = section; offset = offset })))) }
+    ensures found { IfSome (addresses_held addresses.old.held.content) (λ _.
+        IsFound place.old (record { fault = fault.new; value = place.new })) }
+    ensures closed { IfNone (addresses_held addresses.old.held.content)
+        (record { fault = fault.new; value = place.new } ≡ not_held place.old) }
     ensures kept { addresses.new.held.content ≡ addresses.old.held.content }
     ensures status { result ≡ fault.new.status }
 {

@@ -56,7 +56,8 @@ pub fn copy_nothing(fault: Fault, length: &mut usize) -> Fault
 /// Copies the bytes of a stream, or tells why there is none.
 pub fn copy_stream(answer: Result<Stream>, room: &mut [u8], length: &mut usize) -> Fault
     ensures { (meant : Answer (List ℕ)) → Answers (λ stream. stream) answer meant
-        → CopiesOrLacks (record { fault = result; length = length.new; room = room.new }) room.old (copied room.old meant) }
+        → CopiesOrLacks (record { fault = result; length = length.new; room = room.new }) room.old
+        (copied room.old meant) }
 {
     match answer {
         Ok(stream) => copy_out(stream.as_slice(), room, length),

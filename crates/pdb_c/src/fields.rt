@@ -61,7 +61,8 @@ fn field_row(field: &TypeData<'_>) -> FieldRow
 /// Fields, and their names one behind another.
 fn shown(alloc: Global, fields: &[TypeData<'_>]) -> Result<Listing>
     ensures rows { IfOk result (λ shown. shown.rows.items ≡ map (λ field. field_row (type_value field)) fields.now) }
-    ensures names { IfOk result (λ shown. shown.names.items ≡ flat_map (λ field. name_bytes (type_value field)) fields.now) }
+    ensures names { IfOk result (λ shown. shown.names.items ≡
+        flat_map (λ field. name_bytes (type_value field)) fields.now) }
     ensures want { IfErr result (λ e. e ≡ Error.OutOfMemory) }
 {
     let mut rows = Vec::with_capacity(alloc, fields.len())?;
@@ -126,7 +127,13 @@ pub fn write_found(
     size: &mut usize,
 ) -> Fault
     ensures { (meant : Answer (Option (List TypeValue))) → Answers (option_map listing_view) found (listings meant)
-        → FieldsOrLacks (record { fault = result; rows = rows.new; count = count.new; names = names.new; size = size.new })
+        → FieldsOrLacks (record {
+          fault = result;
+          rows = rows.new;
+          count = count.new;
+          names = names.new;
+          size = size.new;
+        })
         rows.old names.old (fields_told rows.old names.old meant) }
 {
     match found {
@@ -157,7 +164,8 @@ pub extern "C" fn pdb_type_fields(
     size: &mut usize,
     fault: &mut Fault,
 ) -> u32
-    ensures answer { FieldsOrLacks (record { fault = fault.new; rows = rows.new; count = count.new; names = names.new; size = size.new })
+    ensures answer { FieldsOrLacks
+        (record { fault = fault.new; rows = rows.new; count = count.new; names = names.new; size = size.new })
         rows.old names.old (fields_told rows.old names.old (fields_of_record index bytes.now)) }
     ensures status { result ≡ fault.new.status }
 {

@@ -20,8 +20,10 @@ use std::alloc::Global;
 
 /// The first frame of a table from an address on.
 fn first_from(table: &FrameTable, address: u32) -> Option<Frame>
-    ensures exact { StartsIncrease table.now → result ≡ option_map frame_of (slice_get (merge_from address table.now) 0) }
-    ensures somewhere { (frames : List Described) × BeginsSomewhere table.now frames × (result ≡ option_map frame_of (slice_get frames 0)) }
+    ensures exact { StartsIncrease table.now →
+        result ≡ option_map frame_of (slice_get (merge_from address table.now) 0) }
+    ensures somewhere { (frames : List Described) × BeginsSomewhere table.now frames ×
+        (result ≡ option_map frame_of (slice_get frames 0)) }
 {
     let mut frames = table.iter_at_rva(PdbInternalRva(address));
     let Ok(first) = frames.next() else {
@@ -43,10 +45,14 @@ pub extern "C" fn pdb_frames_at(
     fault: &mut Fault,
 ) -> u32
     ensures exact { IfSome (frames_held frames.old.held.content) (λ table. StartsIncrease table
-        → record { fault = fault.new; value = frame.new } ≡ found frame.old (option_map frame_of (slice_get (merge_from address table) 0))) }
-    ensures somewhere { IfSome (frames_held frames.old.held.content) (λ table. (some : List Described) × BeginsSomewhere table some
-        × (record { fault = fault.new; value = frame.new } ≡ found frame.old (option_map frame_of (slice_get some 0)))) }
-    ensures closed { IfNone (frames_held frames.old.held.content) (record { fault = fault.new; value = frame.new } ≡ not_held frame.old) }
+        → record { fault = fault.new; value = frame.new } ≡
+        found frame.old (option_map frame_of (slice_get (merge_from address table) 0))) }
+    ensures somewhere { IfSome (frames_held frames.old.held.content) (λ table.
+        (some : List Described) × BeginsSomewhere table some
+        × (record { fault = fault.new; value = frame.new } ≡
+        found frame.old (option_map frame_of (slice_get some 0)))) }
+    ensures closed { IfNone (frames_held frames.old.held.content)
+        (record { fault = fault.new; value = frame.new } ≡ not_held frame.old) }
     ensures kept { frames.new.held.content ≡ frames.old.held.content }
     ensures status { result ≡ fault.new.status }
 {

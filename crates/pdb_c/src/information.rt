@@ -102,7 +102,8 @@ fn named_row(named: &StreamName<'_>) -> NamedStream
 /// Streams for the caller, and their names one behind another.
 fn listed(alloc: Global, streams: &[StreamName<'_>]) -> Result<NameListing>
     ensures rows { IfOk result (λ listed. listed.rows.items ≡ map (λ named. named_row (named_view named)) streams.now) }
-    ensures names { IfOk result (λ listed. listed.names.items ≡ flat_map (λ named. (named_view named).name) streams.now) }
+    ensures names { IfOk result (λ listed. listed.names.items ≡
+        flat_map (λ named. (named_view named).name) streams.now) }
     ensures want { IfErr result (λ e. e ≡ Error.OutOfMemory) }
 {
     let mut rows = Vec::with_capacity(alloc, streams.len())?;
@@ -133,8 +134,15 @@ fn write_named(
     names: &mut [u8],
     size: &mut usize,
 ) -> Fault
-    ensures { FieldsOrLacks (record { fault = result; rows = rows.new; count = count.new; names = names.new; size = size.new })
-        rows.old names.old (fielded rows.old names.old (map named_row streams.now) (flat_map (λ named. named.name) streams.now)) }
+    ensures { FieldsOrLacks (record {
+      fault = result;
+      rows = rows.new;
+      count = count.new;
+      names = names.new;
+      size = size.new;
+    })
+        rows.old names.old (fielded rows.old names.old (map named_row streams.now)
+        (flat_map (λ named. named.name) streams.now)) }
 {
     match listing_of(alloc, streams) {
         Ok(listed) => copy_both(&listed.rows, &listed.names, rows, count, names, size),
@@ -154,7 +162,8 @@ pub extern "C" fn pdb_file_stream_names(
     size: &mut usize,
     fault: &mut Fault,
 ) -> u32
-    ensures answer { FieldsOrLacks (record { fault = fault.new; rows = rows.new; count = count.new; names = names.new; size = size.new })
+    ensures answer { FieldsOrLacks
+        (record { fault = fault.new; rows = rows.new; count = count.new; names = names.new; size = size.new })
         rows.old names.old (named_told rows.old names.old (names_said bytes.now)) }
     ensures status { result ≡ fault.new.status }
 {

@@ -68,7 +68,8 @@ fn write_loaded(
     length: &mut usize,
 ) -> Fault
     ensures exact { IfSome map.now.original_to_transformed IsSortedBySource
-        → CopiesOrLacks (record { fault = result; length = length.new; room = room.new }) room.old (spans_written room.old (translated_parts map.now.original_to_transformed asked)) }
+        → CopiesOrLacks (record { fault = result; length = length.new; room = room.new }) room.old
+        (spans_written room.old (translated_parts map.now.original_to_transformed asked)) }
     ensures somehow { IfSome map.now.original_to_transformed (λ table.
         WritesSome table room.old (record { fault = result; length = length.new; room = room.new })) }
 {
@@ -87,7 +88,8 @@ fn write_internal(
     length: &mut usize,
 ) -> Fault
     ensures exact { IfSome map.now.transformed_to_original IsSortedBySource
-        → CopiesOrLacks (record { fault = result; length = length.new; room = room.new }) room.old (spans_written room.old (translated_parts map.now.transformed_to_original asked)) }
+        → CopiesOrLacks (record { fault = result; length = length.new; room = room.new }) room.old
+        (spans_written room.old (translated_parts map.now.transformed_to_original asked)) }
     ensures somehow { IfSome map.now.transformed_to_original (λ table.
         WritesSome table room.old (record { fault = result; length = length.new; room = room.new })) }
 {
@@ -108,10 +110,12 @@ pub extern "C" fn pdb_rva_ranges(
     length: &mut usize,
     fault: &mut Fault,
 ) -> u32
-    ensures exact { IfSome (addresses_held addresses.old.held.content) (λ map. IfSome map.original_to_transformed IsSortedBySource
+    ensures exact { IfSome (addresses_held addresses.old.held.content) (λ map.
+        IfSome map.original_to_transformed IsSortedBySource
         → CopiesOrLacks (record { fault = fault.new; length = length.new; room = room.new }) room.old
         (spans_written room.old (translated_parts map.original_to_transformed (record { start = start; end = end })))) }
-    ensures somehow { IfSome (addresses_held addresses.old.held.content) (λ map. IfSome map.original_to_transformed (λ table.
+    ensures somehow { IfSome (addresses_held addresses.old.held.content) (λ map.
+        IfSome map.original_to_transformed (λ table.
         WritesSome table room.old (record { fault = fault.new; length = length.new; room = room.new }))) }
     ensures closed { IfNone (addresses_held addresses.old.held.content)
         (record { fault = fault.new; length = length.new; room = room.new } ≡ untouched not_open room.old) }
@@ -143,10 +147,12 @@ pub extern "C" fn pdb_internal_rva_ranges(
     length: &mut usize,
     fault: &mut Fault,
 ) -> u32
-    ensures exact { IfSome (addresses_held addresses.old.held.content) (λ map. IfSome map.transformed_to_original IsSortedBySource
+    ensures exact { IfSome (addresses_held addresses.old.held.content) (λ map.
+        IfSome map.transformed_to_original IsSortedBySource
         → CopiesOrLacks (record { fault = fault.new; length = length.new; room = room.new }) room.old
         (spans_written room.old (translated_parts map.transformed_to_original (record { start = start; end = end })))) }
-    ensures somehow { IfSome (addresses_held addresses.old.held.content) (λ map. IfSome map.transformed_to_original (λ table.
+    ensures somehow { IfSome (addresses_held addresses.old.held.content) (λ map.
+        IfSome map.transformed_to_original (λ table.
         WritesSome table room.old (record { fault = fault.new; length = length.new; room = room.new }))) }
     ensures closed { IfNone (addresses_held addresses.old.held.content)
         (record { fault = fault.new; length = length.new; room = room.new } ≡ untouched not_open room.old) }

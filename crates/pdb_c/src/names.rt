@@ -50,7 +50,8 @@ pub extern "C" fn pdb_names_open(
 
 /// Copies a name out of a table.
 fn name_at(names: &StringTable, offset: u32, room: &mut [u8], length: &mut usize) -> Fault
-    ensures { record { fault = result; length = length.new; room = room.new } ≡ copied room.old (name_of names.now offset) }
+    ensures { record { fault = result; length = length.new; room = room.new } ≡
+        copied room.old (name_of names.now offset) }
 {
     match names.get(StringRef(offset)) {
         Ok(name) => copy_out(name.as_bytes(), room, length),

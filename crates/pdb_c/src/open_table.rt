@@ -42,7 +42,8 @@ pub fn find_record(
     index: u32,
     place: &mut Located,
 ) -> Fault
-    ensures told { record { fault = result; value = place.new } ≡ located_told place.old index (located kept.old.table index) }
+    ensures told { record { fault = result; value = place.new } ≡
+        located_told place.old index (located kept.old.table index) }
     ensures kept { kept.new ≡ kept.old }
 {
     kept.learn(alloc, index);
@@ -58,7 +59,8 @@ pub fn find_record(
 
 /// Writes where the next record stands, or at which index the walk ends or is refused.
 pub fn next_record(kept: &mut OpenTable<TypeIndex>, place: &mut Located) -> Fault
-    ensures { record { fault = result; value = place.new; stand = kept.new } ≡ stepped kept.old (step_located kept.old) }
+    ensures { record { fault = result; value = place.new; stand = kept.new } ≡
+        stepped kept.old (step_located kept.old) }
 {
     let index = kept.index().min(0xffff_ffff) as u32;
     *place = Located {

@@ -74,7 +74,8 @@ fn write_places(
     length: &mut usize,
     facts: &mut TableFacts,
 ) -> Fault
-    ensures { Places (Ok table.now) positions.old (record { fault = result; length = length.new; room = positions.new }) facts.old facts.new }
+    ensures { Places (Ok table.now) positions.old
+        (record { fault = result; length = length.new; room = positions.new }) facts.old facts.new }
 {
     let items = match walked(alloc, table) {
         Ok(items) => items,
@@ -104,7 +105,8 @@ pub extern "C" fn pdb_table_positions(
     ensures answer { length stream.now < 0xffffffff → Places (table_of stream.now) positions.old
         (record { fault = fault.new; length = count.new; room = positions.new }) facts.old facts.new }
     ensures long { 0xffffffff ≤ length stream.now
-        → IsLeft too_long positions.old (record { fault = fault.new; length = count.new; room = positions.new }) facts.old facts.new }
+        → IsLeft too_long positions.old
+        (record { fault = fault.new; length = count.new; room = positions.new }) facts.old facts.new }
     ensures status { result ≡ fault.new.status }
 {
     if stream.len() >= 0xffff_ffff {

@@ -51,7 +51,8 @@ fn spans_in(alloc: Global, ranges: RangeIter<'_>) -> Result<Vec<Span>>
 
 /// Writes ranges to the caller's array.
 fn write_spans(alloc: Global, ranges: RangeIter<'_>, room: &mut [Span], length: &mut usize) -> Fault
-    ensures { CopiesOrLacks (record { fault = result; length = length.new; room = room.new }) room.old (spans_written room.old ranges.entry) }
+    ensures { CopiesOrLacks (record { fault = result; length = length.new; room = room.new }) room.old
+        (spans_written room.old ranges.entry) }
 {
     match spans_in(alloc, ranges) {
         Ok(spans) => copy_out(&spans, room, length),
@@ -68,7 +69,8 @@ fn write_moved(
     length: &mut usize,
 ) -> Fault
     ensures exact { IsSortedBySource table.now
-        → CopiesOrLacks (record { fault = result; length = length.new; room = room.new }) room.old (spans_written room.old (parts table.now asked)) }
+        → CopiesOrLacks (record { fault = result; length = length.new; room = room.new }) room.old
+        (spans_written room.old (parts table.now asked)) }
     ensures somehow { WritesSome table.now room.old (record { fault = result; length = length.new; room = room.new }) }
 {
     write_spans(alloc, table.lookup_range(asked), room, length)

@@ -295,7 +295,10 @@ fn bit(weight: u32, stands: bool) -> u32
 
 /// Which numbers stand.
 fn stands(numbers: &Numbers) -> u32
-    ensures { result ≡ bit 1 numbers.now.kind + bit 2 numbers.now.attributes + bit 4 numbers.now.properties + bit 8 numbers.now.count + bit 16 numbers.now.type_index + bit 32 numbers.now.second_index + bit 64 numbers.now.third_index + bit 128 numbers.now.list_index + bit 256 numbers.now.extra + bit 512 numbers.now.number }
+    ensures { result ≡ bit 1 numbers.now.kind + bit 2 numbers.now.attributes + bit 4 numbers.now.properties +
+        bit 8 numbers.now.count + bit 16 numbers.now.type_index + bit 32 numbers.now.second_index +
+        bit 64 numbers.now.third_index + bit 128 numbers.now.list_index + bit 256 numbers.now.extra +
+        bit 512 numbers.now.number }
 {
     bit(1, numbers.kind.is_some())
         + bit(2, numbers.attributes.is_some())

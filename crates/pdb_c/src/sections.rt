@@ -89,7 +89,8 @@ pub extern "C" fn pdb_sections(
     fault: &mut Fault,
 ) -> u32
     ensures answer { length stream.now < 0xffffffff
-        → CopiesOrLacks (record { fault = fault.new; length = count.new; room = room.new }) room.old (copied room.old (sections_in stream.now)) }
+        → CopiesOrLacks (record { fault = fault.new; length = count.new; room = room.new }) room.old
+        (copied room.old (sections_in stream.now)) }
     ensures long { 0xffffffff ≤ length stream.now
         → record { fault = fault.new; length = count.new; room = room.new } ≡ untouched too_long room.old }
     ensures status { result ≡ fault.new.status }

@@ -111,7 +111,8 @@ pub extern "C" fn pdb_table_find(
     place: &mut Located,
     fault: &mut Fault,
 ) -> u32
-    ensures answer { record { fault = fault.new; value = place.new } ≡ located_in place.old index (table_held table.old.held.content) }
+    ensures answer { record { fault = fault.new; value = place.new } ≡
+        located_in place.old index (table_held table.old.held.content) }
     ensures kept { table.new.held.content ≡ table.old.held.content }
     ensures status { result ≡ fault.new.status }
 {
@@ -135,7 +136,8 @@ pub extern "C" fn pdb_table_next(
     place: &mut Located,
     fault: &mut Fault,
 ) -> u32
-    ensures answer { record { fault = fault.new; value = place.new; held = table.new.held.content } ≡ step_told place.old table.old.held.content }
+    ensures answer { record { fault = fault.new; value = place.new; held = table.new.held.content } ≡
+        step_told place.old table.old.held.content }
     ensures status { result ≡ fault.new.status }
 {
     let Some(mut content) = table.take(alloc) else {
@@ -182,7 +184,8 @@ pub extern "C" fn pdb_fields(
     size: &mut usize,
     fault: &mut Fault,
 ) -> u32
-    ensures answer { FieldsOrLacks (record { fault = fault.new; rows = rows.new; count = count.new; names = names.new; size = size.new })
+    ensures answer { FieldsOrLacks
+        (record { fault = fault.new; rows = rows.new; count = count.new; names = names.new; size = size.new })
         rows.old names.old (fields_asked rows.old names.old index (table_held table.old.held.content)) }
     ensures kept { table.new.held.content ≡ table.old.held.content }
     ensures status { result ≡ fault.new.status }

@@ -68,7 +68,8 @@ fn attempt<I: Read>(alloc: Global, arguments: io::Result<Args>, input: &mut I) -
 /// # Errors
 /// `IoError` if the output can't be written, a part of which may then stand.
 fn show<O: Write, E: Write>(outcome: &Outcome, out: &mut O, err: &mut E) -> io::Result<Ended>
-    ensures ok { IfOk result (IsWritten outcome.now (O.contents out.old) (O.contents out.new) (E.contents err.old) (E.contents err.new)) }
+    ensures ok { IfOk result
+        (IsWritten outcome.now (O.contents out.old) (O.contents out.new) (E.contents err.old) (E.contents err.new)) }
     ensures err { OnErr result (err.new ≡ err.old) }
 {
     out.write_all(&outcome.out)?;
@@ -98,7 +99,8 @@ pub fn serve<I: Read, O: Write, E: Write>(
     out: &mut O,
     err: &mut E,
 ) -> Ended
-    ensures { IsServed arguments (I.remaining input.old) (O.contents out.old) (O.contents out.new) (E.contents err.old) (E.contents err.new) result }
+    ensures { IsServed arguments (I.remaining input.old) (O.contents out.old) (O.contents out.new)
+        (E.contents err.old) (E.contents err.new) result }
 {
     let outcome = match attempt(alloc, arguments, input) {
         Ok(outcome) => outcome,

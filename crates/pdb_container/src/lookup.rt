@@ -41,7 +41,8 @@ impl<'t, I: ItemIndex> Lookup<'t, I> {
     /// # Errors
     /// `OutOfMemory` if memory is refused.
     pub fn new(alloc: Global, table: &'t ItemInformation<I>) -> Result<Self>
-        ensures { Answers (λ lookup. lookup) result (Ok (record { table = table.now; known = known_first table.now; index = table.now.header.minimum_index })) }
+        ensures { Answers (λ lookup. lookup) result
+            (Ok (record { table = table.now; known = known_first table.now; index = table.now.header.minimum_index })) }
     {
         Ok(Lookup {
             table,
@@ -102,7 +103,8 @@ impl<'t> Lookup<'t, TypeIndex> {
     /// list of fields; what its record is refused for; and that it goes on in a list that is not below it.
     /// `OutOfMemory` if memory is refused.
     pub fn fields(&mut self, alloc: Global, index: TypeIndex) -> Result<Vec<TypeData<'t>>>
-        ensures fields { Answers (λ fields. map type_value fields.items) result (fields_of (item_of self.old.table) index.0) }
+        ensures fields { Answers (λ fields. map type_value fields.items) result
+            (fields_of (item_of self.old.table) index.0) }
         ensures table { self.new.table ≡ self.old.table }
     {
         // A list goes on in lists below it alone, which are known where it is.

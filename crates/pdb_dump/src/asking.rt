@@ -19,7 +19,8 @@ fn read_and_ask<I: Read, Q: Read, O: Write>(
     questions: &mut Q,
     out: &mut O,
 ) -> Result<bool>
-    ensures { IsAskedOf form (I.remaining input.old) (Q.remaining questions.old) (O.contents out.old) (O.contents out.new) result ⊎ IsUnasked (O.contents out.old) (O.contents out.new) result }
+    ensures { IsAskedOf form (I.remaining input.old) (Q.remaining questions.old) (O.contents out.old)
+        (O.contents out.new) result ⊎ IsUnasked (O.contents out.old) (O.contents out.new) result }
 {
     let file = read_all(alloc, input)?;
     let text = read_all(alloc, questions)?;
@@ -56,7 +57,8 @@ pub fn serve_questions<I: Read, Q: Read, O: Write, E: Write>(
     out: &mut O,
     err: &mut E,
 ) -> Ended
-    ensures { AreServed form (I.remaining input.old) (Q.remaining questions.old) (O.contents out.old) (O.contents out.new) (E.contents err.old) (E.contents err.new) result }
+    ensures { AreServed form (I.remaining input.old) (Q.remaining questions.old) (O.contents out.old)
+        (O.contents out.new) (E.contents err.old) (E.contents err.new) result }
 {
     let asked = read_and_ask(alloc, form, input, questions, out);
     let flushed = out.flush();

@@ -28,7 +28,8 @@ fn list_types<W: Write>(
     form: Form,
     out: &mut W,
 ) -> Result<()>
-    ensures { IsListedIn (AreTypes form index) file.old.source.items file.old.head number (W.contents out.old) (W.contents out.new) result }
+    ensures { IsListedIn (AreTypes form index) file.old.source.items file.old.head number
+        (W.contents out.old) (W.contents out.new) result }
 {
     match file.get(alloc, number, None) {
         Ok(stream) => match index {
@@ -48,7 +49,8 @@ fn list_ids<W: Write>(
     form: Form,
     out: &mut W,
 ) -> Result<()>
-    ensures { IsListedIn (AreIds form index) file.old.source.items file.old.head number (W.contents out.old) (W.contents out.new) result }
+    ensures { IsListedIn (AreIds form index) file.old.source.items file.old.head number
+        (W.contents out.old) (W.contents out.new) result }
 {
     match file.get(alloc, number, None) {
         Ok(stream) => match index {

@@ -20,7 +20,8 @@ fn read_and_list<I: Read, O: Write>(
     input: &mut I,
     out: &mut O,
 ) -> Result<()>
-    ensures { IsListedOf form command (I.remaining input.old) (O.contents out.old) (O.contents out.new) result ⊎ IsNotRead (O.contents out.old) (O.contents out.new) result }
+    ensures { IsListedOf form command (I.remaining input.old) (O.contents out.old)
+        (O.contents out.new) result ⊎ IsNotRead (O.contents out.old) (O.contents out.new) result }
 {
     let file = read_all(alloc, input)?;
     list(alloc, file, command, form, out)
@@ -70,7 +71,8 @@ pub fn serve<I: Read, O: Write, E: Write>(
     out: &mut O,
     err: &mut E,
 ) -> Ended
-    ensures { IsServed form command (I.remaining input.old) (O.contents out.old) (O.contents out.new) (E.contents err.old) (E.contents err.new) result }
+    ensures { IsServed form command (I.remaining input.old) (O.contents out.old) (O.contents out.new)
+        (E.contents err.old) (E.contents err.new) result }
 {
     let listed = read_and_list(alloc, command, form, input, out);
     let flushed = out.flush();

@@ -119,7 +119,8 @@ pub fn any_is(words: &[&str], wanted: &str) -> bool
 
 /// The words without `--json`, which may stand anywhere.
 pub fn plain_words<'w>(alloc: Global, words: &[&'w str]) -> pdb_container::Result<Vec<&'w str>>
-    ensures plain { IfOk result (λ plain. map (λ word. word.now) plain.items ≡ plain_words (map (λ word. word.now) words.now)) }
+    ensures plain { IfOk result (λ plain. map (λ word. word.now) plain.items ≡
+        plain_words (map (λ word. word.now) words.now)) }
     ensures want { IfErr result (λ e. e ≡ Error.OutOfMemory) }
 {
     let mut plain = Vec::new(alloc);

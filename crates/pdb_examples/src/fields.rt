@@ -46,7 +46,8 @@ pub fn class_fields<'t>(
     finder: &TypeFinder<'t>,
     class: TypeIndex,
 ) -> Result<Vec<TypeData<'t>>>
-    ensures { Answers (λ fields. map type_value fields.items) result (class_fields (find_of finder.now.table finder.now.known) class.0) }
+    ensures { Answers (λ fields. map type_value fields.items) result
+        (class_fields (find_of finder.now.table finder.now.known) class.0) }
 {
     let value = finder.find(class)?.parse(alloc)?;
     match list_in(&value) {

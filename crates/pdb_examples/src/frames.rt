@@ -20,7 +20,8 @@ fn is_at(frame: &FrameData, address: PdbInternalRva) -> bool
 
 /// Those frames of a table whose code is at an address.
 fn those_at(alloc: Global, table: &FrameTable, address: PdbInternalRva) -> Result<Vec<FrameData>>
-    ensures { Answers (λ found. found.items) result (Ok (filter (is_at address) (by_heads table.now.old table.now.new))) }
+    ensures { Answers (λ found. found.items) result
+        (Ok (filter (is_at address) (by_heads table.now.old table.now.new))) }
 {
     let mut frames = table.iter();
     let mut found = Vec::new(alloc);

@@ -16,7 +16,8 @@ const STREAM_NUMBERS: u32 = 65535;
 /// What `open_msf` refuses, and then what `Msf::get` refuses of the first stream that the directory holds
 /// but the file does not. `OutOfMemory` if memory is refused.
 pub fn stream_sizes(alloc: Global, bytes: Vec<u8>) -> Result<Vec<(u32, usize)>>
-    ensures { IfOk result (λ sizes. (head : Head) × (opened bytes.items ≡ Ok head) × (sizes.items ≡ sizes_of 65535 bytes.items head)) }
+    ensures { IfOk result (λ sizes.
+        (head : Head) × (opened bytes.items ≡ Ok head) × (sizes.items ≡ sizes_of 65535 bytes.items head)) }
 {
     let mut file = open_msf(alloc, bytes)?;
     let mut sizes = Vec::new(alloc);

@@ -21,7 +21,8 @@ pub(crate) fn push_type(
     item: &Item<'_, TypeIndex>,
     line: &mut Vec<u8>,
 ) -> Result<()>
-    ensures ok { OnOk result (line.new.items ≡ line.old.items ++ type_line form (index_of item.now).0 (bytes_of item.now)) }
+    ensures ok { OnOk result
+        (line.new.items ≡ line.old.items ++ type_line form (index_of item.now).0 (bytes_of item.now)) }
     ensures want { IfErr result (λ e. e ≡ Error.OutOfMemory) }
 {
     let index = item.index().0;
@@ -47,7 +48,8 @@ pub(crate) fn push_id(
     item: &Item<'_, IdIndex>,
     line: &mut Vec<u8>,
 ) -> Result<()>
-    ensures ok { OnOk result (line.new.items ≡ line.old.items ++ id_line form (index_of item.now).0 (bytes_of item.now)) }
+    ensures ok { OnOk result
+        (line.new.items ≡ line.old.items ++ id_line form (index_of item.now).0 (bytes_of item.now)) }
     ensures want { IfErr result (λ e. e ≡ Error.OutOfMemory) }
 {
     let index = item.index().0;

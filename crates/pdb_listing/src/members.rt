@@ -26,7 +26,8 @@ fn push_entries(
     fields: &[TypeData<'_>],
     lines: &mut Vec<u8>,
 ) -> Result<()>
-    ensures ok { OnOk result (lines.new.items ≡ lines.old.items ++ flat_map (λ field. row_text form (field_row (type_value field))) fields.now) }
+    ensures ok { OnOk result (lines.new.items ≡ lines.old.items ++
+        flat_map (λ field. row_text form (field_row (type_value field))) fields.now) }
     ensures want { IfErr result (λ e. e ≡ Error.OutOfMemory) }
 {
     for field in fields {
@@ -44,7 +45,8 @@ fn push_methods(
     methods: &[MethodListEntry],
     lines: &mut Vec<u8>,
 ) -> Result<()>
-    ensures ok { OnOk result (lines.new.items ≡ lines.old.items ++ flat_map (λ method. row_text form (listed_method_fields method)) methods.now) }
+    ensures ok { OnOk result (lines.new.items ≡ lines.old.items ++
+        flat_map (λ method. row_text form (listed_method_fields method)) methods.now) }
     ensures want { IfErr result (λ e. e ≡ Error.OutOfMemory) }
 {
     for method in methods {
@@ -96,7 +98,8 @@ pub(crate) fn push_members(
     value: &TypeData<'_>,
     lines: &mut Vec<u8>,
 ) -> Result<()>
-    ensures { Pushes result lines.old.items lines.new.items (member_lines form table.now index.0 (type_value value.now)) }
+    ensures { Pushes result lines.old.items lines.new.items
+        (member_lines form table.now index.0 (type_value value.now)) }
 {
     if let TypeData::MethodList(list) = value {
         return push_methods(alloc, form, &list.methods, lines);

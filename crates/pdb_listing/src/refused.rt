@@ -22,7 +22,8 @@ pub(crate) fn push_refused(
     fault: &Error,
     line: &mut Vec<u8>,
 ) -> Result<()>
-    ensures ok { OnOk result (line.new.items ≡ line.old.items ++ row_text form (refused_row index leaf (refusal_of fault.now))) }
+    ensures ok { OnOk result
+        (line.new.items ≡ line.old.items ++ row_text form (refused_row index leaf (refusal_of fault.now))) }
     ensures want { IfErr result (λ e. e ≡ Error.OutOfMemory) }
 {
     let text = error_text(alloc, fault)?;

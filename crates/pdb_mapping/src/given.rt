@@ -48,7 +48,8 @@ fn sections_in<S: Source>(
     file: &mut BigMSF<S>,
     number: Option<u32>,
 ) -> Result<Option<Vec<ImageSectionHeader>>>
-    ensures sections { AnswersUnless (HasFailed (S.state file.old.source) (S.state file.new.source)) (option_map (λ sections. sections.items)) result
+    ensures sections { AnswersUnless (HasFailed (S.state file.old.source) (S.state file.new.source))
+        (option_map (λ sections. sections.items)) result
         (sections_in (S.state file.old.source).bytes file.old.head number) }
     ensures source { IsKept (S.state file.old.source) (S.state file.new.source) }
     ensures head { file.new.head ≡ file.old.head }
@@ -67,7 +68,8 @@ fn omap_in<S: Source>(
     file: &mut BigMSF<S>,
     number: Option<u32>,
 ) -> Result<Option<OMAPTable>>
-    ensures table { AnswersUnless (HasFailed (S.state file.old.source) (S.state file.new.source)) (λ table. table) result
+    ensures table { AnswersUnless (HasFailed (S.state file.old.source) (S.state file.new.source))
+        (λ table. table) result
         (omap_in (S.state file.old.source).bytes file.old.head number) }
     ensures source { IsKept (S.state file.old.source) (S.state file.new.source) }
     ensures head { file.new.head ≡ file.old.head }

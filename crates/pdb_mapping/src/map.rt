@@ -46,7 +46,8 @@ pub fn list_map<W: Write>(
     form: Form,
     out: &mut W,
 ) -> Result<()>
-    ensures { IsMapped form (map_in file.source.items file.head streams) address (W.contents out.old) (W.contents out.new) result }
+    ensures { IsMapped form (map_in file.source.items file.head streams) address
+        (W.contents out.old) (W.contents out.new) result }
 {
     let map = map_in(alloc, &mut file, streams)?;
     write_map(alloc, &map, address, form, out)

@@ -121,7 +121,8 @@ fn write_address<W: Write>(
     form: Form,
     out: &mut W,
 ) -> Result<()>
-    ensures { Writes (row_text form (address_shown from.now to.now address)) (W.contents out.old) (W.contents out.new) result }
+    ensures { Writes (row_text form (address_shown from.now to.now address))
+        (W.contents out.old) (W.contents out.new) result }
 {
     let row = address_row(alloc, from, to, address)?;
     write_row(form, &row, &mut Vec::new(alloc), out)
@@ -136,7 +137,8 @@ fn write_place<W: Write>(
     form: Form,
     out: &mut W,
 ) -> Result<()>
-    ensures { Writes (row_text form (place_shown from.now to.now place)) (W.contents out.old) (W.contents out.new) result }
+    ensures { Writes (row_text form (place_shown from.now to.now place))
+        (W.contents out.old) (W.contents out.new) result }
 {
     let row = place_row(alloc, from, to, place)?;
     write_row(form, &row, &mut Vec::new(alloc), out)
@@ -149,7 +151,8 @@ fn write_internal_of_loaded<W: Write>(
     form: Form,
     out: &mut W,
 ) -> Result<()>
-    ensures { Writes (crossed_text form (codes "rva") (codes "internal_rva") (codes "internal_offset") made.now.internal_rva made.now.internal_offset) (W.contents out.old) (W.contents out.new) result }
+    ensures { Writes (crossed_text form (codes "rva") (codes "internal_rva") (codes "internal_offset")
+        made.now.internal_rva made.now.internal_offset) (W.contents out.old) (W.contents out.new) result }
 {
     let address = number_of(made.internal_rva);
     let place = numbers_of(made.internal_offset);
@@ -174,7 +177,8 @@ fn write_loaded_of_internal<W: Write>(
     form: Form,
     out: &mut W,
 ) -> Result<()>
-    ensures { Writes (crossed_text form (codes "internal_rva") (codes "rva") (codes "section_offset") made.now.rva made.now.section_offset) (W.contents out.old) (W.contents out.new) result }
+    ensures { Writes (crossed_text form (codes "internal_rva") (codes "rva") (codes "section_offset") made.now.rva
+        made.now.section_offset) (W.contents out.old) (W.contents out.new) result }
 {
     let address = loaded_number_of(made.rva);
     write_address(alloc, "internal_rva", "rva", address, form, out)?;
@@ -200,7 +204,8 @@ pub(crate) fn write_made<W: Write>(
     form: Form,
     out: &mut W,
 ) -> Result<()>
-    ensures { Writes (loaded_text form loaded.now ++ internal_text form internal.now) (W.contents out.old) (W.contents out.new) result }
+    ensures { Writes (loaded_text form loaded.now ++ internal_text form internal.now)
+        (W.contents out.old) (W.contents out.new) result }
 {
     write_loaded(alloc, loaded, form, out)?;
     write_internal(alloc, internal, form, out)

@@ -19,7 +19,8 @@ use std::alloc::Global;
 /// The row of a function.
 #[tactic(auto, unfolding(crate::specs::IdRows::function_fields))]
 fn function_row<'t>(alloc: Global, head: Head, id: &FunctionId<'t>) -> Result<Row<'t>>
-    ensures ok { IfOk result (λ row. row_shown row ≡ headed head.index head.leaf (function_fields (function_value id.now))) }
+    ensures ok { IfOk result (λ row. row_shown row ≡
+        headed head.index head.leaf (function_fields (function_value id.now))) }
     ensures want { IfErr result (λ e. e ≡ Error.OutOfMemory) }
 {
     let fields = vec![in alloc;
@@ -35,7 +36,8 @@ fn function_row<'t>(alloc: Global, head: Head, id: &FunctionId<'t>) -> Result<Ro
 /// The row of a method.
 #[tactic(auto, unfolding(crate::specs::IdRows::member_function_fields))]
 fn member_function_row<'t>(alloc: Global, head: Head, id: &MemberFunctionId<'t>) -> Result<Row<'t>>
-    ensures ok { IfOk result (λ row. row_shown row ≡ headed head.index head.leaf (member_function_fields (member_function_value id.now))) }
+    ensures ok { IfOk result (λ row. row_shown row ≡
+        headed head.index head.leaf (member_function_fields (member_function_value id.now))) }
     ensures want { IfErr result (λ e. e ≡ Error.OutOfMemory) }
 {
     let fields = vec![in alloc;
@@ -51,7 +53,8 @@ fn member_function_row<'t>(alloc: Global, head: Head, id: &MemberFunctionId<'t>)
 /// The row of what a module was built with.
 #[tactic(auto, unfolding(crate::specs::IdRows::build_info_fields))]
 fn build_info_row<'t>(alloc: Global, head: Head, id: &BuildInfoId) -> Result<Row<'t>>
-    ensures ok { IfOk result (λ row. row_shown row ≡ headed head.index head.leaf (build_info_fields (build_arguments id.now))) }
+    ensures ok { IfOk result (λ row. row_shown row ≡
+        headed head.index head.leaf (build_info_fields (build_arguments id.now))) }
     ensures want { IfErr result (λ e. e ≡ Error.OutOfMemory) }
 {
     let arguments = id_numbers(alloc, &id.arguments)?;
@@ -66,7 +69,8 @@ fn build_info_row<'t>(alloc: Global, head: Head, id: &BuildInfoId) -> Result<Row
 /// The row of the parts of a text.
 #[tactic(auto, unfolding(crate::specs::IdRows::string_list_fields))]
 fn string_list_row<'t>(alloc: Global, head: Head, id: &StringListId) -> Result<Row<'t>>
-    ensures ok { IfOk result (λ row. row_shown row ≡ headed head.index head.leaf (string_list_fields (text_parts id.now))) }
+    ensures ok { IfOk result (λ row. row_shown row ≡
+        headed head.index head.leaf (string_list_fields (text_parts id.now))) }
     ensures want { IfErr result (λ e. e ≡ Error.OutOfMemory) }
 {
     let substrings = type_numbers(alloc, &id.substrings)?;
@@ -81,7 +85,8 @@ fn string_list_row<'t>(alloc: Global, head: Head, id: &StringListId) -> Result<R
 /// The row of a text.
 #[tactic(auto, unfolding(crate::specs::IdRows::string_fields))]
 fn string_row<'t>(alloc: Global, head: Head, id: &StringId<'t>) -> Result<Row<'t>>
-    ensures ok { IfOk result (λ row. row_shown row ≡ headed head.index head.leaf (string_fields (string_value id.now))) }
+    ensures ok { IfOk result (λ row. row_shown row ≡
+        headed head.index head.leaf (string_fields (string_value id.now))) }
     ensures want { IfErr result (λ e. e ≡ Error.OutOfMemory) }
 {
     let fields = vec![in alloc;

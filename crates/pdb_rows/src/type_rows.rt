@@ -36,7 +36,8 @@ use std::alloc::Global;
 
 /// The row of a type, behind what it begins with.
 pub(crate) fn headed_row<'t>(alloc: Global, head: Head, data: &TypeData<'t>) -> Result<Row<'t>>
-    ensures ok { IfOk result (λ row. row_shown row ≡ headed head.index head.leaf (type_fields (type_value «data».now))) }
+    ensures ok { IfOk result (λ row. row_shown row ≡
+        headed head.index head.leaf (type_fields (type_value «data».now))) }
     ensures want { IfErr result (λ e. e ≡ Error.OutOfMemory) }
 {
     match data {

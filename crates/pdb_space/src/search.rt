@@ -26,7 +26,8 @@ pub(crate) struct Found {
 /// and says how far. So the step needs no branch.
 #[tactic(auto, using(pdb_base::proofs::lemmas::Halving::halving_begins, pdb_base::proofs::lemmas::Halving::halving_takes, pdb_base::proofs::lemmas::Halving::halving_passes, pdb_base::proofs::lemmas::Halving::halving_ends, pdb_base::proofs::lemmas::Halving::halving_counts, pdb_base::proofs::lemmas::Halving::halving_counted))]
 pub(crate) fn search(bytes: &[u8], address: u32, count: &mut Count) -> Found
-    ensures found { IsFound (source_at (mappings_of bytes.now)) (length bytes.now / 8) address result.place result.source }
+    ensures found { IsFound (source_at (mappings_of bytes.now))
+        (length bytes.now / 8) address result.place result.source }
     ensures counted { calls_of count.new ≡ after_calls (binary_digits (length bytes.now / 8)) (calls_of count.old) }
 {
     let (mut place, mut distance) = (0, address);

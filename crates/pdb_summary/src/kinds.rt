@@ -28,7 +28,8 @@ pub struct KindCount {
 /// The kinds of which there are some, the lowest first.
 fn present(alloc: Global, counts: &[u64]) -> Result<Vec<KindCount>>
     requires { length counts.now ≡ 0x10000 }
-    ensures present { IfOk result (λ kinds. kinds.items ≡ present (λ leaf. slice_index_or counts.now leaf 0) (range_with_len 0 0x10000)) }
+    ensures present { IfOk result (λ kinds. kinds.items ≡
+        present (λ leaf. slice_index_or counts.now leaf 0) (range_with_len 0 0x10000)) }
     ensures want { IfErr result (λ e. e ≡ Error.OutOfMemory) }
 {
     let mut kinds = Vec::new(alloc);

@@ -60,7 +60,8 @@ fn stream_row<'t>(
     name: Option<RawString<'t>>,
 ) -> Result<Row<'t>>
     ensures ok { IfOk result (λ row. row_shown row
-        ≡ stream_shown page_size number size (option_map (λ role. role.now) role.entry) (option_map (λ name. name.0.now) name.entry)) }
+        ≡ stream_shown page_size number size (option_map (λ role. role.now) role.entry)
+        (option_map (λ name. name.0.now) name.entry)) }
     ensures want { IfErr result (λ e. e ≡ Error.OutOfMemory) }
 {
     let fields = vec![in alloc;
@@ -83,7 +84,8 @@ fn write_size<W: Write>(
     form: Form,
     out: &mut W,
 ) -> Result<()>
-    ensures { Writes (size_line form (known_view known.entry) number size) (W.contents out.old) (W.contents out.new) result }
+    ensures { Writes (size_line form (known_view known.entry) number size)
+        (W.contents out.old) (W.contents out.new) result }
 {
     let role = role_of(&known.roles, number);
     let name = name_of(known.names, number);
@@ -101,7 +103,8 @@ fn write_stream<W: Write>(
     form: Form,
     out: &mut W,
 ) -> Result<()>
-    ensures line { Writes (stream_line form (known_view known.entry) file.old.source.items file.old.head number) (W.contents out.old) (W.contents out.new) result }
+    ensures line { Writes (stream_line form (known_view known.entry) file.old.source.items file.old.head number)
+        (W.contents out.old) (W.contents out.new) result }
     ensures bytes { file.new.source.items ≡ file.old.source.items }
     ensures head { file.new.head ≡ file.old.head }
 {
@@ -121,7 +124,8 @@ pub fn write_streams<W: Write>(
     form: Form,
     out: &mut W,
 ) -> Result<()>
-    ensures lines { Writes (stream_lines form (known_view known.entry) file.old.source.items file.old.head) (W.contents out.old) (W.contents out.new) result }
+    ensures lines { Writes (stream_lines form (known_view known.entry) file.old.source.items file.old.head)
+        (W.contents out.old) (W.contents out.new) result }
     ensures bytes { file.new.source.items ≡ file.old.source.items }
     ensures head { file.new.head ≡ file.old.head }
 {

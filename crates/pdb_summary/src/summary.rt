@@ -103,7 +103,8 @@ fn known_roles<W: Write>(
     out: &mut W,
 ) -> Result<DBIExtraStreams>
     ensures roles { IfOk result (λ roles. roles ≡ said_or no_roles (file_roles file.old.source.items file.old.head)) }
-    ensures told { Writes (told form parts.Roles (file_roles file.old.source.items file.old.head)) (W.contents out.old) (W.contents out.new) (done_of result) }
+    ensures told { Writes (told form parts.Roles (file_roles file.old.source.items file.old.head))
+        (W.contents out.old) (W.contents out.new) (done_of result) }
     ensures bytes { file.new.source.items ≡ file.old.source.items }
     ensures head { file.new.head ≡ file.old.head }
 {
@@ -127,7 +128,9 @@ fn write_unnamed<W: Write>(
     form: Form,
     out: &mut W,
 ) -> Result<()>
-    ensures lines { Writes (refused_line form parts.Names (refusal_of error.now) ++ stream_lines form (known_view known.entry) file.old.source.items file.old.head) (W.contents out.old) (W.contents out.new) result }
+    ensures lines { Writes (refused_line form parts.Names (refusal_of error.now) ++
+        stream_lines form (known_view known.entry) file.old.source.items file.old.head)
+        (W.contents out.old) (W.contents out.new) result }
     ensures bytes { file.new.source.items ≡ file.old.source.items }
     ensures head { file.new.head ≡ file.old.head }
 {
@@ -146,7 +149,8 @@ fn write_named<W: Write>(
     form: Form,
     out: &mut W,
 ) -> Result<()>
-    ensures lines { Writes (named_part form page_size roles file.old.source.items file.old.head (stream_names_of information.now)) (W.contents out.old) (W.contents out.new) result }
+    ensures lines { Writes (named_part form page_size roles file.old.source.items file.old.head
+        (stream_names_of information.now)) (W.contents out.old) (W.contents out.new) result }
     ensures bytes { file.new.source.items ≡ file.old.source.items }
     ensures head { file.new.head ≡ file.old.head }
 {
@@ -173,7 +177,8 @@ fn write_all_streams<W: Write>(
     form: Form,
     out: &mut W,
 ) -> Result<()>
-    ensures lines { Writes (named_part form (page_size_of file.old.source.items) roles file.old.source.items file.old.head (names_of file.old.source.items file.old.head)) (W.contents out.old) (W.contents out.new) result }
+    ensures lines { Writes (named_part form (page_size_of file.old.source.items) roles file.old.source.items
+        file.old.head (names_of file.old.source.items file.old.head)) (W.contents out.old) (W.contents out.new) result }
     ensures bytes { file.new.source.items ≡ file.old.source.items }
     ensures head { file.new.head ≡ file.old.head }
 {
@@ -193,7 +198,8 @@ fn write_streams_part<W: Write>(
     form: Form,
     out: &mut W,
 ) -> Result<()>
-    ensures lines { Writes (streams_part form file.old.source.items file.old.head) (W.contents out.old) (W.contents out.new) result }
+    ensures lines { Writes (streams_part form file.old.source.items file.old.head)
+        (W.contents out.old) (W.contents out.new) result }
     ensures bytes { file.new.source.items ≡ file.old.source.items }
     ensures head { file.new.head ≡ file.old.head }
 {
@@ -209,7 +215,8 @@ fn write_tables<W: Write>(
     form: Form,
     out: &mut W,
 ) -> Result<()>
-    ensures { Writes (tables_part form file.old.source.items file.old.head) (W.contents out.old) (W.contents out.new) result }
+    ensures { Writes (tables_part form file.old.source.items file.old.head)
+        (W.contents out.old) (W.contents out.new) result }
 {
     write_table(alloc, file, TYPE_STREAM, form, out)?;
     write_table(alloc, file, ID_STREAM, form, out)
@@ -223,7 +230,9 @@ fn write_read_parts<W: Write>(
     form: Form,
     out: &mut W,
 ) -> Result<()>
-    ensures { Writes (streams_part form file.old.source.items file.old.head ++ tables_part form file.old.source.items file.old.head) (W.contents out.old) (W.contents out.new) result }
+    ensures { Writes (streams_part form file.old.source.items file.old.head ++
+        tables_part form file.old.source.items file.old.head)
+        (W.contents out.old) (W.contents out.new) result }
 {
     write_streams_part(alloc, file, form, out)?;
     write_tables(alloc, file, form, out)
@@ -237,7 +246,8 @@ fn write_parts<W: Write>(
     form: Form,
     out: &mut W,
 ) -> Result<()>
-    ensures { Writes (parts_lines form file.old.source.items file.old.head) (W.contents out.old) (W.contents out.new) result }
+    ensures { Writes (parts_lines form file.old.source.items file.old.head)
+        (W.contents out.old) (W.contents out.new) result }
 {
     match read_directory(alloc, file) {
         Ok(()) => write_read_parts(alloc, file, form, out),
@@ -268,7 +278,8 @@ fn write_summary<W: Write>(
     form: Form,
     out: &mut W,
 ) -> Result<()>
-    ensures { Writes (pages_line form file.old.source.items ++ parts_lines form file.old.source.items file.old.head) (W.contents out.old) (W.contents out.new) result }
+    ensures { Writes (pages_line form file.old.source.items ++ parts_lines form file.old.source.items file.old.head)
+        (W.contents out.old) (W.contents out.new) result }
 {
     write_pages(alloc, file.source(), form, out)?;
     write_parts(alloc, file, form, out)
@@ -286,7 +297,8 @@ pub fn list_summary<W: Write>(
     form: Form,
     out: &mut W,
 ) -> Result<()>
-    ensures { IsListed (summary_listing form file.old.source.items file.old.head) (W.contents out.old) (W.contents out.new) result }
+    ensures { IsListed (summary_listing form file.old.source.items file.old.head)
+        (W.contents out.old) (W.contents out.new) result }
 {
     write_summary(alloc, file, form, out)
 }

@@ -27,7 +27,8 @@ fn table_row<'t>(
     least: u32,
     end: u32,
 ) -> Result<Row<'t>>
-    ensures ok { IfOk result (λ row. row_shown row ≡ table_shown number walked.now.records walked.now.continued least end) }
+    ensures ok { IfOk result (λ row. row_shown row ≡
+        table_shown number walked.now.records walked.now.continued least end) }
     ensures want { IfErr result (λ e. e ≡ Error.OutOfMemory) }
 {
     let fields = vec![in alloc;
@@ -50,7 +51,9 @@ fn write_head<W: Write>(
     form: Form,
     out: &mut W,
 ) -> Result<()>
-    ensures { Writes (row_text form (table_shown number walked.now.records walked.now.continued table.now.header.minimum_index table.now.header.maximum_index)) (W.contents out.old) (W.contents out.new) result }
+    ensures { Writes (row_text form
+        (table_shown number walked.now.records walked.now.continued table.now.header.minimum_index
+        table.now.header.maximum_index)) (W.contents out.old) (W.contents out.new) result }
 {
     let header = table.header();
     let row = table_row(
@@ -102,7 +105,8 @@ fn write_stop<W: Write>(
     form: Form,
     out: &mut W,
 ) -> Result<()>
-    ensures { Writes (stop_line form number (option_map refusal_of fault.now)) (W.contents out.old) (W.contents out.new) result }
+    ensures { Writes (stop_line form number (option_map refusal_of fault.now))
+        (W.contents out.old) (W.contents out.new) result }
 {
     match fault {
         Some(fault) => write_refused(alloc, Part::Table(number), fault, form, out),
@@ -119,7 +123,9 @@ fn write_rest<W: Write>(
     form: Form,
     out: &mut W,
 ) -> Result<()>
-    ensures { Writes (kind_lines form number walked.now.kinds.items ++ stop_line form number (option_map refusal_of walked.now.fault)) (W.contents out.old) (W.contents out.new) result }
+    ensures { Writes (kind_lines form number walked.now.kinds.items ++
+        stop_line form number (option_map refusal_of walked.now.fault))
+        (W.contents out.old) (W.contents out.new) result }
 {
     write_kinds(alloc, number, &walked.kinds, form, out)?;
     write_stop(alloc, number, &walked.fault, form, out)
@@ -135,8 +141,11 @@ fn write_walked<W: Write>(
     form: Form,
     out: &mut W,
 ) -> Result<()>
-    ensures { Writes (row_text form (table_shown number walked.now.records walked.now.continued table.now.header.minimum_index table.now.header.maximum_index)
-        ++ (kind_lines form number walked.now.kinds.items ++ stop_line form number (option_map refusal_of walked.now.fault))) (W.contents out.old) (W.contents out.new) result }
+    ensures { Writes (row_text form (table_shown number walked.now.records walked.now.continued
+        table.now.header.minimum_index table.now.header.maximum_index)
+        ++ (kind_lines form number walked.now.kinds.items ++
+        stop_line form number (option_map refusal_of walked.now.fault)))
+        (W.contents out.old) (W.contents out.new) result }
 {
     write_head(alloc, number, table, walked, form, out)?;
     write_rest(alloc, number, walked, form, out)
@@ -176,7 +185,8 @@ pub fn write_table<W: Write>(
     form: Form,
     out: &mut W,
 ) -> Result<()>
-    ensures lines { Writes (table_part form number file.old.source.items file.old.head) (W.contents out.old) (W.contents out.new) result }
+    ensures lines { Writes (table_part form number file.old.source.items file.old.head)
+        (W.contents out.old) (W.contents out.new) result }
     ensures bytes { file.new.source.items ≡ file.old.source.items }
     ensures head { file.new.head ≡ file.old.head }
 {

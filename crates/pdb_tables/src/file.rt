@@ -34,7 +34,8 @@ pub fn list_sections<S: Source + Drop, W: Write>(
     form: Form,
     out: &mut W,
 ) -> Result<()>
-    ensures { IsListed (file_sections form (S.state file.source).bytes file.head stream) (W.contents out.old) (W.contents out.new) result }
+    ensures { IsListed (file_sections form (S.state file.source).bytes file.head stream)
+        (W.contents out.old) (W.contents out.new) result }
 {
     let number = section_number(alloc, &mut file, stream)?;
     match numbered(alloc, &mut file, number)? {
@@ -50,7 +51,8 @@ fn names_in<S: Source>(
     file: &mut BigMSF<S>,
     stream: Option<u32>,
 ) -> Result<StringTable>
-    ensures names { AnswersUnless (HasFailed (S.state file.old.source) (S.state file.new.source)) (λ names. names) result
+    ensures names { AnswersUnless (HasFailed (S.state file.old.source) (S.state file.new.source))
+        (λ names. names) result
         (names_in (S.state file.old.source).bytes file.old.head stream) }
 {
     match stream {
@@ -73,7 +75,8 @@ pub fn list_names<S: Source + Drop, W: Write>(
     form: Form,
     out: &mut W,
 ) -> Result<()>
-    ensures { IsListed (file_names form (S.state file.source).bytes file.head stream) (W.contents out.old) (W.contents out.new) result }
+    ensures { IsListed (file_names form (S.state file.source).bytes file.head stream)
+        (W.contents out.old) (W.contents out.new) result }
 {
     let table = names_in(alloc, &mut file, stream)?;
     write_table(alloc, &table, form, out)
@@ -90,7 +93,8 @@ pub fn list_frames<S: Source + Drop, W: Write>(
     form: Form,
     out: &mut W,
 ) -> Result<()>
-    ensures { IsListed (file_frames form (S.state file.source).bytes file.head) (W.contents out.old) (W.contents out.new) result }
+    ensures { IsListed (file_frames form (S.state file.source).bytes file.head)
+        (W.contents out.old) (W.contents out.new) result }
 {
     let table = frame_table(alloc, &mut file)?;
     write_frames(alloc, &table, form, out)
@@ -111,7 +115,8 @@ pub fn list_frames_in<S: Source + Drop, W: Write>(
     form: Form,
     out: &mut W,
 ) -> Result<()>
-    ensures { IsListed (frames_in form (S.state file.source).bytes file.head old new) (W.contents out.old) (W.contents out.new) result }
+    ensures { IsListed (frames_in form (S.state file.source).bytes file.head old new)
+        (W.contents out.old) (W.contents out.new) result }
 {
     let old = numbered(alloc, &mut file, old)?;
     let new = numbered(alloc, &mut file, new)?;

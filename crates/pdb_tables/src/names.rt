@@ -38,7 +38,8 @@ pub(crate) fn write_table<W: Write>(
     form: Form,
     out: &mut W,
 ) -> Result<()>
-    ensures { IsListed (whole (name_lines form (all_names table.now))) (W.contents out.old) (W.contents out.new) result }
+    ensures { IsListed (whole (name_lines form (all_names table.now)))
+        (W.contents out.old) (W.contents out.new) result }
 {
     let mut line = Vec::new(alloc);
     let mut place = 0;

@@ -51,7 +51,8 @@ fn list_numbered<S: Source, W: Write>(
     form: Form,
     out: &mut W,
 ) -> Result<()>
-    ensures listed { IsListed (numbered_omap form (S.state file.old.source).bytes file.old.head number) (W.contents out.old) (W.contents out.new) result }
+    ensures listed { IsListed (numbered_omap form (S.state file.old.source).bytes file.old.head number)
+        (W.contents out.old) (W.contents out.new) result }
     ensures source { IsKept (S.state file.old.source) (S.state file.new.source) }
     ensures head { file.new.head ≡ file.old.head }
 {
@@ -69,7 +70,8 @@ fn list_role<S: Source, W: Write>(
     form: Form,
     out: &mut W,
 ) -> Result<()>
-    ensures listed { IsListed (role_omap form (S.state file.old.source).bytes file.old.head role.now number) (W.contents out.old) (W.contents out.new) result }
+    ensures listed { IsListed (role_omap form (S.state file.old.source).bytes file.old.head role.now number)
+        (W.contents out.old) (W.contents out.new) result }
     ensures source { IsKept (S.state file.old.source) (S.state file.new.source) }
     ensures head { file.new.head ≡ file.old.head }
 {
@@ -88,7 +90,8 @@ fn list_both<S: Source, W: Write>(
     form: Form,
     out: &mut W,
 ) -> Result<()>
-    ensures { IsListed (both_omaps form (S.state file.old.source).bytes file.old.head roles.now) (W.contents out.old) (W.contents out.new) result }
+    ensures { IsListed (both_omaps form (S.state file.old.source).bytes file.old.head roles.now)
+        (W.contents out.old) (W.contents out.new) result }
 {
     let to_source = roles.omap_to_src.msf_number();
     list_role(alloc, file, "omap_to_src", to_source, form, out)?;
@@ -113,7 +116,8 @@ pub fn list_omap<S: Source + Drop, W: Write>(
     form: Form,
     out: &mut W,
 ) -> Result<()>
-    ensures { IsListed (file_omap form (S.state file.source).bytes file.head stream) (W.contents out.old) (W.contents out.new) result }
+    ensures { IsListed (file_omap form (S.state file.source).bytes file.head stream)
+        (W.contents out.old) (W.contents out.new) result }
 {
     match stream {
         Some(number) => list_numbered(alloc, &mut file, number, form, out),

@@ -17,7 +17,8 @@ pub fn numbered<S: Source>(
     file: &mut BigMSF<S>,
     number: Option<u32>,
 ) -> Result<Option<Stream>>
-    ensures stream { AnswersUnless (HasFailed (S.state file.old.source) (S.state file.new.source)) (λ stream. stream) result
+    ensures stream { AnswersUnless (HasFailed (S.state file.old.source) (S.state file.new.source))
+        (λ stream. stream) result
         (stream_numbered (S.state file.old.source).bytes file.old.head number) }
     ensures source { IsKept (S.state file.old.source) (S.state file.new.source) }
     ensures head { file.new.head ≡ file.old.head }
@@ -35,7 +36,8 @@ pub fn section_number<S: Source>(
     file: &mut BigMSF<S>,
     given: Option<u32>,
 ) -> Result<Option<u32>>
-    ensures number { AnswersUnless (HasFailed (S.state file.old.source) (S.state file.new.source)) (λ number. number) result
+    ensures number { AnswersUnless (HasFailed (S.state file.old.source) (S.state file.new.source))
+        (λ number. number) result
         (section_number (S.state file.old.source).bytes file.old.head given) }
     ensures source { IsKept (S.state file.old.source) (S.state file.new.source) }
     ensures head { file.new.head ≡ file.old.head }

@@ -53,7 +53,8 @@ impl<I: ItemIndex> ItemInformation<I> {
     /// # Errors
     /// `OutOfMemory` if memory is refused, which is not so if the header counts no index.
     pub fn finder(&self, alloc: Global) -> Result<ItemFinder<'_, I>>
-        ensures finder { Answers (λ finder. finder) result (Ok (record { table = self.now; known = known_first self.now })) }
+        ensures finder { Answers (λ finder. finder) result
+            (Ok (record { table = self.now; known = known_first self.now })) }
         ensures few { IfOk result (λ finder. finder.known ≤ most_blocks self.now) }
         ensures uncounted { count_of self.now ≡ 0 → IsOk result }
     {
@@ -116,7 +117,8 @@ impl<'t, I: ItemIndex> ItemFinder<'t, I> {
     /// below the maximum. The iterator is one over the finder's table, with equal bytes and header.
     pub fn update(&mut self, iterator: &ItemIter<'_, I>)
         requires { iterator.now.table ≡ self.old.table }
-        ensures next { self.new ≡ record self.old { known = known_after self.old.table self.old.known iterator.now.index } }
+        ensures next { self.new ≡
+            record self.old { known = known_after self.old.table self.old.known iterator.now.index } }
         ensures few { self.new.known ≤ most_blocks self.new.table }
     {
         let table = self.table;
@@ -131,7 +133,11 @@ impl<'t, I: ItemIndex> ItemFinder<'t, I> {
     /// Learns from each iterator in turn.
     pub fn update_all(&mut self, iterators: &[ItemIter<'_, I>])
         requires { All (λ iterator. iterator.table ≡ self.old.table) iterators.now }
-        ensures next { self.new ≡ record self.old { known = known_of self.old.table self.old.known (map (λ iterator. iterator.index) iterators.now) } }
+        ensures next { self.new ≡
+            record self.old {
+              known = known_of self.old.table self.old.known
+                  (map (λ iterator. iterator.index) iterators.now);
+            } }
         ensures few { self.old.known ≤ most_blocks self.old.table → self.new.known ≤ most_blocks self.new.table }
     {
         for iterator in iterators {
@@ -151,7 +157,8 @@ impl<'t, I: ItemIndex> ItemFinder<'t, I> {
     pub fn find_counted(&self, index: I, count: &mut Count) -> Result<Item<'t, I>>
         ensures item { Gives bytes_of result (find_of self.now.table self.now.known (I.number index)) }
         ensures index { IfOk result (λ item. index_of item ≡ index) }
-        ensures counted { calls_of count.new ≡ after_calls (reads_of self.now.table self.now.known (I.number index)) (calls_of count.old) }
+        ensures counted { calls_of count.new ≡
+            after_calls (reads_of self.now.table self.now.known (I.number index)) (calls_of count.old) }
         ensures few { calls_of count.new ≤ calls_of count.old + 8 }
     {
         let table = self.table;

@@ -42,7 +42,8 @@ impl<'t, I> Model for ItemIter<'t, I> {
 #[tactic(auto, unfolding(crate::specs::Walk::first_item))]
 fn read_item<'t>(bytes: &'t [u8], count: &mut Count) -> Result<&'t [u8]>
     ensures item { Gives (λ item. item.now) result (first_item bytes.now) }
-    ensures counted { calls_of count.new ≡ (if nat_lt (length bytes.now) 2 then calls_of count.old else one_more (calls_of count.old)) }
+    ensures counted { calls_of count.new ≡
+        (if nat_lt (length bytes.now) 2 then calls_of count.old else one_more (calls_of count.old)) }
 {
     let mut buffer = ParseBuffer::from(bytes);
     let len = read_length(&mut buffer, count)?;
@@ -80,7 +81,8 @@ impl<'t, I: ItemIndex> ItemIter<'t, I> {
         ensures index { IfOk result (λ item. I.number (index_of item) ≡ self.old.index) }
         ensures moved { OnOk result (self.new ≡ record self.old { index = self.old.index + 1 }) }
         ensures kept { OnErr result (self.new ≡ self.old) }
-        ensures reached { (self.old.table.header.minimum_index ≤ self.old.index) × (place_of self.old ≤ length (walk self.old.table)) }
+        ensures reached { (self.old.table.header.minimum_index ≤ self.old.index) ×
+            (place_of self.old ≤ length (walk self.old.table)) }
         ensures counted { calls_of count.new ≡ reads_one self.old (calls_of count.old) }
     {
         let table = self.table;
@@ -102,7 +104,9 @@ impl<'t, I: ItemIndex> ItemIter<'t, I> {
         ensures item { Gives bytes_of result (nth_item self.old.table (place_of self.old + steps)) }
         ensures index { IfOk result (λ item. I.number (index_of item) ≡ self.old.index + steps) }
         ensures moved { IfOk result (λ _. self.new ≡ record self.old { index = self.old.index + steps + 1 }) }
-        ensures counted { calls_of count.new ≡ after_calls (reads_between self.old.table (place_of self.old) (place_of self.old + steps)) (calls_of count.old) }
+        ensures counted { calls_of count.new ≡
+            after_calls (reads_between self.old.table (place_of self.old) (place_of self.old + steps))
+            (calls_of count.old) }
     {
         for _ in 0..steps {
             self.read(count)?;

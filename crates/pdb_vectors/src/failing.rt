@@ -67,11 +67,13 @@ impl Source for Failing {
 
     /// The bytes that the slices name, or a fault of the source's kind where this is the view that fails.
     fn view(&mut self, alloc: Global, slices: &[SourceSlice]) -> Result<ReadView, io::Error>
-        ensures view { Shows (HasFailed (state_of self.old) (state_of self.new)) (λ v. v) result (bytes_at self.old.bytes (positions slices.now)) }
+        ensures view { Shows (HasFailed (state_of self.old) (state_of self.new)) (λ v. v) result
+            (bytes_at self.old.bytes (positions slices.now)) }
         ensures kind { IfErr result (λ e. IsLastFault (state_of self.new) (error_kind e)) }
         ensures kept { IsKept (state_of self.old) (state_of self.new) }
         ensures counts { self.new ≡ counted_down self.old }
-        ensures fails { MatchBool (self.old.until == 1) (IsErrAnd result (λ e. error_kind e ≡ self.old.kind)) (Shows ⊥ (λ v. v) result (bytes_at self.old.bytes (positions slices.now))) }
+        ensures fails { MatchBool (self.old.until == 1) (IsErrAnd result (λ e. error_kind e ≡ self.old.kind))
+            (Shows ⊥ (λ v. v) result (bytes_at self.old.bytes (positions slices.now))) }
     {
         if self.until == 1 {
             self.until = 0;

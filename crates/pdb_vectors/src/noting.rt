@@ -52,7 +52,8 @@ impl Source for Noting {
     /// The bytes that the slices name, which are noted first. Where the note finds no memory, the
     /// view is refused with kind `OutOfMemory`, and nothing is noted.
     fn view(&mut self, alloc: Global, slices: &[SourceSlice]) -> Result<ReadView, io::Error>
-        ensures view { Shows (HasFailed (state_of self.old) (state_of self.new)) (λ v. v) result (bytes_at self.old.bytes (positions slices.now)) }
+        ensures view { Shows (HasFailed (state_of self.old) (state_of self.new)) (λ v. v) result
+            (bytes_at self.old.bytes (positions slices.now)) }
         ensures kind { IfErr result (λ e. IsLastFault (state_of self.new) (error_kind e)) }
         ensures kept { IsKept (state_of self.old) (state_of self.new) }
         ensures noted { (self.new ≡ record self.old { notes = self.old.notes ++ slices.now ∷ [] })

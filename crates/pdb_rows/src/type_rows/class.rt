@@ -17,7 +17,8 @@ use std::alloc::Global;
 /// The row of a class, a structure or an interface.
 #[tactic(auto, unfolding(crate::specs::TypeRows::class_fields))]
 pub(crate) fn class_row<'t>(alloc: Global, head: Head, class: &ClassType<'t>) -> Result<Row<'t>>
-    ensures ok { IfOk result (λ row. row_shown row ≡ headed head.index head.leaf (class_fields (class_value class.now))) }
+    ensures ok { IfOk result (λ row. row_shown row ≡
+        headed head.index head.leaf (class_fields (class_value class.now))) }
     ensures want { IfErr result (λ e. e ≡ Error.OutOfMemory) }
 {
     let properties = property_words(alloc, class.properties)?;
@@ -45,7 +46,8 @@ pub(crate) fn union_row<'t>(
     head: Head,
     union_type: &UnionType<'t>,
 ) -> Result<Row<'t>>
-    ensures ok { IfOk result (λ row. row_shown row ≡ headed head.index head.leaf (union_fields (union_value union_type.now))) }
+    ensures ok { IfOk result (λ row. row_shown row ≡
+        headed head.index head.leaf (union_fields (union_value union_type.now))) }
     ensures want { IfErr result (λ e. e ≡ Error.OutOfMemory) }
 {
     let properties = property_words(alloc, union_type.properties)?;

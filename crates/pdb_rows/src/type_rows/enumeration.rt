@@ -20,7 +20,8 @@ pub(crate) fn enumeration_row<'t>(
     head: Head,
     enumeration: &EnumerationType<'t>,
 ) -> Result<Row<'t>>
-    ensures ok { IfOk result (λ row. row_shown row ≡ headed head.index head.leaf (enumeration_fields (enumeration_value enumeration.now))) }
+    ensures ok { IfOk result (λ row. row_shown row ≡
+        headed head.index head.leaf (enumeration_fields (enumeration_value enumeration.now))) }
     ensures want { IfErr result (λ e. e ≡ Error.OutOfMemory) }
 {
     let properties = property_words(alloc, enumeration.properties)?;
@@ -62,7 +63,8 @@ pub(crate) fn enumerate_row<'t>(
     head: Head,
     value: &EnumerateType<'t>,
 ) -> Result<Row<'t>>
-    ensures ok { IfOk result (λ row. row_shown row ≡ headed head.index head.leaf (enumerate_fields (enumerate_value value.now))) }
+    ensures ok { IfOk result (λ row. row_shown row ≡
+        headed head.index head.leaf (enumerate_fields (enumerate_value value.now))) }
     ensures want { IfErr result (λ e. e ≡ Error.OutOfMemory) }
 {
     let attributes = field_words(alloc, value.attributes)?;

@@ -20,7 +20,8 @@ use std::alloc::Global;
 /// The row of an array.
 #[tactic(auto, unfolding(crate::specs::TypeRows::array_fields))]
 pub(crate) fn array_row<'t>(alloc: Global, head: Head, array: &ArrayType) -> Result<Row<'t>>
-    ensures ok { IfOk result (λ row. row_shown row ≡ headed head.index head.leaf (array_fields (array_value array.now))) }
+    ensures ok { IfOk result (λ row. row_shown row ≡
+        headed head.index head.leaf (array_fields (array_value array.now))) }
     ensures want { IfErr result (λ e. e ≡ Error.OutOfMemory) }
 {
     let dimensions = copied_numbers(alloc, &array.dimensions)?;
@@ -38,7 +39,8 @@ pub(crate) fn array_row<'t>(alloc: Global, head: Head, array: &ArrayType) -> Res
 /// The row of a list of fields.
 #[tactic(auto, unfolding(crate::specs::TypeRows::field_list_fields))]
 pub(crate) fn field_list_row<'t>(alloc: Global, head: Head, list: &FieldList<'_>) -> Result<Row<'t>>
-    ensures ok { IfOk result (λ row. row_shown row ≡ headed head.index head.leaf (type_fields (field_list_value list.now))) }
+    ensures ok { IfOk result (λ row. row_shown row ≡
+        headed head.index head.leaf (type_fields (field_list_value list.now))) }
     ensures want { IfErr result (λ e. e ≡ Error.OutOfMemory) }
 {
     let fields = vec![in alloc;
@@ -57,7 +59,8 @@ pub(crate) fn argument_list_row<'t>(
     head: Head,
     list: &ArgumentList,
 ) -> Result<Row<'t>>
-    ensures ok { IfOk result (λ row. row_shown row ≡ headed head.index head.leaf (argument_list_fields (argument_types list.now))) }
+    ensures ok { IfOk result (λ row. row_shown row ≡
+        headed head.index head.leaf (argument_list_fields (argument_types list.now))) }
     ensures want { IfErr result (λ e. e ≡ Error.OutOfMemory) }
 {
     let arguments = type_numbers(alloc, &list.arguments)?;
@@ -72,7 +75,8 @@ pub(crate) fn argument_list_row<'t>(
 /// The row of a list of methods.
 #[tactic(auto, unfolding(crate::specs::TypeRows::method_list_fields))]
 pub(crate) fn method_list_row<'t>(alloc: Global, head: Head, list: &MethodList) -> Result<Row<'t>>
-    ensures ok { IfOk result (λ row. row_shown row ≡ headed head.index head.leaf (method_list_fields (listed_methods list.now))) }
+    ensures ok { IfOk result (λ row. row_shown row ≡
+        headed head.index head.leaf (method_list_fields (listed_methods list.now))) }
     ensures want { IfErr result (λ e. e ≡ Error.OutOfMemory) }
 {
     let methods = list.methods.as_slice();
@@ -93,7 +97,8 @@ pub(crate) fn table_shape_row<'t>(
     head: Head,
     shape: VirtualTableShapeType<'_>,
 ) -> Result<Row<'t>>
-    ensures ok { IfOk result (λ row. row_shown row ≡ headed head.index head.leaf (table_shape_fields (table_shape_value shape.entry))) }
+    ensures ok { IfOk result (λ row. row_shown row ≡
+        headed head.index head.leaf (table_shape_fields (table_shape_value shape.entry))) }
     ensures want { IfErr result (λ e. e ≡ Error.OutOfMemory) }
 {
     let descriptors = byte_numbers(alloc, shape.descriptors)?;

@@ -16,7 +16,8 @@ use std::alloc::Global;
 /// The row of a data member.
 #[tactic(auto, unfolding(crate::specs::TypeRows::member_fields))]
 pub(crate) fn member_row<'t>(alloc: Global, head: Head, member: &MemberType<'t>) -> Result<Row<'t>>
-    ensures ok { IfOk result (λ row. row_shown row ≡ headed head.index head.leaf (member_fields (member_value member.now))) }
+    ensures ok { IfOk result (λ row. row_shown row ≡
+        headed head.index head.leaf (member_fields (member_value member.now))) }
     ensures want { IfErr result (λ e. e ≡ Error.OutOfMemory) }
 {
     let attributes = field_words(alloc, member.attributes)?;
@@ -39,7 +40,8 @@ pub(crate) fn static_member_row<'t>(
     head: Head,
     member: &StaticMemberType<'t>,
 ) -> Result<Row<'t>>
-    ensures ok { IfOk result (λ row. row_shown row ≡ headed head.index head.leaf (static_member_fields (static_member_value member.now))) }
+    ensures ok { IfOk result (λ row. row_shown row ≡
+        headed head.index head.leaf (static_member_fields (static_member_value member.now))) }
     ensures want { IfErr result (λ e. e ≡ Error.OutOfMemory) }
 {
     let attributes = field_words(alloc, member.attributes)?;
@@ -57,7 +59,8 @@ pub(crate) fn static_member_row<'t>(
 /// The row of a type that is declared in a class.
 #[tactic(auto, unfolding(crate::specs::TypeRows::nested_fields))]
 pub(crate) fn nested_row<'t>(alloc: Global, head: Head, nested: &NestedType<'t>) -> Result<Row<'t>>
-    ensures ok { IfOk result (λ row. row_shown row ≡ headed head.index head.leaf (nested_fields (nested_value nested.now))) }
+    ensures ok { IfOk result (λ row. row_shown row ≡
+        headed head.index head.leaf (nested_fields (nested_value nested.now))) }
     ensures want { IfErr result (λ e. e ≡ Error.OutOfMemory) }
 {
     let attributes = field_words(alloc, nested.attributes)?;

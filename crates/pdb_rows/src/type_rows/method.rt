@@ -20,7 +20,8 @@ pub(crate) fn overloaded_method_row<'t>(
     head: Head,
     methods: &OverloadedMethodType<'t>,
 ) -> Result<Row<'t>>
-    ensures ok { IfOk result (λ row. row_shown row ≡ headed head.index head.leaf (overloaded_method_fields (overloaded_method_value methods.now))) }
+    ensures ok { IfOk result (λ row. row_shown row ≡
+        headed head.index head.leaf (overloaded_method_fields (overloaded_method_value methods.now))) }
     ensures want { IfErr result (λ e. e ≡ Error.OutOfMemory) }
 {
     let fields = vec![in alloc;
@@ -36,7 +37,8 @@ pub(crate) fn overloaded_method_row<'t>(
 /// The row of a method that shares its name with no other.
 #[tactic(auto, unfolding(crate::specs::TypeRows::method_fields))]
 pub(crate) fn method_row<'t>(alloc: Global, head: Head, method: &MethodType<'t>) -> Result<Row<'t>>
-    ensures ok { IfOk result (λ row. row_shown row ≡ headed head.index head.leaf (method_fields (method_value method.now))) }
+    ensures ok { IfOk result (λ row. row_shown row ≡
+        headed head.index head.leaf (method_fields (method_value method.now))) }
     ensures want { IfErr result (λ e. e ≡ Error.OutOfMemory) }
 {
     let attributes = field_words(alloc, method.attributes)?;

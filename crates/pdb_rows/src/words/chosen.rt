@@ -12,7 +12,8 @@ use std::alloc::Global;
 /// `OutOfMemory` if memory is refused, which is asked for only if a word is chosen.
 #[tactic(auto, using(crate::proofs::WordLemmas::chosen_more), unfolding(crate::specs::Words::chosen))]
 pub(crate) fn chosen(alloc: Global, flags: &[(bool, &'static str)]) -> Result<Vec<&'static str>>
-    ensures ok { IfOk result (λ words. map (λ name. name.now) words.items ≡ chosen (map (λ flag. (flag.0, flag.1.now)) flags.now)) }
+    ensures ok { IfOk result (λ words. map (λ name. name.now) words.items ≡
+        chosen (map (λ flag. (flag.0, flag.1.now)) flags.now)) }
     ensures want { IfErr result (λ e. e ≡ Error.OutOfMemory) }
 {
     let mut words = Vec::new(alloc);
