@@ -22,11 +22,11 @@ use std::alloc::Global;
 use std::io::Write;
 use std::ops::Range;
 
-/// What is told of a line that asks nothing.
+/// What is written in answer to a line that asks nothing.
 const NO_QUERY: &[u8] =
     b"no question: stream N [LIMIT] | type S I | id S I | name S O | ranges S A B | fields S I";
 
-/// A row of one field.
+/// Returns a row of one field.
 fn row_of<'t>(alloc: Global, field: Field<'t>) -> Result<Row<'t>>
     ensures ok { IfOk result (λ row. row_shown row ≡ field_shown field.entry ∷ []) }
     ensures want { IfErr result (λ e. e ≡ Error.OutOfMemory) }
@@ -35,14 +35,14 @@ fn row_of<'t>(alloc: Global, field: Field<'t>) -> Result<Row<'t>>
     Ok(Row { fields })
 }
 
-/// A field of a text.
+/// Returns a field that holds a text.
 fn text_field<'t>(name: &'static str, text: &'t [u8]) -> Field<'t>
     ensures { field_shown result ≡ (name.now, shown_text text.now) }
 {
     field(name, Value::Text(RawString::from(text)))
 }
 
-/// The field of a name, if there is one.
+/// Returns the field of a name, which is absent if there is none.
 fn name_field<'t>(name: Option<&'t [u8]>) -> Field<'t>
     ensures { field_shown result ≡ name_field (option_map (λ name. name.now) name.entry) }
 {
@@ -52,7 +52,7 @@ fn name_field<'t>(name: Option<&'t [u8]>) -> Field<'t>
     }
 }
 
-/// A record: its index, its kind and its name, if it has one.
+/// Returns the row of a record: its index, its kind and its name, if it has one.
 fn record_row<'t>(alloc: Global, index: u32, leaf: u16, name: Option<&'t [u8]>) -> Result<Row<'t>>
     ensures ok { IfOk result (λ row. row_shown row ≡
         record_shown index leaf (option_map (λ name. name.now) name.entry)) }
@@ -66,7 +66,7 @@ fn record_row<'t>(alloc: Global, index: u32, leaf: u16, name: Option<&'t [u8]>) 
     Ok(Row { fields })
 }
 
-/// A range: where it starts, and where it ends.
+/// Returns the row of a range: its start and its end.
 fn range_row<'t>(alloc: Global, range: &Range<u32>) -> Result<Row<'t>>
     ensures ok { IfOk result (λ row. row_shown row ≡ range_shown range.now) }
     ensures want { IfErr result (λ e. e ≡ Error.OutOfMemory) }
@@ -123,7 +123,7 @@ fn write_refused<W: Write>(
     write_field(alloc, form, error_field(&text), line, out)
 }
 
-/// Bytes as hexadecimal digits.
+/// Returns bytes as hexadecimal digits.
 fn hexadecimal(alloc: Global, bytes: &[u8]) -> Result<String>
     ensures ok { IfOk result (λ text. string_bytes text ≡ encode_lower bytes.now) }
     ensures want { IfErr result (λ e. e ≡ Error.OutOfMemory) }
@@ -146,7 +146,7 @@ fn write_stream<W: Write>(
     write_field(alloc, Form::Json, field, line, out)
 }
 
-/// Writes the names of fields, a line of JSON each.
+/// Writes the names of fields, each as a line of JSON.
 fn write_names<W: Write>(
     alloc: Global,
     names: &[Option<Vec<u8>>],
@@ -164,7 +164,7 @@ fn write_names<W: Write>(
     Ok(())
 }
 
-/// Writes ranges, a line of JSON each.
+/// Writes ranges, each as a line of JSON.
 fn write_ranges<W: Write>(
     alloc: Global,
     ranges: &[Range<u32>],
@@ -197,7 +197,7 @@ fn write_json<W: Write>(alloc: Global, reply: &Reply, line: &mut Vec<u8>, out: &
     }
 }
 
-/// Writes the lines that the other program prints of a reply.
+/// Writes the lines that the program `pdbq` prints for a reply.
 fn write_lines<W: Write>(alloc: Global, reply: &Reply, out: &mut W) -> Result<()>
     ensures { Writes (reply_lines reply.now) (W.contents out.old) (W.contents out.new) result }
 {
@@ -224,14 +224,14 @@ fn write_reply<W: Write>(
     }
 }
 
-/// What is told of a line that asks nothing, as a field.
+/// Returns the field that answers a line that asks nothing.
 fn unasked_field<'t>() -> Field<'t>
     ensures { field_shown result ≡ (codes "error", shown_text no_query) }
 {
     error_field(NO_QUERY)
 }
 
-/// Writes the lines of an answer: of the reply, or that nothing was asked.
+/// Writes the lines of an answer: those of the reply, or one that says that nothing was asked.
 fn write_answer<W: Write>(
     alloc: Global,
     form: Form,
@@ -247,7 +247,7 @@ fn write_answer<W: Write>(
     }
 }
 
-/// Whether a question is answered, and all others are.
+/// Returns whether a question is answered and, as `all` says, all others are.
 pub(crate) fn is_answered_too(reply: Option<&Reply>, all: bool) -> bool
     ensures { result ≡ (is_answer (option_copied reply.entry) && all) }
 {
@@ -257,7 +257,7 @@ pub(crate) fn is_answered_too(reply: Option<&Reply>, all: bool) -> bool
     }
 }
 
-/// Writes a question, and its answer behind it.
+/// Writes a question, and its answer after it.
 #[tactic(auto, unfolding(crate::specs::Answers::answered_text))]
 pub(crate) fn write_answered<W: Write>(
     alloc: Global,

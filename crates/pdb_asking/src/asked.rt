@@ -1,4 +1,4 @@
-//! A file, and all questions of a text.
+//! Asking a file all questions of a text.
 
 ghost use Rattle.std.specs.Prelude.{◌≡◌, map, IfErr, IfOk};
 ghost use Rattle.pdb_asking.specs.Answers.{answers_text, are_answers, next_reply};
@@ -14,7 +14,7 @@ use pdb_rows::Form;
 use std::alloc::Global;
 use std::io::Write;
 
-/// The queries that questions ask, in order.
+/// Returns the queries that questions ask, in order.
 fn queries_in(alloc: Global, questions: &[Question<'_>]) -> Result<Vec<Query>>
     ensures queries { IfOk result (λ queries. queries.items ≡ queries_in (map asked questions.now)) }
     ensures want { IfErr result (λ e. e ≡ Error.OutOfMemory) }
@@ -26,7 +26,7 @@ fn queries_in(alloc: Global, questions: &[Question<'_>]) -> Result<Vec<Query>>
     Ok(queries)
 }
 
-/// The reply to a question, which one that asks nothing has not, and the replies to the others.
+/// Returns the reply to a question, or None if it asks nothing, and the replies to the others.
 fn next_reply(asks: Option<Query>, replies: &[Reply]) -> (Option<&Reply>, &[Reply])
     ensures reply { option_copied result.0 ≡ (next_reply asks replies.now).0 }
     ensures rest { result.1.now ≡ (next_reply asks replies.now).1 }
@@ -40,8 +40,8 @@ fn next_reply(asks: Option<Query>, replies: &[Reply]) -> (Option<&Reply>, &[Repl
     }
 }
 
-/// Writes each question and its answer behind it, and returns whether all are answered. The replies are
-/// those to the questions that ask something, in order.
+/// Writes each question and its answer after it, and returns whether all are answered. The replies
+/// are those to the questions that ask something, in order.
 fn write_answers<W: Write>(
     alloc: Global,
     form: Form,
@@ -65,15 +65,17 @@ fn write_answers<W: Write>(
     Ok(all)
 }
 
-/// Asks a file the questions of a text, one for each line that is not empty, and writes each line and the
-/// answer behind it. Returns whether all are answered: a question that is refused and a line that asks
-/// nothing are told in place of an answer, and the others are answered all the same.
+/// Asks a file the questions of a text, one for each line that is not empty, and writes each line
+/// and the answer after it. Returns whether all are answered. If a question is refused or a line
+/// asks nothing, a line that says so stands in place of an answer, and the other questions are
+/// answered all the same.
 ///
 /// Each table that is asked about is read and walked along once for all questions.
 ///
 /// # Errors
-/// What `open_msf` refuses of the file, before anything is written. `IoError` if the writer fails, and
-/// `OutOfMemory` if there is no memory for the questions or their answers.
+/// Fails with what `open_msf` refuses of the file, before anything is written; with `IoError` if
+/// the writer fails; and with `OutOfMemory` if there is no memory for the questions or their
+/// answers.
 pub fn ask<W: Write>(
     alloc: Global,
     file: Vec<u8>,

@@ -1,4 +1,4 @@
-//! Many questions about one file, a line each, and the answer to each behind its question.
+//! Many questions about one file, one on each line, and the answer to each after its question.
 #![tactic(auto)]
 
 mod answer;

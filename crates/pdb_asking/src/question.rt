@@ -18,7 +18,7 @@ pub struct Question<'t> {
     pub query: Option<Query>,
 }
 
-/// The lines of a text, but for the empty ones.
+/// Returns the lines of a text, without the empty ones.
 fn lines_of<'t>(alloc: Global, text: &'t [u8]) -> Result<Vec<&'t [u8]>>
     ensures lines { IfOk result (λ lines. map (λ line. line.now) lines.items ≡ lines_of text.now) }
     ensures want { IfErr result (λ e. e ≡ Error.OutOfMemory) }
@@ -30,7 +30,7 @@ fn lines_of<'t>(alloc: Global, text: &'t [u8]) -> Result<Vec<&'t [u8]>>
     Ok(lines)
 }
 
-/// The words of a line, between its blanks.
+/// Returns the words of a line, between its blanks and tabs.
 fn words_of<'t>(alloc: Global, line: &'t [u8]) -> Result<Vec<&'t [u8]>>
     ensures words { IfOk result (λ words. map (λ word. word.now) words.items ≡ words_of line.now) }
     ensures want { IfErr result (λ e. e ≡ Error.OutOfMemory) }
@@ -42,7 +42,7 @@ fn words_of<'t>(alloc: Global, line: &'t [u8]) -> Result<Vec<&'t [u8]>>
     Ok(words)
 }
 
-/// Words as texts, if each is one.
+/// Returns words as texts, or None if one of them isn't UTF-8.
 fn texts_of<'t>(alloc: Global, words: &[&'t [u8]]) -> Result<Option<Vec<&'t str>>>
     ensures texts { IfOk result (λ texts. option_map (λ texts. map (λ text. text.now) texts.items) texts ≡
         texts_of (map (λ word. word.now) words.now)) }
@@ -58,7 +58,7 @@ fn texts_of<'t>(alloc: Global, words: &[&'t [u8]]) -> Result<Option<Vec<&'t str>
     Ok(Some(texts))
 }
 
-/// The query that the words of a line spell, if they spell one.
+/// Returns the query that the words of a line spell, if they spell one.
 #[tactic(auto, unfolding(crate::specs::Questions::query_in))]
 fn query_in(alloc: Global, line: &[u8]) -> Result<Option<Query>>
     ensures query { IfOk result (λ query. query ≡ query_in line.now) }
@@ -71,10 +71,10 @@ fn query_in(alloc: Global, line: &[u8]) -> Result<Option<Query>>
     }
 }
 
-/// The questions of a text, one for each line that is not empty.
+/// Returns the questions of a text, one for each line that is not empty.
 ///
 /// # Errors
-/// `OutOfMemory` if memory is refused.
+/// Fails with `OutOfMemory` if memory is refused.
 #[tactic(auto, unfolding(crate::specs::Questions::questions_in))]
 pub fn questions_in<'t>(alloc: Global, text: &'t [u8]) -> Result<Vec<Question<'t>>>
     ensures questions { IfOk result (λ questions. map asked questions.items ≡ questions_in text.now) }

@@ -15,8 +15,8 @@ use std::marker::Model;
 
 /// A slice of bytes and a position in it, from which fields are read one after another.
 ///
-/// A read that is refused leaves the position where it was; `parse_u8_pascal_string` may have passed
-/// the length.
+/// A read that fails leaves the position where it was, except that `parse_u8_pascal_string` may
+/// have moved it past the length.
 #[derive(Clone, Debug, Drop)]
 pub struct ParseBuffer<'b> {
     slice: &'b [u8],
@@ -42,7 +42,7 @@ impl<'b> From<&'b [u8]> for ParseBuffer<'b> {
     }
 }
 
-/// An empty slice.
+/// The default is a buffer of an empty slice.
 impl<'b> Default for ParseBuffer<'b> {
     ghost is_default = { λ buffer. buffer ≡ record { slice = []; pos = 0 } };
 
@@ -52,14 +52,14 @@ impl<'b> Default for ParseBuffer<'b> {
 }
 
 impl<'b> ParseBuffer<'b> {
-    /// The slice, whatever was read of it.
+    /// Returns the whole slice, however much of it was read.
     pub(crate) fn whole(&self) -> &'b [u8]
         ensures { result.now ≡ self.now.slice }
     {
         self.slice
     }
 
-    /// What is left to read.
+    /// Returns the bytes that are left to read.
     #[inline(always)]
     fn rest(&self) -> &'b [u8]
         ensures { result.now ≡ left self.now }
@@ -67,21 +67,21 @@ impl<'b> ParseBuffer<'b> {
         &self.slice[self.pos..]
     }
 
-    /// How many bytes are left to read.
+    /// Returns how many bytes are left to read.
     pub fn len(&self) -> usize
         ensures { result ≡ length (left self.now) }
     {
         self.slice.len() - self.pos
     }
 
-    /// Whether no byte is left to read.
+    /// Returns whether no bytes are left to read.
     pub fn is_empty(&self) -> bool
         ensures { IsTrue result ↔ (left self.now ≡ []) }
     {
         self.len() == 0
     }
 
-    /// The position: how many bytes of the slice stand before what is left.
+    /// Returns the position, which is the number of bytes of the slice before those that are left.
     pub fn pos(&self) -> usize
         ensures { result ≡ self.now.pos }
     {
@@ -91,7 +91,7 @@ impl<'b> ParseBuffer<'b> {
     /// Takes the next `count` bytes, which borrow from the slice.
     ///
     /// # Errors
-    /// `UnexpectedEof` if fewer are left.
+    /// Returns `UnexpectedEof` if fewer than `count` bytes are left.
     #[inline(always)]
     #[tactic(auto, unfolding(crate::specs::Reading::front_at))]
     pub fn take(&mut self, count: usize) -> Result<&'b [u8]>
@@ -107,17 +107,18 @@ impl<'b> ParseBuffer<'b> {
         Ok(&self.slice[start..start + count])
     }
 
-    /// Goes to a position, to the end where it is past that.
+    /// Moves to a position, or to the end of the slice if the position is past it.
     pub fn seek(&mut self, pos: usize)
         ensures { self.new ≡ record self.old { pos = min pos (length self.old.slice) } }
     {
         self.pos = pos.min(self.slice.len());
     }
 
-    /// Goes forward to the next position that is a multiple of `alignment`; stays at one that is.
+    /// Moves forward to the next position that is a multiple of `alignment`, or stays at one that
+    /// is. The alignment must not be 0.
     ///
     /// # Errors
-    /// `UnexpectedEof` if that is past the end.
+    /// Returns `UnexpectedEof` if that position is past the end of the slice.
     #[tactic(auto, unfolding(crate::specs::Place::aligned), using(crate::proofs::MultipleLemmas::next_multiple))]
     pub fn align(&mut self, alignment: usize) -> Result<()>
         requires { alignment ≢ 0 }
@@ -135,7 +136,7 @@ impl<'b> ParseBuffer<'b> {
     /// Cuts the slice to its first `len` bytes. A position behind them moves to the new end.
     ///
     /// # Errors
-    /// `UnexpectedEof` if the slice has fewer bytes.
+    /// Returns `UnexpectedEof` if the slice has fewer than `len` bytes.
     #[tactic(auto, unfolding(crate::specs::Place::cut))]
     pub fn truncate(&mut self, len: usize) -> Result<()>
         ensures place { Gives (λ _. self.new) result (cut len self.old) }
@@ -149,10 +150,10 @@ impl<'b> ParseBuffer<'b> {
         Ok(())
     }
 
-    /// Reads a value by the rule that the context says.
+    /// Reads a value by the rule that the context gives.
     ///
     /// # Errors
-    /// As `Parse::parse_from` of the value.
+    /// Fails as `Parse::parse_from` of the value does.
     pub fn parse_with<T: Parse<C>, C>(&mut self, context: C) -> Result<T>
         ensures read { Gives (λ value. (value, left self.new)) result (T.reads context (left self.old)) }
         ensures place { StaysWithin self.old self.new }
@@ -163,10 +164,10 @@ impl<'b> ParseBuffer<'b> {
         Ok(value)
     }
 
-    /// Reads a value, the lowest byte of each number first.
+    /// Reads a value, with the lowest byte of each number first (little-endian).
     ///
     /// # Errors
-    /// As `Parse::parse_from` of the value.
+    /// Fails as `Parse::parse_from` of the value does.
     pub fn parse<T: Parse<Le>>(&mut self) -> Result<T>
         ensures read { Gives (λ value. (value, left self.new)) result (T.reads lowest_first (left self.old)) }
         ensures place { StaysWithin self.old self.new }
@@ -178,7 +179,7 @@ impl<'b> ParseBuffer<'b> {
     /// Reads a `u8`.
     ///
     /// # Errors
-    /// `UnexpectedEof` if no byte is left.
+    /// Returns `UnexpectedEof` if no byte is left.
     #[inline(always)]
     #[tactic(auto, unfolding(crate::specs::Reading::number_at, crate::specs::Reading::front_at))]
     pub fn parse_u8(&mut self) -> Result<u8>
@@ -192,7 +193,7 @@ impl<'b> ParseBuffer<'b> {
     /// Reads a `u16`, its lowest byte first.
     ///
     /// # Errors
-    /// `UnexpectedEof` if fewer than two bytes are left.
+    /// Returns `UnexpectedEof` if fewer than two bytes are left.
     #[inline(always)]
     #[tactic(auto, unfolding(crate::specs::Reading::number_at, crate::specs::Reading::front_at))]
     pub fn parse_u16(&mut self) -> Result<u16>
@@ -206,7 +207,7 @@ impl<'b> ParseBuffer<'b> {
     /// Reads a `u32`, its lowest byte first.
     ///
     /// # Errors
-    /// `UnexpectedEof` if fewer than four bytes are left.
+    /// Returns `UnexpectedEof` if fewer than four bytes are left.
     #[inline(always)]
     #[tactic(auto, unfolding(crate::specs::Reading::number_at, crate::specs::Reading::front_at))]
     pub fn parse_u32(&mut self) -> Result<u32>
@@ -220,7 +221,7 @@ impl<'b> ParseBuffer<'b> {
     /// Reads a `u64`, its lowest byte first.
     ///
     /// # Errors
-    /// `UnexpectedEof` if fewer than eight bytes are left.
+    /// Returns `UnexpectedEof` if fewer than eight bytes are left.
     #[inline(always)]
     #[tactic(auto, unfolding(crate::specs::Reading::number_at, crate::specs::Reading::front_at))]
     pub fn parse_u64(&mut self) -> Result<u64>
@@ -234,7 +235,7 @@ impl<'b> ParseBuffer<'b> {
     /// Reads an `i16`, its lowest byte first.
     ///
     /// # Errors
-    /// `UnexpectedEof` if fewer than two bytes are left.
+    /// Returns `UnexpectedEof` if fewer than two bytes are left.
     #[inline(always)]
     #[tactic(auto, unfolding(crate::specs::Reading::signed_at, crate::specs::Reading::number_at, crate::specs::Reading::front_at))]
     pub fn parse_i16(&mut self) -> Result<i16>
@@ -248,7 +249,7 @@ impl<'b> ParseBuffer<'b> {
     /// Reads an `i32`, its lowest byte first.
     ///
     /// # Errors
-    /// `UnexpectedEof` if fewer than four bytes are left.
+    /// Returns `UnexpectedEof` if fewer than four bytes are left.
     #[inline(always)]
     #[tactic(auto, unfolding(crate::specs::Reading::signed_at, crate::specs::Reading::number_at, crate::specs::Reading::front_at))]
     pub fn parse_i32(&mut self) -> Result<i32>
@@ -262,7 +263,7 @@ impl<'b> ParseBuffer<'b> {
     /// Reads an `i64`, its lowest byte first.
     ///
     /// # Errors
-    /// `UnexpectedEof` if fewer than eight bytes are left.
+    /// Returns `UnexpectedEof` if fewer than eight bytes are left.
     #[inline(always)]
     #[tactic(auto, unfolding(crate::specs::Reading::signed_at, crate::specs::Reading::number_at, crate::specs::Reading::front_at))]
     pub fn parse_i64(&mut self) -> Result<i64>
@@ -273,10 +274,10 @@ impl<'b> ParseBuffer<'b> {
         Ok(LittleEndian::read_i64(self.take(8)?))
     }
 
-    /// The next `u8`, without reading it.
+    /// Returns the next `u8` without moving past it.
     ///
     /// # Errors
-    /// `UnexpectedEof` if no byte is left.
+    /// Returns `UnexpectedEof` if no byte is left.
     #[tactic(auto, unfolding(crate::specs::Reading::peeked))]
     pub fn peek_u8(&self) -> Result<u8>
         ensures { Gives (λ number. number) result (peeked 1 (left self.now)) }
@@ -284,10 +285,10 @@ impl<'b> ParseBuffer<'b> {
         ParseBuffer::from(self.rest()).parse_u8()
     }
 
-    /// The next `u16`, its lowest byte first, without reading it.
+    /// Returns the next `u16`, its lowest byte first, without moving past it.
     ///
     /// # Errors
-    /// `UnexpectedEof` if fewer than two bytes are left.
+    /// Returns `UnexpectedEof` if fewer than two bytes are left.
     #[tactic(auto, unfolding(crate::specs::Reading::peeked))]
     pub fn peek_u16(&self) -> Result<u16>
         ensures { Gives (λ number. number) result (peeked 2 (left self.now)) }
@@ -295,10 +296,10 @@ impl<'b> ParseBuffer<'b> {
         ParseBuffer::from(self.rest()).parse_u16()
     }
 
-    /// Reads the text up to the next NUL, and passes by the NUL.
+    /// Reads the text up to the next NUL, and moves past the NUL.
     ///
     /// # Errors
-    /// `UnexpectedEof` if no NUL is left.
+    /// Returns `UnexpectedEof` if no NUL is left.
     #[inline(always)]
     #[tactic(auto, using(crate::proofs::TextLemmas::text_found, crate::proofs::TextLemmas::text_cut))]
     pub fn parse_cstring(&mut self) -> Result<RawString<'b>>
@@ -314,11 +315,11 @@ impl<'b> ParseBuffer<'b> {
         Ok(RawString::from(&rest[..len]))
     }
 
-    /// Reads the text behind a `u8` that says its length.
+    /// Reads the text behind a `u8` that gives its length in bytes.
     ///
     /// # Errors
-    /// `UnexpectedEof` if no byte is left, or fewer than the length says. In the second case the
-    /// position is behind the length.
+    /// Returns `UnexpectedEof` if no byte is left, or if fewer bytes are left behind the length
+    /// than it says. In the second case the position is then behind the length.
     #[inline(always)]
     #[tactic(auto, unfolding(crate::specs::Reading::pascal_text_at))]
     pub fn parse_u8_pascal_string(&mut self) -> Result<RawString<'b>>

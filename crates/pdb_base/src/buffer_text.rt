@@ -7,7 +7,7 @@ ghost use Rattle.pdb_base.specs.BufferText.{escaped, buffer_text};
 use crate::buffer::ParseBuffer;
 use std::fmt;
 
-/// A byte as a literal has it: `\x` and two hexadecimal digits.
+/// A byte that is displayed as in a literal: `\x` and two hexadecimal digits.
 #[derive(Clone, Copy)]
 struct EscapedByte(u8);
 
@@ -21,7 +21,7 @@ impl fmt::Display for EscapedByte {
     }
 }
 
-/// Bytes as a literal has them, one behind the other.
+/// Bytes that are displayed as in a literal, one after the other.
 #[derive(Clone, Copy)]
 struct EscapedBytes<'b>(&'b [u8]);
 
@@ -36,7 +36,7 @@ impl fmt::Display for EscapedBytes<'_> {
     }
 }
 
-/// The bytes of the whole slice as a literal, and the position, as
+/// Displays the bytes of the whole slice as a literal, and the position, as in
 /// `ParseBuf::from("\x01\x02\x03").as_bytes() at offset 1`.
 impl fmt::LowerHex for ParseBuffer<'_> {
     fn fmt<W: fmt::Write>(&self, f: &mut fmt::Formatter<W>) -> fmt::Result

@@ -11,21 +11,21 @@ pub struct Count {
 impl Count {
     ghost use Rattle.pdb_base.specs.Count.{calls_of, one_more};
 
-    /// A count of no calls.
+    /// Returns a count of no calls.
     pub const fn new() -> Self
         ensures { calls_of result ≡ 0 }
     {
         Count { calls: 0 }
     }
 
-    /// How many calls were counted, at most `u64::MAX`.
+    /// Returns how many calls were counted, at most `u64::MAX`.
     pub fn get(&self) -> u64
         ensures { result ≡ calls_of self.now }
     {
         self.calls
     }
 
-    /// Counts one call more. A count of `u64::MAX` stays.
+    /// Counts one more call. A count of `u64::MAX` stays as it is.
     pub fn tick(&mut self)
         ensures { calls_of self.new ≡ one_more (calls_of self.old) }
     {

@@ -1,4 +1,4 @@
-//! Why a call of this library was refused.
+//! The errors of this library.
 
 ghost use Rattle.std.specs.Prelude.{◌≡◌, Some};
 ghost use Rattle.pdb_base.specs.declared.error.Error.TheVariants.{IoError, OutOfMemory};
@@ -8,19 +8,19 @@ ghost use Rattle.pdb_base.specs.ErrorText.{hexadecimal_of_four, text_of};
 use std::alloc::{AllocError, AllocFailed};
 use std::{fmt, io, result};
 
-/// What stands before the text of an `io::Error`, where [`Error::IoError`] is printed.
+/// The text that precedes that of the `io::Error` when an [`Error::IoError`] is printed.
 pub const IO_ERROR_FRONT: &str = "IO error while reading PDB: ";
 
-/// The result of a call that a program database can refuse.
+/// The result of a call that can fail with an [`Error`].
 pub type Result<T> = result::Result<T, Error>;
 
-/// Why a call was refused.
+/// The reason why a call failed.
 ///
-/// Some variants belong to parts of a program database that are read by libraries above this one;
-/// they stand here so that all of them share one type of error.
+/// Some variants belong to parts of a program database that are read by libraries above this one.
+/// They are here so that all of these libraries share one type of error.
 #[derive(Debug, Drop)]
 pub enum Error {
-    /// The file begins with the magic of no known format.
+    /// The file begins with the magic of no known format, or has fewer than 4096 bytes.
     UnrecognizedFileFormat,
 
     /// A page number is 0, or above the number of pages that the header says are used.
@@ -41,7 +41,7 @@ pub enum Error {
     /// The source of the file failed, or ended before the bytes that were asked for.
     IoError(io::Error),
 
-    /// Bytes end before what should stand there does.
+    /// The bytes end before the value that is to be read from them does.
     UnexpectedEof,
 
     /// The file uses a part of the format that this library does not read.
@@ -53,7 +53,7 @@ pub enum Error {
     /// A symbol's length leaves no room for its kind.
     SymbolTooShort,
 
-    /// No symbol of this kind is read.
+    /// The library does not read symbols of this kind.
     UnimplementedSymbolKind(u16),
 
     /// The header of an item table breaks the rule that the text names.
@@ -65,47 +65,47 @@ pub enum Error {
     /// The table has no item of this index.
     TypeNotFound(u32),
 
-    /// The index is not known to the finder yet, which knows those up to the second number.
+    /// The finder does not know this index yet. It knows the indexes up to the second number.
     TypeNotIndexed(u32, u32),
 
-    /// No record of this kind is read.
+    /// The library does not read records of this kind.
     UnimplementedTypeKind(u16),
 
     /// The index does not refer to another module.
     NotACrossModuleRef(u32),
 
-    /// The imports name no such reference to another module.
+    /// The imports have no such reference to another module.
     CrossModuleRefNotFound(u32),
 
-    /// A number begins with a prefix that says no width.
+    /// A number begins with a prefix that announces no width.
     UnexpectedNumericPrefix(u16),
 
     /// The file has no address map.
     AddressMapNotFound,
 
-    /// No debug subsection of this kind is read.
+    /// The library does not read debug subsections of this kind.
     UnimplementedDebugSubsection(u32),
 
-    /// No checksum of this kind is read.
+    /// The library does not read checksums of this kind.
     UnimplementedFileChecksumKind(u8),
 
-    /// No file's checksum stands at this offset.
+    /// No file checksum is at this offset.
     InvalidFileChecksumOffset(u32),
 
     /// The module has no line information.
     LinesNotFound,
 
-    /// A compressed annotation ends early, or spells no number.
+    /// A compressed annotation ends early, or encodes no number.
     InvalidCompressedAnnotation,
 
-    /// No binary annotation of this number is read.
+    /// The library does not read binary annotations of this number.
     UnknownBinaryAnnotation(u32),
 
     /// Memory was asked for and refused.
     OutOfMemory,
 }
 
-/// A number as `0x` and at least four hexadecimal digits.
+/// A number that is displayed as `0x` and at least four hexadecimal digits.
 #[derive(Clone, Copy)]
 struct Hexadecimal(u32);
 

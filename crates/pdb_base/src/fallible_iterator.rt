@@ -1,22 +1,22 @@
-//! Iterators whose every step can be refused.
+//! Iterators of which each step can fail.
 
 ghost use Rattle.std.specs.Prelude.{Option, Result};
 
-/// An iterator whose every step can be refused.
+/// An iterator of which each step can fail.
 pub trait FallibleIterator {
-    /// What a step gives.
+    /// The type of the items.
     type Item;
 
-    /// Why a step is refused.
+    /// The type of the errors.
     type Error;
 
     // Holds of the state before a step, its result, and the state after. Each iterator says which.
     ghost next_gives: { Self → Result (Option Self.Item) Self.Error → Self → Type 0 };
 
-    /// The next item, or None at the end.
+    /// Returns the next item, or None at the end.
     ///
     /// # Errors
-    /// Each iterator says its own.
+    /// Each iterator documents its own errors.
     fn next(&mut self) -> Result<Option<Self::Item>, Self::Error>
         ensures { next_gives self.old result self.new };
 }

@@ -11,34 +11,34 @@ use std::fmt;
 /// The number that stands for no stream.
 const NO_STREAM: u16 = 0xffff;
 
-/// The number of a stream, or none, for which the number 0xffff stands.
+/// The number of a stream, or 0xffff for no stream.
 #[derive(Debug, Clone, Copy, PartialEq, Eq, PartialOrd, Ord, Hash)]
 pub struct StreamIndex(pub u16);
 
 impl StreamIndex {
-    /// The index that names no stream.
+    /// Returns the index that names no stream.
     pub const fn none() -> Self
         ensures { result.0 ≡ no_stream }
     {
         StreamIndex(NO_STREAM)
     }
 
-    /// Whether the index names a stream.
+    /// Returns whether the index names a stream.
     pub fn is_some(self) -> bool
         ensures { IsTrue result ↔ (self.0 ≢ no_stream) }
     {
         self.0 != NO_STREAM
     }
 
-    /// Whether the index names no stream.
+    /// Returns whether the index names no stream.
     pub fn is_none(self) -> bool
         ensures { IsTrue result ↔ (self.0 ≡ no_stream) }
     {
         self.0 == NO_STREAM
     }
 
-    /// The number of the stream as the container counts streams, from 0 to 65,534, or None where the
-    /// index names no stream.
+    /// Returns the number of the stream as the container counts streams, from 0 to 65,534, or None
+    /// if the index names no stream.
     pub fn msf_number(self) -> Option<u32>
         ensures { result ≡ stream_number self.0 }
     {
@@ -50,7 +50,7 @@ impl StreamIndex {
     }
 }
 
-/// The index that names no stream.
+/// The default is the index that names no stream.
 impl Default for StreamIndex {
     ghost is_default = { λ index. index.0 ≡ no_stream };
 
@@ -59,7 +59,7 @@ impl Default for StreamIndex {
     }
 }
 
-/// The number in decimal, or `None`.
+/// Displays the number in decimal, or `None` if the index names no stream.
 impl fmt::Display for StreamIndex {
     ghost output = { λ index. Some (stream_text index.0) };
 
@@ -80,7 +80,7 @@ fn write_index<W: fmt::Write>(number: u32, f: &mut fmt::Formatter<W>) -> fmt::Re
 
 /// The index of a type, printed as a hexadecimal number.
 ///
-/// Where `is_cross_module` holds, the type stands in another module.
+/// If `is_cross_module` holds, the type is in another module.
 #[derive(Clone, Copy, Default, PartialEq, Eq, PartialOrd, Ord, Hash)]
 pub struct TypeIndex(pub u32);
 
@@ -116,10 +116,10 @@ impl fmt::Debug for TypeIndex {
     }
 }
 
-/// The index of an id, which is a function, a string or another item that is no type, printed as a
-/// hexadecimal number.
+/// The index of an id, printed as a hexadecimal number. An id is a function, a string or another
+/// item that is not a type.
 ///
-/// Where `is_cross_module` holds, the id stands in another module.
+/// If `is_cross_module` holds, the id is in another module.
 #[derive(Clone, Copy, Default, PartialEq, Eq, PartialOrd, Ord, Hash)]
 pub struct IdIndex(pub u32);
 
@@ -155,7 +155,7 @@ impl fmt::Debug for IdIndex {
     }
 }
 
-/// The place of a source file in the table of file checksums, in bytes, printed as a hexadecimal
+/// The offset of a source file in the table of file checksums, in bytes, printed as a hexadecimal
 /// number.
 #[derive(Clone, Copy, Default, PartialEq, Eq, PartialOrd, Ord, Hash)]
 pub struct FileIndex(pub u32);
@@ -192,7 +192,7 @@ impl fmt::Debug for FileIndex {
     }
 }
 
-/// The place of a symbol in a stream of symbols, in bytes, printed as a hexadecimal number.
+/// The offset of a symbol in a stream of symbols, in bytes, printed as a hexadecimal number.
 #[derive(Clone, Copy, PartialEq, Eq, PartialOrd, Ord, Hash)]
 pub struct SymbolIndex(pub u32);
 
@@ -248,7 +248,7 @@ impl From<Register> for u16 {
     }
 }
 
-/// An index that has its meaning within one module alone, printed as that index.
+/// An index that has a meaning within one module only, printed as that index.
 #[derive(Debug, Clone, Copy, Default, PartialEq, Eq, PartialOrd, Ord, Hash)]
 pub struct Local<I: ItemIndex>(pub I);
 

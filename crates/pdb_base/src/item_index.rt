@@ -7,8 +7,8 @@ ghost use Rattle.std.proofs.Common.{rules};
 use crate::index::{IdIndex, TypeIndex};
 use std::fmt;
 
-/// An index of an item: it is a `u32` and nothing beside, turns into that number and back, and is
-/// compared as that number.
+/// An index of an item. It holds a `u32` and nothing else, converts into that number and back, and
+/// is compared as that number.
 pub trait ItemIndex: Copy
     + Default
     + fmt::Debug
@@ -20,7 +20,7 @@ pub trait ItemIndex: Copy
     // The number that the index is.
     ghost number: { Self → ℕ };
 
-    /// Whether the item stands in another module: bit 31 of the number is set.
+    /// Returns whether the item is in another module, which is so if bit 31 of the number is set.
     fn is_cross_module(self) -> bool
         ensures { IsTrue result ↔ IsBitSet (number self) 31 }
     {

@@ -1,5 +1,5 @@
-//! What the definitions that contracts cite say in other words. The functions do nothing: each
-//! contract is a law.
+//! Laws that say in other words what the definitions cited by contracts mean. The functions do
+//! nothing: each contract is a law.
 
 ghost use Rattle.std.specs.Prelude.{◌≡◌, ◌≢◌, ◌+◌, ◌-◌, ◌^◌, ◌<◌, min, ℕ, List};
 ghost use Rattle.pdb_base.specs.Answer.{Answer};
@@ -17,21 +17,22 @@ use crate::item_index::ItemIndex;
 
 pub mod derived;
 
-/// Answers in order are all their values, or the refusal of the first of them that refuses.
+/// Answers in order are collected as all their values, or as the refusal of the first one that
+/// refuses.
 pub fn collected<A>()
     ensures all { (answers : List (Answer A)) → CollectsAll answers }
     ensures first { (answers : List (Answer A)) → RefusesAsFirst answers }
 {}
 
-/// A number is read from the front of bytes that begin with its spelling, the lowest byte first, and
-/// from too few bytes none is.
+/// A number is read from the front of bytes that begin with its spelling, the lowest byte first,
+/// and no number is read from too few bytes.
 #[tactic(auto, using(crate::proofs::SpellingLemmas::reads_spelling))]
 pub fn numbers()
     ensures { (width : ℕ) (bytes : List ℕ) → ReadsSpelling width bytes }
 {}
 
-/// What is read of bytes is what a front of them spells, and of any bytes at most one front spells a
-/// value.
+/// The value that is read from bytes is the one that a front of them spells, and at most one front
+/// of any bytes spells a value.
 #[tactic(auto, using(crate::proofs::lemmas::Spelling::numbers, crate::proofs::lemmas::Spelling::signed_numbers, crate::proofs::lemmas::Spelling::texts, crate::proofs::lemmas::Spelling::pascal_texts, crate::proofs::lemmas::Numeric::nums, crate::proofs::lemmas::Numeric::variants))]
 pub fn spellings()
     ensures numbers { (width : ℕ) → ReadsWhatIsSpelled (SpellsNumber width) (number_at width) }
@@ -49,16 +50,16 @@ pub fn fronts()
     ensures { (count : ℕ) (bytes : List ℕ) → front_at count bytes ≡ repeated (number_at 1) count bytes }
 {}
 
-/// A number of variable width is refused by its prefix where that is whole and announces no number,
-/// and else only since the bytes end before the number does.
+/// A number of variable width is refused for its prefix if that is whole and announces no number,
+/// and otherwise only because the bytes end before the number does.
 #[tactic(auto, using(crate::proofs::lemmas::Numeric::num_refusals, crate::proofs::lemmas::Numeric::variant_refusals))]
 pub fn refused_prefixes()
     ensures nums { RefusesPrefixFirst unsigned_leaves num_at }
     ensures variants { RefusesPrefixFirst numeric_leaves variant_at }
 {}
 
-/// A position is aligned to the least multiple of the alignment at or above it, where the slice
-/// reaches that.
+/// A position is aligned to the least multiple of the alignment at or above it, if the slice
+/// reaches that multiple.
 #[tactic(auto, using(crate::proofs::AlignmentLaws::aligns_to_next))]
 pub fn alignment()
     ensures { (alignment : ℕ) (place : Place) → alignment ≢ 0 → AlignsToNext alignment place }
@@ -81,8 +82,8 @@ pub fn digits()
     ensures { (number : ℕ) → IsLeastToHold number (binary_digits number) }
 {}
 
-/// Records of one size that bytes spell are as many as fit, and each is read where the one before it
-/// ends.
+/// Bytes spell as many records of one size as fit into them, and each record is read where the one
+/// before it ends.
 pub fn records<A>()
     ensures { (size : ℕ) (value : List ℕ → A) (bytes : List ℕ) → AreReadInTurn size value bytes }
 {}

@@ -1,5 +1,5 @@
-//! What every part of a program database's reader stands on: errors, a buffer to parse from, numbers,
-//! text and indexes.
+//! The base of a program database's reader: errors, a buffer to parse from, numbers, text and
+//! indexes.
 #![tactic(auto)]
 
 mod buffer;

@@ -13,12 +13,13 @@ use crate::numeric_leaf::{
 use crate::variant::Variant;
 
 impl<'b> ParseBuffer<'b> {
-    /// Reads a number without a sign that has as many bytes as it needs: two where it is below 0x8000,
-    /// and else a prefix of two bytes and what that announces: 0x8000 a `u8`, 0x8002 a `u16`, 0x8004 a
-    /// `u32`, 0x800a a `u64`, as `LF_CHAR`, `LF_USHORT`, `LF_ULONG` and `LF_UQUADWORD` in cvinfo.h.
+    /// Reads a number of variable width without a sign. Two bytes below 0x8000 are the number
+    /// itself. Two bytes from 0x8000 on are a prefix that announces the number behind it: 0x8000
+    /// (`LF_CHAR` in cvinfo.h) a `u8`, 0x8002 (`LF_USHORT`) a `u16`, 0x8004 (`LF_ULONG`) a `u32`,
+    /// and 0x800a (`LF_UQUADWORD`) a `u64`.
     ///
     /// # Errors
-    /// `UnexpectedNumericPrefix` if any other prefix stands there, and `UnexpectedEof` if the
+    /// Returns `UnexpectedNumericPrefix` if there is any other prefix, and `UnexpectedEof` if the
     /// bytes end before the number does.
     #[inline(always)]
     #[tactic(auto, unfolding(crate::specs::Numeric::num_at, crate::specs::Numeric::numeral_at), using(crate::proofs::NumericLemmas::stays))]
@@ -36,13 +37,14 @@ impl<'b> ParseBuffer<'b> {
         number
     }
 
-    /// Reads a number with or without a sign, in the width that its prefix announces: 0x8000 a `u8`,
-    /// 0x8001 an `i16`, 0x8002 a `u16`, 0x8003 an `i32`, 0x8004 a `u32`, 0x8009 an `i64`, 0x800a a
-    /// `u64`, as `LF_CHAR` to `LF_UQUADWORD` in cvinfo.h. A number below 0x8000 is a `U16` and has no
-    /// prefix.
+    /// Reads a number of variable width with or without a sign. Two bytes below 0x8000 are the
+    /// number itself, a `U16`. Two bytes from 0x8000 on are a prefix that announces the number
+    /// behind it: 0x8000 (`LF_CHAR` in cvinfo.h) a `u8`, 0x8001 (`LF_SHORT`) an `i16`, 0x8002
+    /// (`LF_USHORT`) a `u16`, 0x8003 (`LF_LONG`) an `i32`, 0x8004 (`LF_ULONG`) a `u32`, 0x8009
+    /// (`LF_QUADWORD`) an `i64`, and 0x800a (`LF_UQUADWORD`) a `u64`.
     ///
     /// # Errors
-    /// `UnexpectedNumericPrefix` if any other prefix stands there, and `UnexpectedEof` if the
+    /// Returns `UnexpectedNumericPrefix` if there is any other prefix, and `UnexpectedEof` if the
     /// bytes end before the number does.
     #[inline(always)]
     #[tactic(auto, unfolding(crate::specs::Numeric::variant_at, crate::specs::Numeric::numeral_at), using(crate::proofs::NumericLemmas::stays))]
@@ -60,7 +62,8 @@ impl<'b> ParseBuffer<'b> {
         value
     }
 
-    /// The number without a sign that a prefix announces, or the prefix itself.
+    /// Reads the number without a sign that a prefix announces, or returns the prefix itself if it
+    /// is below 0x8000.
     #[inline(always)]
     #[tactic(auto, unfolding(crate::specs::Numeric::numeral_behind))]
     fn num_behind(&mut self, prefix: u16) -> Result<u64>
@@ -81,7 +84,8 @@ impl<'b> ParseBuffer<'b> {
         }
     }
 
-    /// The number that a prefix announces, in its width, or the prefix itself.
+    /// Reads the number that a prefix announces, in its width, or returns the prefix itself if it
+    /// is below 0x8000.
     #[inline(always)]
     #[tactic(auto, unfolding(crate::specs::Numeric::numeral_behind, crate::specs::Reading::signed_at))]
     fn variant_behind(&mut self, prefix: u16) -> Result<Variant>

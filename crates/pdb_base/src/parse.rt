@@ -10,21 +10,21 @@ use crate::buffer::ParseBuffer;
 use crate::error::Result;
 use crate::variant::Variant;
 
-/// The rule that of a number the lowest byte comes first (little-endian).
+/// The rule that the lowest byte of a number comes first (little-endian).
 #[derive(Clone, Copy, Debug, Default, PartialEq, Eq)]
 pub struct Le;
 
-/// A value that is read from the front of bytes, by the rule that a context says.
+/// A value that is read from the front of bytes, by the rule that a context gives.
 pub trait Parse<C>: Sized {
     // What is read of bytes, and what is behind it.
     ghost reads: { C → List ℕ → Answer (Self × List ℕ) };
 
-    /// The value that stands at the front of the bytes, and how many of them it takes: never more
-    /// than there are.
+    /// Returns the value at the front of the bytes and how many of them it takes, which is never
+    /// more than there are.
     ///
     /// # Errors
-    /// `UnexpectedEof` if the bytes end before the value does. Some values have refusals of their
-    /// own.
+    /// Returns `UnexpectedEof` if the bytes end before the value does. Some values have errors of
+    /// their own.
     fn parse_from(bytes: &[u8], context: C) -> Result<(Self, usize)>
         ensures read { Gives (λ read. (read.0, drop read.1 bytes.now)) result (reads context bytes.now) }
         ensures within { IfOk result (λ read. read.1 ≤ length bytes.now) };

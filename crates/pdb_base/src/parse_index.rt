@@ -1,4 +1,4 @@
-//! Indexes as they stand in bytes: a number whose lowest byte comes first.
+//! How indexes are read from bytes: each is a number whose lowest byte comes first.
 
 ghost use Rattle.pdb_base.specs.Reading.{number_at, read_as};
 

@@ -12,37 +12,38 @@ use std::alloc::Global;
 use std::borrow::CowStr;
 use std::fmt;
 
-/// The bytes of a name or another text. Most are UTF-8, and none need be.
+/// The bytes of a name or another text. Most are UTF-8, but none need be.
 #[derive(Clone, Copy, Debug, Default, PartialEq, Eq, PartialOrd, Ord, Hash)]
 pub struct RawString<'b>(&'b [u8]);
 
 impl<'b> RawString<'b> {
-    /// The bytes, without the NUL or the length that stood beside them.
+    /// Returns the bytes of the text, without the NUL or the length that stood beside them.
     pub fn as_bytes(&self) -> &'b [u8]
         ensures { result.now ≡ self.now.0.now }
     {
         self.0
     }
 
-    /// How many bytes there are.
+    /// Returns the number of bytes.
     pub fn len(&self) -> usize
         ensures { result ≡ length self.now.0.now }
     {
         self.0.len()
     }
 
-    /// Whether there is no byte.
+    /// Returns whether the text has no bytes.
     pub fn is_empty(&self) -> bool
         ensures { IsTrue result ↔ (self.now.0.now ≡ []) }
     {
         self.0.is_empty()
     }
 
-    /// The text, with U+FFFD for each run of bytes that is no character. It borrows where the bytes
-    /// are UTF-8, and owns its text where they are not.
+    /// Returns the text, with U+FFFD in place of each invalid sequence of bytes (by substitution of
+    /// maximal subparts). The result borrows if the bytes are UTF-8, and owns its text if they are
+    /// not.
     ///
     /// # Errors
-    /// `OutOfMemory` if the bytes are not UTF-8 and memory is refused.
+    /// Returns `OutOfMemory` if the bytes are not UTF-8 and memory is refused.
     pub fn to_string(&self, alloc: Global) -> Result<CowStr<'b>>
         ensures text { IfOk result (λ text. cow_str_bytes text ≡ lossy self.now.0.now) }
         ensures borrowed { IsUtf8 self.now.0.now → IfOk result (λ text. ¬ IsOwnedStr text) }

@@ -5,10 +5,10 @@ ghost use Rattle.pdb_base.specs.Numeric.{variant_text};
 
 use std::fmt;
 
-/// A number of one of the widths that a numeric leaf can have, as an enumerator's value.
+/// A number of one of the widths that a numeric leaf can have, such as the value of an enumerator.
 ///
-/// `ParseBuffer::parse_variant` reads one. It never reads an `I8`, since the format has no prefix for
-/// that width.
+/// `ParseBuffer::parse_variant` reads one, but never an `I8`: it reads the prefix 0x8000
+/// (`LF_CHAR`), which cvinfo.h gives to a signed char, as that of a `U8`.
 #[derive(Debug, Clone, Copy, PartialEq, Eq)]
 pub enum Variant {
     /// A `u8`.
@@ -36,7 +36,7 @@ pub enum Variant {
     I64(i64),
 }
 
-/// The number in decimal.
+/// Displays the number in decimal.
 impl fmt::Display for Variant {
     ghost output = { λ value. Some (variant_text value) };
 

@@ -1,11 +1,11 @@
-//! The parts of a word that is made of bits. Place 0 is the lowest bit, and above the highest every
-//! bit is 0.
+//! The parts of a word that is made of bits. Place 0 is the lowest bit, and every bit above the
+//! highest one is 0.
 
 ghost use Rattle.std.specs.Prelude.{◌≡◌, ◌<◌, ◌/◌, ◌^◌};
 ghost use Rattle.pdb_bits.specs.Bits.{bits};
 ghost use Rattle.pdb_bits.specs.Parts.{is_set};
 
-/// What is left of a word above the bits below `place`.
+/// Returns a word without the bits below `place`, shifted to the right by `place` bits.
 #[tactic(auto, using(crate::proofs::lemmas::Shifts::shifted_out))]
 fn shifted(word: u32, place: u32) -> u32
     ensures { result ≡ word / 2 ^ place }
@@ -13,7 +13,7 @@ fn shifted(word: u32, place: u32) -> u32
     if place < 32 { word >> place } else { 0 }
 }
 
-/// The number that `count` bits of a word say, from the bit at `place` on.
+/// Returns the number in `count` bits of a word, from the bit at `place` on.
 #[tactic(auto, using(crate::proofs::lemmas::Shifts::shifted_and_masked, crate::proofs::lemmas::Shifts::bits_below, crate::proofs::lemmas::Shifts::bits_of_all))]
 pub fn part(word: u32, place: u32, count: u32) -> u32
     ensures part { result ≡ bits word place count }
@@ -27,7 +27,7 @@ pub fn part(word: u32, place: u32, count: u32) -> u32
     }
 }
 
-/// Whether the bit at `place` of a word is set.
+/// Returns whether the bit at `place` of a word is set.
 pub fn is_set(word: u32, place: u32) -> bool
     ensures { result ≡ is_set word place }
 {

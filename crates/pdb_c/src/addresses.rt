@@ -1,4 +1,4 @@
-//! What an address map makes of addresses and of places in sections.
+//! Conversions of addresses and of places in sections by an address map.
 
 ghost use Rattle.std.specs.Prelude.{◌≡◌, None, Some, IfSome, IfNone};
 ghost use Rattle.std.specs.Option.{option_map};
@@ -17,7 +17,8 @@ use crate::place::Place;
 use pdb_space::{PdbInternalRva, PdbInternalSectionOffset, Rva, SectionOffset};
 use std::alloc::Global;
 
-/// Makes of an address in the image as it is loaded the address in the original from which it was moved.
+/// Converts an address in the image as it is loaded to the address in the original image from which
+/// it was moved.
 #[unsafe(no_mangle)]
 pub extern "C" fn pdb_rva_to_internal_rva(
     alloc: Global,
@@ -52,7 +53,7 @@ pub extern "C" fn pdb_rva_to_internal_rva(
     told.tell(fault)
 }
 
-/// Makes of an address in the image as it is loaded its place in a section of that image.
+/// Converts an address in the image as it is loaded to its place in a section of that image.
 #[unsafe(no_mangle)]
 pub extern "C" fn pdb_rva_to_section_offset(
     alloc: Global,
@@ -85,7 +86,8 @@ pub extern "C" fn pdb_rva_to_section_offset(
     told.tell(fault)
 }
 
-/// Makes of an address in the image as it is loaded its place in a section of the original.
+/// Converts an address in the image as it is loaded to its place in a section of the original
+/// image.
 #[unsafe(no_mangle)]
 pub extern "C" fn pdb_rva_to_internal_offset(
     alloc: Global,
@@ -124,7 +126,8 @@ pub extern "C" fn pdb_rva_to_internal_offset(
     told.tell(fault)
 }
 
-/// Makes of an address in the original image the address in the one that is loaded to which it was moved.
+/// Converts an address in the original image to the address in the image as it is loaded to which
+/// it was moved.
 #[unsafe(no_mangle)]
 pub extern "C" fn pdb_internal_rva_to_rva(
     alloc: Global,
@@ -159,7 +162,8 @@ pub extern "C" fn pdb_internal_rva_to_rva(
     told.tell(fault)
 }
 
-/// Makes of an address in the original image its place in a section of the one that is loaded.
+/// Converts an address in the original image to its place in a section of the image as it is
+/// loaded.
 #[unsafe(no_mangle)]
 pub extern "C" fn pdb_internal_rva_to_section_offset(
     alloc: Global,
@@ -198,7 +202,7 @@ pub extern "C" fn pdb_internal_rva_to_section_offset(
     told.tell(fault)
 }
 
-/// Makes of an address in the original image its place in a section of that image.
+/// Converts an address in the original image to its place in a section of that image.
 #[unsafe(no_mangle)]
 pub extern "C" fn pdb_internal_rva_to_internal_offset(
     alloc: Global,
@@ -231,7 +235,7 @@ pub extern "C" fn pdb_internal_rva_to_internal_offset(
     told.tell(fault)
 }
 
-/// Makes of a place in a section of the image as it is loaded its address in that image.
+/// Converts a place in a section of the image as it is loaded to its address in that image.
 #[unsafe(no_mangle)]
 pub extern "C" fn pdb_section_offset_to_rva(
     alloc: Global,
@@ -265,7 +269,7 @@ pub extern "C" fn pdb_section_offset_to_rva(
     told.tell(fault)
 }
 
-/// Makes of a place in a section of the image as it is loaded its address in the original.
+/// Converts a place in a section of the image as it is loaded to its address in the original image.
 #[unsafe(no_mangle)]
 pub extern "C" fn pdb_section_offset_to_internal_rva(
     alloc: Global,
@@ -306,7 +310,8 @@ pub extern "C" fn pdb_section_offset_to_internal_rva(
     told.tell(fault)
 }
 
-/// Makes of a place in a section of the image as it is loaded its place in a section of the original.
+/// Converts a place in a section of the image as it is loaded to its place in a section of the
+/// original image.
 #[unsafe(no_mangle)]
 pub extern "C" fn pdb_section_offset_to_internal_offset(
     alloc: Global,
@@ -351,7 +356,7 @@ pub extern "C" fn pdb_section_offset_to_internal_offset(
     told.tell(fault)
 }
 
-/// Makes of a place in a section of the original image its address in that image.
+/// Converts a place in a section of the original image to its address in that image.
 #[unsafe(no_mangle)]
 pub extern "C" fn pdb_internal_offset_to_internal_rva(
     alloc: Global,
@@ -385,7 +390,7 @@ pub extern "C" fn pdb_internal_offset_to_internal_rva(
     told.tell(fault)
 }
 
-/// Makes of a place in a section of the original image its address in the one that is loaded.
+/// Converts a place in a section of the original image to its address in the image as it is loaded.
 #[unsafe(no_mangle)]
 pub extern "C" fn pdb_internal_offset_to_rva(
     alloc: Global,
@@ -426,7 +431,8 @@ pub extern "C" fn pdb_internal_offset_to_rva(
     told.tell(fault)
 }
 
-/// Makes of a place in a section of the original image its place in a section of the one that is loaded.
+/// Converts a place in a section of the original image to its place in a section of the image as it
+/// is loaded.
 #[unsafe(no_mangle)]
 pub extern "C" fn pdb_internal_offset_to_section_offset(
     alloc: Global,

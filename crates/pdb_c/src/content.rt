@@ -1,4 +1,4 @@
-//! What can stand behind a handle.
+//! The contents of handles.
 
 use pdb_base::TypeIndex;
 use pdb_frames::FrameTable;
@@ -15,7 +15,8 @@ pub enum Content {
     /// The records of an OMAP table.
     Omap(OMAPTable),
 
-    /// The sections of an image before and after a tool rearranged it, and the tables that lead across.
+    /// The sections of an image before and after a tool rearranged it, and the tables that lead
+    /// from one to the other.
     Addresses(AddressMap),
 
     /// The frames of a program.

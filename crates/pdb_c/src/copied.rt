@@ -9,7 +9,8 @@ use crate::fault::{FINE, Fault, TOO_SMALL};
 use pdb_base::Result;
 use pdb_msf::Stream;
 
-/// Copies items to the front of a caller's array, and says how many they are.
+/// Copies items to the front of a caller's array and sets `length` to their number. If the array
+/// has no room for all of them, none is copied.
 pub fn copy_out<T: Copy>(items: &[T], room: &mut [T], length: &mut usize) -> Fault
     ensures { record { fault = result; length = length.new; room = room.new } ≡ written room.old items.now }
 {
@@ -21,8 +22,8 @@ pub fn copy_out<T: Copy>(items: &[T], room: &mut [T], length: &mut usize) -> Fau
     Fault::status(FINE)
 }
 
-/// Copies rows and the bytes of their names to the fronts of two arrays of the caller's, where both have
-/// room for all of them, and says how many they are.
+/// Copies rows and the bytes of their names to the fronts of two arrays of the caller, if both have
+/// room for all of them, and sets `count` and `size` to their numbers.
 pub fn copy_both<T: Copy>(
     items: &[T],
     bytes: &[u8],
@@ -44,7 +45,7 @@ pub fn copy_both<T: Copy>(
     Fault::status(FINE)
 }
 
-/// Writes nothing.
+/// Sets `length` to 0 and returns the fault.
 pub fn copy_nothing(fault: Fault, length: &mut usize) -> Fault
     ensures fault { result ≡ fault }
     ensures length { length.new ≡ 0 }
@@ -53,7 +54,7 @@ pub fn copy_nothing(fault: Fault, length: &mut usize) -> Fault
     fault
 }
 
-/// Copies the bytes of a stream, or tells why there is none.
+/// Copies the bytes of a stream to the caller's array, or returns the fault of the error.
 pub fn copy_stream(answer: Result<Stream>, room: &mut [u8], length: &mut usize) -> Fault
     ensures { (meant : Answer (List ℕ)) → Answers (λ stream. stream) answer meant
         → CopiesOrLacks (record { fault = result; length = length.new; room = room.new }) room.old

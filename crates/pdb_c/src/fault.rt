@@ -2,22 +2,23 @@
 
 ghost use Rattle.std.specs.Prelude.{◌≡◌};
 
-/// How a call ended. A status of 0 says that it did what it says; 1 to 28 that the library refused, each
-/// for its own reason; and the numbers from 100 on that the caller misused it.
+/// How a call ended. A status of 0 means success; one from 1 to 28 means that the library refused,
+/// each for its own reason; and those from 100 on mean that the caller misused it or that nothing
+/// was found.
 #[repr(C)]
 #[derive(Clone, Copy)]
 pub struct Fault {
     /// The status.
     pub status: u32,
-    /// The number that the refusal names, such as a page, a stream, an index or a kind, or that of its
-    /// text; else 0.
+    /// The number that the error names, such as a page, a stream, an index or a kind, or the number
+    /// of its text; or else 0.
     pub first: u32,
-    /// The second number, where the refusal names two; else 0.
+    /// The second number if the error names two, or else 0.
     pub second: u32,
 }
 
 impl Fault {
-    /// A status that names no number.
+    /// Returns a fault of a status that names no number.
     pub const fn status(status: u32) -> Fault
         ensures { result ≡ record { status = status; first = 0; second = 0 } }
     {
@@ -28,7 +29,7 @@ impl Fault {
         }
     }
 
-    /// Tells how a call ended, and gives the status.
+    /// Writes for the caller how a call ended, and returns the status.
     pub fn tell(self, fault: &mut Fault) -> u32
         ensures told { fault.new ≡ self }
         ensures status { result ≡ self.status }
@@ -44,17 +45,17 @@ pub const FINE: u32 = 0;
 /// The handle holds something already.
 pub const ALREADY_OPEN: u32 = 100;
 
-/// The handle holds nothing of what the call asks of.
+/// The handle holds nothing of the kind that the call needs.
 pub const NOT_OPEN: u32 = 101;
 
 /// The caller's array has no room for the answer.
 pub const TOO_SMALL: u32 = 102;
 
-/// The caller's stream has more bytes than a stream can.
+/// The caller's stream has more bytes than a stream can have.
 pub const TOO_LONG: u32 = 103;
 
-/// The caller's fault is none that a call tells, or has no text of the library.
+/// The caller's fault isn't one that a call returns, or the library has no text for it.
 pub const NO_TEXT: u32 = 104;
 
-/// What is asked for is nowhere.
+/// What is asked for was not found.
 pub const NOWHERE: u32 = 105;

@@ -24,7 +24,7 @@ use std::alloc::Global;
 pub struct FieldRow {
     /// The numbers.
     pub row: Row,
-    /// How many bytes its name has, 0 where it has none.
+    /// The length of its name in bytes, 0 if it has none.
     pub name_length: usize,
     /// Whether it has a name, as 0 or 1.
     pub has_name: u32,
@@ -37,7 +37,7 @@ pub struct Listing {
     names: Vec<u8>,
 }
 
-/// The bytes of a field's name.
+/// Returns the bytes of a field's name, none if it has no name.
 fn name_bytes<'t>(field: &TypeData<'t>) -> &'t [u8]
     ensures { result.now ≡ name_bytes (type_value field.now) }
 {
@@ -47,7 +47,7 @@ fn name_bytes<'t>(field: &TypeData<'t>) -> &'t [u8]
     }
 }
 
-/// A field for the caller.
+/// Returns the row of a field for the caller.
 fn field_row(field: &TypeData<'_>) -> FieldRow
     ensures { result ≡ field_row (type_value field.now) }
 {
@@ -58,7 +58,7 @@ fn field_row(field: &TypeData<'_>) -> FieldRow
     }
 }
 
-/// Fields, and their names one behind another.
+/// Collects the rows of fields, and their names one after another.
 fn shown(alloc: Global, fields: &[TypeData<'_>]) -> Result<Listing>
     ensures rows { IfOk result (λ shown. shown.rows.items ≡ map (λ field. field_row (type_value field)) fields.now) }
     ensures names { IfOk result (λ shown. shown.names.items ≡
@@ -74,7 +74,7 @@ fn shown(alloc: Global, fields: &[TypeData<'_>]) -> Result<Listing>
     Ok(Listing { rows, names })
 }
 
-/// Writes rows and names to the fronts of the caller's arrays, where both have room for all of them.
+/// Writes rows and names to the fronts of the caller's arrays, if both have room for all of them.
 fn write_listing(
     listing: &Listing,
     rows: &mut [FieldRow],
@@ -88,7 +88,7 @@ fn write_listing(
     copy_both(&listing.rows, &listing.names, rows, count, names, size)
 }
 
-/// Writes no field.
+/// Sets `count` and `size` to 0 and returns the fault.
 pub fn write_nothing(fault: Fault, count: &mut usize, size: &mut usize) -> Fault
     ensures fault { result ≡ fault }
     ensures count { count.new ≡ 0 }
@@ -99,7 +99,7 @@ pub fn write_nothing(fault: Fault, count: &mut usize, size: &mut usize) -> Fault
     fault
 }
 
-/// The fields that a type lists, for the caller, if it is a list of fields.
+/// Returns the fields that a type lists, for the caller, or None if it isn't a list of fields.
 #[tactic(auto, using(pdb_values::proofs::lemmas::Fields::listed))]
 fn listing_of(alloc: Global, value: &TypeData<'_>) -> Result<Option<Listing>>
     ensures { Answers (option_map listing_view) result (listings (Ok (fields_in (type_value value.now)))) }
@@ -110,7 +110,7 @@ fn listing_of(alloc: Global, value: &TypeData<'_>) -> Result<Option<Listing>>
     }
 }
 
-/// All fields that were found, for the caller.
+/// Returns all fields that were found, for the caller.
 pub fn listing_found(alloc: Global, found: Result<Vec<TypeData<'_>>>) -> Result<Option<Listing>>
     ensures { (meant : Answer (List TypeValue)) → Answers (λ fields. map type_value fields.items) found.entry meant
         → Answers (option_map listing_view) result (listings (all_found meant)) }
@@ -118,7 +118,7 @@ pub fn listing_found(alloc: Global, found: Result<Vec<TypeData<'_>>>) -> Result<
     Ok(Some(shown(alloc, &found?)?))
 }
 
-/// Writes fields, if there is a list of them.
+/// Writes the fields of a list, or nothing if there is no list of fields or it is refused.
 pub fn write_found(
     found: Result<Option<Listing>>,
     rows: &mut [FieldRow],
@@ -143,7 +143,8 @@ pub fn write_found(
     }
 }
 
-/// The fields that a record lists, for the caller, if it is a list of fields.
+/// Parses a record and returns the fields that it lists, for the caller, or None if it isn't a list
+/// of fields.
 fn fields_of(alloc: Global, bytes: &[u8], index: u32) -> Result<Option<Listing>>
     ensures { Answers (option_map listing_view) result (listings (fields_of_record index bytes.now)) }
 {
@@ -151,8 +152,8 @@ fn fields_of(alloc: Global, bytes: &[u8], index: u32) -> Result<Option<Listing>>
     listing_of(alloc, &value)
 }
 
-/// Writes the fields that the record of a list of fields has, and the bytes of their names, one name
-/// behind another.
+/// Writes the fields in the record of a list of fields, and the bytes of their names, one name
+/// after another.
 #[unsafe(no_mangle)]
 pub extern "C" fn pdb_type_fields(
     alloc: Global,

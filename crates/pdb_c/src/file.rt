@@ -1,4 +1,4 @@
-//! What a file of the caller's says, by the roles and names of its streams.
+//! The parts of a caller's file that are found by the roles and names of its streams.
 
 ghost use Rattle.std.specs.Prelude.{◌≡◌, IfOk};
 ghost use Rattle.pdb_base.specs.Answer.{Answers};
@@ -24,7 +24,7 @@ pub fn opened<'f>(alloc: Global, file: &'f [u8]) -> Result<BigMSF<&'f [u8]>>
     open_msf(alloc, file)
 }
 
-/// The bytes of the first stream of a name.
+/// Reads the first stream with this name.
 fn named_stream_in(alloc: Global, file: &[u8], name: &[u8]) -> Result<Stream>
     ensures { Answers (λ stream. stream) result (named_stream_said name.now file.now) }
 {
@@ -32,7 +32,7 @@ fn named_stream_in(alloc: Global, file: &[u8], name: &[u8]) -> Result<Stream>
     named_stream(alloc, &mut file, name)
 }
 
-/// Copies the bytes of the first stream of a name into the caller's array.
+/// Copies the bytes of the first stream with this name into the caller's array.
 #[unsafe(no_mangle)]
 pub extern "C" fn pdb_file_named_stream(
     alloc: Global,
@@ -50,7 +50,7 @@ pub extern "C" fn pdb_file_named_stream(
     copy_stream(stream, room, length).tell(fault)
 }
 
-/// The string table of a file.
+/// Reads the string table of a file.
 fn names_in(alloc: Global, file: &[u8]) -> Result<Content>
     ensures { Answers (λ content. content) result (names_said file.now) }
 {
@@ -76,7 +76,7 @@ pub extern "C" fn pdb_file_names(
     names.open(alloc, opened).tell(fault)
 }
 
-/// The address map of a file.
+/// Reads the address map of a file.
 fn addresses_in(alloc: Global, file: &[u8]) -> Result<Content>
     ensures { Answers (λ content. content) result (addresses_said file.now) }
 {
@@ -102,7 +102,7 @@ pub extern "C" fn pdb_file_addresses(
     addresses.open(alloc, opened).tell(fault)
 }
 
-/// The frame table of a file.
+/// Reads the frame table of a file.
 fn frames_in(alloc: Global, file: &[u8]) -> Result<Content>
     ensures { Answers (λ content. content) result (frames_said file.now) }
 {

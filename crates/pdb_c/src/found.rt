@@ -1,4 +1,4 @@
-//! Numbers that may be nowhere or refused.
+//! Values that may be missing or refused.
 
 ghost use Rattle.std.specs.Prelude.{◌≡◌};
 ghost use Rattle.pdb_base.specs.Answer.{Answer, Gives};
@@ -7,7 +7,7 @@ ghost use Rattle.pdb_c.specs.Found.{answered, found};
 use crate::fault::{FINE, Fault, NOWHERE};
 use pdb_base::Result;
 
-/// Writes a number that was found, or tells that there is none.
+/// Writes a value that was found, or returns a fault of status `NOWHERE` if there is none.
 pub fn tell_found<T: Copy>(answer: Option<T>, value: &mut T) -> Fault
     ensures { record { fault = result; value = value.new } ≡ found value.old answer }
 {
@@ -20,7 +20,7 @@ pub fn tell_found<T: Copy>(answer: Option<T>, value: &mut T) -> Fault
     }
 }
 
-/// Writes a number that was answered, or tells its refusal.
+/// Writes the value of an answer, or returns the fault of its error.
 pub fn tell_answered<T: Copy>(answer: Result<T>, value: &mut T) -> Fault
     ensures { (meant : Answer T) → Gives (λ number. number) answer meant
         → record { fault = result; value = value.new } ≡ answered value.old meant }

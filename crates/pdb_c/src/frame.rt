@@ -6,7 +6,7 @@ ghost use Rattle.pdb_c.specs.Frame.{flag, frame_of};
 
 use pdb_frames::{FrameData, FrameType};
 
-/// What a stack walker needs to know of the frame that code has. Each test is 0 or 1.
+/// What a stack walker needs to know of the frame of some code. Each flag is 0 or 1.
 #[repr(C)]
 #[derive(Clone, Copy)]
 pub struct Frame {
@@ -26,7 +26,7 @@ pub struct Frame {
     pub saved_regs_size: u32,
     /// Whether the record says how many bytes the code pushes on the stack at most.
     pub has_max_stack_size: u32,
-    /// How many these are, or 0.
+    /// The number of these bytes, or 0.
     pub max_stack_size: u32,
     /// Whether the code handles structured exceptions.
     pub has_structured_eh: u32,
@@ -42,7 +42,7 @@ pub struct Frame {
     pub program: u32,
 }
 
-/// The number of a kind of frame.
+/// Returns the number of a kind of frame.
 fn kind_number(kind: FrameType) -> u32
     ensures { result ≡ kind_number kind }
 {
@@ -56,7 +56,7 @@ fn kind_number(kind: FrameType) -> u32
     }
 }
 
-/// A test as a number.
+/// Returns 1 for true and 0 for false.
 pub fn flag(test: bool) -> u32
     ensures { result ≡ flag test }
 {
@@ -64,7 +64,7 @@ pub fn flag(test: bool) -> u32
 }
 
 impl Frame {
-    /// A frame for the caller.
+    /// Converts a frame for the caller.
     pub fn of(frame: &FrameData) -> Frame
         ensures { result ≡ frame_of frame.now }
     {

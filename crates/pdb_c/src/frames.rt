@@ -18,7 +18,7 @@ use pdb_frames::FrameTable;
 use pdb_space::PdbInternalRva;
 use std::alloc::Global;
 
-/// The first frame of a table from an address on.
+/// Returns the first frame of a table from an address on.
 fn first_from(table: &FrameTable, address: u32) -> Option<Frame>
     ensures exact { StartsIncrease table.now →
         result ≡ option_map frame_of (slice_get (merge_from address table.now) 0) }
@@ -35,7 +35,8 @@ fn first_from(table: &FrameTable, address: u32) -> Option<Frame>
     }
 }
 
-/// Gives the frame at an address of the original image: the first from there on.
+/// Writes the frame at an address of the original image: the first that `FrameTable::iter_at_rva`
+/// yields.
 #[unsafe(no_mangle)]
 pub extern "C" fn pdb_frames_at(
     alloc: Global,

@@ -13,7 +13,7 @@ use pdb_base::{Error, Result};
 use std::alloc::Global;
 use std::mem::replace;
 
-/// What a caller keeps of what it opened. All zero, it holds nothing.
+/// A handle to what a caller opened. If it is all zero, it holds nothing.
 #[repr(C)]
 pub struct Handle {
     pub held: Held,
@@ -21,7 +21,7 @@ pub struct Handle {
     ghost agrees: { kind ≡ kind_of held.content },
 }
 
-/// The number of a content.
+/// Returns the number of a content's kind.
 fn kind_of(content: &Content) -> u32
     ensures { result ≡ kind_of (Some content.now) }
 {
@@ -36,7 +36,7 @@ fn kind_of(content: &Content) -> u32
 }
 
 impl Handle {
-    /// A handle that holds nothing.
+    /// Returns a handle that holds nothing.
     pub fn closed(alloc: Global) -> Handle
         ensures { result.held.content ≡ None }
     {
@@ -46,7 +46,7 @@ impl Handle {
         }
     }
 
-    /// What the handle holds, which holds nothing afterwards.
+    /// Takes what the handle holds out of it, if it holds anything. It holds nothing afterwards.
     pub fn take(&mut self, alloc: Global) -> Option<Box<Content>>
         ensures taken { option_map (λ content. content.value) result ≡ self.old.held.content }
         ensures closed { self.new.held.content ≡ None }
@@ -59,7 +59,7 @@ impl Handle {
         Some(held.into_content())
     }
 
-    /// Has a handle that holds nothing hold this content.
+    /// Puts a content into a handle that holds nothing.
     pub fn put(&mut self, content: Box<Content>)
         requires { self.old.held.content ≡ None }
         ensures { self.new.held.content ≡ Some content.value }
@@ -70,7 +70,7 @@ impl Handle {
         held.end();
     }
 
-    /// Has a handle that holds nothing hold what was opened, if it was.
+    /// Puts what was opened into a handle that holds nothing, or returns the fault of the error.
     pub fn open(&mut self, alloc: Global, opened: Result<Content>) -> Fault
         requires { self.old.held.content ≡ None }
         ensures { (meant : Answer Content) → Answers (λ content. content) opened meant
@@ -89,7 +89,7 @@ impl Handle {
         }
     }
 
-    /// Whether the handle holds something.
+    /// Returns whether the handle holds something.
     pub fn is_open(&self) -> bool
         ensures { result ≡ is_some self.now.held.content }
     {

@@ -28,7 +28,7 @@ impl Model for Held {
 }
 
 impl Held {
-    /// Nothing.
+    /// Returns a pointer to nothing.
     pub fn nothing(alloc: Global) -> Held
         ensures { result.content ≡ None }
     {
@@ -38,13 +38,14 @@ impl Held {
         }
     }
 
-    /// Ends what holds nothing.
+    /// Ends a pointer that holds nothing.
     pub fn end(self)
         requires { self.content ≡ None }
     {
         let Held { ptr: _, alloc: _ } = self;
     }
 
+    /// Returns a pointer that owns the content of a box, from the parts of the box.
     fn of_parts(parts: Parts<Content, Global>) -> Held
         ensures { result.content ≡ Some parts.value }
     {
@@ -55,6 +56,7 @@ impl Held {
         }
     }
 
+    /// Returns the parts of the box of the content.
     fn into_parts(self) -> Parts<Content, Global>
         requires { IsSome self.content }
         ensures { self.content ≡ Some result.value }
@@ -66,14 +68,14 @@ impl Held {
         }
     }
 
-    /// What holds this content.
+    /// Returns a pointer that owns this content.
     pub fn of(content: Box<Content>) -> Held
         ensures { result.content ≡ Some content.value }
     {
         Held::of_parts(Parts::of(content))
     }
 
-    /// The content.
+    /// Returns the content that the pointer owns.
     pub fn into_content(self) -> Box<Content>
         requires { IsSome self.content }
         ensures { self.content ≡ Some result.value }

@@ -20,7 +20,7 @@ use pdb_records::parse_id_data;
 use pdb_values::{IdData, UserDefinedTypeSourceFileRef, UserDefinedTypeSourceId};
 use std::alloc::Global;
 
-/// The id that a record says.
+/// Parses the record of an id.
 #[tactic(auto, unfolding(pdb_tpi::specs::Record::id_of))]
 fn id_at<'t>(alloc: Global, bytes: &'t [u8]) -> Result<IdData<'t>>
     ensures { Answers id_value result (id_of bytes.now) }
@@ -28,7 +28,7 @@ fn id_at<'t>(alloc: Global, bytes: &'t [u8]) -> Result<IdData<'t>>
     parse_id_data(alloc, bytes)
 }
 
-/// The number of an index that may be none.
+/// Returns the number of an index, if there is one.
 fn id_in(index: Option<IdIndex>) -> Option<u32>
     ensures { result ≡ id_in index }
 {
@@ -38,7 +38,7 @@ fn id_in(index: Option<IdIndex>) -> Option<u32>
     }
 }
 
-/// The numbers of the place where a type is declared.
+/// Returns the numbers of the place where a type is declared.
 fn source_numbers(source: &UserDefinedTypeSourceId) -> Numbers
     ensures { result ≡ source_numbers source.now.udt.0 source.now.line source.now.source_file }
 {
@@ -59,7 +59,7 @@ fn source_numbers(source: &UserDefinedTypeSourceId) -> Numbers
     }
 }
 
-/// The numbers of an id.
+/// Returns the numbers of an id.
 fn id_numbers(value: &IdData<'_>) -> Numbers
     ensures { result ≡ id_numbers (id_value value.now) }
 {
@@ -84,7 +84,7 @@ fn id_numbers(value: &IdData<'_>) -> Numbers
     }
 }
 
-/// The number of an id's shape.
+/// Returns the number of an id's shape.
 fn id_shape(value: &IdData<'_>) -> u32
     ensures { result ≡ id_shape (id_value value.now) }
 {
@@ -98,7 +98,7 @@ fn id_shape(value: &IdData<'_>) -> u32
     }
 }
 
-/// Writes the numbers that the record of an id says.
+/// Writes the numbers in the record of an id.
 #[unsafe(no_mangle)]
 pub extern "C" fn pdb_id_row(alloc: Global, bytes: &[u8], row: &mut Row, fault: &mut Fault) -> u32
     ensures answer { IsAnswered (λ value. id_row value) (id_of bytes.now) row.old fault.new row.new }
@@ -113,7 +113,7 @@ pub extern "C" fn pdb_id_row(alloc: Global, bytes: &[u8], row: &mut Row, fault: 
     }
 }
 
-/// The name of a function, a method or a text. No other id has one.
+/// Returns the name of a function, a method or a text. No other id has one.
 fn name_in<'t>(value: &IdData<'t>) -> Option<RawString<'t>>
     ensures { option_map text_bytes result ≡ id_name (id_value value.now) }
 {
@@ -125,7 +125,7 @@ fn name_in<'t>(value: &IdData<'t>) -> Option<RawString<'t>>
     }
 }
 
-/// Copies the name that the record of an id says.
+/// Copies the name in the record of an id.
 #[unsafe(no_mangle)]
 pub extern "C" fn pdb_id_name(
     alloc: Global,
@@ -148,7 +148,7 @@ pub extern "C" fn pdb_id_name(
     }
 }
 
-/// The numbers of the indexes of ids.
+/// Returns the numbers of id indexes.
 fn id_numbers_of(alloc: Global, indexes: &[IdIndex]) -> Result<Vec<u32>>
     ensures { Answers (λ numbers. numbers.items) result (Ok (map (λ index. index.0) indexes.now)) }
 {
@@ -159,7 +159,7 @@ fn id_numbers_of(alloc: Global, indexes: &[IdIndex]) -> Result<Vec<u32>>
     Ok(numbers)
 }
 
-/// The indexes that an id lists, if it is a list.
+/// Returns the indexes that an id lists, or None if it isn't a list.
 fn list_in(alloc: Global, value: &IdData<'_>) -> Result<Option<Vec<u32>>>
     ensures { Answers (option_map (λ list. list.items)) result (Ok (list_in (id_value value.now))) }
 {
@@ -170,7 +170,7 @@ fn list_in(alloc: Global, value: &IdData<'_>) -> Result<Option<Vec<u32>>>
     }
 }
 
-/// The indexes that the record of an id lists.
+/// Parses the record of an id and returns the indexes that it lists, or None if it isn't a list.
 fn list_of(alloc: Global, bytes: &[u8]) -> Result<Option<Vec<u32>>>
     ensures { Answers (option_map (λ list. list.items)) result (id_list_of bytes.now) }
 {
@@ -178,8 +178,8 @@ fn list_of(alloc: Global, bytes: &[u8]) -> Result<Option<Vec<u32>>>
     list_in(alloc, &value)
 }
 
-/// Copies the indexes that the record of an id lists: those of the ids of which a module was built, or of
-/// the parts of a text.
+/// Copies the indexes that the record of an id lists: those of the ids of a module's build
+/// information, or of the parts of a text.
 #[unsafe(no_mangle)]
 pub extern "C" fn pdb_id_list(
     alloc: Global,

@@ -1,4 +1,5 @@
-//! What stream 1 says of a file: the numbers by which it is told from others, and the streams that it names.
+//! The information in stream 1 of a file: the numbers that identify it, and the streams that it
+//! names.
 
 ghost use Rattle.std.specs.Prelude.{◌≡◌, map, IfOk, IfErr};
 ghost use Rattle.std.specs.List.{flat_map};
@@ -16,17 +17,17 @@ use pdb_base::{Error, Result};
 use pdb_roles::{PDBInformation, StreamName, StreamNames, pdb_information};
 use std::alloc::Global;
 
-/// The numbers by which a file is told from others.
+/// The numbers that identify a file.
 #[repr(C)]
 #[derive(Clone, Copy)]
 pub struct Information {
-    /// The version of the format, as 20000404 for version 7.
+    /// The version of the format, such as 20000404 for version 7.
     pub version: u32,
     /// The time at which the file was made, in seconds since 1970.
     pub signature: u32,
     /// How often the file was written.
     pub age: u32,
-    /// The sixteen bytes by which this file is told from all others, as they stand.
+    /// The sixteen bytes that identify this file among all others, as they stand in it.
     pub guid: [u8; 16],
 }
 
@@ -34,9 +35,9 @@ pub struct Information {
 #[repr(C)]
 #[derive(Clone, Copy)]
 pub struct NamedStream {
-    /// How many bytes its name has.
+    /// The length of its name in bytes.
     pub name_length: usize,
-    /// Its number, or 0xffff where the file names none.
+    /// Its number, or 0xffff if the file names none.
     pub number: u32,
 }
 
@@ -48,7 +49,7 @@ struct NameListing {
 }
 
 impl Information {
-    /// The numbers for the caller.
+    /// Converts the numbers for the caller.
     pub fn of(said: &PDBInformation) -> Information
         ensures { result ≡ information_of said.now }
     {
@@ -61,7 +62,7 @@ impl Information {
     }
 }
 
-/// What stream 1 says.
+/// Reads the information in stream 1.
 fn information_in(alloc: Global, file: &[u8]) -> Result<PDBInformation>
     ensures { Answers (λ information. information) result (information_said file.now) }
 {
@@ -69,7 +70,7 @@ fn information_in(alloc: Global, file: &[u8]) -> Result<PDBInformation>
     pdb_information(alloc, &mut file)
 }
 
-/// Writes the numbers by which a file is told from others.
+/// Writes the numbers that identify a file.
 #[unsafe(no_mangle)]
 pub extern "C" fn pdb_file_information(
     alloc: Global,
@@ -89,7 +90,7 @@ pub extern "C" fn pdb_file_information(
     }
 }
 
-/// A stream for the caller.
+/// Returns the row of a named stream, for the caller.
 fn named_row(named: &StreamName<'_>) -> NamedStream
     ensures { result ≡ named_row (named_view named.now) }
 {
@@ -99,7 +100,7 @@ fn named_row(named: &StreamName<'_>) -> NamedStream
     }
 }
 
-/// Streams for the caller, and their names one behind another.
+/// Collects the rows of named streams for the caller, and their names one after another.
 fn listed(alloc: Global, streams: &[StreamName<'_>]) -> Result<NameListing>
     ensures rows { IfOk result (λ listed. listed.rows.items ≡ map (λ named. named_row (named_view named)) streams.now) }
     ensures names { IfOk result (λ listed. listed.names.items ≡
@@ -115,7 +116,7 @@ fn listed(alloc: Global, streams: &[StreamName<'_>]) -> Result<NameListing>
     Ok(NameListing { rows, names })
 }
 
-/// The same of all streams that a file names.
+/// Collects the rows and names of all streams that a file names.
 fn listing_of(alloc: Global, streams: &StreamNames<'_>) -> Result<NameListing>
     ensures rows { IfOk result (λ listed. listed.rows.items ≡ map named_row streams.now) }
     ensures names { IfOk result (λ listed. listed.names.items ≡ flat_map (λ named. named.name) streams.now) }
@@ -150,8 +151,8 @@ fn write_named(
     }
 }
 
-/// Writes the streams that a file names, in the order in which it lists them, and the bytes of their
-/// names, one name behind another.
+/// Writes the streams that a file names, in the order in which it lists them, and the bytes of
+/// their names, one name after another.
 #[unsafe(no_mangle)]
 pub extern "C" fn pdb_file_stream_names(
     alloc: Global,

@@ -13,7 +13,8 @@ pub fn statuses()
     ensures back { (fault : Fault) (refusal : Refusal) → TellsBack fault refusal }
 {}
 
-/// Over the bytes of which a plan is kept, its streams are those of the file, read anew.
+/// If the plan of a file is kept, each stream read by it from the file's bytes is the one that is
+/// read from the file anew.
 pub fn kept_plans()
     ensures { (file : List ℕ) (plan : Plan) (number limit : ℕ) → plan_of file ≡ Ok plan
         → stream_by plan file number (Some limit) ≡ stream_said number limit file }

@@ -17,7 +17,7 @@ use pdb_base::{RawString, Result};
 use pdb_values::{MethodListEntry, TypeData};
 use std::alloc::Global;
 
-/// A method of a list for the caller.
+/// Returns the row of a method in a list, for the caller.
 fn method_row(method: &MethodListEntry) -> Row
     ensures { result ≡ method_row method.now }
 {
@@ -32,7 +32,7 @@ fn method_row(method: &MethodListEntry) -> Row
     )
 }
 
-/// Methods for the caller.
+/// Returns the rows of methods, for the caller.
 fn method_rows(alloc: Global, methods: &[MethodListEntry]) -> Result<Vec<Row>>
     ensures { Answers (λ rows. rows.items) result (Ok (map method_row methods.now)) }
 {
@@ -43,7 +43,7 @@ fn method_rows(alloc: Global, methods: &[MethodListEntry]) -> Result<Vec<Row>>
     Ok(rows)
 }
 
-/// The methods that a type lists, if it is a list of methods.
+/// Returns the methods that a type lists, or None if it isn't a list of methods.
 fn methods_in(alloc: Global, value: &TypeData<'_>) -> Result<Option<Vec<Row>>>
     ensures { Answers (option_map (λ rows. rows.items)) result (Ok (methods_in (type_value value.now))) }
 {
@@ -53,7 +53,7 @@ fn methods_in(alloc: Global, value: &TypeData<'_>) -> Result<Option<Vec<Row>>>
     }
 }
 
-/// The methods that a record lists.
+/// Parses a record and returns the methods that it lists, or None if it isn't a list of methods.
 fn methods_of(alloc: Global, bytes: &[u8], index: u32) -> Result<Option<Vec<Row>>>
     ensures { Answers (option_map (λ rows. rows.items)) result (methods_of index bytes.now) }
 {
@@ -61,7 +61,7 @@ fn methods_of(alloc: Global, bytes: &[u8], index: u32) -> Result<Option<Vec<Row>
     methods_in(alloc, &value)
 }
 
-/// Writes the methods that the record of a list of methods has, as rows.
+/// Writes the methods in the record of a list of methods, as rows.
 #[unsafe(no_mangle)]
 pub extern "C" fn pdb_type_methods(
     alloc: Global,
@@ -82,7 +82,7 @@ pub extern "C" fn pdb_type_methods(
     }
 }
 
-/// Copies the dimensions of a type, if it is an array.
+/// Copies the dimensions of a type into the caller's array, if it is an array.
 fn copy_dimensions(value: &TypeData<'_>, room: &mut [u32], length: &mut usize) -> Fault
     ensures { record { fault = result; length = length.new; room = room.new }
         ≡ if_copied room.old (Ok (dimensions_in (type_value value.now))) }
@@ -93,7 +93,7 @@ fn copy_dimensions(value: &TypeData<'_>, room: &mut [u32], length: &mut usize) -
     }
 }
 
-/// Copies how many bytes an array takes in each dimension, the outermost first.
+/// Copies the number of bytes that an array takes in each dimension, the outermost first.
 #[unsafe(no_mangle)]
 pub extern "C" fn pdb_type_dimensions(
     alloc: Global,
@@ -113,7 +113,7 @@ pub extern "C" fn pdb_type_dimensions(
     }
 }
 
-/// The unique name of a type, if it has one.
+/// Returns the unique name of a type, if it has one.
 fn unique_name<'t>(value: &TypeData<'t>) -> Option<RawString<'t>>
     ensures { option_map text_bytes result ≡ unique_name_in (type_value value.now) }
 {
@@ -125,7 +125,7 @@ fn unique_name<'t>(value: &TypeData<'t>) -> Option<RawString<'t>>
     }
 }
 
-/// Copies the unique name that the record of a class, a union or an enumeration has.
+/// Copies the unique name in the record of a class, a union or an enumeration.
 #[unsafe(no_mangle)]
 pub extern "C" fn pdb_type_unique_name(
     alloc: Global,

@@ -11,14 +11,14 @@ use pdb_tpi::RecordPlace;
 pub struct Located {
     /// The index.
     pub index: u32,
-    /// How many bytes of the stream are before the record.
+    /// The number of bytes of the stream before the record.
     pub offset: u32,
-    /// How many bytes the record has.
+    /// The number of bytes of the record.
     pub length: u32,
 }
 
 impl Located {
-    /// The record of this index at this place.
+    /// Returns the location of the record of an index, from its place.
     pub fn at(index: u32, place: RecordPlace) -> Located
         ensures { result ≡ located_at index place }
     {

@@ -1,4 +1,4 @@
-//! Ranges of addresses where an address map moves them.
+//! The ranges to which an address map moves a range of addresses.
 
 ghost use Rattle.std.specs.Prelude.{◌≡◌, map, Ok, IfSome, IfNone};
 ghost use Rattle.pdb_base.specs.Answer.{Answers};
@@ -19,7 +19,7 @@ use pdb_space::{AddressMap, PdbInternalRva, PdbInternalRvaRangeIter, Rva, RvaRan
 use std::alloc::Global;
 use std::ops::Range;
 
-/// Ranges of the image as it is loaded, for the caller.
+/// Converts ranges of the image as it is loaded to spans for the caller.
 fn loaded_spans(alloc: Global, ranges: &[Range<Rva>]) -> Result<Vec<Span>>
     ensures { Answers (λ spans. spans.items) result (Ok (map span_of ranges.now)) }
 {
@@ -31,7 +31,8 @@ fn loaded_spans(alloc: Global, ranges: &[Range<Rva>]) -> Result<Vec<Span>>
     Ok(spans)
 }
 
-/// All ranges of the image as it is loaded that are left of an iterator, for the caller.
+/// Converts all ranges of the image as it is loaded that are left in an iterator to spans for the
+/// caller.
 fn loaded_spans_in(alloc: Global, ranges: RvaRangeIter<'_>) -> Result<Vec<Span>>
     ensures { Answers (λ spans. spans.items) result (Ok (map span_of ranges.entry)) }
 {
@@ -39,7 +40,7 @@ fn loaded_spans_in(alloc: Global, ranges: RvaRangeIter<'_>) -> Result<Vec<Span>>
     loaded_spans(alloc, &ranges)
 }
 
-/// Ranges of the original image, for the caller.
+/// Converts ranges of the original image to spans for the caller.
 fn internal_spans(alloc: Global, ranges: &[Range<PdbInternalRva>]) -> Result<Vec<Span>>
     ensures { Answers (λ spans. spans.items) result (Ok (map span_of ranges.now)) }
 {
@@ -51,7 +52,7 @@ fn internal_spans(alloc: Global, ranges: &[Range<PdbInternalRva>]) -> Result<Vec
     Ok(spans)
 }
 
-/// All ranges of the original image that are left of an iterator, for the caller.
+/// Converts all ranges of the original image that are left in an iterator to spans for the caller.
 fn internal_spans_in(alloc: Global, ranges: PdbInternalRvaRangeIter<'_>) -> Result<Vec<Span>>
     ensures { Answers (λ spans. spans.items) result (Ok (map span_of ranges.entry)) }
 {
@@ -79,7 +80,7 @@ fn write_loaded(
     }
 }
 
-/// Writes where the addresses of a range of the image as it is loaded lie in the original.
+/// Writes where the addresses of a range of the image as it is loaded lie in the original image.
 fn write_internal(
     alloc: Global,
     map: &AddressMap,
@@ -136,7 +137,7 @@ pub extern "C" fn pdb_rva_ranges(
     told.tell(fault)
 }
 
-/// Writes where the addresses of a range of the image as it is loaded lie in the original.
+/// Writes where the addresses of a range of the image as it is loaded lie in the original image.
 #[unsafe(no_mangle)]
 pub extern "C" fn pdb_internal_rva_ranges(
     alloc: Global,

@@ -16,7 +16,7 @@ use pdb_msf::Stream;
 use pdb_space::{StringRef, StringTable};
 use std::alloc::Global;
 
-/// The string table in a stream.
+/// Parses the string table in a stream, which is copied.
 fn names_in(alloc: Global, stream: &[u8]) -> Result<Content>
     requires { length stream.now < 0xffffffff }
     ensures { Answers (λ content. content) result (held_as Names (names_of stream.now)) }
@@ -48,7 +48,7 @@ pub extern "C" fn pdb_names_open(
     names.open(alloc, opened).tell(fault)
 }
 
-/// Copies a name out of a table.
+/// Copies the name at an offset of a table into the caller's array.
 fn name_at(names: &StringTable, offset: u32, room: &mut [u8], length: &mut usize) -> Fault
     ensures { record { fault = result; length = length.new; room = room.new } ≡
         copied room.old (name_of names.now offset) }
@@ -85,7 +85,7 @@ pub extern "C" fn pdb_names_get(
     told.tell(fault)
 }
 
-/// Closes a handle and frees what it held. One that holds nothing stays as it is.
+/// Closes a handle and frees what it held. A handle that holds nothing stays as it is.
 #[unsafe(no_mangle)]
 pub extern "C" fn pdb_close(alloc: Global, handle: &mut Handle)
     ensures { handle.new.held.content ≡ None }

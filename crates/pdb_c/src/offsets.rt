@@ -14,7 +14,7 @@ use pdb_base::{Error, Result};
 use pdb_space::{StringRef, StringTable};
 use std::alloc::Global;
 
-/// The offsets at which names stand, one behind another.
+/// Returns the offsets of all names, which stand one after another from offset 0 on.
 fn offsets_of(alloc: Global, names: &StringTable) -> Result<Vec<u32>>
     ensures offsets { IfOk result (λ offsets. AreOffsets names.now offsets.items) }
     ensures want { IfErr result (λ e. e ≡ Error.OutOfMemory) }
@@ -31,7 +31,7 @@ fn offsets_of(alloc: Global, names: &StringTable) -> Result<Vec<u32>>
     Ok(offsets)
 }
 
-/// Writes the offsets of all names.
+/// Writes the offsets of all names to the caller's array.
 fn write_offsets(alloc: Global, names: &StringTable, room: &mut [u32], length: &mut usize) -> Fault
     ensures { WritesOffsets names.now room.old (record { fault = result; length = length.new; room = room.new }) }
 {

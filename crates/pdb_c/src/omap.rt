@@ -17,7 +17,7 @@ use pdb_msf::Stream;
 use pdb_space::OMAPTable;
 use std::alloc::Global;
 
-/// The OMAP table in a stream.
+/// Parses the OMAP table in a stream, which is copied.
 fn table_in(alloc: Global, stream: &[u8]) -> Result<Content>
     requires { length stream.now < 0xffffffff }
     ensures { Answers (λ content. content) result (held_as Omap (table_of stream.now)) }
@@ -49,7 +49,7 @@ pub extern "C" fn pdb_omap_open(
     omap.open(alloc, opened).tell(fault)
 }
 
-/// Says where a table moves an address.
+/// Looks up the address to which a table moves an address, and writes it.
 #[unsafe(no_mangle)]
 pub extern "C" fn pdb_omap_lookup(
     alloc: Global,

@@ -1,4 +1,4 @@
-//! What calls ask of a table of types or of ids, which are read alike.
+//! What calls ask of a table of types or of ids. Both are read alike.
 
 ghost use Rattle.std.specs.Prelude.{◌≡◌};
 ghost use Rattle.std.specs.Option.{option_map};
@@ -17,17 +17,17 @@ use pdb_msf::Stream;
 use pdb_tpi::{OpenTable, TypeInformation};
 use std::alloc::Global;
 
-/// The table that a stream is, whose walk stands before the first item.
+/// Opens the table in a stream, with its walk before the first item.
 ///
 /// # Errors
-/// As `TypeInformation::parse`, and `OutOfMemory` if memory is refused.
+/// Fails as `TypeInformation::parse` does, and with `OutOfMemory` if memory is refused.
 pub fn opened(alloc: Global, stream: Stream) -> Result<OpenTable<TypeIndex>>
     ensures { Answers (λ table. table) result (table_opened stream) }
 {
     OpenTable::new(alloc, TypeInformation::parse(stream)?)
 }
 
-/// How many indexes the header of a table counts.
+/// Returns the number of indexes that the header of a table counts.
 pub fn counted(kept: &OpenTable<TypeIndex>) -> u32
     ensures { result ≡ count_of kept.now.table }
 {
@@ -35,7 +35,7 @@ pub fn counted(kept: &OpenTable<TypeIndex>) -> u32
     header.maximum_index - header.minimum_index
 }
 
-/// Writes where the record of an index stands.
+/// Writes where the record of an index stands in the stream.
 pub fn find_record(
     kept: &mut OpenTable<TypeIndex>,
     alloc: Global,
@@ -57,7 +57,7 @@ pub fn find_record(
     }
 }
 
-/// Writes where the next record stands, or at which index the walk ends or is refused.
+/// Writes where the next record stands, or the index at which the walk ends or is refused.
 pub fn next_record(kept: &mut OpenTable<TypeIndex>, place: &mut Located) -> Fault
     ensures { record { fault = result; value = place.new; stand = kept.new } ≡
         stepped kept.old (step_located kept.old) }
@@ -78,10 +78,10 @@ pub fn next_record(kept: &mut OpenTable<TypeIndex>, place: &mut Located) -> Faul
     }
 }
 
-/// The fields of a list and of the lists in which it goes on, for the caller.
+/// Returns the fields of a list and of the lists in which it continues, for the caller.
 ///
 /// # Errors
-/// As `OpenTable::fields`.
+/// Fails as `OpenTable::fields` does.
 pub fn listed_fields(
     kept: &mut OpenTable<TypeIndex>,
     alloc: Global,

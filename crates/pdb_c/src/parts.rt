@@ -1,5 +1,5 @@
-//! A box as its pointer and its allocator, which is the one place where raw memory is let go and taken
-//! back.
+//! A box as its pointer and its allocator. This is the one place where raw memory is released and
+//! taken back.
 
 ghost use Rattle.std.specs.Prelude.{◌≡◌};
 ghost use Rattle.std.specs.Box.Ownership.{box_owns};
@@ -19,7 +19,7 @@ impl<T, A: Allocator> Model for Parts<T, A> {
 }
 
 impl<T, A: Allocator> Parts<T, A> {
-    /// The parts of this box.
+    /// Takes a box apart.
     pub fn of(whole: Box<T, A>) -> Parts<T, A>
     where
         T: Drop,
@@ -29,7 +29,7 @@ impl<T, A: Allocator> Parts<T, A> {
         Parts { ptr, alloc }
     }
 
-    /// The box of which these are the parts.
+    /// Puts the box together again from its parts.
     pub fn into_box(self) -> Box<T, A>
         ensures { result.value ≡ self.value }
     {

@@ -9,14 +9,14 @@ use pdb_space::{PdbInternalSectionOffset, SectionOffset};
 #[repr(C)]
 #[derive(Clone, Copy)]
 pub struct Place {
-    /// How many bytes the place lies behind the section's start.
+    /// The offset of the place from the section's start, in bytes.
     pub offset: u32,
-    /// The section, counted from 1.
+    /// The number of the section, counted from 1.
     pub section: u32,
 }
 
 impl Place {
-    /// A place of the image as it is loaded.
+    /// Converts a place in a section of the image as it is loaded.
     pub fn of_loaded(place: SectionOffset) -> Place
         ensures { result ≡ place_of place }
     {
@@ -26,7 +26,7 @@ impl Place {
         }
     }
 
-    /// A place of the original image.
+    /// Converts a place in a section of the original image.
     pub fn of_internal(place: PdbInternalSectionOffset) -> Place
         ensures { result ≡ place_of place }
     {

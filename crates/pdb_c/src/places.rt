@@ -14,7 +14,7 @@ use pdb_msf::Stream;
 use pdb_tpi::TypeInformation;
 use std::alloc::Global;
 
-/// What is told of a table of types or of ids.
+/// Facts about a table of types or of ids.
 #[repr(C)]
 #[derive(Clone, Copy)]
 pub struct TableFacts {
@@ -22,7 +22,7 @@ pub struct TableFacts {
     pub first_index: u32,
     /// One more than the index of the last item, as the header says.
     pub maximum_index: u32,
-    /// Why there are no more items: a status of 0 where the table ends behind the last.
+    /// Why there are no more items: a status of 0 if the table ends after the last one.
     pub stop: Fault,
 }
 
@@ -33,7 +33,7 @@ struct Items {
     stop: Fault,
 }
 
-/// Walks a table.
+/// Walks a table and returns the positions of all its items, and why there are no more.
 fn walked(alloc: Global, table: &TypeInformation) -> Result<Items>
     ensures positions { IfOk result (λ walked. AreAllPositions table.now walked.positions.items) }
     ensures stop { IfOk result (λ walked. walked.stop ≡ stop_fault (walk_rest table.now)) }
@@ -57,7 +57,7 @@ fn walked(alloc: Global, table: &TypeInformation) -> Result<Items>
     }
 }
 
-/// The table in a stream, which is copied.
+/// Parses the table in a stream, which is copied.
 fn table_in(alloc: Global, stream: &[u8]) -> Result<TypeInformation>
     requires { length stream.now < 0xffffffff }
     ensures { Answers (λ table. table) result (table_of stream.now) }
@@ -66,7 +66,7 @@ fn table_in(alloc: Global, stream: &[u8]) -> Result<TypeInformation>
     TypeInformation::parse(Stream::new(bytes))
 }
 
-/// Writes the positions of the items of a table, and what is told of it.
+/// Writes the positions of the items of a table, and the facts about it.
 fn write_places(
     alloc: Global,
     table: &TypeInformation,
@@ -90,9 +90,9 @@ fn write_places(
     copy_out(&items.positions, positions, length)
 }
 
-/// Writes where the items of a table of types or of ids stand in its stream, from the first on: at each
-/// position the two bytes that say the item's length, and behind them the item. There are as many as the
-/// walk gives, and `facts` says why there are no more.
+/// Writes the positions of the items of a table of types or of ids in its stream, from the first
+/// on. At each position stand the two bytes of the item's length, and after them the item. There
+/// are as many positions as the walk gives items, and `facts` says why there are no more.
 #[unsafe(no_mangle)]
 pub extern "C" fn pdb_table_positions(
     alloc: Global,

@@ -1,4 +1,4 @@
-//! Ranges of addresses where an OMAP table moves them.
+//! The ranges to which an OMAP table moves a range of addresses.
 
 ghost use Rattle.std.specs.Prelude.{◌≡◌, ◌≤◌, All, map, Ok, IfSome, IfNone, ℕ, List};
 ghost use Rattle.std.specs.declared.ops.Range.{Range as Numbered};
@@ -19,17 +19,17 @@ use pdb_space::{OMAPTable, RangeIter};
 use std::alloc::Global;
 use std::ops::Range;
 
-/// Addresses from one to before another.
+/// A range of addresses, its end excluded.
 #[repr(C)]
 #[derive(Clone, Copy)]
 pub struct Span {
     /// The first address.
     pub start: u32,
-    /// The address behind the last.
+    /// The address after the last one.
     pub end: u32,
 }
 
-/// Ranges for the caller.
+/// Converts ranges to spans for the caller.
 fn spans_of(alloc: Global, ranges: &[Range<u32>]) -> Result<Vec<Span>>
     ensures { Answers (λ spans. spans.items) result (Ok (map span_of ranges.now)) }
 {
@@ -41,7 +41,7 @@ fn spans_of(alloc: Global, ranges: &[Range<u32>]) -> Result<Vec<Span>>
     Ok(spans)
 }
 
-/// All ranges that are left of an iterator, for the caller.
+/// Converts all ranges that are left in an iterator to spans for the caller.
 fn spans_in(alloc: Global, ranges: RangeIter<'_>) -> Result<Vec<Span>>
     ensures { Answers (λ spans. spans.items) result (Ok (map span_of ranges.entry)) }
 {
@@ -49,7 +49,7 @@ fn spans_in(alloc: Global, ranges: RangeIter<'_>) -> Result<Vec<Span>>
     spans_of(alloc, &ranges)
 }
 
-/// Writes ranges to the caller's array.
+/// Writes the ranges that are left in an iterator to the caller's array.
 fn write_spans(alloc: Global, ranges: RangeIter<'_>, room: &mut [Span], length: &mut usize) -> Fault
     ensures { CopiesOrLacks (record { fault = result; length = length.new; room = room.new }) room.old
         (spans_written room.old ranges.entry) }
@@ -60,7 +60,7 @@ fn write_spans(alloc: Global, ranges: RangeIter<'_>, room: &mut [Span], length: 
     }
 }
 
-/// Writes where a table moves the addresses of a range.
+/// Writes the ranges to which a table moves the addresses of a range.
 fn write_moved(
     alloc: Global,
     table: &OMAPTable,
@@ -76,8 +76,9 @@ fn write_moved(
     write_spans(alloc, table.lookup_range(asked), room, length)
 }
 
-/// Writes where an OMAP table moves the addresses of a range: one range for each record that moves some of
-/// them, in the order of the records.
+/// Writes the ranges to which an OMAP table moves the addresses of a range: one for each record
+/// that moves some of them, in the order of the records. If the table isn't sorted by source, it
+/// writes some ranges, none of them empty and at most one for each record.
 #[unsafe(no_mangle)]
 pub extern "C" fn pdb_omap_ranges(
     alloc: Global,

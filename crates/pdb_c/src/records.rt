@@ -18,7 +18,8 @@ use pdb_records::parse_type_data;
 use pdb_values::{FIRST_RECORD, TypeData, type_data_for_primitive};
 use std::alloc::Global;
 
-/// The type of an index that a record says. An index below 0x1000 is that of a primitive type.
+/// Parses the record of the type of an index. An index below 0x1000 is that of a primitive type,
+/// which needs no record.
 #[tactic(auto, unfolding(pdb_tpi::specs::Record::type_of))]
 pub fn type_in<'t>(alloc: Global, bytes: &'t [u8], index: u32) -> Result<TypeData<'t>>
     ensures { Answers type_value result (type_of index bytes.now) }
@@ -29,7 +30,7 @@ pub fn type_in<'t>(alloc: Global, bytes: &'t [u8], index: u32) -> Result<TypeDat
     parse_type_data(alloc, bytes)
 }
 
-/// Writes the numbers that the record of a type says.
+/// Writes the numbers in the record of a type.
 #[unsafe(no_mangle)]
 pub extern "C" fn pdb_type_row(
     alloc: Global,
@@ -50,7 +51,7 @@ pub extern "C" fn pdb_type_row(
     }
 }
 
-/// Copies the name that the record of a type says.
+/// Copies the name in the record of a type.
 #[unsafe(no_mangle)]
 pub extern "C" fn pdb_type_name(
     alloc: Global,
@@ -74,7 +75,7 @@ pub extern "C" fn pdb_type_name(
     }
 }
 
-/// The numbers of indexes.
+/// Returns the numbers of type indexes.
 pub fn numbers_of(alloc: Global, indexes: &[TypeIndex]) -> Result<Vec<u32>>
     ensures { Answers (λ numbers. numbers.items) result (Ok (map (λ index. index.0) indexes.now)) }
 {
@@ -85,7 +86,7 @@ pub fn numbers_of(alloc: Global, indexes: &[TypeIndex]) -> Result<Vec<u32>>
     Ok(numbers)
 }
 
-/// The types of the arguments that a type lists, if it is a list of arguments.
+/// Returns the types of the arguments that a type lists, or None if it isn't a list of arguments.
 fn arguments_in(alloc: Global, value: &TypeData<'_>) -> Result<Option<Vec<u32>>>
     ensures { Answers (option_map (λ list. list.items)) result (Ok (arguments_in (type_value value.now))) }
 {
@@ -95,7 +96,8 @@ fn arguments_in(alloc: Global, value: &TypeData<'_>) -> Result<Option<Vec<u32>>>
     }
 }
 
-/// The types of the arguments that a record lists.
+/// Parses a record and returns the types of the arguments that it lists, or None if it isn't a list
+/// of arguments.
 fn arguments_of(alloc: Global, bytes: &[u8], index: u32) -> Result<Option<Vec<u32>>>
     ensures { Answers (option_map (λ list. list.items)) result (arguments_of index bytes.now) }
 {

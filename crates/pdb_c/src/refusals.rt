@@ -8,7 +8,7 @@ use crate::fault::Fault;
 use pdb_base::Error;
 use std::io::ErrorKind;
 
-/// The number of a text that a refusal has.
+/// Returns the number of a text that an error has, or 0 if it isn't one of the library's texts.
 fn text_number(text: &str) -> u32
     ensures { result ≡ text_number text.now }
 {
@@ -30,7 +30,8 @@ fn text_number(text: &str) -> u32
     }
 }
 
-/// The number of the kind of an error of a source.
+/// Returns the number of an I/O error's kind: 1 for `UnexpectedEof`, 2 for `OutOfMemory`, 0 for any
+/// other.
 fn kind_number(kind: ErrorKind) -> u32
     ensures { result ≡ kind_number kind }
 {
@@ -42,7 +43,7 @@ fn kind_number(kind: ErrorKind) -> u32
 }
 
 impl Fault {
-    /// A status with a number.
+    /// Returns a fault with a status and one number.
     fn numbered(status: u32, first: u32) -> Fault
         ensures { result ≡ record { status = status; first = first; second = 0 } }
     {
@@ -53,7 +54,7 @@ impl Fault {
         }
     }
 
-    /// What tells a refusal.
+    /// Returns the fault that stands for an error: its status, and the numbers that go with it.
     pub fn of(error: &Error) -> Fault
         ensures { result ≡ fault_of (refusal_of error.now) }
     {

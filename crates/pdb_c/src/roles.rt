@@ -10,7 +10,7 @@ use pdb_base::Result;
 use pdb_roles::{DBIExtraStreams, extra_streams};
 use std::alloc::Global;
 
-/// The numbers of the streams in eleven roles, each 0xffff where the file has no such stream.
+/// The numbers of the streams in eleven roles, each 0xffff if the file has no such stream.
 #[repr(C)]
 #[derive(Clone, Copy)]
 pub struct Roles {
@@ -34,12 +34,12 @@ pub struct Roles {
     pub pdata: u16,
     /// Frames in the newer format.
     pub framedata: u16,
-    /// The headers of the sections of the original image, where a tool has rearranged it.
+    /// The headers of the sections of the original image, if a tool has rearranged it.
     pub original_section_headers: u16,
 }
 
 impl Roles {
-    /// The roles for the caller.
+    /// Converts the numbers of the streams for the caller.
     pub fn of(streams: &DBIExtraStreams) -> Roles
         ensures { result ≡ roles_of streams.now }
     {
@@ -59,7 +59,7 @@ impl Roles {
     }
 }
 
-/// What a file says of roles.
+/// Reads from a file the numbers of the streams in their roles.
 fn roles_in(alloc: Global, file: &[u8]) -> Result<DBIExtraStreams>
     ensures { Answers (λ roles. roles) result (roles_said file.now) }
 {
@@ -67,7 +67,8 @@ fn roles_in(alloc: Global, file: &[u8]) -> Result<DBIExtraStreams>
     extra_streams(alloc, &mut file)
 }
 
-/// Writes the numbers of the streams in their roles. Where they are refused, the caller's are as they were.
+/// Writes the numbers of a file's streams in their roles. If they can't be read, `roles` is left
+/// unchanged.
 #[unsafe(no_mangle)]
 pub extern "C" fn pdb_file_roles(
     alloc: Global,

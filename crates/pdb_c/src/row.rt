@@ -9,33 +9,45 @@ use crate::frame::flag;
 use pdb_base::{TypeIndex, Variant};
 use pdb_values::{ClassKind, TypeData};
 
-/// What a record of a type says beside names and lists. Each shape has some of the numbers.
+/// The numbers in the record of a type: what it says besides names and lists. Each shape has some
+/// of them.
 #[repr(C)]
 #[derive(Clone, Copy)]
 pub struct Row {
-    /// The size of a class or a union, the offset of a member or a base class, of a virtual base class that of the pointer to its table, or how far an enumeration's value is from 0.
+    /// The size of a class or a union; the offset of a member or a base class; for a virtual base
+    /// class, the offset of the pointer to its table; or the absolute value of an enumeration's
+    /// value.
     pub number: u64,
-    /// Which shape the record has, by the numbers of `pdb_shape`.
+    /// The shape of the record, numbered as in `pdb_shape`.
     pub shape: u32,
-    /// Which of the numbers below, and the one above, stand: bit 0 for `kind`, 1 for `attributes`, and so on, bit 8 for `extra` and bit 9 for `number`. The others are 0.
+    /// Which of the numbers below, and of the one above, the record has: bit 0 for `kind`, bit 1
+    /// for `attributes`, and so on, bit 8 for `extra` and bit 9 for `number`. The others are 0.
     pub stands: u32,
-    /// Of a class or a base class 0 for a class, 1 for a structure, 2 for an interface; of a virtual base class whether it is a direct one; of an enumeration's value whether it is below 0; of a type with modifiers 1 for const, 2 for volatile, 4 for unaligned, added up.
+    /// For a class or a base class, 0 for a class, 1 for a structure, 2 for an interface; for a
+    /// virtual base class, whether it is a direct one; for an enumeration's value, whether it is
+    /// below 0; for a type with modifiers, the sum of 1 for const, 2 for volatile and 4 for
+    /// unaligned.
     pub kind: u32,
     /// The word of a member's, a function's or a pointer's attributes.
     pub attributes: u32,
     /// The word of the properties of a class, a union or an enumeration.
     pub properties: u32,
-    /// How many members, values, parameters, methods or functions there are, or how many bits a bit field has.
+    /// The number of members, values, parameters, methods or functions, or of the bits of a bit
+    /// field.
     pub count: u32,
-    /// The type that is pointed at, modified or held; the type of a member, an element, a method; the base class; the type that a function returns.
+    /// The type that is pointed at, modified or held; the type of a member, an element or a method;
+    /// the base class; or the type that a function returns.
     pub type_index: u32,
-    /// The class of a method or of a pointer to a member, the pointer to a virtual base class's table, the type by which an array is indexed, or the list of a class's base classes.
+    /// The class of a method or of a pointer to a member, the pointer to a virtual base class's
+    /// table, the type by which an array is indexed, or the list of a class's base classes.
     pub second_index: u32,
     /// The type of a method's `this`, or the shape of a class's table of virtual functions.
     pub third_index: u32,
-    /// The list of fields, of arguments or of methods, or the list in which a list of fields goes on.
+    /// The list of fields, of arguments or of methods, or the list in which a list of fields
+    /// continues.
     pub list_index: u32,
-    /// The place of a method in the table of virtual functions, how `this` is adjusted, the place of a virtual base class in its table, an array's stride, or the lowest bit of a bit field.
+    /// The place of a method in the table of virtual functions, how `this` is adjusted, the place
+    /// of a virtual base class in its table, an array's stride, or the lowest bit of a bit field.
     pub extra: u32,
 }
 
@@ -68,7 +80,7 @@ pub const NO_NUMBERS: Numbers = Numbers {
     number: None,
 };
 
-/// The number of a kind of class.
+/// Returns the number of a kind of class.
 fn class_kind(kind: ClassKind) -> u32
     ensures { result ≡ class_kind kind }
 {
@@ -79,7 +91,7 @@ fn class_kind(kind: ClassKind) -> u32
     }
 }
 
-/// The number of an index that may be none.
+/// Returns the number of an index, if there is one.
 fn index_in(index: Option<TypeIndex>) -> Option<u32>
     ensures { result ≡ index_in index }
 {
@@ -89,7 +101,7 @@ fn index_in(index: Option<TypeIndex>) -> Option<u32>
     }
 }
 
-/// Whether a number is below 0.
+/// Returns whether a number is below 0.
 fn is_negative(value: Variant) -> bool
     ensures { result ≡ is_negative value }
 {
@@ -102,7 +114,7 @@ fn is_negative(value: Variant) -> bool
     }
 }
 
-/// How far a number is from 0.
+/// Returns the absolute value of a number.
 fn magnitude(value: Variant) -> u64
     ensures { result ≡ magnitude value }
 {
@@ -118,7 +130,7 @@ fn magnitude(value: Variant) -> u64
     }
 }
 
-/// The number of a type's shape.
+/// Returns the number of a type's shape.
 fn shape_of(value: &TypeData<'_>) -> u32
     ensures { result ≡ shape_of (type_value value.now) }
 {
@@ -149,7 +161,7 @@ fn shape_of(value: &TypeData<'_>) -> u32
     }
 }
 
-/// The numbers of a type.
+/// Returns the numbers of a type.
 fn numbers_of(value: &TypeData<'_>) -> Numbers
     ensures { result ≡ numbers_of (type_value value.now) }
 {
@@ -285,7 +297,7 @@ fn numbers_of(value: &TypeData<'_>) -> Numbers
     }
 }
 
-/// A bit where a number stands.
+/// Returns the weight of a bit if its number is present, and 0 if not.
 fn bit(weight: u32, stands: bool) -> u32
     requires { weight ≤ 512 }
     ensures { result ≡ weight * flag stands }
@@ -293,7 +305,7 @@ fn bit(weight: u32, stands: bool) -> u32
     weight * flag(stands)
 }
 
-/// Which numbers stand.
+/// Returns the bits of the numbers that are present.
 fn stands(numbers: &Numbers) -> u32
     ensures { result ≡ bit 1 numbers.now.kind + bit 2 numbers.now.attributes + bit 4 numbers.now.properties +
         bit 8 numbers.now.count + bit 16 numbers.now.type_index + bit 32 numbers.now.second_index +
@@ -313,7 +325,7 @@ fn stands(numbers: &Numbers) -> u32
 }
 
 impl Row {
-    /// The row of a shape and its numbers.
+    /// Returns the row of a shape and its numbers.
     #[tactic(auto, unfolding(crate::specs::Row::row))]
     pub fn of(shape: u32, numbers: &Numbers) -> Row
         ensures { result ≡ row shape numbers.now }
@@ -334,7 +346,7 @@ impl Row {
         }
     }
 
-    /// The row of a type.
+    /// Returns the row of a type.
     pub fn of_type(value: &TypeData<'_>) -> Row
         ensures { result ≡ row_of (type_value value.now) }
     {

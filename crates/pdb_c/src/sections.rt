@@ -18,29 +18,29 @@ use std::alloc::Global;
 #[repr(C)]
 #[derive(Clone, Copy)]
 pub struct Section {
-    /// The name, with NULs behind it where it is shorter than eight bytes.
+    /// The name, with NULs after it if it is shorter than eight bytes.
     pub name: [u8; 8],
-    /// How many bytes the section takes in memory.
+    /// The number of bytes that the section takes in memory.
     pub virtual_size: u32,
     /// The address of the section's first byte, in bytes from the image's base.
     pub virtual_address: u32,
-    /// How many bytes of the file hold the section.
+    /// The number of bytes of the file that hold the section.
     pub size_of_raw_data: u32,
-    /// The place of those bytes in the file.
+    /// The offset of those bytes in the file.
     pub pointer_to_raw_data: u32,
-    /// The place in the file of the section's relocations.
+    /// The offset in the file of the section's relocations.
     pub pointer_to_relocations: u32,
-    /// The place in the file of the section's line numbers.
+    /// The offset in the file of the section's line numbers.
     pub pointer_to_line_numbers: u32,
-    /// How many relocations there are.
+    /// The number of relocations.
     pub number_of_relocations: u16,
-    /// How many line numbers there are.
+    /// The number of line numbers.
     pub number_of_line_numbers: u16,
     /// What the section is for, as the PE format numbers the bits.
     pub characteristics: u32,
 }
 
-/// A section for the caller.
+/// Converts the header of a section for the caller.
 fn section_of(header: &ImageSectionHeader) -> Section
     ensures { result ≡ section_of header.now }
 {
@@ -58,7 +58,7 @@ fn section_of(header: &ImageSectionHeader) -> Section
     }
 }
 
-/// Sections for the caller.
+/// Converts the headers of sections for the caller.
 fn sections_of(alloc: Global, headers: &[ImageSectionHeader]) -> Result<Vec<Section>>
     ensures { Answers (λ sections. sections.items) result (Ok (map section_of headers.now)) }
 {
@@ -69,7 +69,7 @@ fn sections_of(alloc: Global, headers: &[ImageSectionHeader]) -> Result<Vec<Sect
     Ok(sections)
 }
 
-/// The sections that a stream holds.
+/// Reads the headers of the sections that a stream holds.
 fn sections_in(alloc: Global, stream: &[u8]) -> Result<Vec<Section>>
     requires { length stream.now < 0xffffffff }
     ensures { Answers (λ sections. sections.items) result (sections_in stream.now) }

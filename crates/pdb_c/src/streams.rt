@@ -17,7 +17,7 @@ use pdb_base::Result;
 use pdb_msf::Layout;
 use std::alloc::Global;
 
-/// The header and the directory of a file.
+/// Reads the header and the directory of a file.
 fn layout_in(alloc: Global, file: &[u8]) -> Result<Content>
     ensures { Answers (λ content. content) result (plan_said file.now) }
 {
@@ -42,7 +42,7 @@ pub extern "C" fn pdb_file_open(
     file.open(alloc, opened).tell(fault)
 }
 
-/// Writes how many bytes a page of the file has.
+/// Writes the size of the file's pages in bytes.
 #[unsafe(no_mangle)]
 pub extern "C" fn pdb_file_page_size(
     alloc: Global,
@@ -66,7 +66,7 @@ pub extern "C" fn pdb_file_page_size(
     told.tell(fault)
 }
 
-/// Writes how many streams the directory of the file has, the absent ones too.
+/// Writes the number of streams in the directory of the file, including absent ones.
 #[unsafe(no_mangle)]
 pub extern "C" fn pdb_file_stream_count(
     alloc: Global,
@@ -90,7 +90,7 @@ pub extern "C" fn pdb_file_stream_count(
     told.tell(fault)
 }
 
-/// Writes how many bytes a stream of the file has.
+/// Writes the size of a stream of the file in bytes.
 #[unsafe(no_mangle)]
 pub extern "C" fn pdb_file_stream_size(
     alloc: Global,
@@ -115,8 +115,9 @@ pub extern "C" fn pdb_file_stream_size(
     told.tell(fault)
 }
 
-/// Copies the bytes of a stream of the file into the caller's array, at most as many as the limit. The
-/// file's bytes are those that it was opened with; of others, it copies what lies in the same places.
+/// Copies the bytes of a stream of the file into the caller's array, at most `limit` of them.
+/// `bytes` are those that the file was opened with; given others, it copies what lies in the same
+/// places.
 #[unsafe(no_mangle)]
 pub extern "C" fn pdb_file_stream(
     alloc: Global,

@@ -21,7 +21,7 @@ use pdb_base::Result;
 use pdb_msf::Stream;
 use std::alloc::Global;
 
-/// The table in a stream.
+/// Opens the table in a stream, which is copied.
 fn table_in(alloc: Global, stream: &[u8]) -> Result<Content>
     requires { length stream.now < 0xffffffff }
     ensures { Answers (λ content. content) result (held_as Table (table_opened stream.now)) }
@@ -31,7 +31,8 @@ fn table_in(alloc: Global, stream: &[u8]) -> Result<Content>
     Ok(Content::Table(table))
 }
 
-/// Opens the table of types or of ids in a stream, which is copied. Its walk stands before the first item.
+/// Opens the table of types or of ids in a stream, which is copied. Its walk stands before the
+/// first item.
 #[unsafe(no_mangle)]
 pub extern "C" fn pdb_table_open(
     alloc: Global,
@@ -53,7 +54,7 @@ pub extern "C" fn pdb_table_open(
     table.open(alloc, opened).tell(fault)
 }
 
-/// Gives the index of a table's first item.
+/// Writes the index of a table's first item.
 #[unsafe(no_mangle)]
 pub extern "C" fn pdb_table_first_index(
     alloc: Global,
@@ -77,7 +78,8 @@ pub extern "C" fn pdb_table_first_index(
     told.tell(fault)
 }
 
-/// Gives how many indexes the header of a table counts. The walk may give fewer items, or more.
+/// Writes the number of indexes that the header of a table counts. The walk may give fewer items,
+/// or more.
 #[unsafe(no_mangle)]
 pub extern "C" fn pdb_table_count(
     alloc: Global,
@@ -101,8 +103,8 @@ pub extern "C" fn pdb_table_count(
     told.tell(fault)
 }
 
-/// Writes where the record of an index stands in the stream of a table. The first calls walk along the table
-/// as far as they must, and each later one reads eight lengths at most.
+/// Writes where the record of an index stands in the stream of a table. The first calls walk along
+/// the table as far as they must, and each later one reads at most eight lengths.
 #[unsafe(no_mangle)]
 pub extern "C" fn pdb_table_find(
     alloc: Global,
@@ -127,8 +129,9 @@ pub extern "C" fn pdb_table_find(
     told.tell(fault)
 }
 
-/// Writes where the next record of the walk along a table stands in its stream, and its index. Where the walk
-/// ends, or is refused, the index is that at which it stopped, and there is no record.
+/// Writes the index of the next record of the walk along a table, and where it stands in the
+/// stream. If the walk ends or is refused, the index is the one at which it stopped, and there is
+/// no record.
 #[unsafe(no_mangle)]
 pub extern "C" fn pdb_table_next(
     alloc: Global,
@@ -151,7 +154,7 @@ pub extern "C" fn pdb_table_next(
     told.tell(fault)
 }
 
-/// Has the walk along a table begin anew.
+/// Restarts the walk along a table before its first item.
 #[unsafe(no_mangle)]
 pub extern "C" fn pdb_table_rewind(alloc: Global, table: &mut Handle, fault: &mut Fault) -> u32
     ensures answer { record { fault = fault.new; held = table.new.held.content } ≡ rewound table.old.held.content }
@@ -171,8 +174,8 @@ pub extern "C" fn pdb_table_rewind(alloc: Global, table: &mut Handle, fault: &mu
     told.tell(fault)
 }
 
-/// Writes the fields of a list and of the lists in which it goes on, in order, and the bytes of their names,
-/// one name behind another.
+/// Writes the fields of a list and of the lists in which it continues, in order, and the bytes of
+/// their names, one name after another.
 #[unsafe(no_mangle)]
 pub extern "C" fn pdb_fields(
     alloc: Global,

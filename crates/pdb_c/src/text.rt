@@ -12,7 +12,7 @@ use crate::told::told;
 use pdb_base::Error;
 use std::alloc::Global;
 
-/// Copies the text of an error.
+/// Copies the text of an error into the caller's array. An I/O error has no text.
 fn copy_text(alloc: Global, error: &Error, room: &mut [u8], length: &mut usize) -> Fault
     ensures { CopiesOrLacks (record { fault = result; length = length.new; room = room.new }) room.old
         (text_copied room.old (text_of (refusal_of error.now))) }
@@ -26,7 +26,7 @@ fn copy_text(alloc: Global, error: &Error, room: &mut [u8], length: &mut usize) 
     }
 }
 
-/// Copies the library's text of the refusal that a fault tells into the caller's array.
+/// Copies the library's text of the error that a fault stands for into the caller's array.
 #[unsafe(no_mangle)]
 pub extern "C" fn pdb_error_text(
     alloc: Global,

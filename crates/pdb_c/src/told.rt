@@ -1,4 +1,4 @@
-//! The refusal that a fault tells.
+//! The error that a fault stands for.
 
 ghost use Rattle.std.specs.Prelude.{◌≡◌, ◌==◌, ◌&&◌, ◌^◌, nat_lt, if◌then◌else◌, Some, None};
 ghost use Rattle.std.specs.Option.{option_map};
@@ -10,7 +10,7 @@ use pdb_base::Error;
 use std::io;
 use std::io::ErrorKind;
 
-/// The text of a number.
+/// Returns the text with a number, if there is one.
 fn text_numbered(number: u32) -> Option<&'static str>
     ensures { option_map (λ text. text.now) result ≡ text_numbered number }
 {
@@ -32,7 +32,7 @@ fn text_numbered(number: u32) -> Option<&'static str>
     }
 }
 
-/// The kind of an error of a source, by its number.
+/// Returns the kind of I/O error with a number, if there is one.
 fn kind_numbered(number: u32) -> Option<ErrorKind>
     ensures { result ≡ kind_numbered number }
 {
@@ -43,7 +43,7 @@ fn kind_numbered(number: u32) -> Option<ErrorKind>
     }
 }
 
-/// A refusal that names no number.
+/// Returns an error that names no number, if both numbers are 0.
 fn plain(error: Error, first: u32, second: u32) -> Option<Error>
     ensures { option_map refusal_of result ≡ plain (refusal_of error) first second }
 {
@@ -53,7 +53,7 @@ fn plain(error: Error, first: u32, second: u32) -> Option<Error>
     None
 }
 
-/// A refusal that names one number.
+/// Returns an error that names one number, if the second number is 0.
 fn numbered(error: Error, second: u32) -> Option<Error>
     ensures { option_map refusal_of result ≡ (if second == 0 then Some (refusal_of error) else None) }
 {
@@ -63,7 +63,7 @@ fn numbered(error: Error, second: u32) -> Option<Error>
     None
 }
 
-/// The number of 16 bits that a refusal names.
+/// Returns the number that an error names, if it fits 16 bits and the second number is 0.
 fn below_u16(first: u32, second: u32) -> Option<u16>
     ensures { result ≡ (if nat_lt first (2 ^ 16) && second == 0 then Some first else None) }
 {
@@ -73,7 +73,7 @@ fn below_u16(first: u32, second: u32) -> Option<u16>
     None
 }
 
-/// The number of 8 bits that a refusal names.
+/// Returns the number that an error names, if it fits 8 bits and the second number is 0.
 fn below_u8(first: u32, second: u32) -> Option<u8>
     ensures { result ≡ (if nat_lt first (2 ^ 8) && second == 0 then Some first else None) }
 {
@@ -83,7 +83,7 @@ fn below_u8(first: u32, second: u32) -> Option<u8>
     None
 }
 
-/// The text that a refusal has.
+/// Returns the text that an error has, if the first number is that of a text and the second is 0.
 fn worded(first: u32, second: u32) -> Option<&'static str>
     ensures { option_map (λ text. text.now) result ≡ (if second == 0 then text_numbered first else None) }
 {
@@ -93,7 +93,7 @@ fn worded(first: u32, second: u32) -> Option<&'static str>
     None
 }
 
-/// An error of a source.
+/// Returns an I/O error, if the first number is that of a kind and the second is 0.
 fn of_source(first: u32, second: u32) -> Option<Error>
     ensures { option_map refusal_of result ≡ of_source first second }
 {
@@ -104,7 +104,7 @@ fn of_source(first: u32, second: u32) -> Option<Error>
     Some(Error::IoError(io::Error::from(kind)))
 }
 
-/// The refusal that a status tells with two numbers.
+/// Returns the error that a status and its two numbers stand for, or None if they stand for none.
 #[tactic(auto, unfolding(crate::specs::Told::refusal_told))]
 pub fn told(status: u32, first: u32, second: u32) -> Option<Error>
     ensures { option_map refusal_of result ≡ refusal_told (record { status = status; first = first; second = second }) }

@@ -8,7 +8,7 @@ use pdb_container::Result;
 use std::alloc::Global;
 use std::env::Args;
 
-/// The words behind the program's name.
+/// Returns the words after the program's name.
 pub fn words_of(alloc: Global, args: Args) -> Result<Vec<String>>
     ensures { Answers (λ words. words.items) result (Ok (drop 1 (into_iter_items args))) }
 {
@@ -19,7 +19,7 @@ pub fn words_of(alloc: Global, args: Args) -> Result<Vec<String>>
     Ok(words)
 }
 
-/// The texts of words.
+/// Returns the texts of words.
 pub fn texts_of<'w>(alloc: Global, words: &'w [String]) -> Result<Vec<&'w str>>
     ensures { Answers (λ texts. map (λ text. text.now) texts.items) result (Ok (map string_bytes words.now)) }
 {

@@ -13,7 +13,7 @@ use std::env::Args;
 use std::io;
 use std::io::{ErrorKind, Read, Write};
 
-/// The line that is told where there is no memory for another.
+/// The line that is written if there is no memory for another.
 const NO_MEMORY: &[u8] = b"OutOfMemory\n";
 
 /// How the program ended.
@@ -21,12 +21,12 @@ const NO_MEMORY: &[u8] = b"OutOfMemory\n";
 pub struct Ended {
     /// The exit status: 0 answered, 1 refused, 2 bad words.
     pub status: u8,
-    /// Whether the channel of errors took all that it was given.
+    /// Whether the error channel took all that it was given.
     pub told: io::Result<()>,
 }
 
-/// What the words behind the program's name ask of the file that an input is. Without words nothing is
-/// read.
+/// Returns the outcome of what the words after the program's name ask of the file in an input.
+/// Without words nothing is read.
 fn acted<I: Read>(alloc: Global, words: &[String], input: &mut I) -> Result<Outcome>
     ensures shown { IfOk result (IsShownOf (map string_bytes words.now) (I.remaining input.old)) }
     ensures unread { words.now ≡ [] → input.new ≡ input.old }
@@ -40,11 +40,12 @@ fn acted<I: Read>(alloc: Global, words: &[String], input: &mut I) -> Result<Outc
     act(alloc, &texts, file)
 }
 
-/// What is shown of the words that the system hands over. Where one of them is no text, the input is
-/// read all the same.
+/// Returns the outcome of the words that the system hands over. If one of them isn't a text, the
+/// outcome is that of bad words, and the input is read all the same.
 ///
 /// # Errors
-/// What reading the words or the input refuses, or `OutOfMemory` if memory is refused.
+/// Fails with the error of reading the words or the input, or with `OutOfMemory` if memory is
+/// refused.
 fn attempt<I: Read>(alloc: Global, arguments: io::Result<Args>, input: &mut I) -> Result<Outcome>
     ensures shown { IfOk result (IsShownOfCall arguments (I.remaining input.old)) }
     ensures refused { IfErr result IsFault }
@@ -66,7 +67,7 @@ fn attempt<I: Read>(alloc: Global, arguments: io::Result<Args>, input: &mut I) -
 /// Writes an outcome, each part to its channel.
 ///
 /// # Errors
-/// `IoError` if the output can't be written, a part of which may then stand.
+/// Fails if the output can't be written, a part of which may then stand.
 fn show<O: Write, E: Write>(outcome: &Outcome, out: &mut O, err: &mut E) -> io::Result<Ended>
     ensures ok { IfOk result
         (IsWritten outcome.now (O.contents out.old) (O.contents out.new) (E.contents err.old) (E.contents err.new)) }
@@ -79,7 +80,8 @@ fn show<O: Write, E: Write>(outcome: &Outcome, out: &mut O, err: &mut E) -> io::
     })
 }
 
-/// Tells a fault on the channel of errors.
+/// Writes the line of a fault to the error channel, or `OutOfMemory` if there is no memory for that
+/// line. The status is 1.
 pub fn tell<E: Write>(alloc: Global, fault: &Error, err: &mut E) -> Ended
     ensures { IsTold fault.now (E.contents err.old) (E.contents err.new) result }
 {
@@ -90,8 +92,8 @@ pub fn tell<E: Write>(alloc: Global, fault: &Error, err: &mut E) -> Ended
     Ended { status: 1, told }
 }
 
-/// Serves one call of the program: reads the input where there are words behind the program's name, asks
-/// the file that it is what they ask, and writes the answer, or why there is none.
+/// Serves one call of the program: reads the input if there are words after the program's name,
+/// asks the file in it what they ask, and writes the answer, or why there is none.
 pub fn serve<I: Read, O: Write, E: Write>(
     alloc: Global,
     arguments: io::Result<Args>,

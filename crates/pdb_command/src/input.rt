@@ -1,4 +1,4 @@
-//! Reads standard input whole.
+//! Reading of a whole input.
 
 ghost use Rattle.std.specs.Prelude.{◌≡◌, IfOk, IfErr, IfSome, OnOk};
 ghost use Rattle.std.specs.Io.KnownBytes.{IsAtEnd};
@@ -9,19 +9,20 @@ use std::alloc::Global;
 use std::io;
 use std::io::{ErrorKind, Read};
 
-/// Bytes that are asked for at a time.
+/// The number of bytes that are asked for at a time.
 const BLOCK_SIZE: usize = 65_536;
 
-/// How many reads an input may take.
+/// The most reads that an input may take.
 const MOST_READS: u32 = u32::MAX;
 
 const _: () = prove!(MOST_READS == 4_294_967_295);
 
-/// All bytes to the end of an input, which is read no more often than `most` times.
+/// Reads all bytes to the end of an input, with no more than `most` reads.
 ///
 /// # Errors
-/// `IoError` if a read fails, or of kind `Other` if the input has not ended after so many reads;
-/// `OutOfMemory` if memory is refused. A read that was interrupted is asked again.
+/// Fails with `IoError` if a read fails, or with one of kind `Other` if the input has not ended
+/// after `most` reads; and with `OutOfMemory` if memory is refused. A read that was interrupted is
+/// tried again.
 pub fn read_within<R: Read>(alloc: Global, input: &mut R, most: u32) -> Result<Vec<u8>>
     ensures bytes { IfOk result (λ file. IfSome (R.remaining input.old) (λ xs. file.items ≡ xs)) }
     ensures end { OnOk result (IsAtEnd (R.remaining input.new)) }
@@ -40,11 +41,12 @@ pub fn read_within<R: Read>(alloc: Global, input: &mut R, most: u32) -> Result<V
     Err(io::Error::other("the input does not end").into())
 }
 
-/// All bytes to the end of an input.
+/// Reads all bytes to the end of an input.
 ///
 /// # Errors
-/// `IoError` if a read fails, or of kind `Other` if the input has not ended after 4,294,967,295
-/// reads; `OutOfMemory` if memory is refused. A read that was interrupted is asked again.
+/// Fails with `IoError` if a read fails, or with one of kind `Other` if the input has not ended
+/// after 4,294,967,295 reads; and with `OutOfMemory` if memory is refused. A read that was
+/// interrupted is tried again.
 pub fn read_all<R: Read>(alloc: Global, input: &mut R) -> Result<Vec<u8>>
     ensures bytes { IfOk result (λ file. IfSome (R.remaining input.old) (λ xs. file.items ≡ xs)) }
     ensures end { OnOk result (IsAtEnd (R.remaining input.new)) }

@@ -1,5 +1,5 @@
-//! What the program `pdbq` does: the words of its command line, the input that it reads, the lines that
-//! it prints, and the status that it ends with.
+//! What the program `pdbq` does: the words of its command line, the input that it reads, the lines
+//! that it prints, and the status that it ends with.
 #![tactic(auto)]
 
 mod arguments;

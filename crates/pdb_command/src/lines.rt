@@ -11,10 +11,10 @@ use std::alloc::Global;
 use std::fmt;
 use std::ops::Range;
 
-/// Bytes on a line of hexadecimal digits.
+/// The number of bytes on a line of hexadecimal digits.
 const LINE_SIZE: usize = 32;
 
-/// Adds a line of hexadecimal digits.
+/// Appends a line of the hexadecimal digits of bytes.
 fn push_line(out: &mut Vec<u8>, bytes: &[u8]) -> Result<()>
     requires { length bytes.now ≤ 32 }
     ensures ok { OnOk result (out.new.items ≡ out.old.items ++ hex_line bytes.now) }
@@ -28,7 +28,7 @@ fn push_line(out: &mut Vec<u8>, bytes: &[u8]) -> Result<()>
     Ok(())
 }
 
-/// Bytes as lines of hexadecimal digits.
+/// Returns bytes as lines of hexadecimal digits.
 #[tactic(auto, unfolding(crate::specs::Lines::hex_lines))]
 fn hex_lines(alloc: Global, all: &[u8]) -> Result<Vec<u8>>
     ensures ok { IfOk result (λ out. out.items ≡ hex_lines all.now) }
@@ -73,7 +73,7 @@ impl fmt::Display for NameText<'_> {
     }
 }
 
-/// A record as a line: its index, its kind and its name, or `-` where it has none.
+/// Returns a record as a line: its index, its kind and its name, or `-` if it has none.
 #[tactic(auto, unfolding(crate::specs::Lines::record_line))]
 fn record_line(alloc: Global, index: u32, kind: u16, name: Option<&[u8]>) -> Result<Vec<u8>>
     ensures ok { IfOk result (λ out. out.items
@@ -85,7 +85,7 @@ fn record_line(alloc: Global, index: u32, kind: u16, name: Option<&[u8]>) -> Res
     Ok(format!(in alloc; "0x{index:x} {kind} {name}\n")?.into_bytes())
 }
 
-/// The text of a name as a line.
+/// Returns the text of a name as a line.
 fn name_line(alloc: Global, name: &[u8]) -> Result<Vec<u8>>
     ensures ok { IfOk result (λ out. out.items ≡ line (lossy name.now)) }
     ensures want { IfErr result (λ e. e ≡ Error.OutOfMemory) }
@@ -94,7 +94,7 @@ fn name_line(alloc: Global, name: &[u8]) -> Result<Vec<u8>>
     Ok(format!(in alloc; "{name}\n")?.into_bytes())
 }
 
-/// The names of fields, a line each: the text of a name, or `-` if a field has none.
+/// Returns the names of fields, each on a line: the text of a name, or `-` if a field has none.
 #[tactic(auto, unfolding(crate::specs::Lines::name_lines))]
 fn name_lines(alloc: Global, names: &[Option<Vec<u8>>]) -> Result<Vec<u8>>
     ensures ok { IfOk result (λ out. out.items
@@ -109,7 +109,7 @@ fn name_lines(alloc: Global, names: &[Option<Vec<u8>>]) -> Result<Vec<u8>>
     Ok(out.into_bytes())
 }
 
-/// Ranges, a line each.
+/// Returns ranges, each on a line.
 #[tactic(auto, unfolding(crate::specs::Lines::range_lines))]
 fn range_lines(alloc: Global, ranges: &[Range<u32>]) -> Result<Vec<u8>>
     ensures ok { IfOk result (λ out. out.items ≡ range_lines ranges.now) }
@@ -124,7 +124,7 @@ fn range_lines(alloc: Global, ranges: &[Range<u32>]) -> Result<Vec<u8>>
     Ok(out.into_bytes())
 }
 
-/// The lines that a reply is printed as. A refusal has none.
+/// Returns the lines that are printed for a reply. A refusal has none.
 pub fn reply_lines(alloc: Global, reply: &Reply) -> Result<Vec<u8>>
     ensures ok { IfOk result (λ out. out.items ≡ reply_lines reply.now) }
     ensures want { IfErr result (λ e. e ≡ Error.OutOfMemory) }

@@ -1,4 +1,4 @@
-//! What the program does with its words and a file, but for input and output.
+//! What the program does with its words and a file, apart from input and output.
 
 ghost use Rattle.std.specs.Prelude.{◌≡◌, ◌⊎◌, map, IfOk, IfErr};
 ghost use Rattle.pdb_container.specs.Refusal.{refusal_of, out_of_memory};
@@ -22,7 +22,7 @@ pub struct Outcome {
     pub err: Vec<u8>,
 }
 
-/// Status 0: lines on standard output.
+/// Returns the outcome of an answer: status 0, and its lines on standard output.
 fn answered(alloc: Global, out: Vec<u8>) -> Outcome
     ensures { IsAnsweredBy out.items result }
 {
@@ -33,7 +33,7 @@ fn answered(alloc: Global, out: Vec<u8>) -> Outcome
     }
 }
 
-/// Status 1: a refusal's text on a line of standard error.
+/// Returns the outcome of a refusal: status 1, and its text on a line of standard error.
 fn refused(alloc: Global, error: &Error) -> Result<Outcome>
     ensures ok { IfOk result (IsRefused (refusal_of error.now)) }
     ensures want { IfErr result (λ e. e ≡ Error.OutOfMemory) }
@@ -45,10 +45,11 @@ fn refused(alloc: Global, error: &Error) -> Result<Outcome>
     })
 }
 
-/// Status 2: how to call the program, on a line of standard error.
+/// Returns the outcome of bad words: status 2, and how to call the program on a line of standard
+/// error.
 ///
 /// # Errors
-/// `OutOfMemory` if memory is refused.
+/// Fails with `OutOfMemory` if memory is refused.
 pub fn usage(alloc: Global) -> Result<Outcome>
     ensures ok { IfOk result IsUsage }
     ensures want { IfErr result (λ e. e ≡ Error.OutOfMemory) }
@@ -62,7 +63,8 @@ pub fn usage(alloc: Global) -> Result<Outcome>
     })
 }
 
-/// What the program shows of a reply: status 0 with its lines on standard output, or status 1.
+/// Returns the outcome of a reply: status 0 with its lines on standard output, or status 1 for a
+/// refusal.
 fn shown(alloc: Global, reply: &Reply) -> Result<Outcome>
     ensures ok { IfOk result (ShowsReply reply.now) }
     ensures want { IfErr result (λ e. e ≡ Error.OutOfMemory) }
@@ -73,7 +75,8 @@ fn shown(alloc: Global, reply: &Reply) -> Result<Outcome>
     }
 }
 
-/// Status 0 with the reply on standard output, or status 1.
+/// Asks a file a query and returns the outcome: status 0 with the reply on standard output, or
+/// status 1.
 fn answer(alloc: Global, file: Vec<u8>, query: Query) -> Result<Outcome>
     ensures ok { IfOk result (λ o. IsOutcomeOf (answer_of file.items query) o ⊎ IsRefused out_of_memory o) }
     ensures want { IfErr result (λ e. e ≡ Error.OutOfMemory) }
@@ -87,11 +90,12 @@ fn answer(alloc: Global, file: Vec<u8>, query: Query) -> Result<Outcome>
     }
 }
 
-/// What the program does, but for input and output: reads the query that the words spell, asks the
-/// file, and says what to write and how to end. Without words it asks for stream 1 of S1.
+/// Does what the program does, apart from input and output: parses the words as a query, asks the
+/// file, and returns what to write and the status to end with. Without words it asks for stream 1
+/// of the example file S1.
 ///
 /// # Errors
-/// `OutOfMemory` if memory is refused.
+/// Fails with `OutOfMemory` if memory is refused.
 pub fn act(alloc: Global, words: &[&str], file: Vec<u8>) -> Result<Outcome>
     ensures ok { IfOk result (Shows (asked (map (λ word. word.now) words.now) file.items)) }
     ensures want { IfErr result (λ e. e ≡ Error.OutOfMemory) }

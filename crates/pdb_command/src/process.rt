@@ -5,7 +5,7 @@ use std::io::{ErrorKind, Write};
 use std::rt::Env;
 use std::{env, io};
 
-/// The channel of errors of a process as a writer of text.
+/// The error channel of a process as a writer of text.
 #[derive(Drop)]
 pub struct Errors<'a, P> {
     /// The process.
@@ -28,8 +28,8 @@ impl<P: Eprint> Write for Errors<'_, P> {
     }
 }
 
-/// What the program does with the words, the input and the two outputs of its process, and the status
-/// that it ends with.
+/// Runs the program with the words, the input and the two outputs of its process, and returns the
+/// status that it ends with.
 pub fn program<P: Env + Input + Print + Eprint + AllocGlobal>(process: &P) -> u8 {
     let ended = serve(
         process.alloc(),

@@ -1,4 +1,4 @@
-//! The line that a refusal is told in.
+//! The line that tells a refusal.
 
 ghost use Rattle.std.specs.Prelude.{◌≡◌, IfOk, IfErr};
 ghost use Rattle.pdb_base.specs.Refusal.{refusal_of};
@@ -9,7 +9,7 @@ use pdb_container::{Error, Result};
 use std::alloc::Global;
 use std::io;
 
-/// The text of an error of a channel or a source: the library's words, and then the text of the cause.
+/// Returns the text of an I/O error: the library's words, and then the text of the cause.
 fn io_error_text(alloc: Global, cause: &io::Error) -> Result<Vec<u8>>
     ensures ok { IfOk result (λ text. IsTextOf (refusal_of (Error.IoError cause.now)) text.items) }
     ensures want { IfErr result (λ e. e ≡ Error.OutOfMemory) }
@@ -20,7 +20,7 @@ fn io_error_text(alloc: Global, cause: &io::Error) -> Result<Vec<u8>>
     Ok(text)
 }
 
-/// The text of an error.
+/// Returns the text of an error.
 fn error_text(alloc: Global, error: &Error) -> Result<Vec<u8>>
     ensures ok { IfOk result (λ text. IsTextOf (refusal_of error.now) text.items) }
     ensures want { IfErr result (λ e. e ≡ Error.OutOfMemory) }
@@ -31,7 +31,7 @@ fn error_text(alloc: Global, error: &Error) -> Result<Vec<u8>>
     }
 }
 
-/// The text of an error as a line.
+/// Returns the text of an error as a line.
 pub fn error_line(alloc: Global, error: &Error) -> Result<Vec<u8>>
     ensures ok { IfOk result (λ out. IsLineOf (refusal_of error.now) out.items) }
     ensures want { IfErr result (λ e. e ≡ Error.OutOfMemory) }

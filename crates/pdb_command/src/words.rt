@@ -5,7 +5,7 @@ ghost use Rattle.pdb_command.specs.Words.{spelled, number_of, two_numbers, strea
 
 use pdb_container::Query;
 
-/// The number of one to `most` digits in a base, if it fits.
+/// Parses a number of one to `most` digits in a base, if it fits 32 bits.
 #[tactic(auto, unfolding(crate::specs::Words::spelled))]
 fn spelled(digits: &[u8], base: u32, most: usize) -> Option<u32>
     requires low { 2 ≤ base }
@@ -24,7 +24,7 @@ fn spelled(digits: &[u8], base: u32, most: usize) -> Option<u32>
     Some(value)
 }
 
-/// The number that a word spells, in decimal or, after `0x`, in hexadecimal digits.
+/// Parses the number that a word spells, in decimal or, after `0x`, in hexadecimal digits.
 #[tactic(auto, unfolding(crate::specs::Words::number_of))]
 pub fn number(word: &str) -> Option<u32>
     ensures { result ≡ number_of word.now }
@@ -37,7 +37,7 @@ pub fn number(word: &str) -> Option<u32>
     }
 }
 
-/// The numbers that two words spell.
+/// Parses the numbers that two words spell.
 #[tactic(auto, unfolding(crate::specs::Words::two_numbers))]
 fn two_numbers(words: &[&str]) -> Option<(u32, u32)>
     ensures { result ≡ two_numbers (map (λ word. word.now) words.now) }
@@ -52,7 +52,7 @@ fn two_numbers(words: &[&str]) -> Option<(u32, u32)>
     }
 }
 
-/// What `stream` asks: `N` or `N LIMIT`.
+/// Parses the words after `stream`: `N` or `N LIMIT`.
 #[tactic(auto, unfolding(crate::specs::Words::stream_asked))]
 fn stream(words: &[&str]) -> Option<Query>
     ensures { result ≡ stream_asked (map (λ word. word.now) words.now) }
@@ -71,7 +71,7 @@ fn stream(words: &[&str]) -> Option<Query>
     })
 }
 
-/// What `ranges` asks: `S A B`.
+/// Parses the words after `ranges`: `S A B`.
 #[tactic(auto, unfolding(crate::specs::Words::ranges_asked))]
 fn ranges(words: &[&str]) -> Option<Query>
     ensures { result ≡ ranges_asked (map (λ word. word.now) words.now) }
@@ -82,7 +82,8 @@ fn ranges(words: &[&str]) -> Option<Query>
     Some(Query::Ranges { omap, start, end })
 }
 
-/// What a command of two numbers asks, if it is one: `type S I`, `id S I`, `name S O` or `fields S I`.
+/// Returns the query of a command with two numbers, if it is one: `type S I`, `id S I`, `name S O`
+/// or `fields S I`.
 fn pair(command: &str, stream: u32, number: u32) -> Option<Query>
     ensures { result ≡ pair_of command.now stream number }
 {
@@ -107,7 +108,7 @@ fn pair(command: &str, stream: u32, number: u32) -> Option<Query>
     }
 }
 
-/// The query that the words spell.
+/// Parses the query that the words spell, if they spell one.
 #[tactic(auto, unfolding(crate::specs::Words::query_of))]
 pub fn query(words: &[&str]) -> Option<Query>
     ensures { result ≡ query_of (map (λ word. word.now) words.now) }

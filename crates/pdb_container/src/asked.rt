@@ -35,10 +35,10 @@ impl<'q> Model for Asked<'q> {
 }
 
 impl<'q> Asked<'q> {
-    /// Queries of which none is answered.
+    /// Returns these queries, of which none is answered yet.
     ///
     /// # Errors
-    /// `OutOfMemory` if there is no room for the replies.
+    /// Returns `OutOfMemory` if there is no room for the replies.
     pub fn new(alloc: Global, queries: &'q [Query]) -> Result<Self>
         ensures ok { IfOk result (IsUnanswered queries.now) }
         ensures want { IfErr result (λ e. e ≡ Error.OutOfMemory) }
@@ -55,14 +55,14 @@ impl<'q> Asked<'q> {
         })
     }
 
-    /// How many queries there are.
+    /// Returns how many queries there are.
     pub fn len(&self) -> usize
         ensures { result ≡ length self.now.queries }
     {
         self.queries.len()
     }
 
-    /// The query at a place.
+    /// Returns the query at a position.
     pub fn query(&self, at: usize) -> Query
         requires { at < length self.now.queries }
         ensures { result ≡ query_at self.now at }
@@ -71,7 +71,7 @@ impl<'q> Asked<'q> {
         queries[at]
     }
 
-    /// Whether the query at a place is answered.
+    /// Returns whether the query at a position is answered.
     pub fn is_answered(&self, at: usize) -> bool
         requires { at < length self.now.queries }
         ensures { result ≡ is_answered self.now at }
@@ -79,7 +79,7 @@ impl<'q> Asked<'q> {
         self.answered[at]
     }
 
-    /// Answers the query at a place with a reply.
+    /// Answers the query at a position with a reply.
     pub fn answer(&mut self, at: usize, reply: Reply)
         requires { at < length self.old.queries }
         ensures { IsAnsweredWith at reply self.old self.new }
@@ -88,7 +88,7 @@ impl<'q> Asked<'q> {
         self.answered[at] = true;
     }
 
-    /// The replies, in the order of the queries.
+    /// Returns the replies, in the order of the queries.
     pub fn into_replies(self) -> Vec<Reply>
         ensures replies { result.items ≡ self.entry.replies }
         ensures all { length result.items ≡ length self.entry.queries }

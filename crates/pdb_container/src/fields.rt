@@ -13,7 +13,7 @@ use pdb_base::{Error, Result, TypeIndex};
 use pdb_values::TypeData;
 use std::alloc::Global;
 
-/// Copies of the names of fields, for each of them that has one.
+/// Copies the names of fields, with None for each field that has no name.
 fn names_of(alloc: Global, fields: &[TypeData<'_>]) -> Result<Vec<Option<Vec<u8>>>>
     ensures ok { IfOk result (λ names.
         map (λ name. option_map (λ copy. copy.items) name) names.items ≡
@@ -27,10 +27,12 @@ fn names_of(alloc: Global, fields: &[TypeData<'_>]) -> Result<Vec<Option<Vec<u8>
     Ok(names)
 }
 
-/// The fields of a list of a table, by the index of the list.
+/// Returns the names of the fields of a list and of the lists that continue it, by the index of the
+/// list.
 ///
 /// # Errors
-/// What the lists are refused for, one after another; `OutOfMemory` if memory is refused.
+/// Fails with the first fault along the lists, as `Lookup::fields` does, and with `OutOfMemory` if
+/// memory is refused.
 #[tactic(auto, unfolding(crate::specs::Reply::fields_in))]
 pub fn fields(alloc: Global, types: &mut Lookup<'_, TypeIndex>, index: TypeIndex) -> Result<Reply>
     ensures said { Replies result (fields_in index.0 types.old.table) }

@@ -1,5 +1,5 @@
-//! Program databases (PDB): the container and what it replies to queries, tables of items, values of
-//! records, names, addresses and how they are translated, frames, and which stream is what.
+//! Program databases (PDB): the container and its replies to queries, tables of items, values of
+//! records, names, addresses and their translation, frames, and the roles of streams.
 #![tactic(auto)]
 
 mod asked;

@@ -1,4 +1,5 @@
-//! Looks items of a table up by their indexes, and the fields of lists, by one walk along the table.
+//! Look-ups of items of a table by their indexes, and of the fields of lists, by one walk along the
+//! table.
 
 ghost use Rattle.std.specs.Prelude.{◌≡◌, ◌≤◌, map, Ok, true, IfOk, IfErr};
 ghost use Rattle.pdb_base.specs.Refusal.{refusal_of};
@@ -15,9 +16,10 @@ use pdb_values::TypeData;
 use std::alloc::Global;
 use std::marker::Model;
 
-/// Looks up items of a table, wherever they stand, in any order.
+/// A look-up of items of a table, wherever they stand, in any order.
 ///
-/// It walks along the table once, and no further than the block of the last index that it was asked for.
+/// It walks along the table once, and no further than the block of the highest index that it was
+/// asked for.
 #[derive(Drop)]
 pub struct Lookup<'t, I> {
     table: &'t ItemInformation<I>,
@@ -36,10 +38,10 @@ impl<'t, I> Model for Lookup<'t, I> {
 }
 
 impl<'t, I: ItemIndex> Lookup<'t, I> {
-    /// Looks up items of this table, along which no step has been made.
+    /// Returns a look-up of items of this table, which has made no step along it yet.
     ///
     /// # Errors
-    /// `OutOfMemory` if memory is refused.
+    /// Returns `OutOfMemory` if memory is refused.
     pub fn new(alloc: Global, table: &'t ItemInformation<I>) -> Result<Self>
         ensures { Answers (λ lookup. lookup) result
             (Ok (record { table = table.now; known = known_first table.now; index = table.now.header.minimum_index })) }
@@ -51,8 +53,8 @@ impl<'t, I: ItemIndex> Lookup<'t, I> {
         })
     }
 
-    /// Whether the finder knows the block of an index, or need not know it since the header doesn't count
-    /// the index.
+    /// Returns whether the finder knows the block of an index, or need not know it since the header
+    /// doesn't count the index.
     fn knows(&self, index: I) -> bool
         ensures { result ≡ is_known self.now.table self.now.known (I.number index) }
     {
@@ -65,7 +67,8 @@ impl<'t, I: ItemIndex> Lookup<'t, I> {
     /// Walks on until the finder knows the block of an index.
     ///
     /// # Errors
-    /// The fault at which the walk stops before that block, or `UnexpectedEof` if it ends before it.
+    /// Fails with the fault at which the walk stops before that block, or with `UnexpectedEof` if
+    /// it ends before it.
     fn learn(&mut self, index: I) -> Result<()>
         ensures known { IfOk result (λ _. is_known self.new.table self.new.known (I.number index) ≡ true) }
         ensures stops { IfErr result (λ e. item_of self.old.table (I.number index) ≡ Err (refusal_of e)) }
@@ -80,11 +83,12 @@ impl<'t, I: ItemIndex> Lookup<'t, I> {
         Ok(())
     }
 
-    /// The item of an index, wherever in the table it stands.
+    /// Returns the item of an index, wherever in the table it stands.
     ///
     /// # Errors
-    /// `TypeNotFound` from the table's maximum on; the refusal at which the walk stops before the item;
-    /// `UnexpectedEof` if the walk ends before the item.
+    /// Fails with `TypeNotFound` for an index from the table's maximum on, with the fault at which
+    /// the walk stops if that is before the item, and with `UnexpectedEof` if the walk ends before
+    /// the item.
     pub fn item(&mut self, index: I) -> Result<Item<'t, I>>
         ensures item { Gives bytes_of result (item_of self.old.table (I.number index)) }
         ensures index { IfOk result (λ item. index_of item ≡ index) }
@@ -96,12 +100,14 @@ impl<'t, I: ItemIndex> Lookup<'t, I> {
 }
 
 impl<'t> Lookup<'t, TypeIndex> {
-    /// The fields of a list and of the lists in which it goes on, wherever in the table they stand.
+    /// Returns the fields of a list and of the lists that continue it, wherever in the table they
+    /// stand.
     ///
     /// # Errors
-    /// What comes first along the lists, in this order for each: what `item` refuses; that the item is no
-    /// list of fields; what its record is refused for; and that it goes on in a list that is not below it.
-    /// `OutOfMemory` if memory is refused.
+    /// Fails with the first error along the lists, tried in this order for each list: those of
+    /// `item`; `UnimplementedTypeKind` with the item's kind if the item is not a list of fields;
+    /// those of parsing its record; and `UnimplementedFeature` if the list continues in one whose
+    /// index is not below its own. Fails with `OutOfMemory` if memory is refused.
     pub fn fields(&mut self, alloc: Global, index: TypeIndex) -> Result<Vec<TypeData<'t>>>
         ensures fields { Answers (λ fields. map type_value fields.items) result
             (fields_of (item_of self.old.table) index.0) }
@@ -113,11 +119,12 @@ impl<'t> Lookup<'t, TypeIndex> {
     }
 }
 
-/// The item of an index, wherever in the table it stands.
+/// Returns the item of an index, wherever in the table it stands.
 ///
 /// # Errors
-/// `TypeNotFound` from the table's maximum on; the refusal at which the walk stops before the item;
-/// `UnexpectedEof` if the walk ends before the item; and `OutOfMemory` if memory is refused.
+/// Fails with `TypeNotFound` for an index from the table's maximum on, with the fault at which the
+/// walk stops if that is before the item, with `UnexpectedEof` if the walk ends before the item,
+/// and with `OutOfMemory` if memory is refused.
 pub fn look_up<'t, I: ItemIndex>(
     alloc: Global,
     table: &'t ItemInformation<I>,
@@ -129,10 +136,11 @@ pub fn look_up<'t, I: ItemIndex>(
     Lookup::new(alloc, table)?.item(index)
 }
 
-/// The fields of a list and of the lists in which it goes on, wherever in the table they stand.
+/// Returns the fields of a list and of the lists that continue it, wherever in the table they
+/// stand.
 ///
 /// # Errors
-/// What `Lookup::fields` refuses, and `OutOfMemory` if memory is refused.
+/// Fails as `Lookup::fields` does, and with `OutOfMemory` if memory is refused.
 pub fn look_up_fields<'t>(
     alloc: Global,
     table: &'t TypeInformation,

@@ -10,7 +10,7 @@ use pdb_base::{Error, RawString, Result};
 use pdb_space::{StringRef, StringTable};
 use std::alloc::Global;
 
-/// A copy of a name, if there is one.
+/// Copies a name, if there is one.
 pub fn copied(alloc: Global, name: Option<RawString<'_>>) -> Result<Option<Vec<u8>>>
     ensures ok { IfOk result (λ copy. option_map (λ bytes. bytes.items) copy ≡ option_map text_bytes name.entry) }
     ensures want { IfErr result (λ e. e ≡ Error.OutOfMemory) }
@@ -21,11 +21,11 @@ pub fn copied(alloc: Global, name: Option<RawString<'_>>) -> Result<Option<Vec<u
     }
 }
 
-/// The name at a place in a string table.
+/// Returns a copy of the name at an offset in a string table.
 ///
 /// # Errors
-/// `UnexpectedEof` if no NUL stands in the names at or after the place; `OutOfMemory` if memory is
-/// refused.
+/// Fails with `UnexpectedEof` if no NUL stands in the names at or after the offset, and with
+/// `OutOfMemory` if memory is refused.
 #[tactic(auto, unfolding(crate::specs::Reply::name_in))]
 pub fn name(alloc: Global, names: &StringTable, place: StringRef) -> Result<Reply>
     ensures { Replies result (name_in place names.now) }

@@ -1,4 +1,4 @@
-//! Streams that are opened as tables, and what those say to queries.
+//! Streams that are opened as tables, and their replies to queries.
 
 ghost use Rattle.std.specs.Prelude.{◌≡◌};
 ghost use Rattle.pdb_base.specs.Answer.{Answer};
@@ -32,7 +32,7 @@ pub enum Opened<'t> {
     Omap(OMAPTable),
 }
 
-/// The reply that a call answers: its refusal is a reply too.
+/// Returns the reply of a call. If the call is refused, the refusal is the reply.
 fn replied(answered: Result<Reply>) -> Reply
     ensures { (meant : Answer Said) → Replies answered meant → IsReply ⊥ result meant }
 {
@@ -43,7 +43,8 @@ fn replied(answered: Result<Reply>) -> Reply
 }
 
 impl Opened<'_> {
-    /// What it replies to a query, if the query asks of such a table.
+    /// Returns the reply to a query, or None if the query does not ask for something in such a
+    /// table.
     pub fn reply(&mut self, alloc: Global, query: Query) -> Option<Reply>
         ensures said { RepliesIf result (said_by self.old query) }
         ensures kept { (query : Query) → said_by self.new query ≡ said_by self.old query }

@@ -10,7 +10,7 @@ pub enum Query {
     Stream {
         /// The stream's number.
         number: u32,
-        /// How many bytes to answer at most.
+        /// How many bytes to return at most, or None for all of them.
         limit: Option<usize>,
     },
 
@@ -34,7 +34,7 @@ pub enum Query {
     Name {
         /// The number of the stream that holds the string table.
         stream: u32,
-        /// The name's place, in bytes from the start of the names.
+        /// The name's offset in bytes from the start of the names.
         offset: u32,
     },
 
@@ -76,13 +76,14 @@ pub enum Reply {
     /// The bytes of a name.
     Name(Vec<u8>),
 
-    /// Where the addresses are moved, one range for each record that moves some of them.
+    /// Where the addresses are moved: one range for each record that moves some of them.
     Ranges(Vec<Range<u32>>),
 
-    /// The name of each field of a list and of the lists in which it goes on, in order, where it has one.
+    /// The name of each field of a list and of the lists that continue it, in order, with None for
+    /// a field that has no name.
     Fields(Vec<Option<Vec<u8>>>),
 
-    /// Why there is no answer: the first refusal of the stream, of the table in it, of the look-up and of
-    /// the record, in this order; or memory was refused on the way.
+    /// Why there is no answer: the first refusal of the stream, of the table in it, of the look-up
+    /// and of the record, tried in this order; or that memory was refused on the way.
     Refused(Error),
 }

@@ -1,4 +1,4 @@
-//! Ranges of addresses where an OMAP table moves them.
+//! Ranges of addresses as an OMAP table moves them.
 
 ghost use Rattle.std.specs.Prelude.{Ok};
 ghost use Rattle.pdb_container.specs.Reply.{Replies, moved};
@@ -9,10 +9,10 @@ use pdb_space::OMAPTable;
 use std::alloc::Global;
 use std::ops::Range;
 
-/// Where an OMAP table moves the addresses of a range.
+/// Returns where an OMAP table moves the addresses of a range.
 ///
 /// # Errors
-/// `OutOfMemory` if memory is refused.
+/// Returns `OutOfMemory` if memory is refused.
 pub fn ranges(alloc: Global, table: &OMAPTable, asked: Range<u32>) -> Result<Reply>
     ensures { Replies result (Ok (moved table.now asked)) }
 {

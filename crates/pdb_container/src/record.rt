@@ -16,7 +16,7 @@ use pdb_tpi::Item;
 use pdb_values::IdData;
 use std::alloc::Global;
 
-/// What is replied of an item, whose record has this name or none.
+/// Returns the reply for an item whose record has this name, or has none.
 fn reply<I: ItemIndex>(
     alloc: Global,
     item: &Item<'_, I>,
@@ -32,7 +32,7 @@ fn reply<I: ItemIndex>(
     })
 }
 
-/// The name of a function, a method or a text. No other id has one.
+/// Returns the name of a function, a method or a text, or None for any other id.
 fn name_of_id<'t>(id: &IdData<'t>) -> Option<RawString<'t>>
     ensures { option_map text_bytes result ≡ id_name (id_value id.now) }
 {
@@ -44,10 +44,12 @@ fn name_of_id<'t>(id: &IdData<'t>) -> Option<RawString<'t>>
     }
 }
 
-/// A type of a table, by its index.
+/// Looks up a type of a table by its index, and returns its index, its kind and its name, if it has
+/// one.
 ///
 /// # Errors
-/// What the look-up refuses, and then what the record does; `OutOfMemory` if memory is refused.
+/// Fails as the look-up does, then as parsing the record does, and with `OutOfMemory` if memory is
+/// refused.
 #[tactic(auto, unfolding(crate::specs::Reply::type_in))]
 pub fn type_record(
     alloc: Global,
@@ -62,10 +64,12 @@ pub fn type_record(
     reply(alloc, &item, value.name())
 }
 
-/// An id of a table, by its index.
+/// Looks up an id of a table by its index, and returns its index, its kind and its name, if it has
+/// one.
 ///
 /// # Errors
-/// What the look-up refuses, and then what the record does; `OutOfMemory` if memory is refused.
+/// Fails as the look-up does, then as parsing the record does, and with `OutOfMemory` if memory is
+/// refused.
 #[tactic(auto, unfolding(crate::specs::Reply::id_in))]
 pub fn id_record(alloc: Global, ids: &mut Lookup<'_, IdIndex>, index: IdIndex) -> Result<Reply>
     ensures said { Replies result (id_in index.0 ids.old.table) }

@@ -15,7 +15,8 @@ use pdb_space::{OMAPTable, StringTable};
 use pdb_tpi::{IdInformation, TypeInformation};
 use std::alloc::Global;
 
-/// The stream that a query asks of, and how many of its bytes at most.
+/// Returns the number of the stream that a query asks for, and how many of its bytes it asks for at
+/// most.
 fn stream_asked(query: Query) -> (u32, Option<usize>)
     ensures { result ≡ stream_asked query }
 {
@@ -29,8 +30,8 @@ fn stream_asked(query: Query) -> (u32, Option<usize>)
     }
 }
 
-/// Answers the query at a place, if it is not answered yet and asks of the table as which the stream of
-/// this number is opened.
+/// Answers the query at the position `at`, if it is not answered yet and asks for something in the
+/// table that the stream `number` is opened as.
 fn offer(alloc: Global, number: u32, opened: &mut Opened<'_>, at: usize, asked: &mut Asked<'_>)
     requires { at < length asked.old.queries }
     ensures on { IsAnsweredOn (MeansTable number opened.old) asked.old asked.new }
@@ -47,8 +48,8 @@ fn offer(alloc: Global, number: u32, opened: &mut Opened<'_>, at: usize, asked: 
     }
 }
 
-/// Answers the query at a place and all later ones that ask of the table as which the stream of this
-/// number is opened.
+/// Answers the query at the position `from` and all later ones, as far as they ask for something in
+/// the table that the stream `number` is opened as.
 fn share(alloc: Global, number: u32, opened: &mut Opened<'_>, from: usize, asked: &mut Asked<'_>)
     requires { from < length asked.old.queries }
     ensures on { IsAnsweredOn (MeansTable number opened.old) asked.old asked.new }
@@ -60,7 +61,8 @@ fn share(alloc: Global, number: u32, opened: &mut Opened<'_>, from: usize, asked
     }
 }
 
-/// Answers the query at a place, which asks of a table of types, and all later ones that ask of the same.
+/// Answers the query at a position, which asks for something in a table of types, and all later
+/// ones that ask for something in the same table.
 fn answer_types(alloc: Global, stream: Stream, at: usize, asked: &mut Asked<'_>) -> Result<()>
     requires within { at < length asked.old.queries }
     requires asks { AsksTypes (query_at asked.old at) }
@@ -73,7 +75,8 @@ fn answer_types(alloc: Global, stream: Stream, at: usize, asked: &mut Asked<'_>)
     Ok(())
 }
 
-/// Answers the query at a place, which asks of a table of ids, and all later ones that ask of the same.
+/// Answers the query at a position, which asks for something in a table of ids, and all later ones
+/// that ask for something in the same table.
 fn answer_ids(alloc: Global, stream: Stream, at: usize, asked: &mut Asked<'_>) -> Result<()>
     requires within { at < length asked.old.queries }
     requires asks { AsksIds (query_at asked.old at) }
@@ -86,7 +89,8 @@ fn answer_ids(alloc: Global, stream: Stream, at: usize, asked: &mut Asked<'_>) -
     Ok(())
 }
 
-/// Answers the query at a place, which asks of a string table, and all later ones that ask of the same.
+/// Answers the query at a position, which asks for a name in a string table, and all later ones
+/// that ask for one in the same table.
 fn answer_names(alloc: Global, stream: Stream, at: usize, asked: &mut Asked<'_>) -> Result<()>
     requires within { at < length asked.old.queries }
     requires asks { AsksNames (query_at asked.old at) }
@@ -98,7 +102,8 @@ fn answer_names(alloc: Global, stream: Stream, at: usize, asked: &mut Asked<'_>)
     Ok(())
 }
 
-/// Answers the query at a place, which asks of an OMAP table, and all later ones that ask of the same.
+/// Answers the query at a position, which asks where an OMAP table moves addresses, and all later
+/// ones that ask this of the same table.
 fn answer_ranges(alloc: Global, stream: Stream, at: usize, asked: &mut Asked<'_>) -> Result<()>
     requires within { at < length asked.old.queries }
     requires asks { AsksOmap (query_at asked.old at) }
@@ -110,11 +115,12 @@ fn answer_ranges(alloc: Global, stream: Stream, at: usize, asked: &mut Asked<'_>
     Ok(())
 }
 
-/// Answers the query at a place by the stream of which it asks, and all later ones that ask of the same
-/// table.
+/// Answers the query at a position from the stream that it asks for, and all later ones that ask
+/// for something in the same table.
 ///
 /// # Errors
-/// What the table refuses, or `OutOfMemory` if memory is refused. Then no query is answered.
+/// Fails as opening the table does, or with `OutOfMemory` if memory is refused. Then no query is
+/// answered.
 fn answer_by(alloc: Global, stream: Stream, at: usize, asked: &mut Asked<'_>) -> Result<()>
     requires { at < length asked.old.queries }
     ensures { AnswersAt stream at asked.old result asked.new }
@@ -131,11 +137,11 @@ fn answer_by(alloc: Global, stream: Stream, at: usize, asked: &mut Asked<'_>) ->
     }
 }
 
-/// Answers the query at a place, and all later ones that ask of the same table.
+/// Answers the query at a position, and all later ones that ask for something in the same table.
 ///
 /// # Errors
-/// What the stream refuses, and then what the table in it does, or `OutOfMemory` if memory is refused. Then
-/// no query is answered.
+/// Fails as reading the stream does, then as opening the table in it does, or with `OutOfMemory` if
+/// memory is refused. Then no query is answered.
 fn attempt<S: Source>(
     alloc: Global,
     file: &mut BigMSF<S>,
@@ -153,8 +159,8 @@ fn attempt<S: Source>(
     answer_by(alloc, stream, at, asked)
 }
 
-/// Answers the query at a place, and all later ones that ask of the same table. A refusal is the reply to
-/// that query alone.
+/// Answers the query at a position, and all later ones that ask for something in the same table. A
+/// refusal is the reply to that query alone.
 fn answer<S: Source>(alloc: Global, file: &mut BigMSF<S>, at: usize, asked: &mut Asked<'_>)
     requires { at < length asked.old.queries }
     ensures answer { IsAnsweredFrom (HasFailed (S.state file.old.source) (S.state file.new.source))
@@ -167,11 +173,11 @@ fn answer<S: Source>(alloc: Global, file: &mut BigMSF<S>, at: usize, asked: &mut
     }
 }
 
-/// Asks a file all queries: one reply to each, in order.
+/// Asks a file all queries, and returns one reply to each, in order.
 ///
 /// # Errors
-/// `OutOfMemory` if there is no room for the list of replies, and then nothing was asked. Want of memory
-/// within a query is the reply to that query.
+/// Returns `OutOfMemory` if there is no room for the list of replies, and then nothing was asked.
+/// If memory is refused within a query, that is the reply to that query.
 fn ask_all<S: Source>(alloc: Global, file: &mut BigMSF<S>, queries: &[Query]) -> Result<Vec<Reply>>
     ensures replies { IfOk result (λ replies. AreReplies (¬ IsTrue (S.state file.old.source).is_sound)
         (S.state file.old.source).bytes file.old.head queries.now replies.items) }
@@ -187,15 +193,15 @@ fn ask_all<S: Source>(alloc: Global, file: &mut BigMSF<S>, queries: &[Query]) ->
     Ok(asked.into_replies())
 }
 
-/// Opens a file and asks it all queries: one reply to each, in order. On a sound source a refused query
-/// does not touch the next.
+/// Opens a file, asks it all queries, and returns one reply to each, in order. On a sound source, a
+/// refused query does not affect the next.
 ///
-/// A stream is read, and the table in it walked along, once for all queries that ask of it: the first of
-/// them opens it, and the later ones are answered with it. If it is refused, so is that query alone, and
-/// the next one asks for it again.
+/// A stream is read, and the table in it walked along, once for all queries that ask for it: the
+/// first of them opens it, and the later ones are answered from it. If it is refused, only that
+/// query is refused, and the next one asks for it again.
 ///
 /// # Errors
-/// What `open_msf` refuses, or `OutOfMemory` if there is no room for the list of replies.
+/// Fails as `open_msf` does, or with `OutOfMemory` if there is no room for the list of replies.
 pub fn run<S: Source + Drop>(alloc: Global, source: S, queries: &[Query]) -> Result<Vec<Reply>>
     ensures { IsRun (¬ IsTrue (S.state source).is_sound) (S.state source).bytes queries.now result }
 {

@@ -1,4 +1,4 @@
-//! Questions about a file between the program's channels.
+//! Questions about a file, read and answered on the program's channels.
 
 ghost use Rattle.std.specs.Prelude.{◌≡◌, ◌⊎◌};
 ghost use Rattle.pdb_dump.specs.Asking.{AreServed, IsAskedOf, IsUnasked, done_of, is_refused};
@@ -27,7 +27,7 @@ fn read_and_ask<I: Read, Q: Read, O: Write>(
     ask(alloc, file, &text, form, out)
 }
 
-/// Whether questions were asked, whatever the answers are.
+/// Returns whether questions were asked, whatever the answers are, or the fault if they were not.
 fn done_of(asked: Result<bool>) -> Result<()>
     ensures { result ≡ done_of asked }
 {
@@ -37,7 +37,7 @@ fn done_of(asked: Result<bool>) -> Result<()>
     }
 }
 
-/// Whether some question was not answered.
+/// Returns whether questions were asked and some of them was not answered.
 fn is_refused(asked: &Result<bool>) -> bool
     ensures { result ≡ is_refused asked.now }
 {
@@ -47,8 +47,9 @@ fn is_refused(asked: &Result<bool>) -> bool
     }
 }
 
-/// Answers on the output the questions that an input holds about the file that another is. Where one is not
-/// answered the status is 1. A fault of the file or of a channel is told on the channel of errors.
+/// Reads a file from one input and the questions about it from another, and writes the answers to
+/// the output. If a question is not answered, the status is 1. A fault of the file or of a channel
+/// is written to the error channel, unless it is that the output was closed.
 pub fn serve_questions<I: Read, Q: Read, O: Write, E: Write>(
     alloc: Global,
     form: Form,

@@ -23,7 +23,7 @@ after 0x. A stream that isn't given is found by its role. With --index I only th
 With --json each line is one object of JSON. `pdbdump COMMAND --help` tells of one command.
 ";
 
-/// How a command is called.
+/// Returns how a command is called.
 pub fn usage_of(verb: Verb) -> &'static str {
     match verb {
         Verb::Summary => "pdbdump FILE summary",
@@ -38,7 +38,7 @@ pub fn usage_of(verb: Verb) -> &'static str {
     }
 }
 
-/// What a command shows.
+/// Returns what a command shows.
 pub fn meaning_of(verb: Verb) -> &'static str {
     match verb {
         Verb::Summary => {

@@ -1,5 +1,5 @@
-//! What the program `pdbdump` does: the words of its command line, the lines that it lists of a program
-//! database, and the answers to questions about one.
+//! What the program `pdbdump` does: the words of its command line, the lines that it lists of a
+//! program database, and the answers to questions about one.
 #![tactic(auto)]
 
 mod asking;

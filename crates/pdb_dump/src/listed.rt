@@ -19,7 +19,7 @@ const TYPE_STREAM: u32 = 2;
 /// The number of the stream of ids, if none is given.
 const ID_STREAM: u32 = 4;
 
-/// Lists the types of the table in a stream, or the one of an index.
+/// Lists the types of the table in a stream, or only the one of an index.
 fn list_types<W: Write>(
     alloc: Global,
     file: &mut BigMSF<Vec<u8>>,
@@ -40,7 +40,7 @@ fn list_types<W: Write>(
     }
 }
 
-/// Lists the ids of the table in a stream, or the one of an index.
+/// Lists the ids of the table in a stream, or only the one of an index.
 fn list_ids<W: Write>(
     alloc: Global,
     file: &mut BigMSF<Vec<u8>>,
@@ -93,8 +93,9 @@ fn list_opened<W: Write>(
 /// Lists what a command asks of a file, a line for each record.
 ///
 /// # Errors
-/// What `open_msf` refuses, and then what the command does, behind the lines up to the first fault.
-/// `IoError` if the writer fails, and `OutOfMemory` if memory is refused.
+/// Fails with what `open_msf` refuses, and then with what the command refuses, after the lines up
+/// to the first fault; with `IoError` if the writer fails; and with `OutOfMemory` if memory is
+/// refused.
 pub fn list<W: Write>(
     alloc: Global,
     file: Vec<u8>,

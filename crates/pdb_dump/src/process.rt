@@ -11,13 +11,13 @@ use std::io::{BufWriter, ErrorKind};
 use std::rt::{Env, Files};
 use std::{env, fs, io};
 
-/// How many bytes of output are gathered before they are written.
+/// The number of bytes of output that are gathered before they are written.
 const BUFFER_SIZE: usize = 65_536;
 
 /// The status of a call whose words ask nothing.
 const MISUSED: u8 = 2;
 
-/// Prints how the program is called, or one command.
+/// Prints how the program is called, or how one command is.
 fn print_help<P: Print>(process: &P, words: &[&str]) -> Result<u8> {
     match first_verb(words) {
         Some(verb) => {
@@ -30,7 +30,7 @@ fn print_help<P: Print>(process: &P, words: &[&str]) -> Result<u8> {
     Ok(0)
 }
 
-/// Tells why words ask nothing of a file.
+/// Writes to standard error why words ask nothing of a file, and returns the status of misuse.
 fn tell_misuse<P: Eprint + AllocGlobal>(process: &P, misuse: Misuse, words: &[&str]) -> Result<u8> {
     let mut told = String::new(process.alloc());
     for word in words {
@@ -55,7 +55,7 @@ fn tell_misuse<P: Eprint + AllocGlobal>(process: &P, misuse: Misuse, words: &[&s
     Ok(MISUSED)
 }
 
-/// Lists what a command asks of the file of a path, or of standard input if that is `-`.
+/// Lists what a command asks of the file at a path, or of standard input if the path is `-`.
 fn list_file<P: Files + Input + Print + Eprint + AllocGlobal>(
     process: &P,
     path: &str,
@@ -75,7 +75,7 @@ fn list_file<P: Files + Input + Print + Eprint + AllocGlobal>(
     }
 }
 
-/// Answers the questions on standard input about the file of a path.
+/// Answers the questions on standard input about the file at a path.
 fn answer_questions<P: Files + Input + Print + Eprint + AllocGlobal>(
     process: &P,
     path: &str,
@@ -98,7 +98,7 @@ fn answer_questions<P: Files + Input + Print + Eprint + AllocGlobal>(
     }
 }
 
-/// What the program does with the words behind its name, and the status that it ends with.
+/// Does what the words after the program's name ask, and returns the status that it ends with.
 fn call<P: Files + Input + Print + Eprint + AllocGlobal>(
     process: &P,
     words: &[&str],
@@ -123,7 +123,7 @@ fn call<P: Files + Input + Print + Eprint + AllocGlobal>(
     }
 }
 
-/// Reads the words of a call, and does what they ask.
+/// Reads the words of a call, does what they ask, and returns the status that it ends with.
 fn attempt<P: Env + Files + Input + Print + Eprint + AllocGlobal>(process: &P) -> Result<u8> {
     match env::args(process) {
         Ok(arguments) => {
@@ -139,8 +139,9 @@ fn attempt<P: Env + Files + Input + Print + Eprint + AllocGlobal>(process: &P) -
     }
 }
 
-/// What the program does with the words, the files and the channels of its process, and the status that it
-/// ends with: 0 if all was listed or answered, 1 if something was refused, 2 if the words ask nothing.
+/// Runs the program with the words, the files and the channels of its process, and returns the
+/// status that it ends with: 0 if all was listed or answered, 1 if something was refused, 2 if the
+/// words ask nothing.
 pub fn program<P: Env + Files + Input + Print + Eprint + AllocGlobal>(process: &P) -> u8 {
     match attempt(process) {
         Ok(status) => status,

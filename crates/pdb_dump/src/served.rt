@@ -27,7 +27,7 @@ fn read_and_list<I: Read, O: Write>(
     list(alloc, file, command, form, out)
 }
 
-/// How listing went, and then handing on what was written.
+/// Returns the first fault of listing and of the flush after it, if there is one.
 pub(crate) fn joined(listed: Result<()>, flushed: io::Result<()>) -> Result<()>
     ensures { result ≡ joined listed flushed }
 {
@@ -38,7 +38,7 @@ pub(crate) fn joined(listed: Result<()>, flushed: io::Result<()>) -> Result<()>
     }
 }
 
-/// Whether who reads the output has closed it.
+/// Returns whether a fault is that the reader of the output has closed it.
 fn is_closed(fault: &Error) -> bool
     ensures { IsTrue result ↔ IsClosed fault.now }
 {
@@ -48,7 +48,8 @@ fn is_closed(fault: &Error) -> bool
     }
 }
 
-/// Ends the program, which tells a fault unless it is that the output was closed.
+/// Ends the program. A fault is written to the error channel, unless it is that the output was
+/// closed.
 pub(crate) fn end<E: Write>(alloc: Global, listed: Result<()>, err: &mut E) -> Ended
     ensures { IsEnded listed (E.contents err.old) (E.contents err.new) result }
 {
@@ -61,8 +62,9 @@ pub(crate) fn end<E: Write>(alloc: Global, listed: Result<()>, err: &mut E) -> E
     }
 }
 
-/// Lists on the output what a command asks of the file that an input is. A fault is told on the channel
-/// of errors, behind what was listed before it.
+/// Reads a file from the input and lists on the output what a command asks of it. A fault is
+/// written to the error channel, after what was listed before it, unless it is that the output was
+/// closed.
 pub fn serve<I: Read, O: Write, E: Write>(
     alloc: Global,
     command: Command,

@@ -10,7 +10,7 @@ use pdb_container::Error;
 use pdb_mapping::MapStreams;
 use std::alloc::Global;
 
-/// What a command is called.
+/// The name of a command.
 #[derive(Clone, Copy, Debug, PartialEq, Eq)]
 pub enum Verb {
     /// `summary`: what the file is made of.
@@ -99,13 +99,13 @@ pub enum Task {
 pub enum Misuse {
     /// There is no command of that name.
     NoCommand,
-    /// The command does not take the words behind it.
+    /// The command does not take the words after it.
     Arguments(Verb),
     /// Both the questions and the file are to be read from standard input.
     InputTwice,
 }
 
-/// Whether one of the words is this one.
+/// Returns whether one of the words is the wanted one.
 pub fn any_is(words: &[&str], wanted: &str) -> bool
     ensures { result ≡ list_any (λ word. same word.now wanted.now) words.now }
 {
@@ -117,7 +117,7 @@ pub fn any_is(words: &[&str], wanted: &str) -> bool
     false
 }
 
-/// The words without `--json`, which may stand anywhere.
+/// Returns the words without `--json`, which may stand anywhere.
 pub fn plain_words<'w>(alloc: Global, words: &[&'w str]) -> pdb_container::Result<Vec<&'w str>>
     ensures plain { IfOk result (λ plain. map (λ word. word.now) plain.items ≡
         plain_words (map (λ word. word.now) words.now)) }
@@ -132,7 +132,7 @@ pub fn plain_words<'w>(alloc: Global, words: &[&'w str]) -> pdb_container::Resul
     Ok(plain)
 }
 
-/// The command of a name.
+/// Returns the command of a name, if there is one.
 pub fn verb_named(word: &str) -> Option<Verb>
     ensures { result ≡ verb_of word.now }
 {
@@ -150,7 +150,7 @@ pub fn verb_named(word: &str) -> Option<Verb>
     }
 }
 
-/// The command that the first word names, of which help is asked.
+/// Returns the command that the first word names, for which help is asked.
 pub fn first_verb(words: &[&str]) -> Option<Verb>
     ensures { result ≡ first_verb (map (λ word. word.now) words.now) }
 {
@@ -160,7 +160,7 @@ pub fn first_verb(words: &[&str]) -> Option<Verb>
     }
 }
 
-/// The one stream that words may give: none, or `S`.
+/// Parses the one stream that words may give: none, or `S`.
 #[tactic(auto, unfolding(crate::specs::Words::one_stream))]
 fn one_stream(words: &[&str]) -> Option<Option<u32>>
     ensures { result ≡ one_stream (map (λ word. word.now) words.now) }
@@ -175,7 +175,7 @@ fn one_stream(words: &[&str]) -> Option<Option<u32>>
     }
 }
 
-/// The stream and the index that words may give: `[S] [--index I]`.
+/// Parses the stream and the index that words may give: `[S] [--index I]`.
 #[tactic(auto, unfolding(crate::specs::Words::records_asked))]
 fn records_asked(words: &[&str]) -> Option<(Option<u32>, Option<u32>)>
     ensures { result ≡ records_asked (map (λ word. word.now) words.now) }
@@ -205,7 +205,7 @@ fn records_asked(words: &[&str]) -> Option<(Option<u32>, Option<u32>)>
     }
 }
 
-/// The stream that a word gives, which is `-` where it is absent.
+/// Parses the stream that a word gives, where `-` stands for an absent one.
 #[tactic(auto, unfolding(crate::specs::Words::argument_of))]
 fn stream_or_none(word: &str) -> Option<Option<u32>>
     ensures { result ≡ argument_of word.now }
@@ -217,7 +217,8 @@ fn stream_or_none(word: &str) -> Option<Option<u32>>
     Some(Some(stream))
 }
 
-/// What `frames` asks: the file's own frames, or `OLD [NEW]`, each a stream or `-`.
+/// Parses the words after `frames`: none for the file's own frames, or `OLD [NEW]`, each a stream
+/// or `-`.
 #[tactic(auto, unfolding(crate::specs::Words::frames_asked))]
 fn frames_asked(words: &[&str]) -> Option<Command>
     ensures { result ≡ frames_asked (map (λ word. word.now) words.now) }
@@ -237,7 +238,7 @@ fn frames_asked(words: &[&str]) -> Option<Command>
     }
 }
 
-/// No stream of an address map.
+/// Returns the streams of an address map of which none is given.
 fn no_streams() -> MapStreams
     ensures { result ≡ no_streams }
 {
@@ -249,7 +250,8 @@ fn no_streams() -> MapStreams
     }
 }
 
-/// The streams of an address map, with the one that an option gives.
+/// Returns the streams of an address map with the one that an option gives, if there is such an
+/// option.
 fn with_stream(streams: MapStreams, option: &str, stream: u32) -> Option<MapStreams>
     ensures { result ≡ with_stream streams option.now stream }
 {
@@ -275,7 +277,7 @@ fn with_stream(streams: MapStreams, option: &str, stream: u32) -> Option<MapStre
     }
 }
 
-/// The streams of an address map that words give, each by an option and a number.
+/// Parses the streams of an address map, each given by an option and a number.
 #[tactic(auto, unfolding(crate::specs::Words::streams_asked))]
 fn streams_asked(words: &[&str]) -> Option<MapStreams>
     ensures { result ≡ streams_asked no_streams (map (λ word. word.now) words.now) }
@@ -294,7 +296,7 @@ fn streams_asked(words: &[&str]) -> Option<MapStreams>
     }
 }
 
-/// What `map` asks: an address, and the streams of the map.
+/// Parses the words after `map`: an address, and the streams of the map.
 #[tactic(auto, unfolding(crate::specs::Words::map_asked))]
 fn map_asked(words: &[&str]) -> Option<Command>
     ensures { result ≡ map_asked (map (λ word. word.now) words.now) }
@@ -305,7 +307,7 @@ fn map_asked(words: &[&str]) -> Option<Command>
     Some(Command::Map { address, streams })
 }
 
-/// What a command lists with the words behind it, if it takes them.
+/// Returns what a command lists with the words after it, if it takes them.
 fn listed_by(verb: Verb, words: &[&str]) -> Option<Command>
     ensures { result ≡ listed_by verb (map (λ word. word.now) words.now) }
 {
@@ -337,7 +339,7 @@ fn listed_by(verb: Verb, words: &[&str]) -> Option<Command>
     }
 }
 
-/// What a command asks with the words behind it, if it takes them.
+/// Returns what a command asks with the words after it, if it takes them.
 fn asked(verb: Verb, words: &[&str]) -> Option<Task>
     ensures { result ≡ asked verb (map (λ word. word.now) words.now) }
 {
@@ -350,7 +352,7 @@ fn asked(verb: Verb, words: &[&str]) -> Option<Task>
     }
 }
 
-/// What the words behind a file ask of it. No word asks for the summary.
+/// Returns what the words after a file ask of it. Without words it is the summary.
 #[tactic(auto, unfolding(crate::specs::Words::command_of))]
 fn command_of(words: &[&str]) -> Result<Task, Misuse>
     ensures { result ≡ command_of (map (λ word. word.now) words.now) }
@@ -367,8 +369,12 @@ fn command_of(words: &[&str]) -> Result<Task, Misuse>
     }
 }
 
-/// What the words behind the file of a path ask of it. A file on standard input, whose path is `-`, can't
-/// be asked the questions on standard input.
+/// Returns what the words after the path of a file ask of it.
+///
+/// # Errors
+/// Fails with `NoCommand` if the first word names no command, with `Arguments` if the command
+/// doesn't take the words after it, and with `InputTwice` if the path is `-`, for standard input,
+/// and the questions are to be read from there too.
 #[tactic(auto, unfolding(crate::specs::Words::task_of))]
 pub fn asked_of_file(path: &str, words: &[&str]) -> Result<Task, Misuse>
     ensures { result ≡ task_of path.now (map (λ word. word.now) words.now) }

@@ -32,58 +32,59 @@ impl Model for FieldAttributes {
 }
 
 impl FieldAttributes {
-    /// The attributes that a word says.
+    /// Returns the attributes that a word states.
     pub const fn new(word: u16) -> Self
         ensures { result ≡ word }
     {
         FieldAttributes(word)
     }
 
-    /// The word.
+    /// Returns the word.
     pub const fn bits(self) -> u16
         ensures { result ≡ self }
     {
         self.0
     }
 
-    /// Who may reach the member, by the number of `CV_access_e`, 0 to 3. Bits 0 and 1.
+    /// Returns who may access the member, as a number of `CV_access_e` from 0 to 3 (bits 0 and 1).
     pub fn access(self) -> u8
         ensures { result ≡ access self }
     {
         part(self.0 as u32, 0, 2) as u8
     }
 
-    /// How the method is called, by the number of `CV_methodprop_e`. Bits 2 to 4.
+    /// Returns how the method is called, as a number of `CV_methodprop_e` (bits 2 to 4).
     fn method_property(self) -> u32
         ensures { result ≡ method_property self }
     {
         part(self.0 as u32, 2, 3)
     }
 
-    /// Whether the method is virtual, and neither pure nor one that introduces a place in the table of
-    /// virtual functions.
+    /// Returns whether the method is virtual, but neither pure nor one that introduces an entry in
+    /// the table of virtual functions.
     pub fn is_virtual(self) -> bool
         ensures { result ≡ is_virtual self }
     {
         self.method_property() == VIRTUAL
     }
 
-    /// Whether the method is static.
+    /// Returns whether the method is static.
     pub fn is_static(self) -> bool
         ensures { result ≡ is_static self }
     {
         self.method_property() == STATIC
     }
 
-    /// Whether the method is pure virtual, and introduces no place.
+    /// Returns whether the method is pure virtual and does not introduce an entry in the table of
+    /// virtual functions.
     pub fn is_pure_virtual(self) -> bool
         ensures { result ≡ is_pure_virtual self }
     {
         self.method_property() == PURE_VIRTUAL
     }
 
-    /// Whether the method, pure or not, introduces a place in the table of virtual functions. The place
-    /// then stands in its record.
+    /// Returns whether the method, pure or not, introduces an entry in the table of virtual
+    /// functions. The place of that entry is then in the method's record.
     pub fn is_intro_virtual(self) -> bool
         ensures { result ≡ is_intro_virtual self }
     {

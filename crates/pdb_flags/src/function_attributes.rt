@@ -6,8 +6,8 @@ ghost use Rattle.pdb_flags.specs.FunctionAttributes.{calling_convention, cxx_ret
 use pdb_bits::{is_set, part};
 use std::marker::Model;
 
-/// Attributes of a function or a method: the calling convention of `CV_call_e` in the low byte, and the
-/// bits of `CV_funcattr_t` above it, of Microsoft's cvinfo.h.
+/// Attributes of a function or a method: the calling convention of `CV_call_e` in the low byte, and
+/// the bits of `CV_funcattr_t` above it, both of Microsoft's cvinfo.h.
 #[derive(Clone, Copy, Debug, PartialEq, Eq)]
 pub struct FunctionAttributes(u16);
 
@@ -22,42 +22,42 @@ impl Model for FunctionAttributes {
 }
 
 impl FunctionAttributes {
-    /// The attributes that a word says.
+    /// Returns the attributes that a word states.
     pub const fn new(word: u16) -> Self
         ensures { result ≡ word }
     {
         FunctionAttributes(word)
     }
 
-    /// The word.
+    /// Returns the word.
     pub const fn bits(self) -> u16
         ensures { result ≡ self }
     {
         self.0
     }
 
-    /// The number of the calling convention. Bits 0 to 7.
+    /// Returns the number of the calling convention (bits 0 to 7).
     pub fn calling_convention(self) -> u8
         ensures { result ≡ calling_convention self }
     {
         part(self.0 as u32, 0, 8) as u8
     }
 
-    /// Whether it answers a user-defined type as C++ does. Bit 8.
+    /// Returns whether the function returns a user-defined type as C++ does (bit 8).
     pub fn cxx_return_udt(self) -> bool
         ensures { result ≡ cxx_return_udt self }
     {
         is_set(self.0 as u32, 8)
     }
 
-    /// Whether it is a constructor. Bit 9.
+    /// Returns whether the function is a constructor (bit 9).
     pub fn is_constructor(self) -> bool
         ensures { result ≡ is_constructor self }
     {
         is_set(self.0 as u32, 9)
     }
 
-    /// Whether it is a constructor of a class with virtual bases. Bit 10.
+    /// Returns whether the function is a constructor of a class with virtual bases (bit 10).
     pub fn is_constructor_with_virtual_bases(self) -> bool
         ensures { result ≡ is_constructor_with_virtual_bases self }
     {

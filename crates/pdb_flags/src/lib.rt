@@ -1,4 +1,4 @@
-//! The words of records whose bits say something each.
+//! The flag words of records, in which each bit or group of bits has a meaning.
 #![tactic(auto)]
 
 mod field_attributes;

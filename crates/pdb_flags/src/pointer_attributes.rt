@@ -9,8 +9,8 @@ use crate::pointer_mode::PointerMode;
 use pdb_bits::{is_set, part};
 use std::marker::Model;
 
-/// Attributes of a pointer: the bits of `lfPointerAttr` in Microsoft's cvinfo.h. The kind and the mode are
-/// always ones that cvinfo.h has.
+/// Attributes of a pointer: the bits of `lfPointerAttr` in Microsoft's cvinfo.h. The kind and the
+/// mode are always ones that cvinfo.h has.
 #[derive(Clone, Copy, Debug, PartialEq, Eq)]
 pub struct PointerAttributes(u32);
 
@@ -29,8 +29,8 @@ impl Model for PointerAttributes {
 }
 
 impl PointerAttributes {
-    /// The attributes that a word says, or None where its kind is above 12 or its mode above 4, which
-    /// say nothing.
+    /// Returns the attributes that a word states, or None if its kind is above 12 or its mode above
+    /// 4, which have no meaning.
     pub fn new(word: u32) -> Option<Self>
         ensures { result ≡ pointer_word word }
     {
@@ -43,7 +43,7 @@ impl PointerAttributes {
         }
     }
 
-    /// The word, whose kind and mode are ones that cvinfo.h has.
+    /// Returns the word, whose kind and mode are ones that cvinfo.h has.
     pub const fn bits(self) -> u32
         ensures word { result ≡ self }
         ensures good { IsTrue (is_pointer_word self) }
@@ -51,7 +51,7 @@ impl PointerAttributes {
         self.0
     }
 
-    /// The kind of the pointer. Bits 0 to 4.
+    /// Returns the kind of the pointer (bits 0 to 4).
     pub fn pointer_kind(self) -> PointerKind
         ensures { kind_number result ≡ kind_in self }
     {
@@ -61,7 +61,7 @@ impl PointerAttributes {
         }
     }
 
-    /// The mode of the pointer. Bits 5 to 7.
+    /// Returns the mode of the pointer (bits 5 to 7).
     pub fn pointer_mode(self) -> PointerMode
         ensures { mode_number result ≡ mode_in self }
     {
@@ -71,43 +71,43 @@ impl PointerAttributes {
         }
     }
 
-    /// Whether it is of the flat model of 32 bits. Bit 8.
+    /// Returns whether the pointer is of the flat model of 32 bits (bit 8).
     pub fn is_flat_32(self) -> bool
         ensures { result ≡ is_flat_32 self }
     {
         is_set(self.0, 8)
     }
 
-    /// Whether what it points to may change by itself. Bit 9.
+    /// Returns whether what the pointer points to may change by itself (bit 9).
     pub fn is_volatile(self) -> bool
         ensures { result ≡ is_volatile self }
     {
         is_set(self.0, 9)
     }
 
-    /// Whether it is const. Bit 10.
+    /// Returns whether the pointer is const (bit 10).
     pub fn is_const(self) -> bool
         ensures { result ≡ is_const self }
     {
         is_set(self.0, 10)
     }
 
-    /// Whether it need not be aligned. Bit 11.
+    /// Returns whether the pointer need not be aligned (bit 11).
     pub fn is_unaligned(self) -> bool
         ensures { result ≡ is_unaligned self }
     {
         is_set(self.0, 11)
     }
 
-    /// Whether it is the only way to what it points to. Bit 12.
+    /// Returns whether the pointer is the only way to reach what it points to (bit 12).
     pub fn is_restrict(self) -> bool
         ensures { result ≡ is_restrict self }
     {
         is_set(self.0, 12)
     }
 
-    /// The bytes that it takes. Bits 13 to 18; where they are 0, what its kind usually takes: 4 for
-    /// `Near32` and `Far32`, 8 for `Ptr64`, and 0 for others.
+    /// Returns the size of the pointer in bytes (bits 13 to 18). If these bits are 0, that is the
+    /// usual size for the kind: 4 for `Near32` and `Far32`, 8 for `Ptr64`, and 0 for others.
     pub fn size(self) -> u8
         ensures { result ≡ pointer_size self }
     {
@@ -121,14 +121,14 @@ impl PointerAttributes {
         }
     }
 
-    /// Whether it is one of the component model. Bit 19.
+    /// Returns whether the pointer is one of the component model (bit 19).
     pub fn is_mocom(self) -> bool
         ensures { result ≡ is_mocom self }
     {
         is_set(self.0, 19)
     }
 
-    /// Whether it points to a data member or a method of a class.
+    /// Returns whether the pointer points to a data member or a method of a class.
     pub fn pointer_to_member(self) -> bool
         ensures { result ≡ pointer_to_member self }
     {
@@ -138,7 +138,7 @@ impl PointerAttributes {
         )
     }
 
-    /// Whether it is a reference, of either kind.
+    /// Returns whether the pointer is a reference of either kind.
     pub fn is_reference(self) -> bool
         ensures { result ≡ is_reference self }
     {

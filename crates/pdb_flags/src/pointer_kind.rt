@@ -2,7 +2,7 @@
 
 ghost use Rattle.std.specs.Prelude.{◌≡◌, ◌<◌, MatchOption};
 
-/// How a pointer is held, as `CV_ptrtype_e` of Microsoft's cvinfo.h numbers it.
+/// The kind of a pointer, as `CV_ptrtype_e` of Microsoft's cvinfo.h numbers it.
 #[derive(Clone, Copy, Debug, PartialEq, Eq)]
 pub enum PointerKind {
     /// 16 bits, within a segment.
@@ -11,7 +11,7 @@ pub enum PointerKind {
     /// A segment and 16 bits.
     Far16,
 
-    /// A segment and 16 bits, and sums carry into the segment.
+    /// A segment and 16 bits, where sums carry into the segment.
     Huge16,
 
     /// Based on a segment.
@@ -48,7 +48,7 @@ pub enum PointerKind {
 impl PointerKind {
     ghost use Rattle.pdb_flags.specs.PointerNumbers.{kind_number};
 
-    /// The kind of this number, which is at most 12.
+    /// Returns the kind of this number, or None if the number is above 12.
     pub(crate) fn from_number(number: u32) -> Option<Self>
         ensures { MatchOption result (12 < number) (λ kind. kind_number kind ≡ number) }
     {

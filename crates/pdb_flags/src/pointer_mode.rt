@@ -2,13 +2,13 @@
 
 ghost use Rattle.std.specs.Prelude.{◌≡◌, ◌<◌, MatchOption};
 
-/// What a pointer is in its language, as `CV_ptrmode_e` of Microsoft's cvinfo.h numbers it.
+/// What a pointer is in the source language, as `CV_ptrmode_e` of Microsoft's cvinfo.h numbers it.
 #[derive(Clone, Copy, Debug, PartialEq, Eq)]
 pub enum PointerMode {
     /// A plain pointer.
     Pointer,
 
-    /// A reference, `&`.
+    /// An lvalue reference, `&`.
     LValueReference,
 
     /// A pointer to a data member of a class.
@@ -17,14 +17,14 @@ pub enum PointerMode {
     /// A pointer to a method of a class.
     MemberFunction,
 
-    /// A reference to what is about to go, `&&`.
+    /// An rvalue reference, `&&`.
     RValueReference,
 }
 
 impl PointerMode {
     ghost use Rattle.pdb_flags.specs.PointerNumbers.{mode_number};
 
-    /// The mode of this number, which is at most 4.
+    /// Returns the mode of this number, or None if the number is above 4.
     pub(crate) fn from_number(number: u32) -> Option<Self>
         ensures { MatchOption result (4 < number) (λ mode. mode_number mode ≡ number) }
     {

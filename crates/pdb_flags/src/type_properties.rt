@@ -6,7 +6,8 @@ ghost use Rattle.pdb_flags.specs.TypeProperties.{packed, constructors, overloade
 use pdb_bits::{is_set, part};
 use std::marker::Model;
 
-/// Properties of a class, a union or an enumeration: the bits of `CV_prop_t` in Microsoft's cvinfo.h.
+/// Properties of a class, a union or an enumeration: the bits of `CV_prop_t` in Microsoft's
+/// cvinfo.h.
 #[derive(Clone, Copy, Debug, PartialEq, Eq)]
 pub struct TypeProperties(u16);
 
@@ -21,112 +22,112 @@ impl Model for TypeProperties {
 }
 
 impl TypeProperties {
-    /// The properties that a word says.
+    /// Returns the properties that a word states.
     pub const fn new(word: u16) -> Self
         ensures { result ≡ word }
     {
         TypeProperties(word)
     }
 
-    /// The word.
+    /// Returns the word.
     pub const fn bits(self) -> u16
         ensures { result ≡ self }
     {
         self.0
     }
 
-    /// Whether its members are packed. Bit 0.
+    /// Returns whether the members of the type are packed (bit 0).
     pub fn packed(self) -> bool
         ensures { result ≡ packed self }
     {
         is_set(self.0 as u32, 0)
     }
 
-    /// Whether it has constructors or destructors. Bit 1.
+    /// Returns whether the type has constructors or destructors (bit 1).
     pub fn constructors(self) -> bool
         ensures { result ≡ constructors self }
     {
         is_set(self.0 as u32, 1)
     }
 
-    /// Whether it has overloaded operators. Bit 2.
+    /// Returns whether the type has overloaded operators (bit 2).
     pub fn overloaded_operators(self) -> bool
         ensures { result ≡ overloaded_operators self }
     {
         is_set(self.0 as u32, 2)
     }
 
-    /// Whether it is nested in another type. Bit 3.
+    /// Returns whether the type is nested in another type (bit 3).
     pub fn is_nested_type(self) -> bool
         ensures { result ≡ is_nested_type self }
     {
         is_set(self.0 as u32, 3)
     }
 
-    /// Whether other types are nested in it. Bit 4.
+    /// Returns whether other types are nested in the type (bit 4).
     pub fn contains_nested_types(self) -> bool
         ensures { result ≡ contains_nested_types self }
     {
         is_set(self.0 as u32, 4)
     }
 
-    /// Whether it overloads assignment. Bit 5.
+    /// Returns whether the type overloads assignment (bit 5).
     pub fn overloaded_assignment(self) -> bool
         ensures { result ≡ overloaded_assignment self }
     {
         is_set(self.0 as u32, 5)
     }
 
-    /// Whether it has casting methods. Bit 6.
+    /// Returns whether the type has casting methods (bit 6).
     pub fn overloaded_casting(self) -> bool
         ensures { result ≡ overloaded_casting self }
     {
         is_set(self.0 as u32, 6)
     }
 
-    /// Whether it is declared alone, and another record defines it. Bit 7.
+    /// Returns whether the type is only declared here and another record defines it (bit 7).
     pub fn forward_reference(self) -> bool
         ensures { result ≡ forward_reference self }
     {
         is_set(self.0 as u32, 7)
     }
 
-    /// Whether it is defined in a scope of its own. Bit 8.
+    /// Returns whether the type is defined in a scope of its own (bit 8).
     pub fn scoped_definition(self) -> bool
         ensures { result ≡ scoped_definition self }
     {
         is_set(self.0 as u32, 8)
     }
 
-    /// Whether a second name, which no other type has, stands behind its name. Bit 9.
+    /// Returns whether the name is followed by a second one, which no other type has (bit 9).
     pub fn has_unique_name(self) -> bool
         ensures { result ≡ has_unique_name self }
     {
         is_set(self.0 as u32, 9)
     }
 
-    /// Whether no class may derive from it. Bit 10.
+    /// Returns whether no class may derive from the type (bit 10).
     pub fn sealed(self) -> bool
         ensures { result ≡ sealed self }
     {
         is_set(self.0 as u32, 10)
     }
 
-    /// The kind of homogeneous aggregate of floats that it is, 0 to 3. Bits 11 and 12.
+    /// Returns the type's kind of homogeneous aggregate of floats, from 0 to 3 (bits 11 and 12).
     pub fn hfa(self) -> u8
         ensures { result ≡ hfa self }
     {
         part(self.0 as u32, 11, 2) as u8
     }
 
-    /// Whether it is intrinsic. Bit 13.
+    /// Returns whether the type is intrinsic (bit 13).
     pub fn intrinsic_type(self) -> bool
         ensures { result ≡ intrinsic_type self }
     {
         is_set(self.0 as u32, 13)
     }
 
-    /// The kind of type of the component model that it is, 0 to 3. Bits 14 and 15.
+    /// Returns the kind of type of the component model that it is, from 0 to 3 (bits 14 and 15).
     pub fn mocom(self) -> u8
         ensures { result ≡ mocom self }
     {

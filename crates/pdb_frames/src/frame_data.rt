@@ -8,16 +8,16 @@ use crate::new_frame_data::NewFrameData;
 use crate::old_frame_data::OldFrameData;
 use pdb_space::{PdbInternalRva, StringRef};
 
-/// What a stack walker needs to know of the frame that code has.
+/// What a stack walker needs to know about the frame of a piece of code.
 #[derive(Clone, Copy, Debug, PartialEq, Eq)]
 pub struct FrameData {
-    /// What kind of frame it is.
+    /// The kind of frame.
     pub ty: FrameType,
 
     /// The address of the first byte of the code.
     pub code_start: PdbInternalRva,
 
-    /// How many bytes of code there are.
+    /// The size of the code in bytes.
     pub code_size: u32,
 
     /// The size of the local variables in bytes.
@@ -26,13 +26,13 @@ pub struct FrameData {
     /// The size of the parameters in bytes.
     pub params_size: u32,
 
-    /// How many bytes of code the prolog has.
+    /// The size of the prolog in bytes.
     pub prolog_size: u16,
 
     /// The size of the saved registers in bytes.
     pub saved_regs_size: u16,
 
-    /// The most bytes that the code pushes on the stack, if the record says so.
+    /// The largest number of bytes that the code pushes on the stack, if the record says so.
     pub max_stack_size: Option<u32>,
 
     /// Whether the code handles structured exceptions.
@@ -47,12 +47,13 @@ pub struct FrameData {
     /// Whether the base pointer holds something other than the frame.
     pub uses_base_pointer: bool,
 
-    /// The program that computes the registers of the caller, by its place in the string table.
+    /// The offset in the string table of the program that computes the caller's registers, if the
+    /// record has one.
     pub program: Option<StringRef>,
 }
 
-/// What an old record says. It counts local variables, parameters and saved registers in units of 4
-/// bytes. The bytes of local variables are taken modulo 2^32.
+/// Converts a record of the older format, which counts local variables, parameters and saved
+/// registers in units of 4 bytes. The size of local variables in bytes is taken modulo 2^32.
 impl From<&OldFrameData> for FrameData {
     ghost from_gives = { λ frame told. told ≡ of_old frame.now };
 
@@ -76,7 +77,7 @@ impl From<&OldFrameData> for FrameData {
     }
 }
 
-/// What a new record says.
+/// Converts a record of the newer format.
 impl From<&NewFrameData> for FrameData {
     ghost from_gives = { λ frame told. told ≡ of_new frame.now };
 

@@ -5,11 +5,11 @@ ghost use Rattle.pdb_base.specs.Records.{spelled};
 
 use crate::addr_range::AddrRange;
 
-/// A record of a stream that holds records of one length.
+/// A record of a stream whose records all have the same size.
 pub(crate) trait FrameRecord: AddrRange + Copy {
     ghost SIZE: { ℕ };
 
-    /// How many bytes a record takes.
+    /// The size of a record in bytes.
     const SIZE: usize;
 
     // A record takes some bytes.
@@ -18,13 +18,14 @@ pub(crate) trait FrameRecord: AddrRange + Copy {
     // The record that so many bytes spell.
     ghost value: { List ℕ → Self };
 
-    /// The record that these bytes spell.
+    /// Returns the record in these bytes, which are as many as a record has.
     fn read(bytes: &[u8]) -> Self
         requires { length bytes.now ≡ SIZE }
         ensures { result ≡ value bytes.now };
 }
 
-/// The first of the records that bytes spell, and the bytes behind it.
+/// Returns the first record in `bytes` and the bytes after it, or None if fewer bytes are left than
+/// a record has.
 #[tactic(auto, using(pdb_base::proofs::lemmas::Records::spelled_none, pdb_base::proofs::lemmas::Records::spelled_first))]
 pub(crate) fn first<R: FrameRecord>(bytes: &[u8]) -> Option<(R, &[u8])>
     ensures none { IfNone result (spelled R.SIZE R.value bytes.now ≡ []) }
@@ -39,7 +40,7 @@ pub(crate) fn first<R: FrameRecord>(bytes: &[u8]) -> Option<(R, &[u8])>
     Some((R::read(front), behind))
 }
 
-/// The record at a place.
+/// Returns the record at index `place`.
 pub(crate) fn record_at<R: FrameRecord>(bytes: &[u8], place: usize) -> R
     requires { place < length bytes.now / R.SIZE }
     ensures { result ≡ R.value (take R.SIZE (drop (R.SIZE * place) bytes.now)) }
@@ -48,7 +49,7 @@ pub(crate) fn record_at<R: FrameRecord>(bytes: &[u8], place: usize) -> R
     R::read(&bytes[start..start + R::SIZE])
 }
 
-/// The bytes of the records from a place on.
+/// Returns the bytes of the records from index `place` on.
 pub(crate) fn from_place<R: FrameRecord>(bytes: &[u8], place: usize) -> &[u8]
     requires { place ≤ length bytes.now / R.SIZE }
     ensures { spelled R.SIZE R.value result.now ≡ drop place (spelled R.SIZE R.value bytes.now) }

@@ -45,7 +45,7 @@ impl Model for FrameTable {
         (length (unwrap_or t.old []) % OLD_SIZE ≡ 0) × (length (unwrap_or t.new []) % NEW_SIZE ≡ 0) };
 }
 
-/// The bytes of a stream that may be absent.
+/// Returns the bytes of a stream, or no bytes if it is absent.
 fn bytes_of(stream: &Option<Stream>) -> &[u8]
     ensures { result.now ≡ unwrap_or stream.now [] }
 {
@@ -56,11 +56,13 @@ fn bytes_of(stream: &Option<Stream>) -> &[u8]
 }
 
 impl FrameTable {
-    /// The table that two streams hold. A stream that is absent or empty holds no records.
+    /// Parses the table in two streams: one of records of the older format, one of the newer. A
+    /// stream that is absent or empty holds no records.
     ///
     /// # Errors
-    /// `InvalidStreamLength("FPO")` if the length of the old stream is no multiple of 16 bytes, and
-    /// else `InvalidStreamLength("FrameData")` if that of the new one is no multiple of 32.
+    /// Fails with `InvalidStreamLength("FPO")` if the length of the old stream isn't a multiple of
+    /// 16 bytes, and then with `InvalidStreamLength("FrameData")` if that of the new one isn't a
+    /// multiple of 32.
     #[tactic(auto, unfolding(crate::specs::Table::table_of))]
     pub fn parse(old: Option<Stream>, new: Option<Stream>) -> Result<FrameTable>
         ensures { Gives (λ table. table) result (table_of old new) }
@@ -74,7 +76,7 @@ impl FrameTable {
         Ok(FrameTable { old, new })
     }
 
-    /// Whether there are no frames.
+    /// Returns whether the table has no frames.
     #[tactic(auto, using(pdb_base::proofs::lemmas::Records::spelled_nothing, pdb_base::proofs::lemmas::Records::none_spelled))]
     pub fn is_empty(&self) -> bool
         ensures { IsTrue result ↔ ((self.now.old ≡ []) × (self.now.new ≡ [])) }
@@ -82,11 +84,12 @@ impl FrameTable {
         bytes_of(&self.old).is_empty() && bytes_of(&self.new).is_empty()
     }
 
-    /// All frames, by their starts. Of an old and a new record that start at one address the new one
-    /// is given.
+    /// Returns an iterator over all frames, ordered by their starts. If an old and a new record
+    /// start at the same address, the iterator yields only the new one.
     ///
-    /// Where the starts of a stream don't increase from record to record, the heads of both streams are
-    /// compared all the same: the one that starts lower comes next.
+    /// If the starts of a stream don't increase from record to record, the first records left in
+    /// both streams are compared all the same: the one that starts lower comes next, and of two
+    /// that start at the same address only the new one.
     #[tactic(auto, using(crate::proofs::TableLemmas::all_merged))]
     pub fn iter(&self) -> FrameDataIter<'_>
         ensures merged { StartsIncrease self.now → result ≡ merge self.now.old self.now.new }
@@ -98,12 +101,12 @@ impl FrameTable {
         }
     }
 
-    /// The frames from an address on: in each stream from the record that starts at the address, else
-    /// from the last that starts below it, if that one's code reaches to the address, else from the
-    /// first that starts above it.
+    /// Returns an iterator over the frames from an address on. In each stream it begins with the
+    /// record that starts at the address; otherwise with the last one that starts below it, if that
+    /// one's code covers the address; otherwise with the first one that starts above it.
     ///
-    /// Where the starts of a stream don't increase from record to record, it begins at some record of
-    /// each stream, or behind the last.
+    /// If the starts of a stream don't increase from record to record, the iterator begins at some
+    /// record of each stream, or after the last one.
     #[tactic(auto, using(crate::proofs::TableLemmas::end_merged, crate::proofs::TableLemmas::end_somewhere))]
     pub fn iter_at_rva(&self, rva: PdbInternalRva) -> FrameDataIter<'_>
         ensures merged { StartsIncrease self.now → result ≡ merge_from rva self.now }
@@ -116,7 +119,7 @@ impl FrameTable {
     }
 }
 
-/// Frames of a table, of which each step gives one. No step is refused.
+/// An iterator over the frames of a table. `next` never fails.
 #[derive(Debug, Drop)]
 pub struct FrameDataIter<'t> {
     old: &'t [u8],
@@ -134,7 +137,7 @@ impl<'t> Model for FrameDataIter<'t> {
     ghost view = { λ i. by_heads (old_frames i.old.now) (new_frames i.new.now) };
 }
 
-/// No frames.
+/// Returns an iterator over no frames.
 impl<'t> Default for FrameDataIter<'t> {
     ghost is_default = { λ frames. frames ≡ [] };
 

@@ -5,8 +5,8 @@ ghost use Rattle.pdb_frames.specs.FrameNumbers.{kind_text};
 
 use std::fmt;
 
-/// What kind of frame a record describes. Kinds are ordered by their numbers, which are those of
-/// Microsoft's DIA interface (`StackFrameTypeEnum`) but for the last.
+/// The kind of frame that a record describes. Kinds are ordered by their numbers, which are those
+/// of Microsoft's DIA interface (`StackFrameTypeEnum`) except for the last.
 #[derive(Clone, Copy, Debug, PartialEq, Eq, PartialOrd, Ord, Hash)]
 pub enum FrameType {
     /// Frame pointer omitted. Number 0.
@@ -24,11 +24,11 @@ pub enum FrameType {
     /// A frame that a program in the string table describes. Number 4.
     FrameData = 4,
 
-    /// Not known. Number 0xff.
+    /// An unknown kind. Number 0xff.
     Unknown = 0xff,
 }
 
-/// The name in lower case: `fpo`, `trap`, `tss`, `std`, `fdata` or `unknown`.
+/// Prints the name in lower case: `fpo`, `trap`, `tss`, `std`, `fdata` or `unknown`.
 impl fmt::Display for FrameType {
     ghost output = { λ kind. Some (kind_text kind) };
 

@@ -29,14 +29,14 @@ pub fn sorted()
     ensures { (frames : List FrameData) → IsSortedByStart frames }
 {}
 
-/// Where starts increase, the comparison of heads merges as the definition says, and the starts of the
-/// answer increase.
+/// If starts increase, the comparison of heads merges as the definition says, and the starts of the
+/// result increase.
 pub fn merged()
     ensures { (frames : Frames) → StartsIncrease frames → IsMerged frames }
 {}
 
-/// Whatever the starts are, the comparison of heads gives every new record and no old one twice, each
-/// in the order of its stream.
+/// Whatever the starts are, the comparison of heads gives every new record and no old one twice,
+/// each in the order of its stream.
 #[tactic(auto, using(crate::proofs::LawLemmas::is_woven))]
 pub fn woven()
     ensures { (old : List OldFrameData) (new : List NewFrameData) → IsWoven old new (by_heads old new) }
@@ -49,8 +49,8 @@ pub fn steps()
         IsStep left result others → EndsForGood left result others }
 {}
 
-/// Kinds of frames compare as their numbers, and two are equal just where they are one. Equal ones hash
-/// alike, which the trait `Hash` demands of each type.
+/// Kinds of frames compare as their numbers, and two are equal exactly if they are the same kind.
+/// Equal ones hash alike, which the trait `Hash` demands of each type.
 pub fn kinds()
     ensures { ComparesByNumber ⟦<FrameType as PartialEq>⟧.eq ⟦<FrameType as Ord>⟧.cmp }
 {}

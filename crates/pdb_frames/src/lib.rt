@@ -1,5 +1,5 @@
-//! Frame tables: what a stack walker needs to know of the code at an address, in the two formats in
-//! which program databases say it.
+//! Frame tables: what a stack walker needs to know about the code at an address, in the two formats
+//! in which program databases store it.
 #![tactic(auto)]
 
 mod addr_range;

@@ -13,7 +13,7 @@ use byteorder::{ByteOrder, LittleEndian};
 use pdb_base::{Le, Parse, ParseBuffer, Result};
 use pdb_bits::is_set;
 
-/// How many bytes a record of the newer format takes.
+/// The size of a record of the newer format in bytes.
 pub(crate) const NEW_SIZE: usize = 32;
 
 /// A record of the newer format: 32 bytes, `FRAMEDATA` in Microsoft's cvinfo.h.
@@ -22,7 +22,7 @@ pub struct NewFrameData {
     /// The address of the first byte of the code.
     pub code_start: u32,
 
-    /// How many bytes of code there are.
+    /// The size of the code in bytes.
     pub code_size: u32,
 
     /// The size of the local variables in bytes.
@@ -31,38 +31,38 @@ pub struct NewFrameData {
     /// The size of the parameters in bytes.
     pub params_size: u32,
 
-    /// The most bytes that the code pushes on the stack.
+    /// The largest number of bytes that the code pushes on the stack.
     pub max_stack_size: u32,
 
-    /// Where in the string table the program stands that computes the registers of the caller.
+    /// The offset in the string table of the program that computes the caller's registers.
     pub frame_func: u32,
 
-    /// How many bytes of code the prolog has.
+    /// The size of the prolog in bytes.
     pub prolog_size: u16,
 
     /// The size of the saved registers in bytes.
     pub saved_regs_size: u16,
 
-    /// A word whose bits the calls below tell.
+    /// The word of flags, which the methods below read.
     pub flags: u32,
 }
 
 impl NewFrameData {
-    /// Whether the code handles structured exceptions. Bit 0 of the flags.
+    /// Returns whether the code handles structured exceptions (bit 0 of the flags).
     pub fn has_seh(&self) -> bool
         ensures { result ≡ is_set self.now.flags 0 }
     {
         is_set(self.flags, 0)
     }
 
-    /// Whether the code handles C++ exceptions. Bit 1.
+    /// Returns whether the code handles C++ exceptions (bit 1 of the flags).
     pub fn has_eh(&self) -> bool
         ensures { result ≡ is_set self.now.flags 1 }
     {
         is_set(self.flags, 1)
     }
 
-    /// Whether a function starts with this code. Bit 2.
+    /// Returns whether a function starts with this code (bit 2 of the flags).
     pub fn is_function_start(&self) -> bool
         ensures { result ≡ is_set self.now.flags 2 }
     {
@@ -107,7 +107,7 @@ impl FrameRecord for NewFrameData {
     }
 }
 
-/// The fields in their order, the lowest byte of each first.
+/// Reads the fields in order, each number little-endian.
 impl Parse<Le> for NewFrameData {
     ghost reads = { λ _ bytes. read_as new_frame (front_at NEW_SIZE bytes) };
 

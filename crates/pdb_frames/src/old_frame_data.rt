@@ -16,7 +16,7 @@ use byteorder::{ByteOrder, LittleEndian};
 use pdb_base::{Le, Parse, ParseBuffer, Result};
 use pdb_bits::{is_set, part};
 
-/// How many bytes a record of the older format takes.
+/// The size of a record of the older format in bytes.
 pub(crate) const OLD_SIZE: usize = 16;
 
 /// A record of the older format: 16 bytes, `FPO_DATA` in the PE specification.
@@ -25,7 +25,7 @@ pub struct OldFrameData {
     /// The address of the first byte of the code.
     pub code_start: u32,
 
-    /// How many bytes of code there are.
+    /// The size of the code in bytes.
     pub code_size: u32,
 
     /// The size of the local variables, in units of 4 bytes.
@@ -34,19 +34,20 @@ pub struct OldFrameData {
     /// The size of the parameters, in units of 4 bytes.
     pub params_size: u16,
 
-    /// A word whose bits the calls below tell.
+    /// The word of flags, which the methods below read.
     pub flags: u16,
 }
 
 impl OldFrameData {
-    /// How many bytes of code the prolog has. Bits 0 to 7 of the flags.
+    /// Returns the size of the prolog in bytes (bits 0 to 7 of the flags).
     pub fn prolog_size(&self) -> u16
         ensures { result ≡ bits self.now.flags 0 8 }
     {
         part(self.flags as u32, 0, 8) as u16
     }
 
-    /// The size of the saved registers, in units of 4 bytes, at most 7. Bits 8 to 10.
+    /// Returns the size of the saved registers in units of 4 bytes, which is at most 7 (bits 8 to
+    /// 10 of the flags).
     pub fn saved_regs_size(&self) -> u16
         ensures size { result ≡ bits self.now.flags 8 3 }
         ensures few { result ≤ 7 }
@@ -54,21 +55,21 @@ impl OldFrameData {
         part(self.flags as u32, 8, 3) as u16
     }
 
-    /// Whether the code handles structured exceptions. Bit 11.
+    /// Returns whether the code handles structured exceptions (bit 11 of the flags).
     pub fn has_seh(&self) -> bool
         ensures { result ≡ is_set self.now.flags 11 }
     {
         is_set(self.flags as u32, 11)
     }
 
-    /// Whether the base pointer holds something other than the frame. Bit 12.
+    /// Returns whether the base pointer holds something other than the frame (bit 12 of the flags).
     pub fn uses_base_pointer(&self) -> bool
         ensures { result ≡ is_set self.now.flags 12 }
     {
         is_set(self.flags as u32, 12)
     }
 
-    /// What kind of frame it is. Bits 14 and 15.
+    /// Returns the kind of frame (bits 14 and 15 of the flags).
     pub fn frame_type(&self) -> FrameType
         ensures { result ≡ frame_type_of (bits self.now.flags 14 2) }
     {
@@ -114,7 +115,7 @@ impl FrameRecord for OldFrameData {
     }
 }
 
-/// The fields in their order, the lowest byte of each first.
+/// Reads the fields in order, each number little-endian.
 impl Parse<Le> for OldFrameData {
     ghost reads = { λ _ bytes. read_as old_frame (front_at OLD_SIZE bytes) };
 

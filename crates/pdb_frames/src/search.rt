@@ -1,4 +1,5 @@
-//! The search for an address among the records of a stream, by halving and by splitting in eight.
+//! Search for an address among the records of a stream, by halving and by splitting into eight
+//! parts.
 
 ghost use Rattle.std.specs.Prelude.{◌≡◌, ◌<◌, ◌≤◌, ◌/◌, length, map};
 ghost use Rattle.std.specs.List.Sorted.{IsStrictlyIncreasing};
@@ -8,7 +9,7 @@ ghost use Rattle.pdb_frames.specs.Span.{Span, begins, from_address, start_at, Is
 
 use crate::frame_record::{FrameRecord, from_place, record_at};
 
-/// Where the record at a place starts.
+/// Returns the start of the record at index `place`.
 #[tactic(auto, using(crate::proofs::SearchLemmas::start_there))]
 fn start_at<R: FrameRecord>(bytes: &[u8], place: usize) -> u32
     requires { place < length bytes.now / R.SIZE }
@@ -17,28 +18,30 @@ fn start_at<R: FrameRecord>(bytes: &[u8], place: usize) -> u32
     record_at::<R>(bytes, place).start()
 }
 
-/// Where a search has ended.
+/// The result of a search.
 #[derive(Clone, Copy)]
 struct Found {
-    /// The place behind the last record that starts at or below the address.
+    /// The index after the last record that starts at or below the address.
     place: usize,
 
-    /// Where that record starts, where there is one.
+    /// The start of that record, if there is one.
     start: u32,
 }
 
-/// How many records lie so near one another that the reads of their starts hardly wait for memory.
+/// The largest number of records that lie so close together that reading their starts hardly waits
+/// for memory.
 const NEAR: usize = 256;
 
-/// In how many parts the records are split of which several starts are read at once.
+/// The number of parts into which records are split when the starts of several are read at once.
 const PARTS: usize = 8;
 
 /// Searches for the last record that starts at or below an address.
 ///
-/// Far records are halved by a branch: by guessing it a processor reads on before it knows which half
-/// counts. Near ones are split in eight by the starts of seven, which are read without waiting for one
-/// another, and the last few are halved. There no step branches: how far the address is behind the start
-/// is kept beside the place, since one subtraction compares and says how far.
+/// As long as more than `NEAR` records are left, each step halves them with a branch: a processor
+/// that predicts it reads on before it knows which half counts. Then they are split into eight
+/// parts by the starts of seven records, which are read without waiting for one another, and the
+/// last few are halved. These steps don't branch: the distance of the address from the start is
+/// kept beside the index, since one subtraction both compares and gives the distance.
 #[tactic(auto, using(pdb_base::proofs::lemmas::Halving::halving_begins, pdb_base::proofs::lemmas::Halving::halving_takes, pdb_base::proofs::lemmas::Halving::halving_passes, pdb_base::proofs::lemmas::Halving::halving_ends, crate::proofs::SplitLemmas::first_part, crate::proofs::SplitLemmas::second_part, crate::proofs::SplitLemmas::known_by_distance, crate::proofs::SplitLemmas::split_begins, crate::proofs::SplitLemmas::part_inside))]
 fn search<R: FrameRecord>(bytes: &[u8], address: u32) -> Found
     ensures { IsFound (start_at R.span (spelled R.SIZE R.value bytes.now)) (length bytes.now / R.SIZE) address
@@ -81,7 +84,8 @@ fn search<R: FrameRecord>(bytes: &[u8], address: u32) -> Found
     Found { place, start }
 }
 
-/// Whether code of this start and size starts at an address or covers it, where it starts no later.
+/// Returns whether code of this start and size starts at an address or covers it. The code must not
+/// start after the address.
 fn begins_at(start: u32, size: u32, address: u32) -> bool
     requires { start ≤ address }
     ensures { result ≡ begins (record { start = start; size = size }) address }
@@ -89,8 +93,12 @@ fn begins_at(start: u32, size: u32, address: u32) -> bool
     start == address || address - start < size
 }
 
-/// The bytes of the records from the one on that starts at an address, else from the last that starts
-/// below it, if that one's code reaches to the address, else from the first that starts above it.
+/// Returns the bytes of the records from an address on: from the record that starts at the address;
+/// otherwise from the last one that starts below it, if that one's code covers the address;
+/// otherwise from the first one that starts above it.
+///
+/// If the starts don't increase from record to record, they are the bytes from some record on, or
+/// from after the last one.
 pub(crate) fn starting_at<R: FrameRecord>(bytes: &[u8], address: u32) -> &[u8]
     ensures exact { IsStrictlyIncreasing (map (λ frame. (R.span frame).start) (spelled R.SIZE R.value bytes.now))
         → spelled R.SIZE R.value result.now ≡ from_address R.span address (spelled R.SIZE R.value bytes.now) }

@@ -26,13 +26,14 @@ fn list_ids<W: Write>(alloc: Global, table: &IdInformation, form: Form, out: &mu
     Ok(())
 }
 
-/// Writes a line for each id of the table that a stream is, in the order of the table. A record that is
-/// refused has a line that says why. No more than one record and its line are held in memory.
+/// Writes a line for each id of the table in a stream, in the order of the table. A record that is
+/// refused has a line that says why. At most one parsed record and its line are held in memory.
 ///
 /// # Errors
-/// What the table refuses, before anything is written; the fault at which the table stops, behind the
-/// lines of the ids before it; `IoError` if the writer fails, where a front of what is meant then stands; and
-/// `OutOfMemory` if memory is refused, behind the lines so far.
+/// Fails with what `IdInformation::parse` refuses, before anything is written; with the fault at
+/// which the table stops, after the lines of the ids before it; with `IoError` if the writer fails,
+/// after a prefix of what is meant to be written; and with `OutOfMemory` if memory is refused,
+/// after the lines so far.
 pub fn ids<W: Write>(alloc: Global, stream: Stream, form: Form, out: &mut W) -> Result<()>
     ensures { IsListed (id_line form) stream (W.contents out.old) (W.contents out.new) result }
 {
@@ -40,7 +41,7 @@ pub fn ids<W: Write>(alloc: Global, stream: Stream, form: Form, out: &mut W) -> 
     list_ids(alloc, &table, form, out)
 }
 
-/// Writes the id of an index of a table in full.
+/// Looks up the id of an index in a table and writes it in full.
 fn show_id<W: Write>(
     alloc: Global,
     table: &IdInformation,
@@ -59,11 +60,12 @@ fn show_id<W: Write>(
     Ok(())
 }
 
-/// Writes the id of an index in full.
+/// Looks up the id of an index in the table in a stream and writes it in full.
 ///
 /// # Errors
-/// What the table, the look-up or the record refuses, before anything is written; `IoError` if the writer
-/// fails, where a front of what is meant then stands; and `OutOfMemory` if memory is refused.
+/// Fails with what the table, the look-up or the record refuses, before anything is written; with
+/// `OutOfMemory` if memory is refused; and with `IoError` if the writer fails, after a prefix of
+/// what is meant to be written.
 pub fn id_at<W: Write>(
     alloc: Global,
     stream: Stream,

@@ -1,4 +1,4 @@
-//! Listings of tables: a line a record, or one record in full.
+//! Listings of tables: a line for each record, or one record in full.
 #![tactic(auto)]
 
 mod id_listing;

@@ -10,10 +10,10 @@ use pdb_rows::{Form, id_row, push_row, type_row};
 use pdb_tpi::Item;
 use std::alloc::Global;
 
-/// Adds the line of a type.
+/// Appends the line of a type.
 ///
 /// # Errors
-/// `OutOfMemory` if memory is refused.
+/// Fails with `OutOfMemory` if memory is refused.
 #[tactic(auto, unfolding(crate::specs::Lines::type_line))]
 pub(crate) fn push_type(
     alloc: Global,
@@ -37,10 +37,10 @@ pub(crate) fn push_type(
     }
 }
 
-/// Adds the line of an id.
+/// Appends the line of an id.
 ///
 /// # Errors
-/// `OutOfMemory` if memory is refused.
+/// Fails with `OutOfMemory` if memory is refused.
 #[tactic(auto, unfolding(crate::specs::Lines::id_line))]
 pub(crate) fn push_id(
     alloc: Global,

@@ -1,5 +1,5 @@
-//! The members of a type: the fields of a class, a union or an enumeration, through all lists in which
-//! they stand, and the methods of a list.
+//! The members of a type: the fields of a class, a union or an enumeration, through all lists in
+//! which they stand, and the methods of a list.
 
 ghost use Rattle.std.specs.Prelude.{◌≡◌, ◌++◌, IfErr, OnOk};
 ghost use Rattle.std.specs.List.{flat_map};
@@ -18,7 +18,7 @@ use pdb_tpi::TypeInformation;
 use pdb_values::{MethodListEntry, TypeData};
 use std::alloc::Global;
 
-/// Adds a line for each field.
+/// Appends a line for each field.
 #[tactic(auto, using(pdb_rows::proofs::Separated::one_more))]
 fn push_entries(
     alloc: Global,
@@ -37,7 +37,7 @@ fn push_entries(
     Ok(())
 }
 
-/// Adds a line for each method.
+/// Appends a line for each method.
 #[tactic(auto, using(pdb_rows::proofs::Separated::one_more))]
 fn push_methods(
     alloc: Global,
@@ -56,7 +56,7 @@ fn push_methods(
     Ok(())
 }
 
-/// Adds a line for each field of a list, through all lists in which it goes on.
+/// Appends a line for each field of a list and of the lists in which it continues.
 #[tactic(auto, unfolding(crate::specs::Lines::field_lines))]
 fn push_list(
     alloc: Global,
@@ -72,8 +72,8 @@ fn push_list(
     Ok(())
 }
 
-/// The list in which the fields of a type begin: the type itself if it is a list of fields, and the list
-/// that a class, a union or an enumeration names.
+/// Returns the list in which the fields of a type begin: the type itself if it is a list of fields,
+/// or the list that a class, a union or an enumeration names.
 fn list_of_fields(index: TypeIndex, value: &TypeData<'_>) -> Option<TypeIndex>
     ensures { option_map (λ list. list.0) result ≡ list_of_fields index.0 (type_value value.now) }
 {
@@ -86,10 +86,10 @@ fn list_of_fields(index: TypeIndex, value: &TypeData<'_>) -> Option<TypeIndex>
     }
 }
 
-/// Adds a line for each member of a type.
+/// Appends a line for each member of a type.
 ///
 /// # Errors
-/// What the lists of fields refuse, or `OutOfMemory` if memory is refused.
+/// Fails with what the lists of fields refuse, or with `OutOfMemory` if memory is refused.
 pub(crate) fn push_members(
     alloc: Global,
     form: Form,

@@ -9,10 +9,10 @@ use pdb_base::{Error, Result};
 use pdb_rows::{Form, Row, Value, error_field, error_text, field, push_row};
 use std::alloc::Global;
 
-/// Adds the line of a record that is refused: its index, its leaf, and why.
+/// Appends the line of a record that is refused: its index, its leaf, and why.
 ///
 /// # Errors
-/// `OutOfMemory` if memory is refused.
+/// Fails with `OutOfMemory` if memory is refused.
 #[tactic(auto, unfolding(crate::specs::Lines::refused_row))]
 pub(crate) fn push_refused(
     alloc: Global,

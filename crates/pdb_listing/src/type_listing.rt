@@ -32,13 +32,14 @@ fn list_types<W: Write>(
     Ok(())
 }
 
-/// Writes a line for each type of the table that a stream is, in the order of the table. A record that is
-/// refused has a line that says why. No more than one record and its line are held in memory.
+/// Writes a line for each type of the table in a stream, in the order of the table. A record that
+/// is refused has a line that says why. At most one parsed record and its line are held in memory.
 ///
 /// # Errors
-/// What the table refuses, before anything is written; the fault at which the table stops, behind the
-/// lines of the types before it; `IoError` if the writer fails, where a front of what is meant then stands; and
-/// `OutOfMemory` if memory is refused, behind the lines so far.
+/// Fails with what `TypeInformation::parse` refuses, before anything is written; with the fault at
+/// which the table stops, after the lines of the types before it; with `IoError` if the writer
+/// fails, after a prefix of what is meant to be written; and with `OutOfMemory` if memory is
+/// refused, after the lines so far.
 pub fn types<W: Write>(alloc: Global, stream: Stream, form: Form, out: &mut W) -> Result<()>
     ensures { IsListed (type_line form) stream (W.contents out.old) (W.contents out.new) result }
 {
@@ -46,7 +47,8 @@ pub fn types<W: Write>(alloc: Global, stream: Stream, form: Form, out: &mut W) -
     list_types(alloc, &table, form, out)
 }
 
-/// Writes the type of an index of a table in full, and then a line for each of its members.
+/// Looks up the type of an index in a table and writes it in full, and then a line for each of its
+/// members.
 fn show_type<W: Write>(
     alloc: Global,
     table: &TypeInformation,
@@ -68,14 +70,14 @@ fn show_type<W: Write>(
     Ok(())
 }
 
-/// Writes the type of an index in full, and then a line for each of its members: the fields of a class, a
-/// union, an enumeration or a list of fields, through all lists in which they stand, or the methods of a
-/// list.
+/// Looks up the type of an index in the table in a stream and writes it in full, and then a line
+/// for each of its members: the fields of a class, a union, an enumeration or a list of fields,
+/// through all lists in which they stand, or the methods of a list.
 ///
 /// # Errors
-/// What the table, the look-up or the record refuses, before anything is written; what the lists of fields
-/// refuse, behind the type itself; `IoError` if the writer fails, where a front of what is meant then stands;
-/// and `OutOfMemory` if memory is refused.
+/// Fails with what the table, the look-up or the record refuses, before anything is written; with
+/// what the lists of fields refuse, after the type itself; with `IoError` if the writer fails,
+/// after a prefix of what is meant to be written; and with `OutOfMemory` if memory is refused.
 pub fn type_at<W: Write>(
     alloc: Global,
     stream: Stream,

@@ -13,7 +13,7 @@ use pdb_roles::section_headers::section_headers;
 use pdb_space::{AddressMap, ImageSectionHeader, OMAPTable};
 use std::alloc::Global;
 
-/// The numbers of the streams that an address map is made of, as far as they are given.
+/// The numbers of the streams from which an address map is made. Each may be absent.
 #[derive(Clone, Copy, Debug, PartialEq, Eq)]
 pub struct MapStreams {
     /// The stream of the section headers of the original image.
@@ -30,7 +30,7 @@ pub struct MapStreams {
 }
 
 impl MapStreams {
-    /// Whether no stream is given.
+    /// Returns whether no stream is given.
     pub fn is_empty(self) -> bool
         ensures { result ≡ gives_none self }
     {
@@ -41,7 +41,7 @@ impl MapStreams {
     }
 }
 
-/// The section headers in the stream of a number, if one is given.
+/// Reads the section headers in the stream of a number, or returns None if no number is given.
 #[tactic(auto, unfolding(crate::specs::Given::sections_in))]
 fn sections_in<S: Source>(
     alloc: Global,
@@ -61,7 +61,7 @@ fn sections_in<S: Source>(
     Ok(Some(section_headers(alloc, &stream)?))
 }
 
-/// The OMAP table in the stream of a number, if one is given.
+/// Reads the OMAP table in the stream of a number, or returns None if no number is given.
 #[tactic(auto, unfolding(crate::specs::Given::omap_in))]
 fn omap_in<S: Source>(
     alloc: Global,
@@ -81,7 +81,8 @@ fn omap_in<S: Source>(
     Ok(Some(OMAPTable::parse(stream)?))
 }
 
-/// The address map that given streams make. Without original section headers it has none.
+/// Reads the address map from the given streams. Without original section headers, the original
+/// image has no sections.
 #[tactic(auto, unfolding(crate::specs::Given::given_map))]
 fn given_map<S: Source>(
     alloc: Global,
@@ -99,7 +100,7 @@ fn given_map<S: Source>(
     Ok(AddressMap::new(sections, transformed, to_original, to_transformed))
 }
 
-/// The address map that given streams make, or the file's own if none is given.
+/// Reads the address map from the given streams, or the file's own map if no stream is given.
 #[tactic(auto, unfolding(crate::specs::Given::map_in))]
 pub(crate) fn map_in(
     alloc: Global,

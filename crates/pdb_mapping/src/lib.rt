@@ -1,4 +1,5 @@
-//! An address of an image, before and after a tool rearranged it, with its sections, as lines.
+//! Lists what an address map makes of an address: the address before and after a tool rearranged
+//! the image, and its places in sections.
 #![tactic(auto)]
 
 mod given;

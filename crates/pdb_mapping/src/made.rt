@@ -7,7 +7,7 @@ use pdb_space::{AddressMap, PdbInternalRva, PdbInternalSectionOffset, Rva, Secti
 /// What is made of an address in the image as it is loaded.
 #[derive(Clone, Copy, Debug)]
 pub struct OfLoaded {
-    /// Its place in a section of that image.
+    /// The place of the address in a section of that image.
     pub section_offset: Option<SectionOffset>,
 
     /// The address in the original image from which it was moved.
@@ -20,7 +20,7 @@ pub struct OfLoaded {
 /// What is made of an address in the original image.
 #[derive(Clone, Copy, Debug)]
 pub struct OfInternal {
-    /// Its place in a section of that image.
+    /// The place of the address in a section of that image.
     pub internal_offset: Option<PdbInternalSectionOffset>,
 
     /// The address in the image as it is loaded to which it was moved.
@@ -30,7 +30,7 @@ pub struct OfInternal {
     pub section_offset: Option<SectionOffset>,
 }
 
-/// What a map makes of an address in the image as it is loaded.
+/// Returns what a map makes of an address in the image as it is loaded.
 pub fn made_of_loaded(map: &AddressMap, address: Rva) -> OfLoaded
     ensures { IsMadeOfLoaded map.now address result }
 {
@@ -41,7 +41,7 @@ pub fn made_of_loaded(map: &AddressMap, address: Rva) -> OfLoaded
     }
 }
 
-/// What a map makes of an address in the original image.
+/// Returns what a map makes of an address in the original image.
 pub fn made_of_internal(map: &AddressMap, address: PdbInternalRva) -> OfInternal
     ensures { IsMadeOfInternal map.now address result }
 {

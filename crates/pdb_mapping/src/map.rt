@@ -1,4 +1,4 @@
-//! An address by a file's address map.
+//! Lists what a file's address map makes of an address.
 
 ghost use Rattle.pdb_mapping.specs.Given.{map_in};
 ghost use Rattle.pdb_mapping.specs.Mapped.{IsMapped};
@@ -14,7 +14,8 @@ use pdb_space::{AddressMap, PdbInternalRva, Rva};
 use std::alloc::Global;
 use std::io::Write;
 
-/// Writes what a map makes of a number, as an address of the image as it is loaded and of the original.
+/// Writes what a map makes of a number, first as an address of the image as it is loaded, and then
+/// as one of the original image.
 fn write_map<W: Write>(
     alloc: Global,
     map: &AddressMap,
@@ -29,15 +30,15 @@ fn write_map<W: Write>(
     write_made(alloc, &loaded, &internal, form, out)
 }
 
-/// Lists what an address map makes of a number, a line for each conversion, also where it has no answer:
-/// first as an address of the image as it is loaded, and then as one of the original image. The map is the
-/// file's own, unless streams are given that make another.
+/// Lists what an address map makes of a number, with a line for each conversion, even if it has no
+/// result: first as an address of the image as it is loaded, and then as one of the original image.
+/// The map is the file's own, unless streams are given that make another.
 ///
 /// # Errors
-/// If no stream is given, what `address_map` refuses. Else of the streams that are given, in the order of
-/// the fields of `MapStreams`, what `Msf::get` refuses, and then `UnexpectedEof` if a section header is cut,
-/// or `InvalidStreamLength` if an OMAP record is. `IoError` if the writer fails, and `OutOfMemory` if memory
-/// is refused.
+/// If no stream is given, fails as `address_map` does. Otherwise, for each given stream in the
+/// order of the fields of `MapStreams`, fails as `Msf::get` does, and then with `UnexpectedEof` if
+/// a section header is cut short, or with `InvalidStreamLength` if an OMAP record is. Fails with
+/// `IoError` if the writer fails, and with `OutOfMemory` if memory is refused.
 pub fn list_map<W: Write>(
     alloc: Global,
     mut file: BigMSF<Vec<u8>>,

@@ -1,4 +1,4 @@
-//! What is made of an address, a line for each conversion.
+//! The lines of what is made of an address, one for each conversion.
 
 ghost use Rattle.std.specs.Prelude.{◌≡◌, ◌++◌, codes, IfErr, IfOk};
 ghost use Rattle.std.specs.Option.{option_map};
@@ -15,7 +15,7 @@ use pdb_space::{PdbInternalRva, PdbInternalSectionOffset, Rva, SectionOffset};
 use std::alloc::Global;
 use std::io::Write;
 
-/// An address or an offset that may be absent.
+/// Returns the value of an address or an offset that may be absent.
 fn optional_hexadecimal<'t>(number: Option<u32>) -> Value<'t>
     ensures { value_shown result ≡ optional_hexadecimal number }
 {
@@ -25,7 +25,7 @@ fn optional_hexadecimal<'t>(number: Option<u32>) -> Value<'t>
     }
 }
 
-/// The number of the section of a place, if there is a place.
+/// Returns the value of a place's section number, which is absent if the place is.
 fn section_value<'t>(place: Option<SectionOffset>) -> Value<'t>
     ensures { value_shown result ≡ optional_number (option_map (λ place. place.section) place) }
 {
@@ -35,7 +35,7 @@ fn section_value<'t>(place: Option<SectionOffset>) -> Value<'t>
     }
 }
 
-/// The offset of a place, if there is a place.
+/// Returns the value of a place's offset, which is absent if the place is.
 fn offset_value<'t>(place: Option<SectionOffset>) -> Value<'t>
     ensures { value_shown result ≡ optional_hexadecimal (option_map (λ place. place.offset) place) }
 {
@@ -45,7 +45,7 @@ fn offset_value<'t>(place: Option<SectionOffset>) -> Value<'t>
     }
 }
 
-/// An address that is made of another.
+/// Returns the row of an address that is made of another.
 fn address_row<'t>(
     alloc: Global,
     from: &'static str,
@@ -64,7 +64,7 @@ fn address_row<'t>(
     Ok(Row { fields })
 }
 
-/// A place in a section that is made of an address.
+/// Returns the row of a place in a section that is made of an address.
 fn place_row<'t>(
     alloc: Global,
     from: &'static str,
@@ -84,7 +84,7 @@ fn place_row<'t>(
     Ok(Row { fields })
 }
 
-/// An address of the original image, by its number.
+/// Returns the number of an address of the original image, if there is an address.
 fn number_of(address: Option<PdbInternalRva>) -> Option<u32>
     ensures { result ≡ address }
 {
@@ -94,7 +94,7 @@ fn number_of(address: Option<PdbInternalRva>) -> Option<u32>
     }
 }
 
-/// An address of the image as it is loaded, by its number.
+/// Returns the number of an address of the image as it is loaded, if there is an address.
 fn loaded_number_of(address: Option<Rva>) -> Option<u32>
     ensures { result ≡ address }
 {
@@ -104,7 +104,7 @@ fn loaded_number_of(address: Option<Rva>) -> Option<u32>
     }
 }
 
-/// A place in a section of the original image, by the same numbers.
+/// Returns a place in a section of the original image as a `SectionOffset` with the same numbers.
 fn numbers_of(place: Option<PdbInternalSectionOffset>) -> Option<SectionOffset>
     ensures { result ≡ place }
 {
@@ -112,7 +112,7 @@ fn numbers_of(place: Option<PdbInternalSectionOffset>) -> Option<SectionOffset>
     Some(SectionOffset::new(place.section, place.offset))
 }
 
-/// Writes an address that is made of another.
+/// Writes the row of an address that is made of another.
 fn write_address<W: Write>(
     alloc: Global,
     from: &'static str,
@@ -128,7 +128,7 @@ fn write_address<W: Write>(
     write_row(form, &row, &mut Vec::new(alloc), out)
 }
 
-/// Writes a place in a section that is made of an address.
+/// Writes the row of a place in a section that is made of an address.
 fn write_place<W: Write>(
     alloc: Global,
     from: &'static str,
@@ -196,7 +196,8 @@ fn write_internal<W: Write>(alloc: Global, made: &OfInternal, form: Form, out: &
     write_loaded_of_internal(alloc, made, form, out)
 }
 
-/// Writes what is made of an address in the image as it is loaded, and then of one in the original image.
+/// Writes what is made of an address in the image as it is loaded, and then what is made of one in
+/// the original image.
 pub(crate) fn write_made<W: Write>(
     alloc: Global,
     loaded: &OfLoaded,

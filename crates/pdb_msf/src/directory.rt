@@ -15,7 +15,7 @@ use crate::source::{ReadView, Source, SourceView};
 use pdb_base::{Error, ParseBuffer, Result};
 use std::alloc::Global;
 
-/// The size of a stream that is absent.
+/// The size that marks an absent stream.
 const ABSENT: u32 = 0xffffffff;
 
 /// The directory of a file, with the places of the streams in it.
@@ -23,26 +23,26 @@ const ABSENT: u32 = 0xffffffff;
 pub struct Directory {
     /// The directory as it stands in the file.
     pub bytes: Vec<u8>,
-    /// Where the page numbers of each stream begin whose size stands in the directory, in bytes from
-    /// its start.
+    /// The offset in the directory at which the page numbers of a stream begin, in bytes, for each
+    /// stream whose size is in the directory.
     pub starts: Vec<u64>,
 }
 
 /// Where a stream stands in the directory.
 #[derive(Clone, Copy, Debug)]
 pub struct StreamPlace {
-    /// Bytes in the stream.
+    /// The size of the stream in bytes.
     pub size: u32,
-    /// Where its page numbers begin, in bytes from the directory's start.
+    /// The offset in the directory at which its page numbers begin, in bytes.
     pub start: usize,
 }
 
 /// A stream as the directory describes it.
 #[derive(Debug, Drop)]
 pub struct StreamEntry {
-    /// Bytes in the stream.
+    /// The size of the stream in bytes.
     pub size: u32,
-    /// The pages over which they lie scattered.
+    /// The numbers of the pages over which its bytes are scattered.
     pub pages: Vec<u32>,
 }
 
@@ -71,7 +71,7 @@ fn read_directory<S: Source>(
 }
 
 impl Geometry {
-    /// How many pages a stream of this size takes: none if it is absent.
+    /// Returns how many pages a stream of this size takes: none if it is absent.
     #[tactic(auto, unfolding(crate::specs::Directory::pages_taken), using(crate::proofs::PageLemmas::pages_few))]
     fn pages_taken(self, size: u32) -> usize
         requires { 256 ≤ self.page_size }
@@ -85,8 +85,8 @@ impl Geometry {
     }
 }
 
-/// Where the page numbers of each stream begin whose size stands in the directory. Memory is asked
-/// for once, and never for more streams than the directory has sizes.
+/// Returns the offset at which the page numbers of a stream begin, for each stream whose size is in
+/// the directory. Memory is asked for once, for at most as many streams as the directory has sizes.
 fn starts_of(alloc: Global, geometry: Geometry, directory: &[u8]) -> Result<Vec<u64>>
     requires sized { 256 ≤ geometry.page_size }
     requires short { length directory.now < 2 ^ 32 }
@@ -130,7 +130,7 @@ impl Directory {
         Ok(Directory { bytes, starts })
     }
 
-    /// Where a stream stands.
+    /// Returns where a stream stands in the directory.
     #[tactic(auto, unfolding(crate::specs::Directory::place_in))]
     pub fn place(&self, page_size: u32, stream_number: u32) -> Result<StreamPlace>
         requires { HasStarts page_size self.now }
@@ -157,7 +157,7 @@ impl Directory {
         })
     }
 
-    /// A stream with its page numbers.
+    /// Returns a stream as the directory describes it, with its size and its page numbers.
     #[tactic(auto, unfolding(crate::specs::Directory::entry_of))]
     pub fn entry(
         &self,

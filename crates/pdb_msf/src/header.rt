@@ -11,21 +11,21 @@ use crate::magic::{big, small};
 use pdb_base::{Error, ParseBuffer, Result};
 use std::alloc::Global;
 
-/// How many bytes the fields of a header take.
+/// The size of the fields of a header in bytes.
 const FIELDS_SIZE: usize = 52;
 
-/// The fixed numbers of a header.
+/// The fields at fixed offsets of a header.
 #[derive(Clone, Copy, Debug)]
 pub struct Geometry {
-    /// Bytes in a page: a power of two from 256 to 8,388,608.
+    /// The size of a page in bytes: a power of two from 256 to 8,388,608.
     pub page_size: u32,
     /// The highest page number that may be used.
     pub pages_used: u32,
-    /// Bytes in the directory.
+    /// The size of the directory in bytes.
     pub directory_size: u32,
 }
 
-/// What a header says.
+/// The contents of a header.
 #[derive(Debug, Drop)]
 pub struct Header {
     pub geometry: Geometry,
@@ -34,7 +34,7 @@ pub struct Header {
 }
 
 impl Geometry {
-    /// How many pages hold so many bytes.
+    /// Returns how many pages hold `bytes` bytes.
     #[tactic(auto, unfolding(crate::specs::Pages::pages))]
     pub fn pages(self, bytes: usize) -> usize
         requires { 0 < self.page_size }
@@ -44,7 +44,7 @@ impl Geometry {
         bytes.div_ceil(self.page_size as usize)
     }
 
-    /// How many pages hold the directory.
+    /// Returns how many pages hold the directory.
     pub fn directory_pages(self) -> usize
         requires { 0 < self.page_size }
         ensures pages { result ≡ directory_pages self }
@@ -53,7 +53,7 @@ impl Geometry {
         self.pages(self.directory_size as usize)
     }
 
-    /// How many pages hold the numbers of the directory's pages, four bytes each.
+    /// Returns how many pages hold the numbers of the directory's pages, four bytes each.
     pub fn location_pages(self) -> usize
         requires { 0 < self.page_size }
         ensures { result ≡ location_pages self }
@@ -61,7 +61,7 @@ impl Geometry {
         self.pages(4 * self.directory_pages())
     }
 
-    /// A page number that may be used: not 0, and not above the pages used.
+    /// Checks a page number, and returns it if it is neither 0 nor above `pages_used`.
     pub fn judge(self, number: u32) -> Result<u32>
         ensures { Gives (λ n. n) result (judged self.pages_used number) }
     {
@@ -71,7 +71,7 @@ impl Geometry {
         Ok(number)
     }
 
-    /// The next `count` words as page numbers, each judged in turn.
+    /// Reads the next `count` words as page numbers, and checks each in turn.
     pub fn page_numbers(
         self,
         alloc: Global,
@@ -94,14 +94,14 @@ impl Geometry {
     }
 }
 
-/// Whether the page size is one that the format has.
+/// Returns whether the format allows this page size.
 fn is_page_size(size: u32) -> bool
     ensures { result ≡ is_page_size size }
 {
     size.is_power_of_two() && (0x100..=0x800000).contains(&size)
 }
 
-/// Refuses a file of another format by its first bytes.
+/// Checks that a file has at least 52 bytes and begins with the magic of the format that is read.
 #[tactic(auto, using(crate::proofs::MagicLemmas::is_big, crate::proofs::MagicLemmas::is_small), unfolding(crate::specs::Header::magic_of))]
 fn check_magic(view: &[u8]) -> Result<()>
     ensures { Gives (λ x. x) result (magic_of view.now) }
@@ -118,7 +118,7 @@ fn check_magic(view: &[u8]) -> Result<()>
     Ok(())
 }
 
-/// Reads the fields of a header, the magic among them.
+/// Reads the fields of a header, including the magic.
 #[tactic(auto, unfolding(crate::specs::Header::fields_of))]
 fn read_fields(buffer: &mut ParseBuffer<'_>) -> Result<Geometry>
     ensures { Gives (λ geometry. (geometry, left buffer.new)) result (fields_of (left buffer.old)) }
@@ -136,7 +136,8 @@ fn read_fields(buffer: &mut ParseBuffer<'_>) -> Result<Geometry>
     })
 }
 
-/// Reads the numbers at the front of a file, and gives them with a buffer behind them.
+/// Reads and checks the fields at the front of a file, and returns them with a buffer that stands
+/// behind them.
 #[tactic(auto, unfolding(crate::specs::Header::geometry_of))]
 fn read_geometry(view: &[u8]) -> Result<(Geometry, ParseBuffer<'_>)>
     ensures { Gives (λ read. (read.0, left read.1)) result (geometry_of view.now) }

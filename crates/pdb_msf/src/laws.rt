@@ -1,5 +1,5 @@
-//! What the definitions that contracts cite say in other words. The functions do nothing: each
-//! contract is a law.
+//! Laws that say in other words what the definitions cited by contracts mean. The functions do
+//! nothing: each contract is a law.
 
 ghost use Rattle.std.specs.Prelude.{◌≡◌, ℕ, ◌<◌, List, [], ◌∷◌, map, Option, Ok, Err};
 ghost use Rattle.pdb_base.specs.Refusal.{Refusal, page_reference_out_of_range};
@@ -10,13 +10,13 @@ ghost use Rattle.pdb_msf.specs.File.{stream_of};
 ghost use Rattle.pdb_msf.specs.Layout.{Plan, plan_of, stream_by};
 ghost use Rattle.pdb_msf.specs.Laws.{IsLeast, Scatters, StandAtOffsets, AreGood, FirstFault, CutsOnly, IsStream, Moment, IsLater, AnswersAlike};
 
-/// So many bytes take the least number of pages that holds them.
+/// The number of pages that some bytes take is the least that holds them.
 pub fn pages()
     ensures { (page_size bytes : ℕ) → 0 < page_size → IsLeast page_size bytes (pages page_size bytes) }
 {}
 
-/// The worked rows: how many pages of 4096 bytes hold 0, 1, 4095, 4096 and 4097 bytes, and which page
-/// numbers are good where 15 pages are used.
+/// Worked examples: how many pages of 4096 bytes hold 0, 1, 4095, 4096 and 4097 bytes, and which
+/// page numbers are good if 15 pages are used.
 #[tactic(auto, unfolding(crate::specs::Pages::pages))]
 pub fn worked_rows()
     ensures counts { map (pages 4096) (0 ∷ 1 ∷ 4095 ∷ 4096 ∷ 4097 ∷ []) ≡ 0 ∷ 1 ∷ 1 ∷ 1 ∷ 2 ∷ [] }
@@ -26,14 +26,15 @@ pub fn worked_rows()
 {}
 
 /// What is scattered over pages is found byte by byte: byte i in page i / page size of the list, at
-/// i % page size. It is not where one of these positions is past the end of the file.
+/// i % page size. It is not found if one of these positions is past the end of the file.
 #[tactic(auto, using(crate::proofs::LawLemmas::scatters))]
 pub fn scatter()
     ensures { (file : List ℕ) (page_size : ℕ) (numbers : List ℕ) (size : ℕ) → Scatters file page_size numbers size }
 {}
 
-/// Pages that are added in turn are joined into slices just by their longest runs: a slice is a run
-/// of pages each one above the page before, and no two neighbours could be joined.
+/// Pages that are added in turn are joined into slices that are exactly their longest runs: a slice
+/// is a run of pages of which each is one above the page before, and no two neighbours could be
+/// joined.
 #[tactic(auto, using(crate::proofs::RunLemmas::are_joined))]
 pub fn page_list()
     ensures { (page_size : ℕ) (pages : List ℕ) → 0 < page_size → AreJoined page_size pages }
@@ -46,7 +47,7 @@ pub fn header()
     ensures { (view : List ℕ) → StandAtOffsets view }
 {}
 
-/// Page numbers are read as they stand, where all are good, and else refused by the first fault.
+/// Page numbers are read as they stand if all are good, and otherwise refused for the first fault.
 pub fn page_numbers()
     ensures good { (pages_used count : ℕ) (words numbers : List ℕ) →
         page_numbers pages_used count words ≡ Ok numbers → AreGood pages_used count words numbers }
@@ -54,16 +55,16 @@ pub fn page_numbers()
         page_numbers pages_used count words ≡ Err fault → FirstFault pages_used count words fault }
 {}
 
-/// If a stream is answered without a limit, then with one the answer is its first bytes, no more than the
-/// limit.
+/// If a stream is answered without a limit, then the answer with a limit is its first bytes, no
+/// more than the limit.
 #[tactic(auto, using(crate::proofs::LawLemmas::cuts_only))]
 pub fn limits()
     ensures { (file : List ℕ) (head : Head) (n limit : ℕ) → CutsOnly file head n limit }
 {}
 
-/// The bytes of a stream: its page numbers are the words of the directory from place 4 + 4 c + 4 s on,
-/// for c streams of which those before it take s pages, and byte i of the stream is the file's byte in
-/// page i / page size of these, at i % page size.
+/// The bytes of a stream: its page numbers are the words of the directory from place 4 + 4 c + 4 s
+/// on, for c streams of which those before it take s pages, and byte i of the stream is the file's
+/// byte in page i / page size of these, at i % page size.
 pub fn streams()
     ensures is { (file : List ℕ) (head : Head) (n : ℕ) (limit : Option ℕ) (bytes : List ℕ) →
         stream_of file head n limit ≡ Ok bytes → IsStream file head n limit bytes }
@@ -71,8 +72,8 @@ pub fn streams()
         IsStream file head n limit bytes → stream_of file head n limit ≡ Ok bytes }
 {}
 
-/// A plan that was read from a file's bytes has the header with which that file opens, and reads from those
-/// bytes each stream, or refuses it, just as the file does.
+/// A plan that was read from a file's bytes has the header with which that file opens. It reads
+/// each stream from those bytes, or refuses it, exactly as the file does.
 #[tactic(auto, using(crate::proofs::LayoutLemmas::head_read, crate::proofs::LayoutLemmas::same_stream))]
 pub fn plans()
     ensures head { (file : List ℕ) (plan : Plan) → plan_of file ≡ Ok plan → opened file ≡ Ok plan.head }
@@ -80,8 +81,8 @@ pub fn plans()
         plan_of file ≡ Ok plan → stream_by plan file n limit ≡ stream_of file plan.head n limit }
 {}
 
-/// A stream has one answer, whatever was asked before: each call of `get` leads to a later moment of
-/// the file, and so do any calls one after another.
+/// A stream has one answer, whatever was asked before: each call of `get` leads to a later moment
+/// of the file, and so do any calls one after another.
 #[tactic(auto, using(crate::proofs::StreamLaws::later_here, crate::proofs::StreamLaws::later_then, crate::proofs::StreamLaws::alike))]
 pub fn answers()
     ensures here { (moment : Moment) → IsLater moment moment }

@@ -1,4 +1,4 @@
-//! What is kept of a file apart from its bytes.
+//! The header and the directory of a file, which are kept apart from its bytes.
 
 ghost use Rattle.std.specs.Prelude.{◌≡◌};
 ghost use Rattle.pdb_base.specs.Answer.{Answers, Gives};
@@ -16,8 +16,8 @@ use pdb_base::{ParseBuffer, Result};
 use std::alloc::Global;
 use std::marker::Model;
 
-/// The header and the directory of a file, by which its streams are read from its bytes. The bytes
-/// themselves stay with the caller, who hands them in where a stream is read.
+/// The header and the directory of a file, with which its streams are read from its bytes. The
+/// bytes themselves stay with the caller, who passes them in whenever a stream is read.
 #[derive(Debug, Drop)]
 pub struct Layout {
     header: Header,
@@ -40,9 +40,9 @@ impl Layout {
     /// Reads the header and the directory of a file.
     ///
     /// # Errors
-    /// The first refusal of the header, as `open_msf` says it, and of the directory: `IoError` or
-    /// `PageReferenceOutOfRange` if it can't be read. `OutOfMemory` if memory is
-    /// asked for and refused.
+    /// Fails as `open_msf` does if the header is refused, and then with `IoError` or
+    /// `PageReferenceOutOfRange` if the directory can't be read. Fails with `OutOfMemory` if memory
+    /// is asked for and refused.
     #[tactic(auto, unfolding(crate::specs::Header::opened, crate::specs::Layout::plan_of))]
     pub fn read(alloc: Global, file: &[u8]) -> Result<Layout>
         ensures { Answers (λ layout. layout) result (plan_of file.now) }
@@ -54,17 +54,18 @@ impl Layout {
         Ok(Layout { header, directory })
     }
 
-    /// How many bytes a page has: a power of two from 256 to 8,388,608.
+    /// Returns the size of a page in bytes: a power of two from 256 to 8,388,608.
     pub fn page_size(&self) -> u32
         ensures { result ≡ self.now.head.geometry.page_size }
     {
         self.header.geometry.page_size
     }
 
-    /// How many streams the directory has, the absent ones too: their numbers are those below.
+    /// Returns how many streams the directory has, including the absent ones. The numbers of the
+    /// streams are those below this count.
     ///
     /// # Errors
-    /// `UnexpectedEof` if the directory ends before its count.
+    /// Returns `UnexpectedEof` if the directory ends before its count of streams.
     pub fn stream_count(&self) -> Result<u32>
         ensures { Gives (λ count. count) result (stream_count_in self.now.directory) }
     {
@@ -73,13 +74,14 @@ impl Layout {
         Ok(count)
     }
 
-    /// How many bytes a stream has.
+    /// Returns the size of a stream in bytes.
     ///
     /// # Errors
-    /// The first of these, in this order: `UnexpectedEof` if the directory ends before its count;
-    /// `StreamNotFound` from the count on; `UnexpectedEof` if a size up to the stream's own is missing;
-    /// `StreamNotFound` if the stream is absent; `UnexpectedEof` if a later size, or a page number of an
-    /// earlier stream, is missing.
+    /// Fails with the first of these, in this order: `UnexpectedEof` if the directory ends before
+    /// its count of streams; `StreamNotFound` if the stream's number is not below that count;
+    /// `UnexpectedEof` if the size of the stream or of one before it is missing; `StreamNotFound`
+    /// if the stream is absent; `UnexpectedEof` if the size of a later stream or a page number of
+    /// an earlier one is missing.
     pub fn stream_size(&self, stream_number: u32) -> Result<u32>
         ensures { Gives (λ size. size) result (size_by self.now stream_number) }
     {
@@ -87,14 +89,17 @@ impl Layout {
         Ok(self.directory.place(page_size, stream_number)?.size)
     }
 
-    /// The bytes that lie in the file where the directory has a stream, at most as many as the limit. Of
-    /// the file that was read they are the bytes of its stream.
+    /// Returns the bytes of `file` where the directory locates a stream, at most as many as the
+    /// limit. If `file` is the file that was read, they are the bytes of its stream.
     ///
     /// # Errors
-    /// The first of these, in this order: what `stream_size` refuses; `UnexpectedEof` or
-    /// `PageReferenceOutOfRange` for the first of the stream's page numbers, whatever the limit, that is
-    /// missing or bad; `IoError` if a page below the limit passes the end of the file. `OutOfMemory` if
-    /// memory is asked for and refused, and never in place of what `stream_size` refuses.
+    /// Fails with the first of these, in this order: the errors of `stream_size`; `UnexpectedEof`
+    /// or `PageReferenceOutOfRange` for the first of the stream's page numbers, whatever the limit,
+    /// that is missing or bad; `IoError` if one of the stream's bytes below the limit is past the
+    /// end of the file.
+    ///
+    /// Fails with `OutOfMemory` if memory is asked for and refused, but never in place of an error
+    /// of `stream_size`.
     #[tactic(auto, unfolding(crate::specs::Layout::stream_by))]
     pub fn stream(
         &self,

@@ -19,7 +19,7 @@ use std::alloc::Global;
 use std::io::ErrorKind;
 use std::marker::Model;
 
-/// How many bytes of a file are looked at to open it.
+/// How many bytes at the front of a file are viewed to open it.
 pub(crate) const OPENING_SIZE: usize = 4096;
 
 /// A file of streams.
@@ -27,22 +27,24 @@ pub trait Msf<S: Source> {
     // The source, what the header says, how many bytes were asked for, and whether the directory is kept.
     ghost file: { Self → Opened S };
 
-    /// The bytes of a stream, at most as many as the limit.
+    /// Returns the bytes of a stream, at most as many as the limit.
     ///
     /// The answer depends on the file's bytes and its header alone, whatever was asked before. A
-    /// refused call leaves the file usable. The first call that reads the directory keeps it, also
-    /// where it then refuses: a later one asks the source for the bytes of its stream alone.
+    /// call that fails leaves the file usable. The first call that reads the directory keeps it,
+    /// even if that call then fails; a later call asks the source only for the bytes of its stream.
     ///
     /// # Errors
-    /// The first of these, in this order: `IoError` or `PageReferenceOutOfRange` if the directory
-    /// can't be read; `UnexpectedEof` if it ends before its count;
-    /// `StreamNotFound` from the count on; `UnexpectedEof` if a size up to the stream's own is
-    /// missing; `StreamNotFound` if the stream is absent; `UnexpectedEof` if a later size, or
-    /// a page number of an earlier stream, is missing; `UnexpectedEof` or `PageReferenceOutOfRange`
-    /// for the first of the stream's own page numbers, whatever the limit, that is missing or bad;
-    /// `IoError` if a page below the limit passes the end of the source. `OutOfMemory` if
-    /// memory is asked for and refused; once the directory is kept, never in place of a refusal that
-    /// comes before the stream's own page numbers.
+    /// Fails with the first of these, in this order: `IoError` or `PageReferenceOutOfRange` if the
+    /// directory can't be read; `UnexpectedEof` if the directory ends before its count of streams;
+    /// `StreamNotFound` if the stream's number is not below that count; `UnexpectedEof` if the size
+    /// of the stream or of one before it is missing; `StreamNotFound` if the stream is absent;
+    /// `UnexpectedEof` if the size of a later stream or a page number of an earlier one is missing;
+    /// `UnexpectedEof` or `PageReferenceOutOfRange` for the first of the stream's own page numbers,
+    /// whatever the limit, that is missing or bad; `IoError` if one of the stream's bytes below the
+    /// limit is past the end of the source, or if the source fails otherwise.
+    ///
+    /// Fails with `OutOfMemory` if memory is asked for and refused. Once the directory is kept,
+    /// that is never in place of an error that comes before those of the stream's own page numbers.
     fn get(&mut self, alloc: Global, stream_number: u32, limit: Option<usize>) -> Result<Stream>
         ensures answer { AnswersUnless (HasFailed (S.state (file self.old).source) (S.state (file self.new).source))
             (λ stream. stream) result
@@ -95,14 +97,17 @@ impl<S: Source> Model for BigMSF<S> {
 }
 
 impl<S: Source + Drop> BigMSF<S> {
-    /// A file whose header stands at the front of a view. A refused source is dropped.
+    /// Opens the file whose header is at the front of a view. If that fails, the source is dropped.
     ///
     /// # Errors
-    /// The first of these, in this order: `UnexpectedEof` if the view has fewer than 52 bytes;
-    /// `UnimplementedFeature` for the format MSF 2.00; `UnrecognizedFileFormat` for other magic;
-    /// `InvalidPageSize`; `UnexpectedEof` or `PageReferenceOutOfRange` for the first number of the
-    /// pages that locate the directory that is missing or bad. `OutOfMemory` if memory is asked
-    /// for and refused, which is for these numbers alone.
+    /// Fails with the first of these, in this order: `UnexpectedEof` if the view has fewer than 52
+    /// bytes; `UnimplementedFeature` if the format is MSF 2.00; `UnrecognizedFileFormat` if the
+    /// magic is any other than that of MSF 7.00; `InvalidPageSize` if the page size is not a power
+    /// of two from 256 to 8,388,608; `UnexpectedEof` or `PageReferenceOutOfRange` for the first
+    /// number of the pages that locate the directory that is missing or bad.
+    ///
+    /// Fails with `OutOfMemory` if memory is asked for and refused, which is asked for only to hold
+    /// these numbers.
     pub fn new(alloc: Global, source: S, header_view: ReadView) -> Result<BigMSF<S>>
         ensures head { Answers (λ m. m.head) result (head_of header_view) }
         ensures exact { RefusesExactly result (geometry_of header_view) }
@@ -119,22 +124,22 @@ impl<S: Source + Drop> BigMSF<S> {
 }
 
 impl<S: Source> BigMSF<S> {
-    /// The source from which the bytes come, as the views so far left it.
+    /// Returns the source from which the bytes come, as the views so far left it.
     pub fn source(&self) -> &S
         ensures { result.now ≡ self.now.source }
     {
         self.source.source()
     }
 
-    /// How many bytes `get` has asked of the source in all calls so far, at most `u64::MAX`. What
-    /// opening the file looks at does not count.
+    /// Returns how many bytes `get` has asked of the source in all calls so far, at most
+    /// `u64::MAX`. The bytes that are viewed to open the file do not count.
     pub fn asked(&self) -> u64
         ensures { result ≡ self.now.asked }
     {
         self.source.asked()
     }
 
-    /// Whether the directory is kept, so that `get` reads it no more.
+    /// Returns whether the directory is kept, so that `get` does not read it again.
     pub fn located(&self) -> bool
         ensures { result ≡ self.now.located }
     {
@@ -182,7 +187,7 @@ impl<S: Source> Msf<S> for BigMSF<S> {
     }
 }
 
-/// A size cut to the limit, if there is one.
+/// Returns a size cut to the limit, if there is one.
 pub(crate) fn limited(size: u32, limit: Option<usize>) -> usize
     ensures size { result ≡ limited size limit }
     ensures cut { result ≤ size }
@@ -193,7 +198,8 @@ pub(crate) fn limited(size: u32, limit: Option<usize>) -> usize
     }
 }
 
-/// Views the first `size` bytes of a file; one that has fewer is no database.
+/// Views the first `size` bytes of a file. A file with fewer bytes is refused as
+/// `UnrecognizedFileFormat`.
 #[tactic(auto, unfolding(crate::specs::Header::opening), using(crate::proofs::PositionLemmas::front_there, crate::proofs::PositionLemmas::front_cut))]
 pub(crate) fn view_front<S: Source>(source: &mut S, alloc: Global, size: usize) -> Result<ReadView>
     ensures bytes { AnswersUnless (HasFailed (S.state source.old) (S.state source.new)) (λ v. v) result
@@ -211,14 +217,17 @@ pub(crate) fn view_front<S: Source>(source: &mut S, alloc: Global, size: usize) 
     }
 }
 
-/// Opens a file by its first 4096 bytes. A refused source is dropped.
+/// Opens a file by its first 4096 bytes. If that fails, the source is dropped.
 ///
 /// # Errors
-/// The first of these, in this order: `UnrecognizedFileFormat` if the source has fewer bytes;
-/// `IoError` if it fails otherwise; `UnimplementedFeature` for the format MSF 2.00;
-/// `UnrecognizedFileFormat` for other magic; `InvalidPageSize`; `UnexpectedEof` or
-/// `PageReferenceOutOfRange` for the first number of the pages that locate the directory that is
-/// missing or bad. `OutOfMemory` if memory is asked for and refused.
+/// Fails with the first of these, in this order: `UnrecognizedFileFormat` if the source has fewer
+/// bytes; `IoError` if the source fails otherwise; `UnimplementedFeature` if the format is MSF
+/// 2.00; `UnrecognizedFileFormat` if the magic is any other than that of MSF 7.00;
+/// `InvalidPageSize` if the page size is not a power of two from 256 to 8,388,608; `UnexpectedEof`
+/// or `PageReferenceOutOfRange` for the first number of the pages that locate the directory that is
+/// missing or bad.
+///
+/// Fails with `OutOfMemory` if memory is asked for and refused.
 #[tactic(auto, unfolding(crate::specs::Header::opened), using(crate::proofs::Kept::unsound))]
 pub fn open_msf<S: Source + Drop>(alloc: Global, mut source: S) -> Result<BigMSF<S>>
     ensures head { AnswersUnless (¬ IsTrue (S.state source).is_sound)

@@ -12,7 +12,7 @@ use std::marker::Model;
 /// The positions in a file of what is scattered over pages, as slices of a source.
 ///
 /// A page whose number is one above that of the page before it lengthens the last slice. Any other
-/// page begins a slice, also one that comes again and one that goes back.
+/// page begins a new slice, even if it was added before or its number is lower.
 #[derive(Debug, Drop)]
 pub struct PageList {
     page_size: u32,
@@ -34,7 +34,7 @@ impl Model for PageList {
 }
 
 impl PageList {
-    /// A list of no pages of `page_size` bytes, from 1 to 8,388,608.
+    /// Returns an empty list of pages that have `page_size` bytes each, from 1 to 8,388,608.
     pub fn new(alloc: Global, page_size: u32) -> Self
         requires positive { 1 ≤ page_size }
         requires small { page_size ≤ 0x800000 }
@@ -48,11 +48,12 @@ impl PageList {
         }
     }
 
-    /// Adds a page at the end. The list was not truncated, and its length in bytes stays below 2^64.
+    /// Adds a page at the end. The list must not be truncated, and its length in bytes must stay
+    /// below 2^64.
     ///
     /// # Errors
-    /// `OutOfMemory` if memory is refused, which is asked for only if the page begins a
-    /// slice. The list stays as it was.
+    /// Returns `OutOfMemory` if memory is refused, which is asked for only if the page begins a new
+    /// slice. The list then stays as it was.
     pub fn push(&mut self, page: u32) -> Result<()>
         requires whole { self.old.is_truncated ≡ false }
         requires room { length (positions self.old.slices) + self.old.page_size < 2 ^ 64 }
@@ -72,8 +73,8 @@ impl PageList {
         Ok(())
     }
 
-    /// Keeps the first `len` bytes, all where there are fewer. The list then counts as truncated,
-    /// whatever it had.
+    /// Keeps the first `len` bytes, or all if there are fewer. The list then counts as truncated,
+    /// however many bytes it had.
     pub fn truncate(&mut self, len: usize)
         ensures slices { self.new ≡ record self.old { slices = first_of len self.old.slices; is_truncated = true } }
         ensures positions { positions self.new.slices ≡ take len (positions self.old.slices) }
@@ -94,21 +95,21 @@ impl PageList {
         }
     }
 
-    /// How many bytes the list holds.
+    /// Returns how many bytes the list holds.
     pub fn len(&self) -> usize
         ensures { result ≡ length (positions self.now.slices) }
     {
         self.len
     }
 
-    /// Whether the list was truncated.
+    /// Returns whether the list was truncated.
     pub fn is_truncated(&self) -> bool
         ensures { result ≡ self.now.is_truncated }
     {
         self.is_truncated
     }
 
-    /// The slices of a source that the pages are joined into.
+    /// Returns the slices of a source into which the pages are joined.
     pub fn source_slices(&self) -> &[SourceSlice]
         ensures { result.now ≡ self.now.slices }
     {
@@ -116,7 +117,8 @@ impl PageList {
     }
 }
 
-/// Adds a slice behind others, joined to the last of them where it begins just where that ends.
+/// Adds a slice behind others, or joins it to the last of them if it begins exactly where that
+/// ends.
 fn add_slice(slices: &mut Vec<SourceSlice>, next: SourceSlice) -> Result<()>
     requires { length (positions slices.old.items) + next.size < 2 ^ 64 }
     ensures slices { OnOk result (slices.new.items ≡ with_slice slices.old.items next) }
@@ -134,7 +136,7 @@ fn add_slice(slices: &mut Vec<SourceSlice>, next: SourceSlice) -> Result<()>
     Ok(())
 }
 
-/// Whether a slice ends where another begins.
+/// Returns whether a slice ends at this offset.
 fn ends_at(slice: SourceSlice, offset: u64) -> bool
     ensures { result ≡ (slice.offset + slice.size == offset) }
 {

@@ -13,8 +13,8 @@ use pdb_base::{Error, Result};
 use std::alloc::Global;
 use std::io::ErrorKind;
 
-/// Views a source. An error of the kind `OutOfMemory` is answered as `Error::OutOfMemory`, and any other
-/// as an `IoError`, which keeps it.
+/// Views slices of a source. An error of kind `OutOfMemory` is returned as `Error::OutOfMemory`,
+/// and any other as an `IoError` that holds it.
 pub fn view<S: Source>(source: &mut S, alloc: Global, slices: &[SourceSlice]) -> Result<ReadView>
     ensures bytes { AnswersUnless (HasFailed (S.state source.old) (S.state source.new)) (λ v. v) result
         (found (bytes_at (S.state source.old).bytes (positions slices.now))) }
@@ -30,7 +30,7 @@ pub fn view<S: Source>(source: &mut S, alloc: Global, slices: &[SourceSlice]) ->
     }
 }
 
-/// The positions of the first `size` bytes of these pages.
+/// Returns the positions of the first `size` bytes of these pages.
 fn page_list(alloc: Global, page_size: u32, numbers: &[u32], size: usize) -> Result<PageList>
     requires size { (0 < page_size) × (page_size ≤ 0x800000) }
     requires reached { size ≤ length numbers.now * page_size }
@@ -48,7 +48,7 @@ fn page_list(alloc: Global, page_size: u32, numbers: &[u32], size: usize) -> Res
 }
 
 /// A source, and how many bytes were asked of it. Every read goes through `read_scattered`, which
-/// counts.
+/// counts them.
 #[derive(Drop)]
 pub struct CountedSource<S: Source> {
     source: S,
@@ -57,7 +57,7 @@ pub struct CountedSource<S: Source> {
 }
 
 impl<S: Source> CountedSource<S> {
-    /// A source of which nothing was asked yet.
+    /// Wraps a source of which nothing was asked yet.
     pub fn new(source: S) -> Self
         ensures source { result.source ≡ source }
         ensures asked { result.asked ≡ 0 }
@@ -65,14 +65,14 @@ impl<S: Source> CountedSource<S> {
         CountedSource { source, asked: 0 }
     }
 
-    /// The source itself.
+    /// Returns the source itself.
     pub fn source(&self) -> &S
         ensures { result.now ≡ self.now.source }
     {
         &self.source
     }
 
-    /// How many bytes were asked of the source, at most `u64::MAX`.
+    /// Returns how many bytes were asked of the source, at most `u64::MAX`.
     pub fn asked(&self) -> u64
         ensures { result ≡ self.now.asked }
     {

@@ -16,16 +16,16 @@ use std::marker::Model;
 pub struct SourceSlice {
     /// Where the part begins, in bytes from the start of the source.
     pub offset: u64,
-    /// How many bytes it has.
+    /// The size of the part in bytes.
     pub size: usize,
 }
 
-/// Bytes that a source showed.
+/// A view of bytes of a source.
 pub trait SourceView {
     // The bytes that are shown.
     ghost shown: { Self → List ℕ };
 
-    /// The bytes, slice after slice as they were asked for.
+    /// Returns the bytes, slice after slice in the order in which they were asked for.
     fn as_slice(&self) -> &[u8]
         ensures { result.now ≡ shown self.now };
 }
@@ -45,14 +45,14 @@ impl Model for ReadView {
 }
 
 impl ReadView {
-    /// A view of these bytes.
+    /// Returns a view of these bytes.
     pub fn new(bytes: Vec<u8>) -> Self
         ensures { result ≡ bytes.items }
     {
         ReadView { bytes }
     }
 
-    /// The bytes themselves.
+    /// Returns the bytes of the view as a vector.
     pub(crate) fn into_bytes(self) -> Vec<u8>
         ensures { result.items ≡ self }
     {
@@ -69,19 +69,20 @@ impl SourceView for ReadView {
     }
 }
 
-/// Where the bytes of a file come from.
+/// A source of the bytes of a file.
 ///
-/// A source stands for fixed bytes. It may fail in other ways than by ending, and counts when it
-/// does; a sound source does not.
+/// A source stands for fixed bytes. It may fail for other reasons than that its bytes end or that
+/// memory is refused, and counts these faults; a sound source does not fail so.
 pub trait Source {
     // The bytes, the count of faults so far and the kind of the last one, and whether the source is sound.
     ghost state: { Self → State };
 
-    /// The bytes that the slices name, slice after slice.
+    /// Returns the bytes that the slices name, slice after slice.
     ///
     /// # Errors
-    /// Kind `UnexpectedEof` only if a slice of any bytes passes the end, `OutOfMemory` only for
-    /// want of memory, and any other only if the source's count of faults rises.
+    /// The error has kind `UnexpectedEof` only if a slice of one or more bytes passes the end of
+    /// the bytes, kind `OutOfMemory` only if memory is lacking, and any other kind only if the
+    /// source's count of faults rises.
     fn view(&mut self, alloc: Global, slices: &[SourceSlice]) -> Result<ReadView, io::Error>
         ensures view { Shows (HasFailed (state self.old) (state self.new)) (λ v. v) result
             (bytes_at (state self.old).bytes (positions slices.now)) }
@@ -92,11 +93,12 @@ pub trait Source {
 impl Source for Vec<u8> {
     ghost state = { λ file. in_memory file.items };
 
-    /// The bytes that the slices name, which are copied.
+    /// Returns a copy of the bytes that the slices name.
     ///
     /// # Errors
-    /// Kind `UnexpectedEof` if a slice of any bytes passes the end, before memory is asked for;
-    /// `OutOfMemory` if it is refused, or if the sizes have a sum above `usize::MAX`.
+    /// The error has kind `UnexpectedEof` if a slice of one or more bytes passes the end, which is
+    /// checked before memory is asked for. It has kind `OutOfMemory` if memory is refused, or if
+    /// the sum of the sizes is above `usize::MAX`.
     fn view(&mut self, alloc: Global, slices: &[SourceSlice]) -> Result<ReadView, io::Error>
         ensures view { Shows ⊥ (λ v. v) result (bytes_at self.old.items (positions slices.now)) }
         ensures exact { bytes_at self.old.items (positions slices.now) ≡ None →
@@ -107,8 +109,8 @@ impl Source for Vec<u8> {
     }
 }
 
-/// Bytes that are borrowed, such as those of a file that is mapped into memory. Only the bytes that a
-/// view names are copied.
+/// Bytes that are borrowed, such as those of a file that is mapped into memory. Only the bytes that
+/// a view names are copied.
 impl<'b> Source for &'b [u8] {
     ghost state = { λ file. in_memory file.now };
 

@@ -5,7 +5,7 @@ ghost use Rattle.std.specs.Prelude.{◌≡◌, ◌<◌, length};
 use pdb_base::ParseBuffer;
 use std::marker::Model;
 
-/// The bytes of one stream of a file, or of its front where they were limited.
+/// The bytes of one stream of a file, or only the first of them if there was a limit.
 #[derive(Debug, Drop)]
 pub struct Stream {
     bytes: Vec<u8>,
@@ -22,7 +22,7 @@ impl Model for Stream {
 }
 
 impl Stream {
-    /// A stream of these bytes, of which there are fewer than 4,294,967,295.
+    /// Returns a stream of these bytes, of which there must be fewer than 4,294,967,295.
     pub fn new(bytes: Vec<u8>) -> Self
         requires { length bytes.items < 0xffffffff }
         ensures { result ≡ bytes.items }
@@ -30,7 +30,7 @@ impl Stream {
         Stream { bytes }
     }
 
-    /// The bytes.
+    /// Returns the bytes of the stream.
     pub fn as_slice(&self) -> &[u8]
         ensures bytes { result.now ≡ self.now }
         ensures short { length self.now < 0xffffffff }
@@ -38,7 +38,7 @@ impl Stream {
         self.bytes.as_slice()
     }
 
-    /// The bytes themselves.
+    /// Returns the bytes of the stream as a vector.
     pub fn into_bytes(self) -> Vec<u8>
         ensures { result.items ≡ self }
     {
@@ -46,7 +46,7 @@ impl Stream {
         bytes
     }
 
-    /// A buffer at the start of the bytes.
+    /// Returns a buffer at the start of the bytes.
     pub fn parse_buffer(&self) -> ParseBuffer<'_>
         ensures { result ≡ record { slice = self.now; pos = 0 } }
     {

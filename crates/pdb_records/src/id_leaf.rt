@@ -5,7 +5,7 @@ ghost use Rattle.std.specs.Prelude.{◌≡◌};
 use crate::constants::{LF_BUILDINFO, LF_SUBSTR_LIST};
 use crate::parse::id_plain::PlainIdLeaf;
 
-/// What record stands behind a leaf in the table of ids.
+/// The kind of record that stands behind a leaf in the table of ids.
 #[derive(Clone, Copy, Debug, PartialEq, Eq)]
 pub enum IdLeaf {
     /// A record without a list.
@@ -21,7 +21,8 @@ pub enum IdLeaf {
 impl IdLeaf {
     ghost use Rattle.pdb_records.specs.Ids.{id_leaf_of};
 
-    /// The record that stands behind the leaf of this number.
+    /// Returns the kind of record that stands behind the leaf with this number, or None if it has
+    /// no record here.
     pub(crate) fn from_number(number: u16) -> Option<Self>
         ensures { result ≡ id_leaf_of number }
     {

@@ -20,27 +20,27 @@ ghost use Rattle.pdb_values.specs.TypeValue.{TypeValue};
 
 use crate::constants::{LF_ENDOFLEAFRECORD, LF_NUMERIC};
 
-/// Of each shape, what is read is what a front of the bytes spells, and bytes are refused as the
+/// For each shape, what is read is what the front of the bytes spells, and bytes are refused as the
 /// first fault says.
 pub fn shapes()
     ensures { (shape : Shape) → Agrees (read_shape shape) (Begins (Spells shape)) (Refuses shape) }
 {}
 
-/// Of each row, what is read is what the row assigns to the bytes, and bytes are refused as the first
+/// For each row, what is read is what the row assigns to the bytes. Bytes are refused as the first
 /// shape says that they don't begin with.
 pub fn rows<A>()
     ensures { (r : Row A) → Agrees (row r) (Assigns r) (Stops r) }
 {}
 
-/// Bytes are refused for what they are, and so never for want of memory.
+/// Bytes are refused for what they are, and so never for lack of memory.
 #[tactic(auto, using(crate::proofs::NoWant::stops_fault))]
 pub fn refusals<A>()
     ensures faults { (r : Row A) (bytes : List ℕ) (refusal : Refusal) → Stops r bytes refusal → IsFaultOfBytes refusal }
     ensures want { (r : Row A) (bytes : List ℕ) → ¬ Stops r bytes out_of_memory }
 {}
 
-/// What is passed by as padding is pads, one after another, up to the end or to a byte that is none;
-/// bytes that end in a pad are refused.
+/// What is skipped as padding is pads, one after another, up to the end or to a byte that begins no
+/// pad. Bytes that end within a pad are refused.
 #[tactic(auto, using(crate::proofs::PaddingLaws::padding_agrees))]
 pub fn padding()
     ensures { Agrees padding_at IsPadded IsPaddedShort }
@@ -52,8 +52,8 @@ pub fn dimensions()
     ensures { Agrees dimensions_at AreDimensions NoDimensions }
 {}
 
-/// Rows that reach to the end of the bytes, where each takes a byte at least, are read as they fill
-/// the bytes; the first that can't be read is refused as its row says.
+/// Rows that reach to the end of the bytes, each of which takes at least one byte, are read as they
+/// fill the bytes. The first that can't be read is refused as its row says.
 pub fn lists<A>()
     ensures { (r : Row A) → TakesBytes (Assigns r) →
         Agrees (to_end (row r)) (Fills (Assigns r)) (FailsBehind (Assigns r) (Stops r)) }
@@ -67,27 +67,28 @@ pub fn records()
     ensures one { NoTwoValues IsRecord }
 {}
 
-/// The same of id records.
+/// The same for id records.
 #[tactic(auto, using(crate::proofs::IdLaws::ids_agree))]
 pub fn ids()
     ensures agrees { Agrees id_at IsId NoId }
     ensures one { NoTwoValues IsId }
 {}
 
-/// Type records are refused for what their bytes are: these end too soon, a number has an unknown prefix,
-/// a leaf has no record here, or what they say is not read here.
+/// Type records are refused for what their bytes are: the bytes end too soon, a number has an
+/// unknown prefix, a leaf has no record here, or what they say is not read here.
 pub fn faults()
     ensures { (bytes : List ℕ) (refusal : Refusal) → NoRecord bytes refusal → IsFaultOfBytes refusal }
 {}
 
-/// Lists are short beside their record: each has at most half as many items as the record has bytes.
+/// Lists are short compared with their record: each has at most half as many items as the record
+/// has bytes.
 pub fn short_lists()
     ensures { (bytes : List ℕ) (value : TypeValue) (rest : List ℕ) →
         IsRecord bytes value rest → IsShort (length bytes) value }
 {}
 
-/// The constants are the numbers of `LEAF_ENUM_e` in Microsoft's cvinfo.h: its leaves, prefixes and pads
-/// in their order, which count up by one from these numbers on.
+/// The constants are the numbers of `LEAF_ENUM_e` in Microsoft's cvinfo.h: its leaves, prefixes and
+/// pads in their order, which count up by one from these numbers on.
 pub fn leaf_numbers()
     ensures old_type_leaves { CountUpFrom 0x0001 old_type_leaves }
     ensures old_inner_leaves { CountUpFrom 0x0200 old_inner_leaves }

@@ -5,7 +5,7 @@ ghost use Rattle.std.specs.Prelude.{◌≡◌};
 use crate::constants::{LF_ARGLIST, LF_ARRAY, LF_ARRAY_ST, LF_METHODLIST, LF_STRIDED_ARRAY};
 use crate::parse::plain::PlainLeaf;
 
-/// What record stands behind a leaf.
+/// The kind of record that stands behind a leaf.
 #[derive(Clone, Copy, Debug, PartialEq, Eq)]
 pub enum Leaf {
     /// A record without a list.
@@ -14,7 +14,7 @@ pub enum Leaf {
     /// The types of parameters.
     ArgumentList,
 
-    /// All methods of one name in a list.
+    /// The list of the methods that share one name.
     MethodList,
 
     /// An array, with a stride or without.
@@ -24,7 +24,8 @@ pub enum Leaf {
 impl Leaf {
     ghost use Rattle.pdb_records.specs.Leaves.{leaf_of};
 
-    /// The record that stands behind the leaf of this number, but for a list of fields.
+    /// Returns the kind of record that stands behind the leaf with this number. Returns None for a
+    /// leaf that has no record here, and for a list of fields.
     pub(crate) fn from_number(number: u16) -> Option<Self>
         ensures { result ≡ leaf_of number }
     {

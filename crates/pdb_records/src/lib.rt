@@ -1,5 +1,5 @@
-//! The records of types and of ids: how what they say is read from their bytes. What a record can say
-//! stands in `pdb_values`.
+//! Parsers for the records of types and of ids. The values that they return are those of
+//! `pdb_values`.
 #![tactic(auto)]
 
 pub mod constants;

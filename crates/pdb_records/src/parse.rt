@@ -1,4 +1,4 @@
-//! What is read of the bytes of a record.
+//! Parsers for the parts of a record.
 
 pub(crate) mod array;
 pub(crate) mod class;

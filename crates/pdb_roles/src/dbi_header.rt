@@ -8,31 +8,32 @@ use crate::fields::{u16_in, u32_in};
 use pdb_base::{Error, ParseBuffer, Result, StreamIndex};
 use pdb_msf::Stream;
 
-/// The number at the front of every header but those of the oldest format.
+/// The signature at the front of every header except those of the oldest format.
 const SIGNATURE: u32 = 0xffff_ffff;
 
-/// How many bytes a header has.
+/// The size of a header in bytes.
 pub const HEADER_SIZE: usize = 64;
 
-/// The header of stream 3, which holds the debug information (DBI): `NewDBIHdr` in Microsoft's dbi.h.
+/// The header of stream 3, which holds the debug information (DBI): `NewDBIHdr` in Microsoft's
+/// dbi.h.
 #[derive(Clone, Copy, Debug, PartialEq, Eq)]
 pub struct DBIHeader {
     /// Always 0xffffffff.
     pub signature: u32,
 
-    /// The version of the format, as 19990903 for version 7.
+    /// The version of the format, for example 19990903 for version 7.
     pub version: u32,
 
-    /// How often the file was written.
+    /// The number of times the file was written.
     pub age: u32,
 
-    /// The stream that finds global symbols.
+    /// The stream by which global symbols are found.
     pub gs_symbols_stream: StreamIndex,
 
-    /// Which version of the tools wrote the file.
+    /// The version of the tools that wrote the file.
     pub internal_version: u16,
 
-    /// The stream that finds public symbols.
+    /// The stream by which public symbols are found.
     pub ps_symbols_stream: StreamIndex,
 
     /// The version of the library that wrote the file.
@@ -44,48 +45,47 @@ pub struct DBIHeader {
     /// The rebuild of the library that wrote the file.
     pub pdb_dll_rbld_version: u16,
 
-    /// How many bytes the list of modules has.
+    /// The size of the list of modules in bytes.
     pub module_list_size: u32,
 
-    /// How many bytes the section contributions have.
+    /// The size of the section contributions in bytes.
     pub section_contribution_size: u32,
 
-    /// How many bytes the section map has.
+    /// The size of the section map in bytes.
     pub section_map_size: u32,
 
-    /// How many bytes the file info has.
+    /// The size of the file info in bytes.
     pub file_info_size: u32,
 
-    /// How many bytes the type server map has.
+    /// The size of the type server map in bytes.
     pub type_server_map_size: u32,
 
     /// The index of the type server of MFC.
     pub mfc_type_server_index: u32,
 
-    /// How many bytes the debug header has.
+    /// The size of the debug header in bytes.
     pub debug_header_size: u32,
 
-    /// How many bytes the names for edit and continue have.
+    /// The size of the names for edit and continue in bytes.
     pub ec_substream_size: u32,
 
     /// A word of flags.
     pub flags: u16,
 
-    /// For which machine the program is, as 0x8664 for x86-64.
+    /// The machine that the program is for, for example 0x8664 for x86-64.
     pub machine_type: u16,
 
-    /// Without meaning.
+    /// A field without meaning.
     pub reserved: u32,
 }
 
 impl DBIHeader {
-    /// The header at the front of stream 3: its fields in their order, each number with its lowest byte
-    /// first.
+    /// Parses the header at the front of stream 3: its fields in order, each number little-endian.
     ///
     /// # Errors
-    /// In this order:
+    /// Fails with the first of these that applies:
     /// - `UnexpectedEof` if the stream has fewer than four bytes;
-    /// - `UnimplementedFeature("ancient DBI header")` if these are not the signature;
+    /// - `UnimplementedFeature("ancient DBI header")` if these aren't the signature;
     /// - `UnexpectedEof` if the stream has fewer than the header's 64 bytes.
     pub fn parse(stream: &Stream) -> Result<Self>
         ensures { Gives (λ header. header) result (dbi_header_of stream.now) }
@@ -93,7 +93,7 @@ impl DBIHeader {
         DBIHeader::read(stream.as_slice())
     }
 
-    /// The header at the front of bytes.
+    /// Reads the header at the front of bytes, and fails as `parse` does.
     #[tactic(auto, unfolding(crate::specs::DbiHeader::dbi_header_of))]
     pub(crate) fn read(bytes: &[u8]) -> Result<Self>
         ensures { Gives (λ header. header) result (dbi_header_of bytes.now) }
@@ -108,7 +108,7 @@ impl DBIHeader {
         Ok(DBIHeader::fields(bytes))
     }
 
-    /// The fields, each at its offset.
+    /// Returns the header with its fields, each read at its offset.
     #[tactic(auto, unfolding(crate::specs::DbiHeader::dbi_header))]
     fn fields(bytes: &[u8]) -> Self
         requires { 64 ≤ length bytes.now }

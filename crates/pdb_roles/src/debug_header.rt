@@ -9,11 +9,11 @@ use crate::fields::u16_in;
 use pdb_base::{Error, ParseBuffer, Result, StreamIndex};
 use pdb_msf::Stream;
 
-/// How many bytes the numbers have that are given a role.
+/// The size in bytes of the stream numbers that have a role.
 const ROLES_SIZE: usize = 22;
 
-/// The streams of eleven roles, each of which names none if the file has no such stream. A default
-/// one names none at all.
+/// The streams of eleven roles. The index of a role names no stream if the file has none in that
+/// role. By default, no index names a stream.
 #[derive(Clone, Copy, Debug, Default, PartialEq, Eq)]
 pub struct DBIExtraStreams {
     /// Frames in the older format.
@@ -50,7 +50,8 @@ pub struct DBIExtraStreams {
     pub original_section_headers: StreamIndex,
 }
 
-/// The stream of a place in a list of stream numbers, or none behind the list's end.
+/// Returns the stream at index `place` of a list of stream numbers, or an index that names no
+/// stream if the list ends before that number does.
 fn listed(list: &[u8], place: usize) -> StreamIndex
     requires { place < 11 }
     ensures { result ≡ listed place list.now }
@@ -62,7 +63,7 @@ fn listed(list: &[u8], place: usize) -> StreamIndex
     }
 }
 
-/// How many bytes stand before the debug header.
+/// Returns the number of bytes before the debug header.
 #[tactic(auto)]
 fn size_before(header: &DBIHeader) -> usize
     ensures { result ≡ sum (sizes_before header.now) }
@@ -76,7 +77,7 @@ fn size_before(header: &DBIHeader) -> usize
         + header.ec_substream_size as usize
 }
 
-/// The debug header in stream 3, which is empty if the stream is.
+/// Returns the debug header in stream 3, which is empty if the stream is.
 #[tactic(auto, unfolding(crate::specs::DebugHeader::debug_header_behind))]
 fn debug_header(stream: &[u8]) -> Result<&[u8]>
     ensures { Gives (λ list. list.now) result (debug_header_of stream.now) }
@@ -91,15 +92,16 @@ fn debug_header(stream: &[u8]) -> Result<&[u8]>
 }
 
 impl DBIExtraStreams {
-    /// What stream 3 says of roles, in its debug header. An empty stream names no stream.
+    /// Reads the roles from the debug header in stream 3. If the stream is empty, no role has a
+    /// stream.
     ///
     /// The parts of the stream stand in this order: the header, modules, section contributions, the
-    /// section map, file info, the type server map, names for edit and continue, the debug header. Each
-    /// is as long as the header says.
+    /// section map, file info, the type server map, names for edit and continue, the debug header.
+    /// The header says the sizes of the parts after it.
     ///
     /// # Errors
-    /// What `DBIHeader::parse` refuses, `UnexpectedEof` if the stream ends before the debug header
-    /// does, and what `parse` refuses.
+    /// Fails as `DBIHeader::parse` does, then with `UnexpectedEof` if the stream ends before the
+    /// debug header does, and then as `parse` does.
     #[tactic(auto, unfolding(crate::specs::DebugHeader::extra_streams_of))]
     pub fn new(stream: &Stream) -> Result<Self>
         ensures { Gives (λ roles. roles) result (extra_streams_of stream.now) }
@@ -108,11 +110,11 @@ impl DBIExtraStreams {
         DBIExtraStreams::parse(list)
     }
 
-    /// What a debug header says: stream numbers, each a `u16` with its lowest byte first, of which the
-    /// first eleven are those of the roles in their order. A role behind the last number has no stream.
+    /// Parses a debug header: stream numbers, each a little-endian `u16`, of which the first eleven
+    /// are those of the roles in order. A role after the last number has no stream.
     ///
     /// # Errors
-    /// `UnexpectedEof` if one of the first eleven numbers is cut in half.
+    /// Fails with `UnexpectedEof` if one of the first eleven numbers is cut in half.
     #[tactic(auto, unfolding(crate::specs::DebugHeader::extra_streams))]
     pub fn parse(list: &[u8]) -> Result<Self>
         ensures { Gives (λ roles. roles) result (extra_streams list.now) }
@@ -123,7 +125,7 @@ impl DBIExtraStreams {
         Ok(DBIExtraStreams::of_list(list))
     }
 
-    /// The streams of the roles, each by its place in a list.
+    /// Returns the streams of the roles, each by its index in a list.
     #[tactic(auto, unfolding(crate::specs::DebugHeader::roles_in))]
     fn of_list(list: &[u8]) -> Self
         ensures { result ≡ roles_in list.now }

@@ -1,7 +1,7 @@
-//! What a file says by the roles and names of its streams.
+//! The tables of a file, found by the roles and the names of its streams.
 //!
-//! A stream that stands in a role and is not in the file is refused as `Msf::get` refuses its number. A
-//! role that has no stream says nothing. Each call leaves the file usable, also where it is refused.
+//! If the stream of a role isn't in the file, a call fails as `Msf::get` does for its number. A
+//! role that has no stream isn't an error. Each call leaves the file usable, even if it fails.
 
 ghost use Rattle.std.specs.Prelude.{◌≡◌, unwrap_or, map};
 ghost use Rattle.std.specs.Option.{option_map};
@@ -20,13 +20,13 @@ use pdb_msf::{BigMSF, Msf, Source, Stream};
 use pdb_space::{AddressMap, ImageSectionHeader, OMAPTable, StringTable};
 use std::alloc::Global;
 
-/// The number of the stream that tells files apart and names streams.
+/// The number of the stream that identifies the file and names streams.
 const INFORMATION_STREAM: u32 = 1;
 
 /// The number of the stream of debug information.
 const DEBUG_STREAM: u32 = 3;
 
-/// The stream that an index names, if it names one.
+/// Returns the stream that an index names, or None if it names none.
 #[tactic(auto, unfolding(crate::specs::File::stream_at))]
 fn stream_at<S: Source>(
     alloc: Global,
@@ -44,10 +44,10 @@ fn stream_at<S: Source>(
     }
 }
 
-/// What stream 1 of a file says.
+/// Reads the information in stream 1 of a file.
 ///
 /// # Errors
-/// What `Msf::get` refuses of stream 1, and what `PDBInformation::parse` does.
+/// Fails as `Msf::get` does for stream 1, and then as `PDBInformation::parse` does.
 #[tactic(auto, unfolding(crate::specs::File::file_information))]
 pub fn pdb_information<S: Source>(alloc: Global, file: &mut BigMSF<S>) -> Result<PDBInformation>
     ensures information { AnswersUnless (HasFailed (S.state file.old.source) (S.state file.new.source))
@@ -58,10 +58,10 @@ pub fn pdb_information<S: Source>(alloc: Global, file: &mut BigMSF<S>) -> Result
     PDBInformation::parse(file.get(alloc, INFORMATION_STREAM, None)?)
 }
 
-/// What stream 3 of a file says of roles.
+/// Reads the roles of streams from stream 3 of a file.
 ///
 /// # Errors
-/// What `Msf::get` refuses of stream 3, and what `DBIExtraStreams::new` does.
+/// Fails as `Msf::get` does for stream 3, and then as `DBIExtraStreams::new` does.
 #[tactic(auto, unfolding(crate::specs::File::file_roles))]
 pub fn extra_streams<S: Source>(alloc: Global, file: &mut BigMSF<S>) -> Result<DBIExtraStreams>
     ensures roles { AnswersUnless (HasFailed (S.state file.old.source) (S.state file.new.source))
@@ -73,7 +73,7 @@ pub fn extra_streams<S: Source>(alloc: Global, file: &mut BigMSF<S>) -> Result<D
     DBIExtraStreams::new(&stream)
 }
 
-/// The section headers that a stream holds, if there is one.
+/// Parses the section headers in a stream, or returns None if there is no stream.
 fn sections_in(alloc: Global, stream: Option<Stream>) -> Result<Option<Vec<ImageSectionHeader>>>
     ensures { Answers (option_map (λ sections. sections.items)) result (said_by section_headers_of stream) }
 {
@@ -83,7 +83,7 @@ fn sections_in(alloc: Global, stream: Option<Stream>) -> Result<Option<Vec<Image
     }
 }
 
-/// The section headers in the stream that an index names, if it names one.
+/// Reads the section headers in the stream that an index names, or returns None if it names none.
 #[tactic(auto, unfolding(crate::specs::File::sections_at))]
 fn sections_at<S: Source>(
     alloc: Global,
@@ -100,7 +100,7 @@ fn sections_at<S: Source>(
     sections_in(alloc, stream)
 }
 
-/// The OMAP table that a stream holds, if there is one.
+/// Parses the OMAP table in a stream, or returns None if there is no stream.
 fn omap_in(stream: Option<Stream>) -> Result<Option<OMAPTable>>
     ensures { Gives (λ table. table) result (said_by table_of stream) }
 {
@@ -110,7 +110,7 @@ fn omap_in(stream: Option<Stream>) -> Result<Option<OMAPTable>>
     }
 }
 
-/// The OMAP table in the stream that an index names, if it names one.
+/// Reads the OMAP table in the stream that an index names, or returns None if it names none.
 #[tactic(auto, unfolding(crate::specs::File::omap_at))]
 fn omap_at<S: Source>(
     alloc: Global,
@@ -126,7 +126,8 @@ fn omap_at<S: Source>(
     omap_in(stream)
 }
 
-/// The map of an image with these sections that a tool made of one with those original sections.
+/// Reads the OMAP tables, and returns the map of an image with the sections `sections`, which a
+/// tool made from one with the sections `original`.
 #[tactic(auto, unfolding(crate::specs::File::rearranged))]
 fn rearranged<S: Source>(
     alloc: Global,
@@ -146,18 +147,25 @@ fn rearranged<S: Source>(
     Ok(AddressMap::new(original, Some(sections), to_original, to_transformed))
 }
 
-/// The address map of a file.
+/// Reads the address map of a file.
 ///
-/// With original section headers, these are the sections of the original image, the section headers are
-/// those of the image as it is loaded, and the OMAP tables from source and to source lead from the
-/// original to it and back. Without them, the section headers are the sections of both, and OMAP tables
-/// are not read. No role that has no stream is refused: without section headers the map has no section.
+/// If the file has original section headers, these are the sections of the original image, the
+/// section headers are those of the image as it is loaded, and the OMAP tables from source and to
+/// source lead from the original image to it and back. Otherwise the section headers are the
+/// sections of both images, and OMAP tables aren't read.
+///
+/// A role that has no stream isn't an error: without section headers, the image as it is loaded has
+/// no sections.
 ///
 /// # Errors
-/// The first refusal of stream 3 and its roles, as `extra_streams` says it, of the section headers, of
-/// the original ones, of OMAP to source, and of OMAP from source. Of each that is a stream, it is what
-/// `Msf::get` refuses of it, or else `UnexpectedEof` if a section header is cut, or
-/// `InvalidStreamLength` if an OMAP record is. `OutOfMemory` if memory is refused.
+/// Fails with the first of these that applies:
+/// - the errors of `extra_streams` for stream 3 and its roles;
+/// - for the section headers, and then for the original ones: the errors of `Msf::get` for their
+///   stream, and then `UnexpectedEof` if a section header is cut short;
+/// - for OMAP to source, and then for OMAP from source: the errors of `Msf::get` for their stream,
+///   and then `InvalidStreamLength` if a record is cut short.
+///
+/// Fails with `OutOfMemory` if memory is refused.
 #[tactic(auto, unfolding(crate::specs::File::file_address_map))]
 pub fn address_map<S: Source>(alloc: Global, file: &mut BigMSF<S>) -> Result<AddressMap>
     ensures map { AnswersUnless (HasFailed (S.state file.old.source) (S.state file.new.source))
@@ -174,12 +182,12 @@ pub fn address_map<S: Source>(alloc: Global, file: &mut BigMSF<S>) -> Result<Add
     }
 }
 
-/// The frame table of a file: its FPO stream holds the records of the older format, its frame data those
-/// of the newer. A file without these has no frames.
+/// Reads the frame table of a file: its FPO stream holds the records of the older format, its frame
+/// data those of the newer. A file without these has no frames.
 ///
 /// # Errors
-/// The first refusal of stream 3 and its roles, as `extra_streams` says it, of the FPO stream and of the
-/// frame data, as `Msf::get` refuses them, and of the table, as `FrameTable::parse` does.
+/// Fails as `extra_streams` does for stream 3 and its roles, then as `Msf::get` does for the FPO
+/// stream and for the frame data, and then as `FrameTable::parse` does.
 #[tactic(auto, unfolding(crate::specs::File::file_frame_table))]
 pub fn frame_table<S: Source>(alloc: Global, file: &mut BigMSF<S>) -> Result<FrameTable>
     ensures table { AnswersUnless (HasFailed (S.state file.old.source) (S.state file.new.source))
@@ -193,7 +201,7 @@ pub fn frame_table<S: Source>(alloc: Global, file: &mut BigMSF<S>) -> Result<Fra
     FrameTable::parse(old, new)
 }
 
-/// The number of the first stream of a name.
+/// Returns the number of the first stream that has a name.
 #[tactic(auto, unfolding(crate::specs::File::file_number))]
 fn number_named<S: Source>(alloc: Global, file: &mut BigMSF<S>, name: &[u8]) -> Result<u32>
     ensures number { AnswersUnless (HasFailed (S.state file.old.source) (S.state file.new.source))
@@ -206,12 +214,12 @@ fn number_named<S: Source>(alloc: Global, file: &mut BigMSF<S>, name: &[u8]) -> 
     names.number(name)
 }
 
-/// The bytes of the first stream of a name.
+/// Returns the bytes of the first stream that has a name.
 ///
 /// # Errors
-/// The first refusal of stream 1, as `pdb_information` says it, of the names, as
-/// `PDBInformation::stream_names` does, and of the stream: `StreamNameNotFound` if no stream has the
-/// name, or if the first that has it is none, and else what `Msf::get` refuses of its number.
+/// Fails as `pdb_information` does for stream 1, then as `PDBInformation::stream_names` does, then
+/// with `StreamNameNotFound` if no stream has the name or the first entry with it names no stream,
+/// and then as `Msf::get` does for the stream's number.
 #[tactic(auto, unfolding(crate::specs::File::file_named_stream))]
 pub fn named_stream<S: Source>(alloc: Global, file: &mut BigMSF<S>, name: &[u8]) -> Result<Stream>
     ensures stream { AnswersUnless (HasFailed (S.state file.old.source) (S.state file.new.source))
@@ -223,10 +231,10 @@ pub fn named_stream<S: Source>(alloc: Global, file: &mut BigMSF<S>, name: &[u8])
     file.get(alloc, number, None)
 }
 
-/// The string table of a file, which is the stream named `/names`.
+/// Reads the string table of a file, which is the stream named `/names`.
 ///
 /// # Errors
-/// What `named_stream` refuses, and then what `StringTable::parse` does.
+/// Fails as `named_stream` does, and then as `StringTable::parse` does.
 #[tactic(auto, unfolding(crate::specs::File::file_string_table))]
 pub fn string_table<S: Source>(alloc: Global, file: &mut BigMSF<S>) -> Result<StringTable>
     ensures names { AnswersUnless (HasFailed (S.state file.old.source) (S.state file.new.source))

@@ -1,4 +1,4 @@
-//! The header of stream 1, by which a program database is told from others.
+//! The header of stream 1, which identifies a program database.
 
 ghost use Rattle.std.specs.Prelude.{◌≡◌};
 ghost use Rattle.pdb_base.specs.Answer.{Gives};
@@ -8,41 +8,42 @@ use crate::fields::u32_in;
 use pdb_base::{Error, Result};
 use pdb_msf::Stream;
 
-/// How many bytes stand before the names.
+/// The offset of the names in bytes.
 const NAMES_OFFSET: usize = 32;
 
-/// What stream 1 says: by which numbers the file is told from others, and which streams have names.
+/// The information in stream 1: the numbers that identify the file, and the names of streams.
 ///
 /// It keeps its stream, and names borrow from it.
 #[derive(Debug, Drop)]
 pub struct PDBInformation {
-    /// The version of the format, as 20000404 for version 7.
+    /// The version of the format, for example 20000404 for version 7.
     pub version: u32,
 
     /// The time at which the file was made, in seconds since 1970.
     pub signature: u32,
 
-    /// How often the file was written.
+    /// The number of times the file was written.
     pub age: u32,
 
-    /// The sixteen bytes by which this file is told from all others, as they stand.
+    /// The GUID that identifies this file: sixteen bytes, in the order in which the file stores
+    /// them.
     pub guid: [u8; 16],
 
-    /// Where the names of streams stand, in bytes from the stream's start.
+    /// The offset of the names of streams, in bytes from the stream's start.
     pub names_offset: usize,
 
-    /// How many bytes the names take.
+    /// The size of the names in bytes.
     pub names_size: usize,
 
     pub(crate) stream: Stream,
 }
 
 impl PDBInformation {
-    /// What stream 1 says: a `u32` version, a `u32` signature, a `u32` age, sixteen bytes of a GUID, a
-    /// `u32` that says how many bytes the names take, and the names and what is behind them.
+    /// Parses stream 1: a `u32` version, a `u32` signature, a `u32` age, sixteen bytes of a GUID, a
+    /// `u32` size of the names in bytes, and the names and what follows them.
     ///
     /// # Errors
-    /// `UnexpectedEof` if the stream ends before the names.
+    /// Fails with `UnexpectedEof` if the stream has fewer than the 32 bytes before the names.
     #[tactic(auto, unfolding(crate::specs::Information::information_of, crate::specs::Information::information))]
     pub fn parse(stream: Stream) -> Result<Self>
         ensures { Gives (λ information. information) result (information_of stream) }

@@ -7,30 +7,30 @@ ghost use Rattle.pdb_roles.specs.Laws.{FindsHeader, FindsDebugHeader, FindsNamed
 
 pub mod derived;
 
-/// The header of stream 3 is the one that the stream begins with, whose first field is the signature. Any
-/// other stream is refused by the first of three faults.
+/// The header of stream 3 is the one that the stream begins with, whose first field is the
+/// signature. Any other stream is refused by the first of three faults.
 #[tactic(auto, using(crate::proofs::DbiLaws::finds_header))]
 pub fn headers()
     ensures { (stream : List ℕ) → FindsHeader stream }
 {}
 
-/// The debug header of stream 3 stands behind parts of the sizes that the header says, in their order. A
-/// stream that holds none is refused as its header is, or since it ends too soon.
+/// The debug header of stream 3 comes after parts of the sizes that the header says, in their
+/// order. A stream that holds none is refused as its header is, or because it ends too soon.
 #[tactic(auto, using(crate::proofs::DbiLaws::finds_debug_header))]
 pub fn debug_headers()
     ensures { (stream : List ℕ) → FindsDebugHeader stream }
 {}
 
-/// The roles have the streams that a list gives to their places. A list gives none just where it ends in
-/// half of one of the first eleven numbers.
+/// The roles have the streams that a list gives at their indices. A list gives none exactly if it
+/// ends in half of one of the first eleven numbers.
 #[tactic(auto, using(crate::proofs::RoleLaws::finds_roles))]
 pub fn roles()
     ensures { (list : List ℕ) → FindsRoles list }
 {}
 
-/// The named streams are those of the table that stream 1 holds behind its names: a name and a stream for
-/// each entry, in order. There are none just where the stream ends too soon, or a name has no NUL behind
-/// it among the names.
+/// The named streams are those of the table that stream 1 holds after its names: a name and a
+/// stream for each entry, in order. There are none exactly if the stream ends too soon, or if a
+/// name has no NUL after it among the names.
 pub fn stream_names()
     ensures { (information : PDBInformation) → FindsNamed information }
 {}

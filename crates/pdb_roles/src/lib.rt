@@ -1,5 +1,5 @@
-//! Which stream of a program database is what: the roles that stream 3 gives to streams by their
-//! numbers, the names that stream 1 gives them, and the tables that are found by these.
+//! The purposes of the streams of a program database: the roles that stream 3 gives to streams by
+//! their numbers, the names that stream 1 gives them, and the tables that are found by these.
 #![tactic(auto)]
 
 mod dbi_header;

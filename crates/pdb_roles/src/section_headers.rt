@@ -9,14 +9,14 @@ use pdb_msf::Stream;
 use pdb_space::ImageSectionHeader;
 use std::alloc::Global;
 
-/// How many bytes a header has.
+/// The size of a header in bytes.
 const HEADER_SIZE: usize = 40;
 
-/// The headers that a stream holds, forty bytes each.
+/// Parses the section headers in a stream, forty bytes each.
 ///
 /// # Errors
-/// `UnexpectedEof` if the last header is cut, before memory is asked for, and `OutOfMemory` if
-/// memory is refused.
+/// Fails with `UnexpectedEof` if the last header is cut short, before memory is requested, and with
+/// `OutOfMemory` if memory is refused.
 #[tactic(auto, unfolding(crate::specs::SectionHeaders::section_headers_of))]
 pub fn section_headers(alloc: Global, stream: &Stream) -> Result<Vec<ImageSectionHeader>>
     ensures { Answers (λ headers. headers.items) result (section_headers_of stream.now) }

@@ -13,19 +13,19 @@ use pdb_base::{Error, ParseBuffer, RawString, Result, StreamIndex};
 use std::alloc::Global;
 use std::marker::Model;
 
-/// How many bytes an entry has.
+/// The size of an entry in bytes.
 const ENTRY_SIZE: usize = 8;
 
 /// The least number that names no stream.
 const NO_STREAM: u32 = 0xffff;
 
-/// A stream, and a name of it.
+/// A stream and its name.
 #[derive(Clone, Copy, Debug, PartialEq, Eq)]
 pub struct StreamName<'n> {
     /// The name.
     pub name: RawString<'n>,
 
-    /// The stream. It is none if the file says a number of 65,535 or more.
+    /// The stream, which is none if its number in the file is 65,535 or more.
     pub stream_id: StreamIndex,
 }
 
@@ -45,17 +45,18 @@ impl<'n> Model for StreamNames<'n> {
 }
 
 impl<'n> StreamNames<'n> {
-    /// The streams and their names, in order.
+    /// Returns the streams and their names, in order.
     pub fn as_slice(&self) -> &[StreamName<'n>]
         ensures { map named_view result.now ≡ self.now }
     {
         self.names.as_slice()
     }
 
-    /// The number of the first stream of a name.
+    /// Returns the number of the first stream that has a name.
     ///
     /// # Errors
-    /// `StreamNameNotFound` if no stream has the name, and if the first that has it is none.
+    /// Fails with `StreamNameNotFound` if no stream has the name, or if the first entry with it
+    /// names no stream.
     #[tactic(auto, unfolding(crate::specs::StreamNames::number_named))]
     pub fn number(&self, name: &[u8]) -> Result<u32>
         ensures { Gives (λ number. number) result (number_named name.now self.now) }
@@ -72,14 +73,14 @@ impl<'n> StreamNames<'n> {
     }
 }
 
-/// The names, and the table that leads from their offsets to streams.
+/// The names, and the entries of the table that leads from their offsets to streams.
 #[derive(Drop)]
 struct NameMap<'n> {
     names: &'n [u8],
     entries: &'n [u8],
 }
 
-/// Passes by a set of bits: a `u32` number of words, and so many `u32`.
+/// Skips a set of bits: a `u32` number of words, and that many `u32` words.
 #[tactic(auto, unfolding(crate::specs::StreamNames::behind_set))]
 fn skip_set(buffer: &mut ParseBuffer<'_>) -> Result<()>
     ensures { Gives (λ _. left buffer.new) result (behind_set (left buffer.old)) }
@@ -89,7 +90,8 @@ fn skip_set(buffer: &mut ParseBuffer<'_>) -> Result<()>
     Ok(())
 }
 
-/// The entries of the table, which are there.
+/// Reads the entries of the table, as many as its count says, after the count, the capacity and the
+/// two sets of bits.
 #[tactic(auto, unfolding(crate::specs::StreamNames::entries_at))]
 fn entries<'n>(buffer: &mut ParseBuffer<'n>) -> Result<&'n [u8]>
     ensures { Gives (λ entries. entries.now) result (entries_at (left buffer.old)) }
@@ -101,7 +103,7 @@ fn entries<'n>(buffer: &mut ParseBuffer<'n>) -> Result<&'n [u8]>
     buffer.take(ENTRY_SIZE * count as usize)
 }
 
-/// The name at an offset, up to the first NUL among the names.
+/// Returns the name at an offset: the bytes from there up to the first NUL among the names.
 #[tactic(auto, unfolding(pdb_space::specs::StringTable::name_of), using(std::proofs::lemmas::List::drop_min))]
 fn name_at(names: &[u8], offset: usize) -> Result<RawString<'_>>
     ensures { Gives (λ name. name.0.now) result (name_of names.now offset) }
@@ -112,7 +114,8 @@ fn name_at(names: &[u8], offset: usize) -> Result<RawString<'_>>
 }
 
 impl<'n> NameMap<'n> {
-    /// The stream of an entry, with its name: a `u32` offset of the name, a `u32` number.
+    /// Returns the stream of the entry at index `place`, with its name. An entry is the `u32`
+    /// offset of the name and the `u32` number of the stream.
     #[tactic(auto, unfolding(crate::specs::StreamNames::named_at))]
     fn named_at(&self, place: usize) -> Result<StreamName<'n>>
         requires { place < length self.now.entries.now / 8 }
@@ -127,7 +130,8 @@ impl<'n> NameMap<'n> {
         })
     }
 
-    /// All streams that have names. Memory is asked for once, for as many as there are entries.
+    /// Returns all streams that have names. Memory is requested once, for as many streams as there
+    /// are entries.
     #[tactic(auto, unfolding(crate::specs::StreamNames::named_in))]
     fn all_named(&self, alloc: Global) -> Result<Vec<StreamName<'n>>>
         ensures { Answers (λ names. map named_view names.items) result (named_in (map_view self.now)) }
@@ -142,7 +146,7 @@ impl<'n> NameMap<'n> {
 }
 
 impl PDBInformation {
-    /// The names, and the table of streams.
+    /// Returns the names, and the entries of the table of streams.
     #[tactic(auto, unfolding(crate::specs::StreamNames::map_of))]
     fn name_map(&self) -> Result<NameMap<'_>>
         ensures { Gives map_view result (map_of self.now) }
@@ -154,14 +158,16 @@ impl PDBInformation {
         Ok(NameMap { names, entries })
     }
 
-    /// The streams that have names. Behind the names stand a `u32` count, a `u32` capacity, two sets of
-    /// bits, each as a `u32` number of words and so many `u32`, and then as many entries as the count
-    /// says: a `u32` offset of a name among the names, and the `u32` number of its stream.
+    /// Returns the streams that have names, in the order in which the file lists them.
+    ///
+    /// After the names come a `u32` count, a `u32` capacity, two sets of bits, each a `u32` number
+    /// of words and that many `u32` words, and then as many entries as the count says: the `u32`
+    /// offset of a name among the names, and the `u32` number of its stream.
     ///
     /// # Errors
-    /// `UnexpectedEof` if the stream ends before the entries do, or if no NUL stands among the
-    /// names at or after an offset. `OutOfMemory` if memory is refused, which is asked for only once
-    /// all entries are there.
+    /// Fails with `UnexpectedEof` if the stream ends before the entries do, or if there is no NUL
+    /// among the names at or after an offset. Fails with `OutOfMemory` if memory is refused, which
+    /// is requested only after all entries are known to be in the stream.
     #[tactic(auto, unfolding(crate::specs::StreamNames::stream_names_of))]
     pub fn stream_names(&self, alloc: Global) -> Result<StreamNames<'_>>
         ensures names { Answers (λ names. names) result (stream_names_of self.now) }

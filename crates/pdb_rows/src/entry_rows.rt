@@ -19,7 +19,7 @@ use pdb_records::constants::{
 use pdb_values::{BaseClassType, ClassKind, MethodListEntry, TypeData, VirtualBaseClassType};
 use std::alloc::Global;
 
-/// The leaf of a class of this kind.
+/// Returns the leaf of a class of this kind.
 fn class_leaf(kind: ClassKind) -> u16
     ensures { result ≡ class_leaf kind }
 {
@@ -30,7 +30,7 @@ fn class_leaf(kind: ClassKind) -> u16
     }
 }
 
-/// The leaf of a base class.
+/// Returns the leaf of a base class.
 fn base_class_leaf(base: BaseClassType) -> u16
     ensures { result ≡ base_class_leaf base.kind }
 {
@@ -40,14 +40,14 @@ fn base_class_leaf(base: BaseClassType) -> u16
     }
 }
 
-/// The leaf of a virtual base class.
+/// Returns the leaf of a virtual base class.
 fn virtual_base_leaf(base: VirtualBaseClassType) -> u16
     ensures { result ≡ virtual_base_leaf base.direct }
 {
     if base.direct { LF_VBCLASS } else { LF_IVBCLASS }
 }
 
-/// The leaf by which records of today say what this says.
+/// Returns the leaf that records of today have for a type like this.
 fn leaf_of(data: &TypeData<'_>) -> u16
     ensures { result ≡ leaf_of (type_value «data».now) }
 {
@@ -78,10 +78,11 @@ fn leaf_of(data: &TypeData<'_>) -> u16
     }
 }
 
-/// The row of an entry of a list of fields, whose kind is told by the leaf that records of today have.
+/// Returns the row of an entry of a list of fields. Its kind is the leaf that records of today have
+/// for it.
 ///
 /// # Errors
-/// `OutOfMemory` if memory is refused.
+/// Fails with `OutOfMemory` if memory is refused.
 #[tactic(auto, unfolding(crate::specs::EntryRows::field_row))]
 pub fn field_row<'t>(alloc: Global, data: &TypeData<'t>) -> Result<Row<'t>>
     ensures ok { IfOk result (λ row. row_shown row ≡ field_row (type_value «data».now)) }
@@ -91,10 +92,10 @@ pub fn field_row<'t>(alloc: Global, data: &TypeData<'t>) -> Result<Row<'t>>
     headed_row(alloc, Head { index: None, leaf }, data)
 }
 
-/// The row of an entry of a list of methods.
+/// Returns the row of an entry of a list of methods.
 ///
 /// # Errors
-/// `OutOfMemory` if memory is refused.
+/// Fails with `OutOfMemory` if memory is refused.
 pub fn method_row<'t>(alloc: Global, method: MethodListEntry) -> Result<Row<'t>>
     ensures ok { IfOk result (λ row. row_shown row ≡ listed_method_fields method) }
     ensures want { IfErr result (λ e. e ≡ Error.OutOfMemory) }

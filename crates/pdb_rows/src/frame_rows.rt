@@ -12,7 +12,7 @@ use pdb_frames::{FrameData, FrameType};
 use pdb_space::StringRef;
 use std::alloc::Global;
 
-/// The name of a kind of frame, as it is printed.
+/// Returns the name of a kind of frame, as it is printed.
 fn frame_word(kind: FrameType) -> &'static str
     ensures { result.now ≡ kind_text kind }
 {
@@ -26,7 +26,8 @@ fn frame_word(kind: FrameType) -> &'static str
     }
 }
 
-/// The place of a frame's program in the string table, if it has one.
+/// Returns the value of the offset of a frame's program in the string table, or `Absent` if it has
+/// none.
 fn program<'t>(place: Option<StringRef>) -> Value<'t>
     ensures { value_shown result ≡ program_place place }
 {
@@ -36,10 +37,10 @@ fn program<'t>(place: Option<StringRef>) -> Value<'t>
     }
 }
 
-/// The row of a frame.
+/// Returns the row of a frame.
 ///
 /// # Errors
-/// `OutOfMemory` if memory is refused.
+/// Fails with `OutOfMemory` if memory is refused.
 #[tactic(auto, unfolding(crate::specs::TableRows::frame_row))]
 pub fn frame_row<'t>(alloc: Global, frame: &FrameData) -> Result<Row<'t>>
     ensures ok { IfOk result (λ row. row_shown row ≡ frame_row frame.now) }

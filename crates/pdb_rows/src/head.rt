@@ -1,4 +1,4 @@
-//! What the row of each record begins with, and what its fields hold.
+//! What the row of each record begins with, and the values of its fields.
 
 ghost use Rattle.std.specs.Prelude.{◌≡◌, codes};
 ghost use Rattle.std.specs.Option.{option_map};
@@ -9,10 +9,10 @@ ghost use Rattle.pdb_rows.specs.Row.{field_shown, kind, value_shown};
 use crate::row::{Field, Value};
 use pdb_base::{IdIndex, RawString, TypeIndex};
 
-/// What a row begins with.
+/// What a row begins with: the index and the leaf of its record.
 #[derive(Clone, Copy, Debug)]
 pub(crate) struct Head {
-    /// The index of the record, which an entry of a list has not.
+    /// The index of the record, or None for an entry of a list.
     pub(crate) index: Option<u32>,
 
     /// The leaf of the record.
@@ -20,14 +20,14 @@ pub(crate) struct Head {
 }
 
 impl Head {
-    /// The field of the index.
+    /// Returns the field of the index.
     pub(crate) fn index<'t>(self) -> Field<'t>
         ensures { field_shown result ≡ (codes "index", optional_hexadecimal self.index) }
     {
         field("index", optional_hexadecimal(self.index))
     }
 
-    /// The field of the leaf.
+    /// Returns the field of the leaf.
     pub(crate) fn kind<'t>(self) -> Field<'t>
         ensures { field_shown result ≡ (codes "kind", kind self.leaf) }
     {
@@ -35,14 +35,14 @@ impl Head {
     }
 }
 
-/// A field of this name.
+/// Returns a field with this name and this value.
 pub fn field<'t>(name: &'static str, value: Value<'t>) -> Field<'t>
     ensures { field_shown result ≡ (name.now, value_shown value.entry) }
 {
     Field { name, value }
 }
 
-/// A number that may be absent, shown in hexadecimal.
+/// Returns the value of a number shown in hexadecimal, or `Absent` if there is none.
 pub(crate) fn optional_hexadecimal<'t>(number: Option<u32>) -> Value<'t>
     ensures { value_shown result ≡ optional_hexadecimal number }
 {
@@ -52,14 +52,14 @@ pub(crate) fn optional_hexadecimal<'t>(number: Option<u32>) -> Value<'t>
     }
 }
 
-/// The index of a type.
+/// Returns the value of the index of a type.
 pub(crate) fn type_index<'t>(index: TypeIndex) -> Value<'t>
     ensures { value_shown result ≡ type_index index }
 {
     Value::Hexadecimal(index.0)
 }
 
-/// The index of a type, if there is one.
+/// Returns the value of the index of a type, or `Absent` if there is none.
 pub(crate) fn optional_type<'t>(index: Option<TypeIndex>) -> Value<'t>
     ensures { value_shown result ≡ optional_type index }
 {
@@ -69,7 +69,7 @@ pub(crate) fn optional_type<'t>(index: Option<TypeIndex>) -> Value<'t>
     }
 }
 
-/// The index of an id, if there is one.
+/// Returns the value of the index of an id, or `Absent` if there is none.
 pub(crate) fn optional_id<'t>(index: Option<IdIndex>) -> Value<'t>
     ensures { value_shown result ≡ optional_id index }
 {
@@ -79,7 +79,7 @@ pub(crate) fn optional_id<'t>(index: Option<IdIndex>) -> Value<'t>
     }
 }
 
-/// A number that may be absent.
+/// Returns the value of a number, or `Absent` if there is none.
 pub(crate) fn optional_number<'t>(number: Option<u32>) -> Value<'t>
     ensures { value_shown result ≡ optional_number number }
 {
@@ -89,7 +89,7 @@ pub(crate) fn optional_number<'t>(number: Option<u32>) -> Value<'t>
     }
 }
 
-/// A number that is left out if it is 0.
+/// Returns the value of a number, or `Absent` if it is 0.
 pub(crate) fn nonzero<'t>(number: u8) -> Value<'t>
     ensures { value_shown result ≡ nonzero number }
 {
@@ -100,7 +100,7 @@ pub(crate) fn nonzero<'t>(number: u8) -> Value<'t>
     }
 }
 
-/// A word that may be absent.
+/// Returns the value of a word, or `Absent` if there is none.
 pub fn optional_word<'t>(word: Option<&'static str>) -> Value<'t>
     ensures { value_shown result ≡ optional_text (option_map (λ text. text.now) word.entry) }
 {
@@ -110,7 +110,7 @@ pub fn optional_word<'t>(word: Option<&'static str>) -> Value<'t>
     }
 }
 
-/// A name or another text that may be absent.
+/// Returns the value of a name or another text, or `Absent` if there is none.
 pub fn optional_text<'t>(text: Option<RawString<'t>>) -> Value<'t>
     ensures { value_shown result ≡ optional_text (option_map text_bytes text.entry) }
 {

@@ -16,7 +16,7 @@ use pdb_values::{
 };
 use std::alloc::Global;
 
-/// The row of a function.
+/// Returns the row of a function.
 #[tactic(auto, unfolding(crate::specs::IdRows::function_fields))]
 fn function_row<'t>(alloc: Global, head: Head, id: &FunctionId<'t>) -> Result<Row<'t>>
     ensures ok { IfOk result (λ row. row_shown row ≡
@@ -33,7 +33,7 @@ fn function_row<'t>(alloc: Global, head: Head, id: &FunctionId<'t>) -> Result<Ro
     Ok(Row { fields })
 }
 
-/// The row of a method.
+/// Returns the row of a method.
 #[tactic(auto, unfolding(crate::specs::IdRows::member_function_fields))]
 fn member_function_row<'t>(alloc: Global, head: Head, id: &MemberFunctionId<'t>) -> Result<Row<'t>>
     ensures ok { IfOk result (λ row. row_shown row ≡
@@ -50,7 +50,7 @@ fn member_function_row<'t>(alloc: Global, head: Head, id: &MemberFunctionId<'t>)
     Ok(Row { fields })
 }
 
-/// The row of what a module was built with.
+/// Returns the row of what a module was built with.
 #[tactic(auto, unfolding(crate::specs::IdRows::build_info_fields))]
 fn build_info_row<'t>(alloc: Global, head: Head, id: &BuildInfoId) -> Result<Row<'t>>
     ensures ok { IfOk result (λ row. row_shown row ≡
@@ -66,7 +66,7 @@ fn build_info_row<'t>(alloc: Global, head: Head, id: &BuildInfoId) -> Result<Row
     Ok(Row { fields })
 }
 
-/// The row of the parts of a text.
+/// Returns the row of the parts of a text.
 #[tactic(auto, unfolding(crate::specs::IdRows::string_list_fields))]
 fn string_list_row<'t>(alloc: Global, head: Head, id: &StringListId) -> Result<Row<'t>>
     ensures ok { IfOk result (λ row. row_shown row ≡
@@ -82,7 +82,7 @@ fn string_list_row<'t>(alloc: Global, head: Head, id: &StringListId) -> Result<R
     Ok(Row { fields })
 }
 
-/// The row of a text.
+/// Returns the row of a text.
 #[tactic(auto, unfolding(crate::specs::IdRows::string_fields))]
 fn string_row<'t>(alloc: Global, head: Head, id: &StringId<'t>) -> Result<Row<'t>>
     ensures ok { IfOk result (λ row. row_shown row ≡
@@ -98,7 +98,8 @@ fn string_row<'t>(alloc: Global, head: Head, id: &StringId<'t>) -> Result<Row<'t
     Ok(Row { fields })
 }
 
-/// The number of the module whose file it is, if the file is named in the string table.
+/// Returns the value of the number of the module whose file it is, or `Absent` if the file isn't
+/// named in the string table.
 fn source_module<'t>(file: UserDefinedTypeSourceFileRef) -> Value<'t>
     ensures { value_shown result ≡ source_module file }
 {
@@ -108,7 +109,7 @@ fn source_module<'t>(file: UserDefinedTypeSourceFileRef) -> Value<'t>
     }
 }
 
-/// The id of the file's name, or its place in the string table.
+/// Returns the value of the id of the file's name, or of the name's offset in the string table.
 fn source_file<'t>(file: UserDefinedTypeSourceFileRef) -> Value<'t>
     ensures { value_shown result ≡ source_file file }
 {
@@ -118,7 +119,7 @@ fn source_file<'t>(file: UserDefinedTypeSourceFileRef) -> Value<'t>
     }
 }
 
-/// The row of where a type is declared.
+/// Returns the row of the place where a type is declared.
 #[tactic(auto, unfolding(crate::specs::IdRows::source_fields))]
 fn source_row<'t>(alloc: Global, head: Head, id: &UserDefinedTypeSourceId) -> Result<Row<'t>>
     ensures ok { IfOk result (λ row. row_shown row ≡ headed head.index head.leaf (source_fields id.now)) }
@@ -135,10 +136,10 @@ fn source_row<'t>(alloc: Global, head: Head, id: &UserDefinedTypeSourceId) -> Re
     Ok(Row { fields })
 }
 
-/// The row of the id of this index, whose record has this leaf.
+/// Returns the row of the id of this index, whose record has this leaf.
 ///
 /// # Errors
-/// `OutOfMemory` if memory is refused.
+/// Fails with `OutOfMemory` if memory is refused.
 #[tactic(auto, unfolding(crate::specs::IdRows::id_row))]
 pub fn id_row<'t>(alloc: Global, index: u32, leaf: u16, data: &IdData<'t>) -> Result<Row<'t>>
     ensures ok { IfOk result (λ row. row_shown row ≡ id_row index leaf (id_value «data».now)) }

@@ -135,7 +135,7 @@ use pdb_records::constants::LF_VFUNCTAB;
 use pdb_records::constants::LF_VFUNCTAB_16t;
 use pdb_records::constants::LF_VTSHAPE;
 
-/// The name of a leaf among those of types and entries whose names end at a NUL.
+/// Looks up the name of a leaf among those of types and entries whose names end at a NUL.
 #[tactic(auto, unfolding(crate::specs::LeafNames::type_leaf_text))]
 fn type_leaf(leaf: u16) -> Option<&'static str>
     ensures { option_map (λ name. name.now) result ≡ type_leaf_text leaf }
@@ -174,7 +174,7 @@ fn type_leaf(leaf: u16) -> Option<&'static str>
     }
 }
 
-/// The name of a leaf among those of types that symbols refer to, with indexes of 32 bits.
+/// Looks up the name of a leaf among those of types that symbols refer to, with 32-bit indexes.
 #[tactic(auto, unfolding(crate::specs::LeafNames::symbol_type_leaf_text))]
 fn symbol_type_leaf(leaf: u16) -> Option<&'static str>
     ensures { option_map (λ name. name.now) result ≡ symbol_type_leaf_text leaf }
@@ -201,7 +201,8 @@ fn symbol_type_leaf(leaf: u16) -> Option<&'static str>
     }
 }
 
-/// The name of a leaf among those of types that other types alone refer to, with indexes of 32 bits.
+/// Looks up the name of a leaf among those of types that only other types refer to, with 32-bit
+/// indexes.
 #[tactic(auto, unfolding(crate::specs::LeafNames::list_leaf_text))]
 fn list_leaf(leaf: u16) -> Option<&'static str>
     ensures { option_map (λ name. name.now) result ≡ list_leaf_text leaf }
@@ -222,7 +223,7 @@ fn list_leaf(leaf: u16) -> Option<&'static str>
     }
 }
 
-/// The name of a leaf among those of entries of a field list, with indexes of 32 bits.
+/// Looks up the name of a leaf among those of entries of a field list, with 32-bit indexes.
 #[tactic(auto, unfolding(crate::specs::LeafNames::entry_leaf_text))]
 fn entry_leaf(leaf: u16) -> Option<&'static str>
     ensures { option_map (λ name. name.now) result ≡ entry_leaf_text leaf }
@@ -248,7 +249,7 @@ fn entry_leaf(leaf: u16) -> Option<&'static str>
     }
 }
 
-/// The name of a leaf among those of ids, and of a later leaf of a type.
+/// Looks up the name of a leaf among those of ids, and of a later leaf of a type.
 #[tactic(auto, unfolding(crate::specs::LeafNames::id_leaf_text))]
 fn id_leaf(leaf: u16) -> Option<&'static str>
     ensures { option_map (λ name. name.now) result ≡ id_leaf_text leaf }
@@ -266,7 +267,7 @@ fn id_leaf(leaf: u16) -> Option<&'static str>
     }
 }
 
-/// The name of a leaf among those of types that symbols refer to, as they first were.
+/// Looks up the name of a leaf among those of types that symbols refer to, in their first form.
 #[tactic(auto, unfolding(crate::specs::LeafNames::first_type_leaf_text))]
 fn first_type_leaf(leaf: u16) -> Option<&'static str>
     ensures { option_map (λ name. name.now) result ≡ first_type_leaf_text leaf }
@@ -298,7 +299,8 @@ fn first_type_leaf(leaf: u16) -> Option<&'static str>
     }
 }
 
-/// The name of a leaf among those of types that other types alone refer to, as they first were.
+/// Looks up the name of a leaf among those of types that only other types refer to, in their first
+/// form.
 #[tactic(auto, unfolding(crate::specs::LeafNames::first_list_leaf_text))]
 fn first_list_leaf(leaf: u16) -> Option<&'static str>
     ensures { option_map (λ name. name.now) result ≡ first_list_leaf_text leaf }
@@ -321,7 +323,7 @@ fn first_list_leaf(leaf: u16) -> Option<&'static str>
     }
 }
 
-/// The name of a leaf among those of entries of a field list, as they first were.
+/// Looks up the name of a leaf among those of entries of a field list, in their first form.
 #[tactic(auto, unfolding(crate::specs::LeafNames::first_entry_leaf_text))]
 fn first_entry_leaf(leaf: u16) -> Option<&'static str>
     ensures { option_map (λ name. name.now) result ≡ first_entry_leaf_text leaf }
@@ -345,7 +347,8 @@ fn first_entry_leaf(leaf: u16) -> Option<&'static str>
     }
 }
 
-/// The name of a leaf, as `LF_STRUCTURE`, or None if Microsoft's cvinfo.h has no record of this number.
+/// Returns the name of a leaf, such as `LF_STRUCTURE`, or None if Microsoft's cvinfo.h has no
+/// record of this number.
 #[tactic(auto, unfolding(crate::specs::LeafNames::leaf_text))]
 pub fn leaf_name(leaf: u16) -> Option<&'static str>
     ensures { option_map (λ name. name.now) result ≡ leaf_text leaf }

@@ -1,5 +1,5 @@
-//! What is shown of each record: a row of named fields, from which both a line of text and a line of
-//! JSON are written, so that a field is named once.
+//! What is shown of each record: a row of named fields, from which both a line of text and a line
+//! of JSON are written, so that a field is named once.
 #![tactic(auto)]
 
 mod entry_rows;

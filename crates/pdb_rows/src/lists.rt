@@ -6,7 +6,7 @@ use pdb_base::{Error, IdIndex, Result, TypeIndex};
 use pdb_values::MethodListEntry;
 use std::alloc::Global;
 
-/// The numbers of types' indexes.
+/// Returns the numbers of type indexes.
 pub(crate) fn type_numbers(alloc: Global, indexes: &[TypeIndex]) -> Result<Vec<u32>>
     ensures ok { IfOk result (λ numbers. numbers.items ≡ map (λ index. index.0) indexes.now) }
     ensures want { IfErr result (λ e. e ≡ Error.OutOfMemory) }
@@ -15,7 +15,7 @@ pub(crate) fn type_numbers(alloc: Global, indexes: &[TypeIndex]) -> Result<Vec<u
     Ok(numbers)
 }
 
-/// The numbers of ids' indexes.
+/// Returns the numbers of id indexes.
 pub(crate) fn id_numbers(alloc: Global, indexes: &[IdIndex]) -> Result<Vec<u32>>
     ensures ok { IfOk result (λ numbers. numbers.items ≡ map (λ index. index.0) indexes.now) }
     ensures want { IfErr result (λ e. e ≡ Error.OutOfMemory) }
@@ -24,7 +24,7 @@ pub(crate) fn id_numbers(alloc: Global, indexes: &[IdIndex]) -> Result<Vec<u32>>
     Ok(numbers)
 }
 
-/// The numbers of methods' types.
+/// Returns the numbers of methods' types.
 pub(crate) fn method_numbers(alloc: Global, methods: &[MethodListEntry]) -> Result<Vec<u32>>
     ensures ok { IfOk result (λ numbers. numbers.items ≡ map (λ method. method.method_type.0) methods.now) }
     ensures want { IfErr result (λ e. e ≡ Error.OutOfMemory) }
@@ -36,7 +36,7 @@ pub(crate) fn method_numbers(alloc: Global, methods: &[MethodListEntry]) -> Resu
     Ok(numbers)
 }
 
-/// Bytes as numbers.
+/// Returns bytes as numbers.
 pub(crate) fn byte_numbers(alloc: Global, bytes: &[u8]) -> Result<Vec<u32>>
     ensures ok { IfOk result (λ numbers. numbers.items ≡ bytes.now) }
     ensures want { IfErr result (λ e. e ≡ Error.OutOfMemory) }
@@ -48,7 +48,7 @@ pub(crate) fn byte_numbers(alloc: Global, bytes: &[u8]) -> Result<Vec<u32>>
     Ok(numbers)
 }
 
-/// A copy of numbers.
+/// Returns a copy of numbers.
 pub(crate) fn copied_numbers(alloc: Global, numbers: &[u32]) -> Result<Vec<u32>>
     ensures ok { IfOk result (λ copies. copies.items ≡ numbers.now) }
     ensures want { IfErr result (λ e. e ≡ Error.OutOfMemory) }

@@ -8,7 +8,7 @@ ghost use Rattle.pdb_rows.specs.Text.{four_digits};
 use itoa::Buffer;
 use pdb_base::{Error, Result};
 
-/// Adds a number in decimal.
+/// Appends a number in decimal.
 pub(crate) fn push_decimal(number: u64, out: &mut Vec<u8>) -> Result<()>
     ensures ok { OnOk result (out.new.items ≡ out.old.items ++ decimal number) }
     ensures want { IfErr result (λ e. e ≡ Error.OutOfMemory) }
@@ -18,7 +18,7 @@ pub(crate) fn push_decimal(number: u64, out: &mut Vec<u8>) -> Result<()>
     Ok(())
 }
 
-/// Adds a number with a sign in decimal.
+/// Appends a signed number in decimal.
 pub(crate) fn push_signed(number: i64, out: &mut Vec<u8>) -> Result<()>
     ensures ok { OnOk result (out.new.items ≡ out.old.items ++ signed_decimal number) }
     ensures want { IfErr result (λ e. e ≡ Error.OutOfMemory) }
@@ -28,7 +28,7 @@ pub(crate) fn push_signed(number: i64, out: &mut Vec<u8>) -> Result<()>
     Ok(())
 }
 
-/// The hexadecimal digit of a number below 16, in lower case.
+/// Returns the hexadecimal digit of a number below 16, in lower case.
 fn digit(number: u32) -> u8
     requires { number < 16 }
     ensures { result ≡ digit_glyph false number }
@@ -40,7 +40,7 @@ fn digit(number: u32) -> u8
     }
 }
 
-/// Adds the hexadecimal digits of a number.
+/// Appends the hexadecimal digits of a number.
 #[tactic(auto, using(crate::proofs::Digits::hexadecimal_more, std::proofs::lemmas::Fmt::hex_one_digit))]
 fn push_digits(number: u32, out: &mut Vec<u8>) -> Result<()>
     ensures ok { OnOk result (out.new.items ≡ out.old.items ++ digits 16 false number) }
@@ -55,7 +55,7 @@ fn push_digits(number: u32, out: &mut Vec<u8>) -> Result<()>
     Ok(())
 }
 
-/// Adds a number as `0x` and its hexadecimal digits.
+/// Appends a number as `0x` and its hexadecimal digits.
 pub(crate) fn push_hexadecimal(number: u32, out: &mut Vec<u8>) -> Result<()>
     ensures ok { OnOk result (out.new.items ≡ out.old.items ++ hexadecimal number) }
     ensures want { IfErr result (λ e. e ≡ Error.OutOfMemory) }
@@ -64,7 +64,7 @@ pub(crate) fn push_hexadecimal(number: u32, out: &mut Vec<u8>) -> Result<()>
     push_digits(number, out)
 }
 
-/// The four hexadecimal digits of a number, the highest first.
+/// Returns the four hexadecimal digits of a number, the highest first.
 pub(crate) fn four_digits(number: u16) -> [u8; 4]
     ensures { result ≡ four_digits number }
 {

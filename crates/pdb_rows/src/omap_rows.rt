@@ -10,10 +10,10 @@ use pdb_base::{Error, Result};
 use pdb_space::OMAPRecord;
 use std::alloc::Global;
 
-/// The row of a record of an OMAP table.
+/// Returns the row of a record of an OMAP table.
 ///
 /// # Errors
-/// `OutOfMemory` if memory is refused.
+/// Fails with `OutOfMemory` if memory is refused.
 #[tactic(auto, unfolding(crate::specs::TableRows::omap_row))]
 pub fn omap_row<'t>(alloc: Global, mapping: OMAPRecord) -> Result<Row<'t>>
     ensures ok { IfOk result (λ row. row_shown row ≡ omap_row mapping) }

@@ -12,7 +12,7 @@ use crate::row::{Field, Row, Value};
 use crate::text::{push_quoted, push_text};
 use pdb_base::{Error, Result};
 
-/// Adds a number that text shows in hexadecimal.
+/// Appends a number, which text shows in hexadecimal and JSON in decimal.
 fn push_index(form: Form, number: u32, out: &mut Vec<u8>) -> Result<()>
     ensures ok { OnOk result (out.new.items ≡ out.old.items ++ index_text form number) }
     ensures want { IfErr result (λ e. e ≡ Error.OutOfMemory) }
@@ -23,7 +23,7 @@ fn push_index(form: Form, number: u32, out: &mut Vec<u8>) -> Result<()>
     }
 }
 
-/// Adds a leaf by its name, or in hexadecimal if it has none.
+/// Appends a leaf by its name, or in hexadecimal if it has none.
 #[tactic(auto, unfolding(crate::specs::Lines::kind_text))]
 fn push_kind(form: Form, leaf: u16, out: &mut Vec<u8>) -> Result<()>
     ensures ok { OnOk result (out.new.items ≡ out.old.items ++ quoted form (kind_text leaf)) }
@@ -38,7 +38,7 @@ fn push_kind(form: Form, leaf: u16, out: &mut Vec<u8>) -> Result<()>
     }
 }
 
-/// Adds words as a list.
+/// Appends words as a list.
 #[tactic(auto, unfolding(crate::specs::Lines::list_text), using(crate::proofs::Separated::one_more))]
 fn push_words(form: Form, words: &[&'static str], out: &mut Vec<u8>) -> Result<()>
     ensures ok { OnOk result (out.new.items
@@ -59,7 +59,7 @@ fn push_words(form: Form, words: &[&'static str], out: &mut Vec<u8>) -> Result<(
     Ok(())
 }
 
-/// Adds indexes as a list.
+/// Appends indexes as a list.
 #[tactic(auto, unfolding(crate::specs::Lines::list_text), using(crate::proofs::Separated::one_more))]
 fn push_indexes(form: Form, indexes: &[u32], out: &mut Vec<u8>) -> Result<()>
     ensures ok { OnOk result (out.new.items ≡ out.old.items ++ list_text (index_text form) indexes.now) }
@@ -79,7 +79,7 @@ fn push_indexes(form: Form, indexes: &[u32], out: &mut Vec<u8>) -> Result<()>
     Ok(())
 }
 
-/// Adds what a field holds. Both forms show numbers as JSON shows indexes, in decimal.
+/// Appends the value of a field. Both forms show numbers as JSON shows indexes, in decimal.
 fn push_value(form: Form, value: &Value<'_>, out: &mut Vec<u8>) -> Result<()>
     ensures ok { OnOk result (out.new.items ≡ out.old.items ++ value_text form (value_shown value.now)) }
     ensures want { IfErr result (λ e. e ≡ Error.OutOfMemory) }
@@ -106,7 +106,7 @@ fn push_value(form: Form, value: &Value<'_>, out: &mut Vec<u8>) -> Result<()>
     }
 }
 
-/// Whether a form shows a field that holds this.
+/// Returns whether a form shows a field that has this value.
 fn is_shown(form: Form, value: &Value<'_>) -> bool
     ensures { result ≡ is_shown_value form (value_shown value.now) }
 {
@@ -120,7 +120,7 @@ fn is_shown(form: Form, value: &Value<'_>) -> bool
     }
 }
 
-/// Whether a line of text shows a field of this name without the name.
+/// Returns whether a line of text shows a field of this name without the name.
 #[tactic(auto, unfolding(crate::specs::Lines::is_leading))]
 fn is_leading(name: &str) -> bool
     ensures { result ≡ is_leading name.now }
@@ -128,7 +128,7 @@ fn is_leading(name: &str) -> bool
     name == "index" || name == "number" || name == "kind" || name == "name"
 }
 
-/// Adds a field of a line.
+/// Appends a field of a line.
 #[tactic(auto, unfolding(crate::specs::Lines::field_text))]
 fn push_field(form: Form, field: &Field<'_>, out: &mut Vec<u8>) -> Result<()>
     ensures ok { OnOk result (out.new.items ≡ out.old.items ++ field_text form (field_shown field.now)) }
@@ -149,7 +149,7 @@ fn push_field(form: Form, field: &Field<'_>, out: &mut Vec<u8>) -> Result<()>
     }
 }
 
-/// What stands between the fields of a line.
+/// Returns what separates the fields of a line.
 fn separator(form: Form) -> &'static [u8]
     ensures { result.now ≡ separator form }
 {
@@ -159,7 +159,7 @@ fn separator(form: Form) -> &'static [u8]
     }
 }
 
-/// Adds a field of a line, behind a separator if it isn't the first.
+/// Appends a field of a line, after a separator if it isn't the first.
 fn push_next(form: Form, is_first: bool, field: &Field<'_>, out: &mut Vec<u8>) -> Result<()>
     ensures ok { OnOk result (out.new.items
         ≡ out.old.items ++ (if is_first then [] else separator form) ++ field_text form (field_shown field.now)) }
@@ -172,7 +172,7 @@ fn push_next(form: Form, is_first: bool, field: &Field<'_>, out: &mut Vec<u8>) -
     push_field(form, field, out)
 }
 
-/// Adds the fields of a line that are shown.
+/// Appends the fields of a line that are shown.
 #[tactic(auto, unfolding(crate::specs::Lines::fields_text))]
 fn push_joined(form: Form, fields: &[Field<'_>], out: &mut Vec<u8>) -> Result<()>
     ensures ok { OnOk result (out.new.items ≡ out.old.items ++ fields_text form (map field_shown fields.now)) }
@@ -188,14 +188,14 @@ fn push_joined(form: Form, fields: &[Field<'_>], out: &mut Vec<u8>) -> Result<()
     Ok(())
 }
 
-/// Adds a row as one line with its line feed: in text `0x1000 LF_STRUCTURE S count=1 size=4`, where the
-/// fields that are called index, number, kind and name stand without their names, or in JSON one object
-/// with a member for each field.
+/// Appends a row as one line with its line feed: in text one such as
+/// `0x1000 LF_STRUCTURE S count=1 size=4`, where the fields that are called index, number, kind and
+/// name stand without their names, or in JSON one object with a member for each field.
 ///
-/// A field that holds nothing is left out, and in text also one that holds no words.
+/// A field whose value is absent is left out, and in text also one that holds no words.
 ///
 /// # Errors
-/// `OutOfMemory` if memory is refused. A part of the line may then stand in `out`.
+/// Fails with `OutOfMemory` if memory is refused. A part of the line may then stand in `out`.
 #[tactic(auto, unfolding(crate::specs::Lines::row_text))]
 pub fn push_row(form: Form, row: &Row<'_>, out: &mut Vec<u8>) -> Result<()>
     ensures ok { OnOk result (out.new.items ≡ out.old.items ++ row_text form (row_shown row.now)) }
@@ -216,7 +216,7 @@ pub fn push_row(form: Form, row: &Row<'_>, out: &mut Vec<u8>) -> Result<()>
     }
 }
 
-/// Adds a field as a line of its own.
+/// Appends a field as a line of its own.
 #[tactic(auto, unfolding(crate::specs::Lines::field_line))]
 fn push_line(field: &Field<'_>, out: &mut Vec<u8>) -> Result<()>
     ensures ok { OnOk result (out.new.items ≡ out.old.items ++ field_line (field_shown field.now)) }
@@ -229,7 +229,7 @@ fn push_line(field: &Field<'_>, out: &mut Vec<u8>) -> Result<()>
     Ok(())
 }
 
-/// Adds a line for each field that text shows.
+/// Appends a line for each field that text shows.
 #[tactic(auto, unfolding(crate::specs::Lines::full_text))]
 fn push_lines(fields: &[Field<'_>], out: &mut Vec<u8>) -> Result<()>
     ensures ok { OnOk result (out.new.items ≡ out.old.items ++ full_text Form.Text (map field_shown fields.now)) }
@@ -243,10 +243,11 @@ fn push_lines(fields: &[Field<'_>], out: &mut Vec<u8>) -> Result<()>
     Ok(())
 }
 
-/// Adds a row in full: in text a line `name: value` for each field, or in JSON the line of `push_row`.
+/// Appends a row in full: in text a line `name: value` for each field that is shown, or in JSON the
+/// line of `push_row`.
 ///
 /// # Errors
-/// `OutOfMemory` if memory is refused. A part of the lines may then stand in `out`.
+/// Fails with `OutOfMemory` if memory is refused. A part of the lines may then stand in `out`.
 #[tactic(auto, unfolding(crate::specs::Lines::full_text))]
 pub fn push_fields(form: Form, row: &Row<'_>, out: &mut Vec<u8>) -> Result<()>
     ensures ok { OnOk result (out.new.items ≡ out.old.items ++ full_text form (row_shown row.now)) }

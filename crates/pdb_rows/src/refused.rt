@@ -10,10 +10,10 @@ use crate::row::{Field, Value};
 use pdb_base::{Error, RawString, Result};
 use std::alloc::Global;
 
-/// The text of an error; of an error of the source, that it is one.
+/// Returns the text of an error. The text of an I/O error says only that it is one.
 ///
 /// # Errors
-/// `OutOfMemory` if memory is refused.
+/// Fails with `OutOfMemory` if memory is refused.
 #[tactic(auto, unfolding(crate::specs::Refused::refusal_text))]
 pub fn error_text(alloc: Global, error: &Error) -> Result<Vec<u8>>
     ensures ok { IfOk result (λ text. text.items ≡ refusal_text (refusal_of error.now)) }
@@ -25,7 +25,7 @@ pub fn error_text(alloc: Global, error: &Error) -> Result<Vec<u8>>
     }
 }
 
-/// The field that tells why something is refused, by the text of the error.
+/// Returns the field that tells why something is refused, with the text of the error.
 pub fn error_field(text: &[u8]) -> Field<'_>
     ensures { field_shown result ≡ (codes "error", shown_text text.now) }
 {

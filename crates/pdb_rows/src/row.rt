@@ -14,19 +14,21 @@ pub enum Value<'t> {
     /// An index or an address: shown in hexadecimal in text, and as a number in JSON.
     Hexadecimal(u32),
 
-    /// The leaf of a record: shown by its name, or as `0x` and four hexadecimal digits if it has none.
+    /// The leaf of a record: shown by its name, or as `0x` and four hexadecimal digits if it has
+    /// none.
     Kind(u16),
 
     /// Whether something holds.
     Flag(bool),
 
-    /// A name or another text of a file, shown with U+FFFD for each run of bytes that is no character.
+    /// A name or another text of a file, shown with U+FFFD for each run of bytes that isn't a
+    /// character.
     Text(RawString<'t>),
 
     /// A word of this library.
     Word(&'static str),
 
-    /// Words of this library, as those of the flags that are set.
+    /// Words of this library, such as those of the flags that are set.
     Words(Vec<&'static str>),
 
     /// Numbers, shown in decimal.

@@ -1,4 +1,4 @@
-//! Headers of sections as rows.
+//! Section headers as rows.
 
 ghost use Rattle.std.specs.Prelude.{◌≡◌, IfErr, IfOk};
 ghost use Rattle.pdb_space.specs.SectionHeader.{section_name};
@@ -13,7 +13,7 @@ use pdb_base::{Error, RawString, Result};
 use pdb_space::ImageSectionHeader;
 use std::alloc::Global;
 
-/// The bytes of a section's name: those before the first NUL, or all eight.
+/// Returns the bytes of a section's name: those before the first NUL, or all eight.
 fn name_bytes(header: &ImageSectionHeader) -> &[u8]
     ensures { result.now ≡ section_name header.now }
 {
@@ -23,7 +23,7 @@ fn name_bytes(header: &ImageSectionHeader) -> &[u8]
     }
 }
 
-/// The multiple at which a section begins, if it states one.
+/// Returns the value of the multiple at which a section begins, or `Absent` if it states none.
 fn alignment<'t>(multiple: Option<u16>) -> Value<'t>
     ensures { value_shown result ≡ optional_number multiple }
 {
@@ -33,10 +33,10 @@ fn alignment<'t>(multiple: Option<u16>) -> Value<'t>
     }
 }
 
-/// The row of the header of the section of this number.
+/// Returns the row of the section header with this number.
 ///
 /// # Errors
-/// `OutOfMemory` if memory is refused.
+/// Fails with `OutOfMemory` if memory is refused.
 #[tactic(auto, unfolding(crate::specs::TableRows::section_row))]
 pub fn section_row(alloc: Global, number: u32, header: &ImageSectionHeader) -> Result<Row<'_>>
     ensures ok { IfOk result (λ row. row_shown row ≡ section_row number header.now) }

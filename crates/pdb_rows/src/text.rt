@@ -9,22 +9,22 @@ use crate::number::four_digits;
 use bstr::{ByteSlice, ByteVec};
 use pdb_base::{Error, Result};
 
-/// Whether a byte is a character that stands for itself in every form.
+/// Returns whether a byte is a character that stands for itself in every form.
 fn is_plain(byte: u8) -> bool
     ensures { result ≡ is_plain byte }
 {
     matches!(byte, b' '..=b'~') && byte != b'"' && byte != b'\\'
 }
 
-/// Whether each byte is such a character.
+/// Returns whether each byte of a text is such a character.
 fn is_all_plain(text: &[u8]) -> bool
     ensures { result ≡ list_all is_plain text.now }
 {
     text.iter().all(|byte| is_plain(*byte))
 }
 
-/// Whether a form writes a character by an escape: text the control characters, and JSON those below
-/// U+0020, the quote and the backslash.
+/// Returns whether a form writes a character as an escape: text the control characters, and JSON
+/// those below U+0020, the quote and the backslash.
 fn is_escaped(form: Form, c: char) -> bool
     ensures { result ≡ is_escaped form c }
 {
@@ -34,7 +34,7 @@ fn is_escaped(form: Form, c: char) -> bool
     }
 }
 
-/// What stands behind the backslash of a short escape.
+/// Returns what follows the backslash in a character's short escape, if it has one.
 fn short_escape(c: char) -> Option<u8>
     ensures { result ≡ short_escape c }
 {
@@ -50,7 +50,7 @@ fn short_escape(c: char) -> Option<u8>
     }
 }
 
-/// Adds the escape of a character below U+0100, as JSON has it.
+/// Appends the escape of a character below U+0100, as JSON has it.
 #[tactic(auto, unfolding(crate::specs::Text::escape))]
 fn push_escape(c: char, out: &mut Vec<u8>) -> Result<()>
     requires { c < 256 }
@@ -71,7 +71,7 @@ fn push_escape(c: char, out: &mut Vec<u8>) -> Result<()>
     }
 }
 
-/// Adds a character.
+/// Appends a character, as an escape if the form writes it so.
 #[tactic(auto, unfolding(crate::specs::Text::shown_char))]
 fn push_char(form: Form, c: char, out: &mut Vec<u8>) -> Result<()>
     ensures ok { OnOk result (out.new.items ≡ out.old.items ++ shown_char form c) }
@@ -85,8 +85,8 @@ fn push_char(form: Form, c: char, out: &mut Vec<u8>) -> Result<()>
     }
 }
 
-/// Adds a text, with U+FFFD for each run of bytes that is no character, and with escapes for the
-/// characters that the form doesn't write as they are.
+/// Appends a text, with U+FFFD for each run of bytes that isn't a character, and with escapes for
+/// the characters that the form doesn't write as they are.
 #[tactic(auto, using(crate::proofs::PlainText::plain_text, std::proofs::lemmas::List::flat_map_more), unfolding(crate::specs::Text::shown_text))]
 pub(crate) fn push_text(form: Form, text: &[u8], out: &mut Vec<u8>) -> Result<()>
     ensures ok { OnOk result (out.new.items ≡ out.old.items ++ shown_text form text.now) }
@@ -102,7 +102,7 @@ pub(crate) fn push_text(form: Form, text: &[u8], out: &mut Vec<u8>) -> Result<()
     Ok(())
 }
 
-/// Adds a text, in quotes in JSON.
+/// Appends a text, in quotes if the form is JSON.
 #[tactic(auto, unfolding(crate::specs::Text::quoted))]
 pub(crate) fn push_quoted(form: Form, text: &[u8], out: &mut Vec<u8>) -> Result<()>
     ensures ok { OnOk result (out.new.items ≡ out.old.items ++ quoted form text.now) }

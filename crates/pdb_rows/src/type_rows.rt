@@ -34,7 +34,7 @@ use pdb_base::{Error, Result};
 use pdb_values::TypeData;
 use std::alloc::Global;
 
-/// The row of a type, behind what it begins with.
+/// Returns the row of a type, which begins with this head.
 pub(crate) fn headed_row<'t>(alloc: Global, head: Head, data: &TypeData<'t>) -> Result<Row<'t>>
     ensures ok { IfOk result (λ row. row_shown row ≡
         headed head.index head.leaf (type_fields (type_value «data».now))) }
@@ -67,10 +67,10 @@ pub(crate) fn headed_row<'t>(alloc: Global, head: Head, data: &TypeData<'t>) -> 
     }
 }
 
-/// The row of the type of this index, whose record has this leaf.
+/// Returns the row of the type of this index, whose record has this leaf.
 ///
 /// # Errors
-/// `OutOfMemory` if memory is refused.
+/// Fails with `OutOfMemory` if memory is refused.
 #[tactic(auto, unfolding(crate::specs::TypeRows::type_row))]
 pub fn type_row<'t>(alloc: Global, index: u32, leaf: u16, data: &TypeData<'t>) -> Result<Row<'t>>
     ensures ok { IfOk result (λ row. row_shown row ≡ type_row index leaf (type_value «data».now)) }

@@ -1,4 +1,4 @@
-//! What flag words say, in words.
+//! The words for flags and for kinds.
 
 mod chosen;
 mod field_attributes;

@@ -16,7 +16,7 @@ use std::io::{ErrorKind, Write};
 /// Writes all bytes. A write that was interrupted is tried again.
 ///
 /// # Errors
-/// If the writer fails or takes nothing, which may then have got a front of the bytes.
+/// Fails if the writer fails or takes no bytes. The writer may then have got a prefix of the bytes.
 pub fn write_bytes<W: Write>(bytes: &[u8], out: &mut W) -> io::Result<()>
     ensures all { OnOk result (Appends (W.contents out.old) (W.contents out.new) bytes.now) }
     ensures front { OnErr result (IsFront bytes.now (W.contents out.old) (W.contents out.new)) }
@@ -36,11 +36,11 @@ pub fn write_bytes<W: Write>(bytes: &[u8], out: &mut W) -> io::Result<()>
     Err(io::Error::from(ErrorKind::Interrupted))
 }
 
-/// Writes a row as a line, which is put together in a buffer that is cleared first.
+/// Writes a row as a line, which is assembled in the buffer `line`. The buffer is cleared first.
 ///
 /// # Errors
-/// `IoError` if the writer fails, which may then have got a front of the line. `OutOfMemory` if memory is
-/// refused.
+/// Fails with `OutOfMemory` if memory is refused, and with `IoError` if the writer fails, which may
+/// then have got a prefix of the line.
 #[tactic(auto, using(crate::proofs::lemmas::Written::front_none))]
 pub fn write_row<W: Write>(form: Form, row: &Row<'_>, line: &mut Vec<u8>, out: &mut W) -> Result<()>
     ensures { Writes (row_text form (row_shown row.now)) (W.contents out.old) (W.contents out.new) result }

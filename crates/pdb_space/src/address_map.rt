@@ -1,4 +1,5 @@
-//! What is known of an image before and after a tool rearranged it.
+//! The sections of an image before and after a tool rearranged it, and where its addresses were
+//! moved.
 
 ghost use Rattle.std.specs.Prelude.{◌≡◌, ◌≤◌, [], None, All, IfSome, length, option_map};
 ghost use Rattle.std.specs.Iterator.{YieldsFirst, item_count};
@@ -16,10 +17,10 @@ use std::iter::FusedIterator;
 use std::marker::Model;
 use std::ops::Range;
 
-/// The sections of an image before and after a tool rearranged it, and the tables that lead from
-/// addresses of the one to those of the other.
+/// The sections of an image before and after a tool rearranged it, and the tables that convert
+/// addresses of one into those of the other.
 ///
-/// A program database speaks of the original image. Where no tool has rearranged it there are no
+/// A program database refers to the original image. If no tool has rearranged it, there are no
 /// transformed sections and no tables, and addresses keep their numbers.
 #[derive(Debug, Drop)]
 pub struct AddressMap {
@@ -44,8 +45,8 @@ impl Model for AddressMap {
 }
 
 impl AddressMap {
-    /// The map of an image of which this is known: the sections of the original, those of the image as
-    /// it is loaded where they are others, and the tables that lead from the one to the other.
+    /// Returns the map of an image with these sections in the original image, these in the image as
+    /// it is loaded if they are others, and these tables that lead from one to the other.
     pub fn new(
         original_sections: Vec<ImageSectionHeader>,
         transformed_sections: Option<Vec<ImageSectionHeader>>,
@@ -67,7 +68,7 @@ impl AddressMap {
         }
     }
 
-    /// The map of an image that was not rearranged and of which no section is known.
+    /// Returns the map of an image that was not rearranged and of which no section is known.
     pub fn empty(alloc: Global) -> Self
         ensures { result ≡ record {
           original_sections = [];
@@ -79,11 +80,13 @@ impl AddressMap {
         AddressMap::new(Vec::new(alloc), None, None, None)
     }
 
-    /// Where the addresses of a range of the original image lie in the image as it is loaded.
+    /// Returns the ranges of the image as it is loaded to which the addresses of a range of the
+    /// original image are moved. No range is empty.
     ///
-    /// Laid end to end, the ranges are what `PdbInternalRva::to_rva` makes of the addresses one by one,
-    /// but for those that it moves to 0xffffffff. Without a table it is the range itself. Over a table
-    /// that isn't sorted they are at most one for each of its records.
+    /// Together, the ranges hold in order what `PdbInternalRva::to_rva` returns for the addresses
+    /// one by one, except those that it moves to 0xffffffff. This needn't hold if the table isn't
+    /// sorted, but there is always at most one range for each of its records. Without a table there
+    /// is one range, the given one, unless it is empty.
     pub fn rva_ranges(&self, range: Range<PdbInternalRva>) -> RvaRangeIter<'_>
         ensures parts { IfSome self.now.original_to_transformed IsSortedBySource →
             result ≡ translated_parts self.now.original_to_transformed range }
@@ -97,11 +100,13 @@ impl AddressMap {
         }
     }
 
-    /// Where the addresses of a range of the image as it is loaded lie in the original.
+    /// Returns the ranges of the original image from which the addresses of a range of the image as
+    /// it is loaded were moved. No range is empty.
     ///
-    /// Laid end to end, the ranges are what `Rva::to_internal_rva` makes of the addresses one by one,
-    /// but for those that it moves to 0xffffffff. Without a table it is the range itself. Over a table
-    /// that isn't sorted they are at most one for each of its records.
+    /// Together, the ranges hold in order what `Rva::to_internal_rva` returns for the addresses one
+    /// by one, except those that it moves to 0xffffffff. This needn't hold if the table isn't
+    /// sorted, but there is always at most one range for each of its records. Without a table there
+    /// is one range, the given one, unless it is empty.
     pub fn internal_rva_ranges(&self, range: Range<Rva>) -> PdbInternalRvaRangeIter<'_>
         ensures parts { IfSome self.now.transformed_to_original IsSortedBySource →
             result ≡ translated_parts self.now.transformed_to_original range }
@@ -115,7 +120,8 @@ impl AddressMap {
         }
     }
 
-    /// The sections of the image as it is loaded.
+    /// Returns the sections of the image as it is loaded, which are the original ones if no others
+    /// are given.
     pub(crate) fn loaded_sections(&self) -> &[ImageSectionHeader]
         ensures { result.now ≡ loaded_sections self.now }
     {
@@ -126,7 +132,8 @@ impl AddressMap {
     }
 }
 
-/// Where a table moves an address, or the address itself where there is no table.
+/// Returns where a table moves an address, as `OMAPTable::lookup` does, or the address itself if
+/// there is no table.
 pub(crate) fn translate(table: &Option<OMAPTable>, address: u32) -> Option<u32>
     ensures exact { IfSome table.now IsSortedBySource → result ≡ translated table.now address }
     ensures somehow { IfSome table.now (λ records. IfSome result (MovesSomehow records address)) }
@@ -137,7 +144,8 @@ pub(crate) fn translate(table: &Option<OMAPTable>, address: u32) -> Option<u32>
     }
 }
 
-/// Where a table moves the addresses of a range, or the range itself where there is no table.
+/// Returns the ranges to which a table moves the addresses of a range, or the range itself if there
+/// is no table. No range is empty.
 #[tactic(auto, unfolding(crate::specs::Conversions::translated_parts), using(crate::proofs::RangeLemmas::untouched_laid, crate::proofs::RangeLemmas::untouched_not_empty))]
 fn translate_range(table: &Option<OMAPTable>, range: Range<u32>) -> RangeIter<'_>
     ensures parts { IfSome table.now IsSortedBySource → result ≡ translated_parts table.now range }
@@ -151,7 +159,7 @@ fn translate_range(table: &Option<OMAPTable>, range: Range<u32>) -> RangeIter<'_
     }
 }
 
-/// Ranges of addresses in an image as it is loaded, one after another.
+/// An iterator over ranges of addresses in an image as it is loaded.
 #[derive(Debug, Drop)]
 pub struct RvaRangeIter<'t> {
     ranges: RangeIter<'t>,
@@ -181,7 +189,7 @@ impl<'t> Iterator for RvaRangeIter<'t> {
 
 impl<'t> FusedIterator for RvaRangeIter<'t> {}
 
-/// Ranges of addresses in an image before a tool rearranged it, one after another.
+/// An iterator over ranges of addresses in an image before a tool rearranged it.
 #[derive(Debug, Drop)]
 pub struct PdbInternalRvaRangeIter<'t> {
     ranges: RangeIter<'t>,

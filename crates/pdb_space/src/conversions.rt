@@ -1,8 +1,9 @@
-//! What is made of an address or a place by an address map.
+//! Conversions of addresses and places by an address map.
 //!
-//! Where a conversion goes by a table, its contract says what it gives where that table is sorted, as
-//! those that tools write are. Over another table it gives nothing, or what is made of an address to which
-//! some record at or below moves the first one.
+//! If a conversion uses a table, its contract says what the result is for a sorted table, as tools
+//! write them. With any other table the result is None, or is made from an address to which some
+//! record of the table, with a source at or below the address that is looked up, moves that
+//! address.
 
 ghost use Rattle.std.specs.Prelude.{◌≡◌, None, Some, IfSome};
 ghost use Rattle.pdb_space.specs.Omap.{MovesSomehow};
@@ -16,7 +17,7 @@ use crate::section_offset::SectionOffset;
 use crate::sections::{address_of, section_of};
 
 impl Rva {
-    /// The address in the original image from which this one was moved, or nothing where there is
+    /// Returns the address in the original image from which this one was moved, or None if there is
     /// none. Without a table it is the same number.
     #[tactic(auto, unfolding(crate::specs::Conversions::rva_to_internal_rva))]
     pub fn to_internal_rva(self, map: &AddressMap) -> Option<PdbInternalRva>
@@ -26,8 +27,13 @@ impl Rva {
         translate(&map.transformed_to_original, self.0).map(|address| PdbInternalRva(address))
     }
 
-    /// The place of the address in a section of the image as it is loaded, or nothing where no section
-    /// reaches it. That place has this address.
+    /// Returns the place of the address in the image as it is loaded: in the first section that
+    /// contains it, which means that the address lies less than `size_of_raw_data` bytes after the
+    /// section's start.
+    ///
+    /// Returns None if there is no such section before one that begins above the address, or if its
+    /// number doesn't fit in 16 bits. `SectionOffset::to_rva` converts the place back to this
+    /// address.
     #[tactic(auto, unfolding(crate::specs::Conversions::rva_to_section_offset, crate::specs::Conversions::section_offset_to_rva), using(crate::proofs::SectionLemmas::section_back))]
     pub fn to_section_offset(self, map: &AddressMap) -> Option<SectionOffset>
         ensures place { result ≡ rva_to_section_offset map.now self }
@@ -36,7 +42,8 @@ impl Rva {
         section_of(map.loaded_sections(), self.0)
     }
 
-    /// The place of the internal address in a section of the original image.
+    /// Returns the place, in the original image, of the address from which this one was moved, or
+    /// None if there is none.
     #[tactic(auto, unfolding(crate::specs::Conversions::rva_to_internal_offset, crate::specs::Conversions::internal_rva_to_internal_offset))]
     pub fn to_internal_offset(self, map: &AddressMap) -> Option<PdbInternalSectionOffset>
         ensures { IsByTable map.now.transformed_to_original (rva_to_internal_offset map.now self)
@@ -47,8 +54,8 @@ impl Rva {
 }
 
 impl PdbInternalRva {
-    /// The address in the image as it is loaded to which this one was moved, or nothing where it was
-    /// left out. Without a table it is the same number.
+    /// Returns the address in the image as it is loaded to which this one was moved, or None if
+    /// there is none, for example because it was left out. Without a table it is the same number.
     #[tactic(auto, unfolding(crate::specs::Conversions::internal_rva_to_rva))]
     pub fn to_rva(self, map: &AddressMap) -> Option<Rva>
         ensures { IsByTable map.now.original_to_transformed (internal_rva_to_rva map.now self)
@@ -57,7 +64,8 @@ impl PdbInternalRva {
         translate(&map.original_to_transformed, self.0).map(|address| Rva(address))
     }
 
-    /// The place in a section of the image as it is loaded to which this address was moved.
+    /// Returns the place in the image as it is loaded to which this address was moved, or None if
+    /// there is none.
     #[tactic(auto, unfolding(crate::specs::Conversions::internal_rva_to_section_offset, crate::specs::Conversions::rva_to_section_offset))]
     pub fn to_section_offset(self, map: &AddressMap) -> Option<SectionOffset>
         ensures { IsByTable map.now.original_to_transformed (internal_rva_to_section_offset map.now self)
@@ -66,8 +74,12 @@ impl PdbInternalRva {
         self.to_rva(map)?.to_section_offset(map)
     }
 
-    /// The place of the address in a section of the original image, or nothing where no section
-    /// reaches it.
+    /// Returns the place of the address in the original image: in the first section that contains
+    /// it, which means that the address lies less than `size_of_raw_data` bytes after the section's
+    /// start.
+    ///
+    /// Returns None if there is no such section before one that begins above the address, or if its
+    /// number doesn't fit in 16 bits.
     #[tactic(auto, unfolding(crate::specs::Conversions::internal_rva_to_internal_offset))]
     pub fn to_internal_offset(self, map: &AddressMap) -> Option<PdbInternalSectionOffset>
         ensures { result ≡ internal_rva_to_internal_offset map.now self }
@@ -78,8 +90,8 @@ impl PdbInternalRva {
 }
 
 impl SectionOffset {
-    /// The address of the place, or nothing where its section isn't there or the address doesn't fit 32
-    /// bits. How many bytes the section has doesn't matter.
+    /// Returns the address of the place, or None if the image as it is loaded has no section of
+    /// this number or if the address doesn't fit in 32 bits. The size of the section isn't checked.
     #[tactic(auto, unfolding(crate::specs::Conversions::section_offset_to_rva))]
     pub fn to_rva(self, map: &AddressMap) -> Option<Rva>
         ensures { result ≡ section_offset_to_rva map.now self }
@@ -87,7 +99,8 @@ impl SectionOffset {
         address_of(map.loaded_sections(), self).map(|address| Rva(address))
     }
 
-    /// The address in the original image from which the place was moved.
+    /// Returns the address in the original image from which the place was moved, or None if there
+    /// is none.
     #[tactic(auto, unfolding(crate::specs::Conversions::section_offset_to_internal_rva))]
     pub fn to_internal_rva(self, map: &AddressMap) -> Option<PdbInternalRva>
         ensures { IsByTable map.now.transformed_to_original (section_offset_to_internal_rva map.now self)
@@ -96,8 +109,9 @@ impl SectionOffset {
         self.to_rva(map)?.to_internal_rva(map)
     }
 
-    /// The place in the original image from which this one was moved. Without transformed sections it
-    /// has the same numbers, even where there is no such section.
+    /// Returns the place in the original image from which this one was moved, or None if there is
+    /// none. Without transformed sections it has the same section and offset, even if there is no
+    /// such section.
     #[tactic(auto, unfolding(crate::specs::Conversions::section_offset_to_internal_offset))]
     pub fn to_internal_offset(self, map: &AddressMap) -> Option<PdbInternalSectionOffset>
         ensures by_table { IsByTable map.now.transformed_to_original (section_offset_to_internal_offset map.now self)
@@ -114,8 +128,8 @@ impl SectionOffset {
 }
 
 impl PdbInternalSectionOffset {
-    /// The address of the place in the original image, or nothing where its section isn't there or the
-    /// address doesn't fit 32 bits. How many bytes the section has doesn't matter.
+    /// Returns the address of the place, or None if the original image has no section of this
+    /// number or if the address doesn't fit in 32 bits. The size of the section isn't checked.
     #[tactic(auto, unfolding(crate::specs::Conversions::internal_offset_to_internal_rva))]
     pub fn to_internal_rva(self, map: &AddressMap) -> Option<PdbInternalRva>
         ensures { result ≡ internal_offset_to_internal_rva map.now self }
@@ -124,7 +138,8 @@ impl PdbInternalSectionOffset {
         address_of(&map.original_sections, place).map(|address| PdbInternalRva(address))
     }
 
-    /// The address in the image as it is loaded to which the place was moved.
+    /// Returns the address in the image as it is loaded to which the place was moved, or None if
+    /// there is none.
     #[tactic(auto, unfolding(crate::specs::Conversions::internal_offset_to_rva))]
     pub fn to_rva(self, map: &AddressMap) -> Option<Rva>
         ensures { IsByTable map.now.original_to_transformed (internal_offset_to_rva map.now self)
@@ -133,8 +148,9 @@ impl PdbInternalSectionOffset {
         self.to_internal_rva(map)?.to_rva(map)
     }
 
-    /// The place in the image as it is loaded to which this one was moved. Without transformed sections
-    /// it has the same numbers, even where there is no such section.
+    /// Returns the place in the image as it is loaded to which this one was moved, or None if there
+    /// is none. Without transformed sections it has the same section and offset, even if there is
+    /// no such section.
     #[tactic(auto, unfolding(crate::specs::Conversions::internal_offset_to_section_offset))]
     pub fn to_section_offset(self, map: &AddressMap) -> Option<SectionOffset>
         ensures by_table { IsByTable map.now.original_to_transformed (internal_offset_to_section_offset map.now self)

@@ -24,7 +24,7 @@ impl Model for PdbInternalRva {
 }
 
 impl PdbInternalRva {
-    /// The address `offset` bytes behind this one, or nothing where it doesn't fit 32 bits.
+    /// Returns the address `offset` bytes after this one, or None if it doesn't fit in 32 bits.
     pub fn checked_add(self, offset: u32) -> Option<Self>
         ensures { result ≡ fitting (self + offset) }
     {
@@ -34,35 +34,38 @@ impl PdbInternalRva {
         }
     }
 
-    /// How many bytes this address lies behind `other`, or nothing where it lies before it.
+    /// Returns the number of bytes from `other` to this address, or None if this address lies
+    /// before `other`.
     pub fn checked_sub(self, other: Self) -> Option<u32>
         ensures { result ≡ distance_from other self }
     {
         self.0.checked_sub(other.0)
     }
 
-    /// The address `offset` bytes behind this one, or 0xffffffff where it doesn't fit 32 bits.
+    /// Returns the address `offset` bytes after this one, or 0xffffffff if it doesn't fit in 32
+    /// bits.
     pub fn saturating_add(self, offset: u32) -> Self
         ensures { result ≡ clipped (self + offset) }
     {
         PdbInternalRva(self.0.saturating_add(offset))
     }
 
-    /// How many bytes this address lies behind `other`, or 0 where it lies before it.
+    /// Returns the number of bytes from `other` to this address, or 0 if this address lies before
+    /// `other`.
     pub fn saturating_sub(self, other: Self) -> u32
         ensures { result ≡ self - other }
     {
         self.0.saturating_sub(other.0)
     }
 
-    /// The address `offset` bytes behind this one, where 0 follows upon 0xffffffff.
+    /// Returns the address `offset` bytes after this one, modulo 2^32: 0 follows 0xffffffff.
     pub fn wrapping_add(self, offset: u32) -> Self
         ensures { result ≡ wrapped (self + offset) }
     {
         PdbInternalRva(self.0.wrapping_add(offset))
     }
 
-    /// How many bytes this address lies behind `other`, where 0 follows upon 0xffffffff.
+    /// Returns the number of bytes from `other` to this address, modulo 2^32: 0 follows 0xffffffff.
     pub fn wrapping_sub(self, other: Self) -> u32
         ensures { result ≡ wrapped_distance_from other self }
     {
@@ -70,7 +73,8 @@ impl PdbInternalRva {
     }
 }
 
-/// The address a number of bytes behind this one. The caller shows that it fits 32 bits.
+/// Returns the address a number of bytes after this one. The caller must show that it fits in 32
+/// bits.
 impl Add<u32> for PdbInternalRva {
     type Output = PdbInternalRva;
 
@@ -83,7 +87,7 @@ impl Add<u32> for PdbInternalRva {
     }
 }
 
-/// Moves the address a number of bytes on. The caller shows that it fits 32 bits.
+/// Moves the address up by a number of bytes. The caller must show that it still fits in 32 bits.
 impl AddAssign<u32> for PdbInternalRva {
     ghost can_add_assign = { λ address offset. Fits (address + offset) };
 
@@ -94,7 +98,8 @@ impl AddAssign<u32> for PdbInternalRva {
     }
 }
 
-/// How many bytes this address lies behind another. The caller shows that it doesn't lie before it.
+/// Returns the number of bytes from another address to this one. The caller must show that this
+/// address doesn't lie before the other.
 impl Sub<PdbInternalRva> for PdbInternalRva {
     type Output = u32;
 
@@ -123,7 +128,7 @@ impl From<PdbInternalRva> for u32 {
     }
 }
 
-/// `0x` and the hexadecimal digits.
+/// Prints `0x` and the address in lower-case hexadecimal digits.
 impl fmt::Display for PdbInternalRva {
     ghost output = { λ address. Some (hexadecimal address) };
 
@@ -133,7 +138,7 @@ impl fmt::Display for PdbInternalRva {
     }
 }
 
-/// The name of the type around what `Display` prints.
+/// Prints the name of the type and, in parentheses, what `Display` prints.
 impl fmt::Debug for PdbInternalRva {
     ghost debug_output = { λ address. Some (debug_text (codes "PdbInternalRva") address) };
 

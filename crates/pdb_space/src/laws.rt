@@ -1,5 +1,5 @@
-//! What the definitions of addresses, of the tables that move them and of the string table come to. The
-//! functions do nothing: each contract is a law.
+//! What the definitions of addresses, of the tables that move them and of the string table come to.
+//! The functions do nothing: each contract is a law.
 
 ghost use Rattle.std.specs.Prelude.{◌≡◌, ◌↔◌, ℕ, List, Some, length};
 ghost use Rattle.std.specs.declared.ops.Range.{Range};
@@ -26,14 +26,14 @@ use crate::string_ref::StringRef;
 pub mod derived;
 pub mod flags;
 
-/// Each way to add gives the plain sum where that fits 32 bits, and a start and the distance from it to a
-/// number add up to that number.
+/// Each way to add gives the plain sum if that fits in 32 bits, and a start and the distance from
+/// it to a number add up to that number.
 pub fn sums()
     ensures cut { (number : ℕ) → IsCutToFit number }
     ensures reached { (start number : ℕ) → IsReached start number }
 {}
 
-/// Addresses compare as their numbers do, and two are equal just where neither is less. Equal ones
+/// Addresses compare as their numbers do, and two are equal exactly if neither is less. Equal ones
 /// hash alike, which the trait `Hash` demands of each type.
 pub fn addresses()
     ensures equal { TellsApart ⟦<Rva as PartialEq>⟧.eq }
@@ -42,8 +42,8 @@ pub fn addresses()
     ensures internal_order { OrdersByNumber ⟦<PdbInternalRva as Ord>⟧.cmp }
 {}
 
-/// Places compare within one section alone, and as equal just where they are one place. Equal ones
-/// hash alike, which the trait `Hash` demands of each type.
+/// Only places in the same section compare, and they are equal exactly if they are the same place.
+/// Equal ones hash alike, which the trait `Hash` demands of each type.
 pub fn section_offsets()
     ensures equal { TellsApart ⟦<SectionOffset as PartialEq>⟧.eq }
     ensures order { OrdersWithinSections ⟦<SectionOffset as PartialOrd>⟧.partial_cmp }
@@ -70,16 +70,16 @@ pub fn string_refs()
         ⟦<u32 as From<StringRef>>⟧.from_gives }
 {}
 
-/// The names of a stream are those that stand behind a good header in it, as many bytes as that says.
-/// Any other stream is refused by the first of four faults.
+/// The names of a stream are those that stand after a good header in it, as many bytes as the
+/// header says. Any other stream is refused by the first of four faults.
 #[tactic(auto, using(crate::proofs::StringTableLemmas::finds_names, crate::proofs::StringTableLemmas::refuses_by_first_fault))]
 pub fn string_tables()
     ensures found { (stream : List ℕ) → FindsNames stream }
     ensures refused { (stream : List ℕ) → RefusesByFirstFault stream }
 {}
 
-/// A name is found just where a NUL stands in the names at the offset or after it, and it is the bytes
-/// before the first.
+/// A name is found exactly if there is a NUL among the names at the offset or after it, and it is
+/// the bytes before the first one.
 #[tactic(auto, using(crate::proofs::NameLemmas::finds_name))]
 pub fn names()
     ensures { (names : List ℕ) (offset : ℕ) → FindsName names offset }
@@ -114,7 +114,7 @@ pub fn records()
     ensures order { OrdersBySource ⟦<OMAPRecord as Ord>⟧.cmp }
 {}
 
-/// Iterators over records and ranges end, and then answer None for good.
+/// Iterators over records and ranges end, and then return None for good.
 pub fn iterators()
     ensures records { EndsForGood ⟦<OMAPRecords<'static> as Iterator>⟧.next_gives length }
     ensures ranges { EndsForGood ⟦<RangeIter<'static> as Iterator>⟧.next_gives length }

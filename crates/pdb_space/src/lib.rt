@@ -1,9 +1,10 @@
-//! Addresses of a program image, places in its sections, the tables that lead from one to another, and
-//! the names of the string table.
+//! Addresses of a program image, places in its sections, the tables that convert one into another,
+//! and the names of the string table.
 //!
-//! Addresses and places come twice: of the image as it is loaded, and, under a name that begins with
-//! `PdbInternal`, of the image before a tool rearranged it, which is what the parts of a program
-//! database speak of. An `AddressMap` leads from each to the others.
+//! Addresses and places come in two kinds: those of the image as it is loaded, and, with a name
+//! that begins with `PdbInternal`, those of the original image, before a tool rearranged it. The
+//! records of a program database refer to the original image. An `AddressMap` converts each kind
+//! into the others.
 #![tactic(auto)]
 
 mod address;

@@ -10,9 +10,9 @@ use pdb_base::{Le, Parse, ParseBuffer, Result};
 use std::marker::Model;
 use std::ops::Range;
 
-/// Where the addresses from one on are moved, as far as the next record's.
+/// A record that says where the addresses from its source up to the next record's source are moved.
 ///
-/// Records are ordered by their source, and those of one source by their target.
+/// Records are ordered by their source, and those with the same source by their target.
 #[derive(Debug, PartialEq, Eq, PartialOrd, Ord, Clone, Copy)]
 pub struct OMAPRecord {
     source: u32,
@@ -30,8 +30,8 @@ impl Model for OMAPRecord {
 }
 
 impl OMAPRecord {
-    /// The record that moves `source_address` to `target_address`, and the addresses behind likewise.
-    /// A target of 0 stands for nowhere.
+    /// Returns the record that moves `source_address` to `target_address`, and the addresses after
+    /// it by the same distance. A target of 0 means nowhere.
     pub fn new(source_address: u32, target_address: u32) -> Self
         ensures { result ≡ record { source = source_address; target = target_address } }
     {
@@ -41,21 +41,21 @@ impl OMAPRecord {
         }
     }
 
-    /// The first address that the record moves.
+    /// Returns the first address that the record moves.
     pub fn source_address(self) -> u32
         ensures { result ≡ self.source }
     {
         self.source
     }
 
-    /// Where the record moves that address, or 0 for nowhere.
+    /// Returns the address to which the record moves its source, or 0 if it moves it nowhere.
     pub fn target_address(self) -> u32
         ensures { result ≡ self.target }
     {
         self.target
     }
 
-    /// The record that eight bytes spell.
+    /// Returns the record in these eight bytes.
     #[tactic(auto, unfolding(crate::specs::Omap::mapping_of))]
     pub(crate) fn read(bytes: &[u8]) -> Self
         requires { length bytes.now ≡ 8 }
@@ -67,7 +67,8 @@ impl OMAPRecord {
         }
     }
 
-    /// Where the record moves an address at or behind its source.
+    /// Returns where the record moves an address at or after its source, or None if the target is 0
+    /// or the result doesn't fit in 32 bits.
     #[tactic(auto, unfolding(crate::specs::Omap::moved))]
     pub(crate) fn moved(self, address: u32) -> Option<u32>
         requires { self.source ≤ address }
@@ -79,8 +80,9 @@ impl OMAPRecord {
         self.target.checked_add(address - self.source)
     }
 
-    /// Where the record's part of the asked range is moved, if the record moves some of it. `next` is
-    /// the address at which the record's part ends.
+    /// Returns the range to which the record moves its part of the asked range, cut to end at
+    /// 0xffffffff at most, or None if that is empty or the target is 0. `next` is the address at
+    /// which the record's part ends.
     #[tactic(auto, unfolding(crate::specs::Ranges::part, crate::specs::Ranges::unless_empty))]
     pub(crate) fn part(self, next: u32, asked: &Range<u32>) -> Option<Range<u32>>
         ensures { result ≡ part self next asked.now }
@@ -93,7 +95,8 @@ impl OMAPRecord {
         if start < end { Some(start..end) } else { None }
     }
 
-    /// As far behind the target as an address is behind the source, and at most 0xffffffff.
+    /// Returns the target plus the distance of `address` from the source, at most 0xffffffff. The
+    /// distance of an address before the source is 0.
     fn clipped(self, address: u32) -> u32
         ensures { result ≡ min (self.target + (address - self.source)) largest }
     {
@@ -102,7 +105,7 @@ impl OMAPRecord {
     }
 }
 
-/// The source as a `u32`, and behind it the target as another.
+/// Reads the source as a `u32`, and then the target as another.
 impl Parse<Le> for OMAPRecord {
     ghost reads = { λ _. first_mapping };
 

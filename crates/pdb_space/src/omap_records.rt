@@ -10,10 +10,10 @@ use byteorder::{ByteOrder, LittleEndian};
 use std::iter::FusedIterator;
 use std::marker::Model;
 
-/// How many bytes a record takes.
+/// The size of a record in bytes.
 pub(crate) const RECORD_SIZE: usize = 8;
 
-/// The records of an OMAP table, in order.
+/// An iterator over the records of an OMAP table, in order.
 #[derive(Debug, Drop)]
 pub struct OMAPRecords<'t> {
     bytes: &'t [u8],
@@ -30,7 +30,7 @@ impl<'t> Model for OMAPRecords<'t> {
     ghost invariant = { λ r. length r.bytes.now % 8 ≡ 0 };
 }
 
-/// The target of the record at a place.
+/// Returns the target of the record at index `place`.
 #[tactic(auto, using(crate::proofs::RecordLemmas::target_there))]
 pub(crate) fn target_at(bytes: &[u8], place: usize) -> u32
     requires { place < length bytes.now / 8 }
@@ -40,7 +40,7 @@ pub(crate) fn target_at(bytes: &[u8], place: usize) -> u32
 }
 
 impl<'t> OMAPRecords<'t> {
-    /// The records that these bytes hold, and that hold all of them.
+    /// Returns an iterator over the records in `bytes`, whose length is a multiple of eight.
     pub(crate) fn new(bytes: &'t [u8]) -> Self
         requires { length bytes.now % 8 ≡ 0 }
         ensures { result ≡ mappings_of bytes.now }
@@ -48,7 +48,7 @@ impl<'t> OMAPRecords<'t> {
         OMAPRecords { bytes }
     }
 
-    /// No record.
+    /// Returns an iterator over no records.
     #[tactic(auto, using(pdb_base::proofs::lemmas::Records::spelled_none))]
     pub(crate) fn empty() -> Self
         ensures { result ≡ [] }
@@ -56,7 +56,7 @@ impl<'t> OMAPRecords<'t> {
         OMAPRecords { bytes: &[] }
     }
 
-    /// The first record and those behind it, or nothing where there is none.
+    /// Returns the first record and an iterator over those after it, or None if no record is left.
     #[tactic(auto, using(pdb_base::proofs::lemmas::Records::spelled_none, pdb_base::proofs::lemmas::Records::spelled_first))]
     pub(crate) fn split_first(&self) -> Option<(OMAPRecord, OMAPRecords<'t>)>
         ensures { MatchOption result (self.now ≡ []) (λ split. self.now ≡ split.0 ∷ split.1) }
@@ -68,7 +68,7 @@ impl<'t> OMAPRecords<'t> {
         Some((OMAPRecord::read(front), OMAPRecords::new(behind)))
     }
 
-    /// The source of the first record, or `end` where there is none.
+    /// Returns the source of the first record, or `end` if no record is left.
     pub(crate) fn next_source(&self, end: u32) -> u32
         ensures { result ≡ next_source self.now end }
     {

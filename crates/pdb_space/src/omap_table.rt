@@ -1,4 +1,4 @@
-//! OMAP tables, by which addresses move where a tool has rearranged an image.
+//! OMAP tables, which say where the addresses of an image are moved if a tool rearranges it.
 
 ghost use Rattle.std.specs.Prelude.{◌≡◌, ◌↔◌, ◌%◌, ◌≤◌, length, drop, All, Contains, IfSome, IsTrue};
 ghost use Rattle.pdb_base.specs.Answer.{Gives};
@@ -18,8 +18,9 @@ use std::ops::Range;
 
 /// A table of records that say where the addresses of an image are moved.
 ///
-/// Tools write tables whose sources don't decrease. Over such a table an address moves as the last
-/// record at or below it says. Over another it may stay without an answer.
+/// Tools write tables whose sources don't decrease. In such a table, the last record whose source
+/// is at or below an address says where the address is moved. In any other table, a lookup may use
+/// another record at or below the address, or return None.
 #[derive(Debug, Drop)]
 pub struct OMAPTable {
     stream: Stream,
@@ -37,10 +38,11 @@ impl Model for OMAPTable {
 }
 
 impl OMAPTable {
-    /// The table that a stream holds: records of eight bytes, each a u32 source and a u32 target.
+    /// Parses the table in a stream: records of eight bytes, each a `u32` source and a `u32`
+    /// target.
     ///
     /// # Errors
-    /// `InvalidStreamLength` if the stream's length is no multiple of eight.
+    /// Fails with `InvalidStreamLength("OMAP")` if the stream's length isn't a multiple of eight.
     #[tactic(auto, unfolding(crate::specs::Omap::table_of))]
     pub fn parse(stream: Stream) -> Result<Self>
         ensures { Gives (λ table. table) result (table_of stream) }
@@ -51,14 +53,14 @@ impl OMAPTable {
         Ok(OMAPTable { stream })
     }
 
-    /// The records, in order.
+    /// Returns an iterator over the records, in order.
     pub fn records(&self) -> OMAPRecords<'_>
         ensures { result ≡ self.now }
     {
         OMAPRecords::new(self.stream.as_slice())
     }
 
-    /// Whether no record's source is below that of the one before.
+    /// Returns whether no record has a source below that of the record before it.
     pub fn is_sorted(&self) -> bool
         ensures { IsTrue result ↔ IsSortedBySource self.now }
     {
@@ -72,10 +74,12 @@ impl OMAPTable {
         true
     }
 
-    /// Where an address is moved: as far behind the target of the last record at or below it as it is
-    /// behind that record's source. Nothing where there is no such record, where its target is 0, or
-    /// where this doesn't fit 32 bits. Over a table that isn't sorted, nothing or where some record at
-    /// or below the address moves it.
+    /// Looks up where an address is moved. The last record whose source is at or below the address
+    /// moves it to that record's target plus the distance of the address from the source.
+    ///
+    /// Returns None if there is no such record, if its target is 0, or if the result doesn't fit in
+    /// 32 bits. In a table that isn't sorted, returns None or the result of some record whose
+    /// source is at or below the address.
     pub fn lookup(&self, address: u32) -> Option<u32>
         ensures exact { IsSortedBySource self.now → result ≡ shift self.now address }
         ensures somehow { IfSome result (MovesSomehow self.now address) }
@@ -83,8 +87,8 @@ impl OMAPTable {
         self.lookup_counted(address, &mut Count::new())
     }
 
-    /// `lookup`, which counts the sources that it compares: as many as the number of records has
-    /// binary digits, and so none over no records.
+    /// Looks up an address as `lookup` does, and counts the sources that it compares: as many as
+    /// the number of records has binary digits, and so none if the table is empty.
     #[tactic(auto, unfolding(crate::specs::Omap::shift))]
     pub fn lookup_counted(&self, address: u32, count: &mut Count) -> Option<u32>
         ensures exact { IsSortedBySource self.now → result ≡ shift self.now address }
@@ -94,7 +98,8 @@ impl OMAPTable {
         self.last_at_or_below(address, count)?.moved(address)
     }
 
-    /// The last record at or below an address; over a table that isn't sorted, some such record.
+    /// Returns the last record whose source is at or below an address, or None if there is none. In
+    /// a table that isn't sorted, returns None or some such record.
     #[tactic(auto, using(pdb_base::proofs::lemmas::Records::spelled_length))]
     fn last_at_or_below(&self, address: u32, count: &mut Count) -> Option<OMAPRecord>
         ensures exact { IsSortedBySource self.now → result ≡ last_at_or_below self.now address }
@@ -107,7 +112,7 @@ impl OMAPTable {
         Some(OMAPRecord::new(found.source, target_at(bytes, last)))
     }
 
-    /// The records from a place on.
+    /// Returns an iterator over the records from index `place` on.
     #[tactic(auto, using(pdb_base::proofs::lemmas::Records::spelled_length))]
     fn records_from(&self, place: usize) -> OMAPRecords<'_>
         requires { place ≤ length self.now }
@@ -116,7 +121,7 @@ impl OMAPTable {
         OMAPRecords::new(&self.bytes()[place * RECORD_SIZE..])
     }
 
-    /// The bytes of the records.
+    /// Returns the bytes of the records.
     fn bytes(&self) -> &[u8]
         ensures records { mappings_of result.now ≡ self.now }
         ensures whole { length result.now % 8 ≡ 0 }
@@ -124,11 +129,13 @@ impl OMAPTable {
         self.stream.as_slice()
     }
 
-    /// Where the addresses of a range are moved: one range for each record that moves some of them, in
-    /// the order of the records, each cut to end at 0xffffffff.
+    /// Returns the ranges to which the addresses of a range are moved: one for each record that
+    /// moves some of them below 0xffffffff, in the order of the records, each cut to end at
+    /// 0xffffffff at most. No range is empty.
     ///
-    /// Laid end to end, the ranges are what `lookup` makes of the addresses one by one, but for those
-    /// that it moves to 0xffffffff. Over a table that isn't sorted they are at most one for each record.
+    /// Together, the ranges hold in order what `lookup` returns for the addresses one by one,
+    /// except those that it moves to 0xffffffff. This needn't hold if the table isn't sorted, but
+    /// there is always at most one range for each record.
     #[tactic(auto, using(crate::proofs::RangeLemmas::parts_until_sorted, crate::proofs::RangeLemmas::parts_until_laid, crate::proofs::RangeLemmas::parts_until_few, crate::proofs::RangeLemmas::parts_until_not_empty, pdb_base::proofs::lemmas::Records::spelled_length))]
     pub fn lookup_range(&self, range: Range<u32>) -> RangeIter<'_>
         ensures parts { IsSortedBySource self.now → result ≡ parts self.now range }

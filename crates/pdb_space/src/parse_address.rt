@@ -1,4 +1,4 @@
-//! Addresses and places in sections as they stand in bytes, the lowest byte of each number first.
+//! Reading of addresses and places in sections from bytes, each number little-endian.
 
 ghost use Rattle.pdb_base.specs.Reading.{number_at};
 ghost use Rattle.pdb_space.specs.SectionPlace.{section_place_at};
@@ -7,7 +7,7 @@ use crate::internal_address::PdbInternalRva;
 use crate::internal_section_offset::PdbInternalSectionOffset;
 use pdb_base::{Le, Parse, ParseBuffer, Result};
 
-/// A `u32`.
+/// Reads a `u32`.
 impl Parse<Le> for PdbInternalRva {
     ghost reads = { λ _. number_at 4 };
 
@@ -17,7 +17,7 @@ impl Parse<Le> for PdbInternalRva {
     }
 }
 
-/// The offset as a `u32`, and behind it the section as a `u16`.
+/// Reads the offset as a `u32`, and then the section as a `u16`.
 impl Parse<Le> for PdbInternalSectionOffset {
     ghost reads = { λ _. section_place_at };
 

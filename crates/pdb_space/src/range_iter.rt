@@ -1,4 +1,4 @@
-//! Ranges of addresses where a table moves them.
+//! The ranges to which a table moves addresses.
 
 ghost use Rattle.std.specs.Prelude.{◌≡◌, [], None};
 ghost use Rattle.std.specs.Iterator.{YieldsFirst, item_count};
@@ -10,14 +10,14 @@ use std::iter::FusedIterator;
 use std::marker::Model;
 use std::ops::Range;
 
-/// Ranges of addresses, one after another.
+/// An iterator over ranges of addresses.
 #[derive(Debug, Drop)]
 pub struct RangeIter<'t> {
-    /// A range that comes before all others.
+    /// A range that comes before all others, if there is one.
     first: Option<Range<u32>>,
-    /// The records by which others are moved.
+    /// The records that move the others.
     records: OMAPRecords<'t>,
-    /// What they move.
+    /// The range of addresses that the records move.
     asked: Range<u32>,
 }
 
@@ -33,7 +33,7 @@ impl<'t> Model for RangeIter<'t> {
 }
 
 impl<'t> RangeIter<'t> {
-    /// No range at all.
+    /// Returns an iterator over no ranges.
     pub fn empty() -> Self
         ensures { result ≡ [] }
     {
@@ -44,7 +44,7 @@ impl<'t> RangeIter<'t> {
         }
     }
 
-    /// The range as it is, or nothing where it is empty.
+    /// Returns an iterator over the range itself, or over no ranges if it is empty.
     #[tactic(auto, unfolding(crate::specs::Ranges::unless_empty))]
     pub fn identity(range: Range<u32>) -> Self
         ensures { result ≡ cons_option (unless_empty range) [] }
@@ -58,8 +58,9 @@ impl<'t> RangeIter<'t> {
         }
     }
 
-    /// The first part of a range, if there is one, and behind it those that records move, as far as the
-    /// first record at or past its end.
+    /// Returns an iterator over `first`, if it is given, and then over the ranges to which the
+    /// records move parts of `asked`, stopping before the first record whose source is at or past
+    /// the end of `asked`.
     pub(crate) fn translated(
         first: Option<Range<u32>>,
         records: OMAPRecords<'t>,

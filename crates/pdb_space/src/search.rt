@@ -1,4 +1,4 @@
-//! The search for an address among the records of an OMAP table, by halving.
+//! Binary search for an address among the records of an OMAP table.
 
 ghost use Rattle.std.specs.Prelude.{◌≡◌, ◌/◌, length};
 ghost use Rattle.pdb_base.specs.Count.{calls_of, after_calls};
@@ -9,21 +9,21 @@ use crate::omap_records::RECORD_SIZE;
 use crate::source::source_at;
 use pdb_base::Count;
 
-/// Where a search has ended.
+/// The result of a search.
 #[derive(Clone, Copy)]
 pub(crate) struct Found {
-    /// The place behind the last record that begins at or below the address.
+    /// The index after the last record whose source is at or below the address.
     pub(crate) place: usize,
 
-    /// The source of that record, where there is one.
+    /// The source of that record, if there is one.
     pub(crate) source: u32,
 }
 
-/// Searches for the last record that begins at or below an address, and counts the comparisons.
+/// Searches for the last record whose source is at or below an address, and counts the comparisons.
 ///
-/// The part of the table that is left to search halves with each comparison, whichever way it falls.
-/// How far the address is behind the source is kept beside the place, since one subtraction compares
-/// and says how far. So the step needs no branch.
+/// Each comparison halves the part of the table that is left to search, whichever way it turns out.
+/// The distance of the address from the source is kept beside the index, since one subtraction both
+/// compares and gives the distance. So a step needs no branch.
 #[tactic(auto, using(pdb_base::proofs::lemmas::Halving::halving_begins, pdb_base::proofs::lemmas::Halving::halving_takes, pdb_base::proofs::lemmas::Halving::halving_passes, pdb_base::proofs::lemmas::Halving::halving_ends, pdb_base::proofs::lemmas::Halving::halving_counts, pdb_base::proofs::lemmas::Halving::halving_counted))]
 pub(crate) fn search(bytes: &[u8], address: u32, count: &mut Count) -> Found
     ensures found { IsFound (source_at (mappings_of bytes.now))

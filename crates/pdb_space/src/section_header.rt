@@ -10,49 +10,48 @@ use byteorder::{ByteOrder, LittleEndian};
 use pdb_base::{ParseBuffer, Result};
 use std::str;
 
-/// How many bytes a header takes.
+/// The size of a header in bytes.
 const HEADER_SIZE: usize = 40;
 
 /// The header of a section: where it lies in memory and in the file, and what it is for.
 #[derive(Debug, Default, PartialEq, Eq, Clone, Copy)]
 pub struct ImageSectionHeader {
-    /// The name, with NULs behind it where it is shorter than eight bytes.
+    /// The name, padded with NULs if it is shorter than eight bytes.
     pub name: [u8; 8],
 
-    /// How many bytes the section takes in memory.
+    /// The size of the section in memory, in bytes.
     pub virtual_size: u32,
 
     /// The address of the section's first byte, in bytes from the image's base.
     pub virtual_address: u32,
 
-    /// How many bytes of the file hold the section.
+    /// The number of bytes in the file that hold the section.
     pub size_of_raw_data: u32,
 
-    /// The place of those bytes in the file.
+    /// The offset of those bytes in the file.
     pub pointer_to_raw_data: u32,
 
-    /// The place in the file of the section's relocations.
+    /// The offset of the section's relocations in the file.
     pub pointer_to_relocations: u32,
 
-    /// The place in the file of the section's line numbers.
+    /// The offset of the section's line numbers in the file.
     pub pointer_to_line_numbers: u32,
 
-    /// How many relocations there are.
+    /// The number of relocations.
     pub number_of_relocations: u16,
 
-    /// How many line numbers there are.
+    /// The number of line numbers.
     pub number_of_line_numbers: u16,
 
-    /// What the section is for.
+    /// The flags of the section, which say what it is for.
     pub characteristics: SectionCharacteristics,
 }
 
 impl ImageSectionHeader {
-    /// Reads a header: its fields in their order, in forty bytes, each number with its lowest byte
-    /// first.
+    /// Reads a header: its fields in order, in forty bytes, each number little-endian.
     ///
     /// # Errors
-    /// `UnexpectedEof` if fewer than forty bytes are left. Nothing is read then.
+    /// Fails with `UnexpectedEof` if fewer than forty bytes are left. Nothing is read then.
     #[tactic(auto, unfolding(crate::specs::SectionHeader::section_header_at), using(pdb_base::proofs::lemmas::Records::front_length))]
     pub fn parse(buffer: &mut ParseBuffer<'_>) -> Result<Self>
         ensures read { Gives (λ header. (header, left buffer.new)) result (section_header_at (left buffer.old)) }
@@ -62,7 +61,7 @@ impl ImageSectionHeader {
         Ok(ImageSectionHeader::read(buffer.take(HEADER_SIZE)?))
     }
 
-    /// The header that these forty bytes are.
+    /// Returns the header in these forty bytes.
     #[tactic(auto, unfolding(crate::specs::SectionHeader::section_header))]
     fn read(bytes: &[u8]) -> Self
         requires { length bytes.now ≡ 40 }
@@ -84,7 +83,7 @@ impl ImageSectionHeader {
         }
     }
 
-    /// The bytes of the name: those before the first NUL, or all eight.
+    /// Returns the bytes of the name: those before the first NUL, or all eight if there is none.
     fn name_bytes(&self) -> &[u8]
         ensures { result.now ≡ section_name self.now }
     {
@@ -94,7 +93,8 @@ impl ImageSectionHeader {
         }
     }
 
-    /// The name: the bytes before the first NUL, or all eight. It is empty where they are not UTF-8.
+    /// Returns the name: the bytes before the first NUL, or all eight if there is none. It is empty
+    /// if they aren't UTF-8.
     pub fn name(&self) -> &str
         ensures text { IsUtf8 (section_name self.now) → result.now ≡ section_name self.now }
         ensures no_text { ¬ IsUtf8 (section_name self.now) → result.now ≡ [] }

@@ -12,13 +12,14 @@ use std::ops::{Add, AddAssign};
 
 /// A place in a section of an image as it is loaded.
 ///
-/// Places are ordered within a section alone: of places in two sections neither comes first.
+/// Only places in the same section are ordered: `partial_cmp` returns None for places in two
+/// different sections.
 #[derive(Debug, Default, PartialEq, Eq, Hash, Clone, Copy)]
 pub struct SectionOffset {
-    /// How many bytes the place lies behind the section's start.
+    /// The offset of the place in bytes from the section's start.
     pub offset: u32,
 
-    /// The section, counted from 1. No section has the number 0.
+    /// The number of the section, counted from 1. No section has the number 0.
     pub section: u16,
 }
 
@@ -33,21 +34,22 @@ impl Model for SectionOffset {
 }
 
 impl SectionOffset {
-    /// The place `offset` bytes behind the start of this section.
+    /// Returns the place `offset` bytes after the start of the section with the number `section`.
     pub fn new(section: u16, offset: u32) -> Self
         ensures { result ≡ record { section = section; offset = offset } }
     {
         SectionOffset { offset, section }
     }
 
-    /// Whether the place is in a section: whether the section's number isn't 0.
+    /// Returns whether the place is in a section, that is, whether its section number isn't 0.
     pub fn is_valid(self) -> bool
         ensures { IsTrue result ↔ (self.section ≢ 0) }
     {
         self.section != 0
     }
 
-    /// The place `offset` bytes behind this one, or nothing where its offset doesn't fit 32 bits.
+    /// Returns the place `offset` bytes after this one, or None if its offset doesn't fit in 32
+    /// bits.
     pub fn checked_add(self, offset: u32) -> Option<Self>
         ensures { result ≡ option_map (at_offset self) (fitting (self.offset + offset)) }
     {
@@ -57,15 +59,16 @@ impl SectionOffset {
         }
     }
 
-    /// The place `offset` bytes behind this one, or at the offset 0xffffffff where that doesn't fit
-    /// 32 bits.
+    /// Returns the place `offset` bytes after this one, or the one at offset 0xffffffff if its
+    /// offset doesn't fit in 32 bits.
     pub fn saturating_add(self, offset: u32) -> Self
         ensures { result ≡ at_offset self (clipped (self.offset + offset)) }
     {
         SectionOffset::new(self.section, self.offset.saturating_add(offset))
     }
 
-    /// The place `offset` bytes behind this one, where the offset 0 follows upon 0xffffffff.
+    /// Returns the place `offset` bytes after this one, with its offset modulo 2^32: 0 follows
+    /// 0xffffffff.
     pub fn wrapping_add(self, offset: u32) -> Self
         ensures { result ≡ at_offset self (wrapped (self.offset + offset)) }
     {
@@ -73,7 +76,8 @@ impl SectionOffset {
     }
 }
 
-/// The place a number of bytes behind this one. The caller shows that its offset fits 32 bits.
+/// Returns the place a number of bytes after this one. The caller must show that its offset fits in
+/// 32 bits.
 impl Add<u32> for SectionOffset {
     type Output = SectionOffset;
 
@@ -86,7 +90,8 @@ impl Add<u32> for SectionOffset {
     }
 }
 
-/// Moves the place a number of bytes on. The caller shows that its offset fits 32 bits.
+/// Moves the place up by a number of bytes. The caller must show that its offset still fits in 32
+/// bits.
 impl AddAssign<u32> for SectionOffset {
     ghost can_add_assign = { λ place offset. Fits (place.offset + offset) };
 

@@ -1,4 +1,4 @@
-//! Where addresses lie in sections.
+//! The places of addresses in sections.
 
 ghost use Rattle.std.specs.Prelude.{◌≡◌};
 ghost use Rattle.pdb_space.specs.Sections.{address_of, section_of};
@@ -6,8 +6,11 @@ ghost use Rattle.pdb_space.specs.Sections.{address_of, section_of};
 use crate::section_header::ImageSectionHeader;
 use crate::section_offset::SectionOffset;
 
-/// The place of an address: in the first section that reaches it, before any that begins above it.
-/// Nothing where there is none, or where its number doesn't fit 16 bits.
+/// Returns the place of an address: in the first section that contains it, which means that the
+/// address lies less than `size_of_raw_data` bytes after the section's start.
+///
+/// Returns None if there is no such section before one that begins above the address, or if its
+/// number doesn't fit in 16 bits.
 pub(crate) fn section_of(sections: &[ImageSectionHeader], address: u32) -> Option<SectionOffset>
     ensures { result ≡ section_of sections.now address }
 {
@@ -21,8 +24,8 @@ pub(crate) fn section_of(sections: &[ImageSectionHeader], address: u32) -> Optio
     None
 }
 
-/// The address of a place. Nothing for section 0, for a section that isn't there, or where the address
-/// doesn't fit 32 bits.
+/// Returns the address of a place. Returns None for section 0, for a section that doesn't exist, or
+/// if the address doesn't fit in 32 bits.
 #[tactic(auto, unfolding(crate::specs::Sections::address_of))]
 pub(crate) fn address_of(sections: &[ImageSectionHeader], place: SectionOffset) -> Option<u32>
     ensures { result ≡ address_of sections.now place }

@@ -1,4 +1,4 @@
-//! The one call that hands out a source to be compared.
+//! The read of a source that a search compares.
 
 ghost use Rattle.std.specs.Prelude.{◌≡◌, ◌<◌, ◌/◌, length};
 ghost use Rattle.pdb_base.specs.Count.{calls_of, one_more};
@@ -8,7 +8,7 @@ use crate::omap_records::RECORD_SIZE;
 use byteorder::{ByteOrder, LittleEndian};
 use pdb_base::Count;
 
-/// The source of the record at a place, for a comparison, which it counts.
+/// Returns the source of the record at index `place` for a comparison, and counts that comparison.
 #[tactic(auto, using(crate::proofs::RecordLemmas::source_there))]
 pub(crate) fn source_at(bytes: &[u8], place: usize, count: &mut Count) -> u32
     requires { place < length bytes.now / 8 }

@@ -17,8 +17,8 @@ use std::borrow::CowStr;
 use std::fmt;
 use std::marker::Model;
 
-/// The place of a name in the string table, in bytes from the start of the names, printed as a
-/// hexadecimal number.
+/// The offset of a name in the string table, in bytes from the start of the names. It is printed as
+/// a hexadecimal number.
 #[derive(PartialEq, Eq, PartialOrd, Ord, Hash, Clone, Copy)]
 pub struct StringRef(pub u32);
 
@@ -33,22 +33,23 @@ impl Model for StringRef {
 }
 
 impl StringRef {
-    /// The name in the table, as its bytes.
+    /// Returns the name in the table, as its bytes.
     ///
     /// # Errors
-    /// `UnexpectedEof` if no NUL stands in the table's names at or after this place.
+    /// Fails with `UnexpectedEof` if there is no NUL among the table's names at or after this
+    /// offset.
     pub fn to_raw_string(self, strings: &StringTable) -> Result<RawString<'_>>
         ensures { Gives (λ name. name.0.now) result (name_of strings.now self) }
     {
         strings.get(self)
     }
 
-    /// The name in the table as text, with U+FFFD for each run of bytes that is no character. It
-    /// borrows where the name is UTF-8.
+    /// Returns the name in the table as text, with U+FFFD for each run of bytes that is no
+    /// character. The text borrows from the table if the name is UTF-8.
     ///
     /// # Errors
-    /// `UnexpectedEof` if no NUL stands in the table's names at or after this place, and
-    /// `OutOfMemory` if the name is not UTF-8 and memory is refused.
+    /// Fails with `UnexpectedEof` if there is no NUL among the table's names at or after this
+    /// offset, and with `OutOfMemory` if the name isn't UTF-8 and memory is refused.
     #[tactic(auto, unfolding(crate::specs::StringTable::lossy_name_of), using(crate::proofs::NameLemmas::no_want))]
     pub fn to_string_lossy(self, alloc: Global, strings: &StringTable) -> Result<CowStr<'_>>
         ensures text { Answers cow_str_bytes result (lossy_name_of strings.now self) }
@@ -77,7 +78,7 @@ impl From<StringRef> for u32 {
     }
 }
 
-/// A `u32`.
+/// Reads a `u32`.
 impl Parse<Le> for StringRef {
     ghost reads = { λ _. number_at 4 };
 
@@ -87,7 +88,7 @@ impl Parse<Le> for StringRef {
     }
 }
 
-/// `0x` and the hexadecimal digits.
+/// Prints `0x` and the offset in lower-case hexadecimal digits.
 impl fmt::Display for StringRef {
     ghost output = { λ place. Some (hexadecimal place) };
 
@@ -97,7 +98,7 @@ impl fmt::Display for StringRef {
     }
 }
 
-/// The name of the type around what `Display` prints.
+/// Prints the name of the type and, in parentheses, what `Display` prints.
 impl fmt::Debug for StringRef {
     ghost debug_output = { λ place. Some (debug_text (codes "StringRef") place) };
 

@@ -1,4 +1,4 @@
-//! The string table: names that other parts of a program database refer to by their places.
+//! The string table: names that other parts of a program database refer to by their offsets.
 
 ghost use Rattle.std.specs.Prelude.{◌≡◌};
 ghost use Rattle.pdb_base.specs.Answer.{Gives};
@@ -10,19 +10,20 @@ use pdb_base::{Error, ParseBuffer, RawString, Result};
 use pdb_msf::Stream;
 use std::marker::Model;
 
-/// The number at the front of every string table.
+/// The signature at the front of every string table.
 const SIGNATURE: u32 = 0xeffe_effe;
 
-/// How many bytes the header takes.
+/// The size of the header in bytes.
 const HEADER_SIZE: usize = 12;
 
-/// What stands before the names.
+/// The header of a string table, which precedes the names.
 #[derive(Clone, Copy)]
 struct Header {
     signature: u32,
-    /// By which rule names are hashed, in a part of the table that is not read here.
+    /// The version of the rule by which names are hashed, in a part of the table that isn't read
+    /// here.
     hash_version: u32,
-    /// How many bytes the names take.
+    /// The size of the names in bytes.
     names_size: u32,
 }
 
@@ -46,7 +47,7 @@ impl Model for StringTable {
     ghost invariant = { λ t. 12 + t.names_size ≤ length t.stream };
 }
 
-/// Reads the header, each number a `u32` with its lowest byte first.
+/// Reads the header, whose numbers are little-endian `u32`.
 #[tactic(auto, unfolding(crate::specs::StringTable::header_at))]
 fn read_header(buffer: &mut ParseBuffer<'_>) -> Result<Header>
     ensures { Gives (λ header. (header, left buffer.new)) result (header_at (left buffer.old)) }
@@ -61,14 +62,14 @@ fn read_header(buffer: &mut ParseBuffer<'_>) -> Result<Header>
     })
 }
 
-/// Whether names are hashed by a rule that the format has.
+/// Returns whether the format has this version of the rule by which names are hashed: 1 or 2.
 fn is_known_version(hash_version: u32) -> bool
     ensures { result ≡ is_known_version hash_version }
 {
     hash_version == 1 || hash_version == 2
 }
 
-/// The names in the stream of a string table.
+/// Returns the bytes of the names in the stream of a string table.
 #[tactic(auto, unfolding(crate::specs::StringTable::names_of))]
 fn names_of(stream: &[u8]) -> Result<&[u8]>
     ensures { Gives (λ names. names.now) result (names_of stream.now) }
@@ -86,14 +87,14 @@ fn names_of(stream: &[u8]) -> Result<&[u8]>
 }
 
 impl StringTable {
-    /// The string table in a stream: a `u32` signature 0xeffeeffe, a `u32` hash version, a `u32` that
-    /// says how many bytes the names take, and the names. What is behind them is not read.
+    /// Parses the string table in a stream: a `u32` signature 0xeffeeffe, a `u32` hash version, a
+    /// `u32` size of the names in bytes, and the names. What follows the names isn't read.
     ///
     /// # Errors
-    /// In this order:
+    /// Fails with the first of these that applies:
     /// - `UnexpectedEof` if the stream has fewer than the header's 12 bytes;
-    /// - `UnimplementedFeature("invalid string table signature")`;
-    /// - `UnexpectedEof` if the names don't fit the stream;
+    /// - `UnimplementedFeature("invalid string table signature")` if the signature is another one;
+    /// - `UnexpectedEof` if the names don't fit in the stream;
     /// - `UnimplementedFeature("unknown string table hash version")` if the version is neither 1
     ///   nor 2.
     pub fn parse(stream: Stream) -> Result<Self>
@@ -103,7 +104,7 @@ impl StringTable {
         Ok(StringTable { stream, names_size })
     }
 
-    /// The names.
+    /// Returns the bytes of the names.
     fn names(&self) -> &[u8]
         ensures { result.now ≡ self.now }
     {
@@ -111,10 +112,11 @@ impl StringTable {
         &stream[HEADER_SIZE..HEADER_SIZE + self.names_size]
     }
 
-    /// The name at an offset in bytes from the first name, up to the first NUL at or after it.
+    /// Returns the name at an offset in bytes from the first name: the bytes from there up to the
+    /// first NUL.
     ///
     /// # Errors
-    /// `UnexpectedEof` if no NUL stands in the names at or after the offset.
+    /// Fails with `UnexpectedEof` if there is no NUL among the names at or after the offset.
     #[tactic(auto, unfolding(crate::specs::StringTable::name_of), using(std::proofs::lemmas::List::drop_min))]
     pub fn get(&self, offset: StringRef) -> Result<RawString<'_>>
         ensures { Gives (λ name. name.0.now) result (name_of self.now offset) }

@@ -25,7 +25,7 @@ pub struct KindCount {
     pub count: u64,
 }
 
-/// The kinds of which there are some, the lowest first.
+/// Returns the kinds that have records, the lowest leaf first.
 fn present(alloc: Global, counts: &[u64]) -> Result<Vec<KindCount>>
     requires { length counts.now ≡ 0x10000 }
     ensures present { IfOk result (λ kinds. kinds.items ≡
@@ -45,7 +45,7 @@ fn present(alloc: Global, counts: &[u64]) -> Result<Vec<KindCount>>
     Ok(kinds)
 }
 
-/// The kinds of which there are some, the most frequent first.
+/// Returns the kinds that have records, the most frequent first.
 fn rank(alloc: Global, counts: &[u64]) -> Result<Vec<KindCount>>
     requires { length counts.now ≡ 0x10000 }
     ensures ranked { (most : ℕ) → ((leaf : ℕ) → slice_index_or counts.now leaf 0 ≤ most)
@@ -64,13 +64,13 @@ struct Tally {
     counts: Vec<u64>,
     /// How many records there are.
     records: u64,
-    /// How many of them are lists of fields that go on in others.
+    /// How many of them are lists of fields that another list continues.
     continued: u64,
     /// The fault at which the walk stops, if it does.
     fault: Option<Error>,
 }
 
-/// Counts one more of a kind.
+/// Counts one more record of a kind.
 fn note(counts: &mut Vec<u64>, kind: u16)
     requires kinds { vec_len counts.old ≡ 0x10000 }
     requires room { slice_index_or counts.old.items kind 0 + 1 < 2 ^ 64 }
@@ -80,7 +80,7 @@ fn note(counts: &mut Vec<u64>, kind: u16)
     counts[kind as usize] += 1;
 }
 
-/// So many counts of 0.
+/// Returns `count` counts of 0.
 fn zeros(alloc: Global, count: usize) -> Result<Vec<u64>>
     ensures kinds { IfOk result (λ counts. vec_len counts ≡ count) }
     ensures zeros { IfOk result (λ counts. (leaf : ℕ) → leaf < count → slice_index_or counts.items leaf 0 ≡ 0) }
@@ -90,7 +90,7 @@ fn zeros(alloc: Global, count: usize) -> Result<Vec<u64>>
     Ok(counts)
 }
 
-/// Whether a record is a list of fields that goes on in another.
+/// Returns whether a record is a list of fields that another list continues.
 #[tactic(auto, unfolding(crate::specs::Kinds::goes_on))]
 fn goes_on(alloc: Global, item: &Item<'_, TypeIndex>) -> Result<bool>
     ensures ok { IfOk result (λ is. is ≡ goes_on (index_of item.now).0 (bytes_of item.now)) }
@@ -106,14 +106,14 @@ fn goes_on(alloc: Global, item: &Item<'_, TypeIndex>) -> Result<bool>
     }
 }
 
-/// 1 if so, and else 0.
+/// Returns 1 if `is` holds, and 0 otherwise.
 fn as_count(is: bool) -> u64
     ensures { result ≡ (if is then 1 else 0) }
 {
     if is { 1 } else { 0 }
 }
 
-/// Walks over a table and counts its records.
+/// Walks over a table, and counts its records.
 fn count_records(alloc: Global, table: &TypeInformation) -> Result<Tally>
     ensures tally { IfOk result (IsTally table.now) }
     ensures want { IfErr result (λ e. e ≡ Error.OutOfMemory) }
@@ -157,14 +157,14 @@ pub struct Walked {
     pub kinds: Vec<KindCount>,
     /// How many there are.
     pub records: u64,
-    /// How many of them are lists of fields that go on in others.
+    /// How many of them are lists of fields that another list continues.
     pub continued: u64,
     /// The fault at which the walk stops, if it does.
     pub fault: Option<Error>,
 }
 
-/// Walks over a table: which kinds its records have, how many there are, and the fault at which the walk
-/// stops.
+/// Walks over a table, and returns which kinds its records have, how many records there are, and
+/// the fault at which the walk stops, if it does.
 pub fn walk_over(alloc: Global, table: &TypeInformation) -> Result<Walked>
     ensures walked { IfOk result (IsWalked table.now) }
     ensures want { IfErr result (λ e. e ≡ Error.OutOfMemory) }

@@ -1,5 +1,5 @@
-//! What a program database is made of, in a few lines: its pages, its streams with their roles and names,
-//! and the kinds of records in its tables.
+//! What a program database is made of, in a few lines: its pages, its streams with their roles and
+//! names, and the kinds of records in its tables.
 #![tactic(auto)]
 
 mod kinds;

@@ -23,13 +23,13 @@ pub enum Part {
     Roles,
     /// The names of streams.
     Names,
-    /// The stream of a number.
+    /// The stream with this number.
     Stream(u32),
-    /// The table in the stream of a number.
+    /// The table in the stream with this number.
     Table(u32),
 }
 
-/// A part as a field.
+/// Returns the field of a row that names a part.
 fn part_field<'t>(part: Part) -> Field<'t>
     ensures { field_shown result ≡ part_shown part }
 {
@@ -43,7 +43,7 @@ fn part_field<'t>(part: Part) -> Field<'t>
     }
 }
 
-/// A part that is refused, with the text that says why.
+/// Returns the row of a part that is refused, with the text that says why.
 fn refused_row<'t>(alloc: Global, part: Part, text: &'t [u8]) -> Result<Row<'t>>
     ensures ok { IfOk result (λ row. row_shown row ≡ part_shown part ∷ (codes "error", shown_text text.now) ∷ []) }
     ensures want { IfErr result (λ e. e ≡ Error.OutOfMemory) }

@@ -8,7 +8,7 @@ ghost use Rattle.pdb_summary.specs.Streams.{is_of, listed_role, name_of, role_of
 use pdb_base::{RawString, StreamIndex};
 use pdb_roles::{DBIExtraStreams, StreamName};
 
-/// Whether an index names the stream of a number.
+/// Returns whether an index names the stream with this number.
 fn is_of(index: StreamIndex, number: u32) -> bool
     ensures { result ≡ is_of index number }
 {
@@ -18,7 +18,7 @@ fn is_of(index: StreamIndex, number: u32) -> bool
     }
 }
 
-/// The role of a stream that the debug header lists, the first if it has several.
+/// Returns the role that the debug header gives a stream, the first one if it gives several.
 #[tactic(auto, unfolding(crate::specs::Streams::listed_role))]
 fn listed_role(roles: &DBIExtraStreams, number: u32) -> Option<&'static str>
     ensures { option_map (λ role. role.now) result ≡ listed_role roles.now number }
@@ -50,7 +50,7 @@ fn listed_role(roles: &DBIExtraStreams, number: u32) -> Option<&'static str>
     }
 }
 
-/// The role of a stream: those of streams 1 to 4 are fixed.
+/// Returns the role of a stream, if it has one. The roles of streams 1 to 4 are fixed.
 #[tactic(auto, unfolding(crate::specs::Streams::role_of))]
 pub fn role_of(roles: &DBIExtraStreams, number: u32) -> Option<&'static str>
     ensures { option_map (λ role. role.now) result ≡ role_of roles.now number }
@@ -64,7 +64,7 @@ pub fn role_of(roles: &DBIExtraStreams, number: u32) -> Option<&'static str>
     }
 }
 
-/// The first name of a stream.
+/// Returns the first name of a stream, if it has one.
 pub fn name_of<'n>(names: &[StreamName<'n>], number: u32) -> Option<RawString<'n>>
     ensures { option_map (λ name. name.0.now) result ≡ name_of (map named_view names.now) number }
 {

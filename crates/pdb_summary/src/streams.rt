@@ -1,4 +1,4 @@
-//! The streams of a file, a line each.
+//! The streams of a file, one line for each.
 
 ghost use Rattle.std.specs.Prelude.{◌≡◌, map, None, IfErr, IfOk};
 ghost use Rattle.std.specs.Option.{option_map};
@@ -30,7 +30,7 @@ pub struct Known<'k, 'n> {
     pub names: &'k [StreamName<'n>],
 }
 
-/// The stream of a number.
+/// Reads the stream with this number.
 pub fn stream(alloc: Global, file: &mut BigMSF<Vec<u8>>, number: u32) -> Result<Stream>
     ensures stream { Answers (λ stream. stream) result (stream_of file.old.source.items file.old.head number None) }
     ensures bytes { file.new.source.items ≡ file.old.source.items }
@@ -39,7 +39,7 @@ pub fn stream(alloc: Global, file: &mut BigMSF<Vec<u8>>, number: u32) -> Result<
     file.get(alloc, number, None)
 }
 
-/// How many pages hold so many bytes, or nothing if the size of a page is not known.
+/// Returns how many pages hold `size` bytes, or no value if the size of a page is not known.
 #[tactic(auto, unfolding(pdb_msf::specs::Pages::pages))]
 fn pages_held<'t>(page_size: u32, size: usize) -> Value<'t>
     ensures { value_shown result ≡ pages_held page_size size }
@@ -50,7 +50,8 @@ fn pages_held<'t>(page_size: u32, size: usize) -> Value<'t>
     Value::Number((size as u64).div_ceil(page_size as u64))
 }
 
-/// A stream: its number, its size in bytes, how many pages hold it, its role and its name.
+/// Returns the row of a stream: its number, its size in bytes, how many pages hold it, its role and
+/// its name.
 fn stream_row<'t>(
     alloc: Global,
     page_size: u32,
@@ -74,7 +75,7 @@ fn stream_row<'t>(
     Ok(Row { fields })
 }
 
-/// Writes the line of a stream of this size.
+/// Writes the line of a stream with this number and this size in bytes.
 #[tactic(auto, using(pdb_rows::proofs::lemmas::Written::front_none))]
 fn write_size<W: Write>(
     alloc: Global,
@@ -93,7 +94,8 @@ fn write_size<W: Write>(
     write_row(form, &row, &mut Vec::new(alloc), out)
 }
 
-/// Writes the line of the stream of a number, if there is one.
+/// Writes the line of the stream with this number, if there is one. If the stream is refused, the
+/// line says so.
 #[tactic(auto, unfolding(crate::specs::Streams::stream_line), using(pdb_rows::proofs::lemmas::Written::front_none))]
 fn write_stream<W: Write>(
     alloc: Global,

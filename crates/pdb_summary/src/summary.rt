@@ -24,7 +24,7 @@ use pdb_rows::{Form, Row, Value, field, write_row};
 use std::alloc::Global;
 use std::io::Write;
 
-/// The place in a file at which its header says the size of a page.
+/// The offset in a file at which its header says the size of a page.
 const PAGE_SIZE_OFFSET: usize = 32;
 
 /// The number of the stream that holds the table of types.
@@ -33,7 +33,7 @@ const TYPE_STREAM: u32 = 2;
 /// The number of the stream that holds the table of ids.
 const ID_STREAM: u32 = 4;
 
-/// The size of a page and how many pages are used, as the header of a file says them.
+/// Reads the size of a page and how many pages are used, as the header of a file says them.
 #[tactic(auto, unfolding(crate::specs::Summary::pages_of), using(std::proofs::lemmas::List::drop_min))]
 fn pages_of(file: &[u8]) -> Result<(u32, u32)>
     ensures { Gives (λ pages. pages) result (pages_of file.now) }
@@ -46,7 +46,7 @@ fn pages_of(file: &[u8]) -> Result<(u32, u32)>
     Ok((page_size, pages_used))
 }
 
-/// The size of a page as the header of a file says it, or 0 if it does not.
+/// Returns the size of a page as the header of a file says it, or 0 if it does not.
 fn page_size_of(file: &[u8]) -> u32
     ensures { result ≡ page_size_of file.now }
 {
@@ -56,7 +56,8 @@ fn page_size_of(file: &[u8]) -> u32
     }
 }
 
-/// A file: the size of its pages, how many it uses, and its size, in bytes.
+/// Returns the row of a file: the size of its pages in bytes, how many pages it uses, and its own
+/// size in bytes.
 fn pages_row<'t>(alloc: Global, page_size: u32, pages: u32, size: usize) -> Result<Row<'t>>
     ensures ok { IfOk result (λ row. row_shown row ≡ pages_shown (page_size, pages) size) }
     ensures want { IfErr result (λ e. e ≡ Error.OutOfMemory) }
@@ -69,7 +70,7 @@ fn pages_row<'t>(alloc: Global, page_size: u32, pages: u32, size: usize) -> Resu
     Ok(Row { fields })
 }
 
-/// What is known of streams that have no names.
+/// Returns what is known of streams that have no names.
 fn unnamed(page_size: u32, roles: DBIExtraStreams) -> Known<'static, 'static>
     ensures { known_view result ≡ record { page_size = page_size; roles = roles; names = [] } }
 {
@@ -80,7 +81,7 @@ fn unnamed(page_size: u32, roles: DBIExtraStreams) -> Known<'static, 'static>
     }
 }
 
-/// Reads the directory of a file, and gives the refusal if it is refused.
+/// Reads the directory of a file, and fails if the directory is refused.
 #[tactic(auto, unfolding(crate::specs::Summary::directory_read))]
 fn read_directory(alloc: Global, file: &mut BigMSF<Vec<u8>>) -> Result<()>
     ensures directory { Answers (λ done. done) result (directory_read file.old.source.items file.old.head) }
@@ -94,7 +95,8 @@ fn read_directory(alloc: Global, file: &mut BigMSF<Vec<u8>>) -> Result<()>
     }
 }
 
-/// What stream 3 says of roles. If it is refused that is told, and no stream has a role.
+/// Returns the roles of streams that stream 3 gives. If these are refused, writes that, and returns
+/// that no stream has a role.
 #[tactic(auto, using(pdb_rows::proofs::lemmas::Written::front_none))]
 fn known_roles<W: Write>(
     alloc: Global,
@@ -118,7 +120,7 @@ fn known_roles<W: Write>(
     }
 }
 
-/// Writes that the names of streams are refused, and then the streams without names.
+/// Writes that the names of streams are refused, and then the streams as `known` describes them.
 #[tactic(auto, using(pdb_rows::proofs::lemmas::Written::front_none, pdb_rows::proofs::lemmas::Written::front_first, pdb_rows::proofs::lemmas::Written::front_second, pdb_rows::proofs::lemmas::Written::writes_second))]
 fn write_unnamed<W: Write>(
     alloc: Global,
@@ -138,7 +140,8 @@ fn write_unnamed<W: Write>(
     write_streams(alloc, file, known, form, out)
 }
 
-/// Writes the streams of a file whose names stream 1 says.
+/// Writes the streams of a file, with the names that stream 1 gives. If these are refused, writes
+/// that, and then the streams without names.
 #[tactic(auto, using(pdb_rows::proofs::lemmas::Written::front_none, pdb_rows::proofs::lemmas::Written::front_first, pdb_rows::proofs::lemmas::Written::front_second, pdb_rows::proofs::lemmas::Written::writes_second))]
 fn write_named<W: Write>(
     alloc: Global,
@@ -168,7 +171,8 @@ fn write_named<W: Write>(
     }
 }
 
-/// Writes the streams of a file. If their names are refused that is told, and no stream has a name.
+/// Writes the streams of a file. If their names are refused, writes that first, and no stream has a
+/// name.
 #[tactic(auto, unfolding(crate::specs::Summary::names_of), using(pdb_rows::proofs::lemmas::Written::front_none, pdb_rows::proofs::lemmas::Written::front_first, pdb_rows::proofs::lemmas::Written::front_second, pdb_rows::proofs::lemmas::Written::writes_second))]
 fn write_all_streams<W: Write>(
     alloc: Global,
@@ -270,7 +274,7 @@ fn write_pages<W: Write>(alloc: Global, file: &[u8], form: Form, out: &mut W) ->
     }
 }
 
-/// Writes the line of a file, and all its parts.
+/// Writes the line of a file, and then all its parts.
 #[tactic(auto, using(pdb_rows::proofs::lemmas::Written::front_none, pdb_rows::proofs::lemmas::Written::front_first, pdb_rows::proofs::lemmas::Written::front_second, pdb_rows::proofs::lemmas::Written::writes_second))]
 fn write_summary<W: Write>(
     alloc: Global,
@@ -285,12 +289,12 @@ fn write_summary<W: Write>(
     write_parts(alloc, file, form, out)
 }
 
-/// Lists what a file is made of: its pages, a line for each stream, and of the tables of types and ids how
-/// many records they have of each kind. A part that is refused is told in a line of its own, among those of
-/// the others.
+/// Lists what a file is made of: its pages, a line for each stream, and how many records of each
+/// kind the tables of types and ids have. A part that is refused has a line of its own that says
+/// so, among those of the others.
 ///
 /// # Errors
-/// `IoError` if the writer fails, and `OutOfMemory` if memory is refused.
+/// Fails with `IoError` if the writer fails, and with `OutOfMemory` if memory is refused.
 pub fn list_summary<W: Write>(
     alloc: Global,
     file: &mut BigMSF<Vec<u8>>,

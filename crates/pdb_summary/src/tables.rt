@@ -19,7 +19,8 @@ use pdb_tpi::TypeInformation;
 use std::alloc::Global;
 use std::io::Write;
 
-/// A table: the number of its stream, what its records are, and the indexes that its header counts.
+/// Returns the row of a table: the number of its stream, how many records it has and how many of
+/// them are lists of fields that another list continues, and the indexes that its header counts.
 fn table_row<'t>(
     alloc: Global,
     number: u32,
@@ -41,7 +42,8 @@ fn table_row<'t>(
     Ok(Row { fields })
 }
 
-/// Writes a table: what its records are, and the indexes that its header counts.
+/// Writes the line of a table: how many records it has and how many of them are lists of fields
+/// that another list continues, and the indexes that its header counts.
 #[tactic(auto, using(pdb_rows::proofs::lemmas::Written::front_none))]
 fn write_head<W: Write>(
     alloc: Global,
@@ -66,7 +68,7 @@ fn write_head<W: Write>(
     write_row(form, &row, &mut Vec::new(alloc), out)
 }
 
-/// A kind of a table's records, and how many there are.
+/// Returns the row of a kind of a table's records, and how many there are.
 fn kind_row<'t>(alloc: Global, number: u32, kind: KindCount) -> Result<Row<'t>>
     ensures ok { IfOk result (λ row. row_shown row ≡ kind_shown number kind) }
     ensures want { IfErr result (λ e. e ≡ Error.OutOfMemory) }
@@ -79,7 +81,7 @@ fn kind_row<'t>(alloc: Global, number: u32, kind: KindCount) -> Result<Row<'t>>
     Ok(Row { fields })
 }
 
-/// Writes the kinds of a table's records.
+/// Writes a line for each kind of a table's records.
 fn write_kinds<W: Write>(
     alloc: Global,
     number: u32,
@@ -97,7 +99,7 @@ fn write_kinds<W: Write>(
     Ok(())
 }
 
-/// Writes that the walk over a table stops, if it does.
+/// Writes the fault at which the walk over a table stops, if it does.
 fn write_stop<W: Write>(
     alloc: Global,
     number: u32,
@@ -114,7 +116,7 @@ fn write_stop<W: Write>(
     }
 }
 
-/// Writes the kinds of a table's records, and that its walk stops, if it does.
+/// Writes the kinds of a table's records, and the fault at which its walk stops, if it does.
 #[tactic(auto, using(pdb_rows::proofs::lemmas::Written::front_none, pdb_rows::proofs::lemmas::Written::front_first, pdb_rows::proofs::lemmas::Written::front_second, pdb_rows::proofs::lemmas::Written::writes_second))]
 fn write_rest<W: Write>(
     alloc: Global,
@@ -131,7 +133,8 @@ fn write_rest<W: Write>(
     write_stop(alloc, number, &walked.fault, form, out)
 }
 
-/// Writes a table that was walked over: its line, its kinds, and that its walk stops, if it does.
+/// Writes a table that was walked over: its line, the kinds of its records, and the fault at which
+/// its walk stops, if it does.
 #[tactic(auto, using(pdb_rows::proofs::lemmas::Written::front_none, pdb_rows::proofs::lemmas::Written::front_first, pdb_rows::proofs::lemmas::Written::front_second, pdb_rows::proofs::lemmas::Written::writes_second))]
 fn write_walked<W: Write>(
     alloc: Global,
@@ -151,7 +154,7 @@ fn write_walked<W: Write>(
     write_rest(alloc, number, walked, form, out)
 }
 
-/// Walks over a table, and writes what it has.
+/// Walks over a table, and writes what it holds.
 #[tactic(auto, unfolding(crate::specs::Kinds::table_lines), using(pdb_rows::proofs::lemmas::Written::front_none))]
 fn write_found<W: Write>(
     alloc: Global,
@@ -166,7 +169,7 @@ fn write_found<W: Write>(
     write_walked(alloc, number, table, &walked, form, out)
 }
 
-/// The table in the stream of a number.
+/// Reads the table in the stream with this number.
 #[tactic(auto, unfolding(crate::specs::Kinds::table_found))]
 fn table_found(alloc: Global, file: &mut BigMSF<Vec<u8>>, number: u32) -> Result<TypeInformation>
     ensures table { Answers (λ table. table) result (table_found file.old.source.items file.old.head number) }
@@ -176,7 +179,7 @@ fn table_found(alloc: Global, file: &mut BigMSF<Vec<u8>>, number: u32) -> Result
     TypeInformation::parse(stream(alloc, file, number)?)
 }
 
-/// Writes the table in the stream of a number, or that it is refused.
+/// Writes the table in the stream with this number, or that it is refused.
 #[tactic(auto, unfolding(crate::specs::Kinds::table_part), using(pdb_rows::proofs::lemmas::Written::front_none))]
 pub fn write_table<W: Write>(
     alloc: Global,

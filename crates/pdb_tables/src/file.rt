@@ -1,5 +1,5 @@
-//! The tables of a file. A stream that isn't given is found by its role or its name, and a role that has no
-//! stream lists nothing.
+//! Lists of the tables of a file. A stream that isn't given is found by its role or its name. For a
+//! role that has no stream, nothing is listed.
 
 ghost use Rattle.std.specs.Prelude.{◌≡◌};
 ghost use Rattle.pdb_base.specs.Answer.{AnswersUnless};
@@ -20,12 +20,12 @@ use pdb_space::StringTable;
 use std::alloc::Global;
 use std::io::Write;
 
-/// Lists the section headers in a stream, or in the one that has their role.
+/// Lists the section headers in a stream, or in the one that has their role if no stream is given.
 ///
 /// # Errors
-/// If no stream is given, what `extra_streams` refuses. What `Msf::get` refuses of the stream.
-/// `UnexpectedEof`, behind the lines of the whole headers, if the last one is cut. `IoError` if the
-/// writer fails, and `OutOfMemory` if memory is refused.
+/// If no stream is given, fails as `extra_streams` does. Fails as `Msf::get` does for the stream,
+/// and with `UnexpectedEof`, after the lines of the whole headers, if the last one is cut short.
+/// Fails with `IoError` if the writer fails, and with `OutOfMemory` if memory is refused.
 #[tactic(auto, unfolding(crate::specs::Files::file_sections), using(crate::proofs::ListedLemmas::refused_listed))]
 pub fn list_sections<S: Source + Drop, W: Write>(
     alloc: Global,
@@ -44,7 +44,7 @@ pub fn list_sections<S: Source + Drop, W: Write>(
     }
 }
 
-/// The string table in a stream, or the one that the stream named `/names` holds.
+/// Reads the string table in a stream, or in the one named `/names` if no stream is given.
 #[tactic(auto, unfolding(crate::specs::Files::names_in))]
 fn names_in<S: Source>(
     alloc: Global,
@@ -61,12 +61,13 @@ fn names_in<S: Source>(
     }
 }
 
-/// Lists the names of the string table in a stream, or in the one named `/names`.
+/// Lists the names of the string table in a stream, or in the one named `/names` if no stream is
+/// given.
 ///
 /// # Errors
-/// If no stream is given, what `string_table` refuses, and else what `Msf::get` refuses of the stream and
-/// `StringTable::parse` of its bytes. `IoError` if the writer fails, and `OutOfMemory` if memory is
-/// refused.
+/// If no stream is given, fails as `string_table` does; otherwise as `Msf::get` does for the
+/// stream, and then as `StringTable::parse` does for its bytes. Fails with `IoError` if the writer
+/// fails, and with `OutOfMemory` if memory is refused.
 #[tactic(auto, unfolding(crate::specs::Files::file_names), using(crate::proofs::ListedLemmas::refused_listed))]
 pub fn list_names<S: Source + Drop, W: Write>(
     alloc: Global,
@@ -82,10 +83,11 @@ pub fn list_names<S: Source + Drop, W: Write>(
     write_table(alloc, &table, form, out)
 }
 
-/// Lists the frames of a file, by their starts.
+/// Lists the frames of a file, by their starts, as `FrameTable::iter` yields them.
 ///
 /// # Errors
-/// What `frame_table` refuses. `IoError` if the writer fails, and `OutOfMemory` if memory is refused.
+/// Fails as `frame_table` does, with `IoError` if the writer fails, and with `OutOfMemory` if
+/// memory is refused.
 #[tactic(auto, unfolding(crate::specs::Files::file_frames), using(crate::proofs::ListedLemmas::refused_listed))]
 pub fn list_frames<S: Source + Drop, W: Write>(
     alloc: Global,
@@ -100,12 +102,12 @@ pub fn list_frames<S: Source + Drop, W: Write>(
     write_frames(alloc, &table, form, out)
 }
 
-/// Lists the frames of two streams, each of which may be absent: of records of the older format, and of
-/// the newer.
+/// Lists the frames of two streams, one of records of the older format and one of the newer, each
+/// of which may be absent.
 ///
 /// # Errors
-/// What `Msf::get` refuses of the streams, the older first, and then what `FrameTable::parse` refuses.
-/// `IoError` if the writer fails, and `OutOfMemory` if memory is refused.
+/// Fails as `Msf::get` does for the streams, the older one first, and then as `FrameTable::parse`
+/// does. Fails with `IoError` if the writer fails, and with `OutOfMemory` if memory is refused.
 #[tactic(auto, unfolding(crate::specs::Files::frames_in), using(crate::proofs::ListedLemmas::refused_listed))]
 pub fn list_frames_in<S: Source + Drop, W: Write>(
     alloc: Global,

@@ -10,11 +10,11 @@ use pdb_rows::{Form, frame_row, write_row};
 use std::alloc::Global;
 use std::io::Write;
 
-/// Lists the frames of a table, by their starts. Of an old and a new record that start at one address the
-/// new one is listed.
+/// Lists the frames of a table, by their starts, as `FrameTable::iter` yields them: if an old and a
+/// new record start at the same address, only the new one.
 ///
 /// # Errors
-/// `IoError` if the writer fails, and `OutOfMemory` if memory is refused.
+/// Fails with `IoError` if the writer fails, and with `OutOfMemory` if memory is refused.
 pub fn write_frames<W: Write>(
     alloc: Global,
     table: &FrameTable,

@@ -1,5 +1,5 @@
-//! Lists the tables of a program database, a line a record: section headers, OMAP records, frames, and
-//! the names of the string table.
+//! Lists of the tables of a program database, with one line for each record: section headers, OMAP
+//! records, frames, and the names of the string table.
 #![tactic(auto)]
 
 mod file;

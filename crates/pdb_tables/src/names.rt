@@ -11,7 +11,8 @@ use pdb_space::{StringRef, StringTable};
 use std::alloc::Global;
 use std::io::Write;
 
-/// Where the next name begins behind one of this place and size, if 32 bits hold that.
+/// Returns the offset of the name after one with this offset and size, or None if it doesn't fit in
+/// 32 bits.
 fn next_place(place: u32, size: usize) -> Option<u32>
     ensures { result ≡ next_place place size }
 {
@@ -19,7 +20,7 @@ fn next_place(place: u32, size: usize) -> Option<u32>
     place.checked_add(size)?.checked_add(1)
 }
 
-/// A name as a row.
+/// Returns the row of a name: its offset and its text.
 fn name_row<'t>(alloc: Global, place: u32, name: RawString<'t>) -> Result<Row<'t>>
     ensures ok { IfOk result (λ row. row_shown row ≡ name_shown (place, name.entry.0.now)) }
     ensures want { IfErr result (λ e. e ≡ Error.OutOfMemory) }
@@ -31,7 +32,7 @@ fn name_row<'t>(alloc: Global, place: u32, name: RawString<'t>) -> Result<Row<'t
     Ok(Row { fields })
 }
 
-/// Writes the names of a table.
+/// Writes the names of a table, each with its offset.
 pub(crate) fn write_table<W: Write>(
     alloc: Global,
     table: &StringTable,

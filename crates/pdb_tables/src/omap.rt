@@ -25,14 +25,14 @@ fn write_records<W: Write>(alloc: Global, table: &OMAPTable, form: Form, out: &m
     Ok(())
 }
 
-/// Whether no record's source is below that of the one before.
+/// Returns whether no record has a source below that of the record before it.
 fn is_sorted(table: &OMAPTable) -> bool
     ensures { result ≡ rises 0 table.now }
 {
     table.is_sorted()
 }
 
-/// What is said of a whole table.
+/// Returns the row that says whether a table is sorted.
 fn order_row<'t>(alloc: Global, is_sorted: bool) -> Result<Row<'t>>
     ensures ok { IfOk result (λ row. row_shown row ≡ order_shown is_sorted) }
     ensures want { IfErr result (λ e. e ≡ Error.OutOfMemory) }
@@ -41,7 +41,7 @@ fn order_row<'t>(alloc: Global, is_sorted: bool) -> Result<Row<'t>>
     Ok(Row { fields })
 }
 
-/// Writes a table, and behind its records what is said of them all.
+/// Writes the records of a table, and then whether their sources never decrease.
 #[tactic(auto, using(pdb_rows::proofs::lemmas::Written::front_first, pdb_rows::proofs::lemmas::Written::writes_second))]
 fn write_table<W: Write>(alloc: Global, table: &OMAPTable, form: Form, out: &mut W) -> Result<()>
     ensures { Writes (omap_all form table.now) (W.contents out.old) (W.contents out.new) result }
@@ -51,12 +51,11 @@ fn write_table<W: Write>(alloc: Global, table: &OMAPTable, form: Form, out: &mut
     write_row(form, &row, &mut Vec::new(alloc), out)
 }
 
-/// Lists the records of the OMAP table that a stream is, and behind them whether their sources never
-/// fall.
+/// Lists the records of the OMAP table in a stream, and then whether their sources never decrease.
 ///
 /// # Errors
-/// `InvalidStreamLength` if the stream's length is no multiple of eight. `IoError` if the writer fails,
-/// and `OutOfMemory` if memory is refused.
+/// Fails with `InvalidStreamLength` if the stream's length isn't a multiple of eight. Fails with
+/// `IoError` if the writer fails, and with `OutOfMemory` if memory is refused.
 pub fn write_omap<W: Write>(alloc: Global, stream: Stream, form: Form, out: &mut W) -> Result<()>
     ensures { IsListed (omap_listing form stream) (W.contents out.old) (W.contents out.new) result }
 {

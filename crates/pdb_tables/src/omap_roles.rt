@@ -16,7 +16,7 @@ use pdb_rows::{Form, Row, Value, field, write_row};
 use std::alloc::Global;
 use std::io::Write;
 
-/// Which role the table that follows has, and the number of its stream.
+/// Returns the row that says the role of the table that follows, and the number of its stream.
 fn role_row<'t>(alloc: Global, role: &'static str, number: u32) -> Result<Row<'t>>
     ensures ok { IfOk result (λ row. row_shown row ≡ role_shown role.now number) }
     ensures want { IfErr result (λ e. e ≡ Error.OutOfMemory) }
@@ -28,7 +28,7 @@ fn role_row<'t>(alloc: Global, role: &'static str, number: u32) -> Result<Row<'t
     Ok(Row { fields })
 }
 
-/// Writes which role the table that follows has.
+/// Writes the role of the table that follows, and the number of its stream.
 #[tactic(auto, using(pdb_rows::proofs::lemmas::Written::front_none))]
 fn write_role<W: Write>(
     alloc: Global,
@@ -43,7 +43,7 @@ fn write_role<W: Write>(
     write_row(form, &row, &mut Vec::new(alloc), out)
 }
 
-/// Lists the records of the OMAP table in a stream.
+/// Lists the records of the OMAP table in a stream, and then whether their sources never decrease.
 fn list_numbered<S: Source, W: Write>(
     alloc: Global,
     file: &mut BigMSF<S>,
@@ -60,8 +60,8 @@ fn list_numbered<S: Source, W: Write>(
     write_omap(alloc, stream, form, out)
 }
 
-/// Lists the records of the OMAP table that has a role, behind a line that says which it is, or nothing if
-/// no stream has the role.
+/// Lists the records of the OMAP table that has a role, after a line that says which role it is.
+/// Lists nothing if no stream has the role.
 fn list_role<S: Source, W: Write>(
     alloc: Global,
     file: &mut BigMSF<S>,
@@ -82,7 +82,7 @@ fn list_role<S: Source, W: Write>(
     list_numbered(alloc, file, number, form, out)
 }
 
-/// Lists the records of both OMAP tables.
+/// Lists the records of both OMAP tables, each table after a line with its role and its stream.
 fn list_both<S: Source, W: Write>(
     alloc: Global,
     file: &mut BigMSF<S>,
@@ -99,15 +99,17 @@ fn list_both<S: Source, W: Write>(
     list_role(alloc, file, "omap_from_src", from_source, form, out)
 }
 
-/// Lists the records of the OMAP table in a stream, and behind them whether their sources never fall. If
-/// no stream is given, lists both tables of the file, each behind a line with its role and its stream:
-/// first the one that leads from the image as it is loaded to the original one, and then that of the way
-/// back. A role that has no stream lists nothing.
+/// Lists the records of the OMAP table in a stream, and then whether their sources never decrease.
+///
+/// If no stream is given, lists both tables of the file, each after a line with its role and its
+/// stream: first the one that leads from the image as it is loaded to the original one, and then
+/// the one that leads back. For a role that has no stream, nothing is listed.
 ///
 /// # Errors
-/// If no stream is given, what `extra_streams` refuses. What `Msf::get` refuses of a stream.
-/// `InvalidStreamLength` if its length is no multiple of eight; the tables before it are then listed.
-/// `IoError` if the writer fails, and `OutOfMemory` if memory is refused.
+/// If no stream is given, fails as `extra_streams` does. Fails as `Msf::get` does for a stream, and
+/// then with `InvalidStreamLength` if its length isn't a multiple of eight; the table before it,
+/// and the line with its own role, have been listed by then. Fails with `IoError` if the writer
+/// fails, and with `OutOfMemory` if memory is refused.
 #[tactic(auto, unfolding(crate::specs::Files::file_omap), using(crate::proofs::ListedLemmas::refused_listed))]
 pub fn list_omap<S: Source + Drop, W: Write>(
     alloc: Global,

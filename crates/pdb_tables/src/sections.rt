@@ -11,14 +11,14 @@ use pdb_space::ImageSectionHeader;
 use std::alloc::Global;
 use std::io::Write;
 
-/// How many bytes a header has.
+/// The size of a header in bytes.
 const HEADER_SIZE: usize = 40;
 
-/// Lists the section headers that a stream holds, forty bytes each, numbered from 1.
+/// Lists the section headers in a stream, forty bytes each, numbered from 1.
 ///
 /// # Errors
-/// `UnexpectedEof`, behind the lines of the whole headers, if the last one is cut. `IoError` if the
-/// writer fails, and `OutOfMemory` if memory is refused.
+/// Fails with `UnexpectedEof`, after the lines of the whole headers, if the last one is cut short.
+/// Fails with `IoError` if the writer fails, and with `OutOfMemory` if memory is refused.
 #[tactic(auto, unfolding(crate::specs::Tables::sections_listing))]
 pub fn write_sections<W: Write>(
     alloc: Global,

@@ -11,7 +11,7 @@ use pdb_msf::{BigMSF, Msf, Source, Stream};
 use pdb_roles::extra_streams;
 use std::alloc::Global;
 
-/// The stream of a number, if there is one.
+/// Returns the stream of a number, or None if no number is given.
 pub fn numbered<S: Source>(
     alloc: Global,
     file: &mut BigMSF<S>,
@@ -29,7 +29,8 @@ pub fn numbered<S: Source>(
     }
 }
 
-/// The number of the stream of section headers: the one that is given, or that of the role.
+/// Returns the number of the stream of section headers: the one that is given, or else that of the
+/// role, which is None if no stream has the role.
 #[tactic(auto, unfolding(crate::specs::Files::section_number))]
 pub fn section_number<S: Source>(
     alloc: Global,

@@ -1,4 +1,4 @@
-//! The fields of a class, a union or an enumeration, through all lists in which they stand.
+//! The fields of a class, a union or an enumeration, through all lists that hold them.
 
 ghost use Rattle.std.specs.Prelude.{◌≡◌, IfOk, map};
 ghost use Rattle.pdb_base.specs.Answer.{Answers, Gives};
@@ -16,7 +16,10 @@ use pdb_records::constants::LF_FIELDLIST;
 use pdb_values::{FieldList, TypeData};
 use std::alloc::Global;
 
-/// The list of fields that a type of this kind is.
+/// Returns the list of fields that a type is.
+///
+/// # Errors
+/// Returns `UnimplementedTypeKind` with this kind if the type is not a list of fields.
 #[tactic(auto, using(pdb_values::proofs::lemmas::Fields::listed))]
 fn list_in<'t>(value: TypeData<'t>, kind: u16) -> Result<FieldList<'t>>
     ensures { Gives listed_value result (listed kind (type_value value.entry)) }
@@ -37,7 +40,7 @@ pub(crate) enum Types<'f, 't> {
 }
 
 impl<'f, 't> Types<'f, 't> {
-    /// The type of an index.
+    /// Looks up the type of an index.
     fn look_up(self, index: TypeIndex) -> Result<Type<'t>>
         ensures item { Gives bytes_of result (answers self.entry index.0) }
         ensures index { IfOk result (λ item. (index_of item).0 ≡ index.0) }
@@ -49,7 +52,7 @@ impl<'f, 't> Types<'f, 't> {
     }
 }
 
-/// The list of fields of an index.
+/// Looks up a list of fields by its index, and parses it.
 #[tactic(auto, unfolding(crate::specs::Chain::list_of))]
 fn field_list<'t>(types: Types<'_, 't>, alloc: Global, index: TypeIndex) -> Result<FieldList<'t>>
     ensures { Answers listed_value result (list_of (answers types.entry) index.0) }
@@ -63,7 +66,7 @@ fn field_list<'t>(types: Types<'_, 't>, alloc: Global, index: TypeIndex) -> Resu
     list_in(value, kind)
 }
 
-/// The fields of a list and of the lists in which it goes on, moved out of them.
+/// Returns the fields of a list and of the lists that continue it, moved out of them.
 fn joined<'t>(types: Types<'_, 't>, alloc: Global, index: TypeIndex) -> Result<Vec<TypeData<'t>>>
     ensures { Answers (λ fields. map type_value fields.items) result (fields_of (answers types.entry) index.0) }
 {
@@ -84,16 +87,17 @@ fn joined<'t>(types: Types<'_, 't>, alloc: Global, index: TypeIndex) -> Result<V
 }
 
 impl<'t> ItemFinder<'t, TypeIndex> {
-    /// The fields of a list and of the lists in which it goes on: those of the list of this index first,
-    /// and then those of its continuations, each of which has an index below the one before.
+    /// Returns the fields of a list and of the lists that continue it: those of the list with this
+    /// index first, and then those of its continuations, each of which has an index below the one
+    /// before.
     ///
     /// The fields are moved out of their lists and not copied. Names borrow from the table.
     ///
     /// # Errors
-    /// What comes first along the lists, in this order for each: what `find` refuses;
-    /// `UnimplementedTypeKind` by its kind if the item is no list of fields (LF_FIELDLIST); what `parse`
-    /// refuses; `UnimplementedFeature` if the list goes on in one whose index is not below its own; and
-    /// `OutOfMemory` if memory is refused.
+    /// Fails with the first error along the lists, tried in this order for each list: those of
+    /// `find`; `UnimplementedTypeKind` with the item's kind if the item is not a list of fields
+    /// (LF_FIELDLIST); those of `parse`; and `UnimplementedFeature` if the list continues in one
+    /// whose index is not below its own. Fails with `OutOfMemory` if memory is refused.
     pub fn fields(&self, alloc: Global, index: TypeIndex) -> Result<Vec<TypeData<'t>>>
         ensures { Answers (λ fields. map type_value fields.items) result
             (fields_of (find_of self.now.table self.now.known) index.0) }
@@ -103,10 +107,12 @@ impl<'t> ItemFinder<'t, TypeIndex> {
 }
 
 impl OpenTable<TypeIndex> {
-    /// The fields of a list and of the lists in which it goes on, wherever in the table they stand.
+    /// Returns the fields of a list and of the lists that continue it, wherever in the table they
+    /// stand.
     ///
     /// # Errors
-    /// As `ItemFinder::fields`, with the refusals of `OpenTable::item` for those of `ItemFinder::find`.
+    /// Fails as `ItemFinder::fields` does, with the errors of `OpenTable::item` in place of those
+    /// of `ItemFinder::find`.
     pub fn fields(&self, alloc: Global, index: TypeIndex) -> Result<Vec<TypeData<'_>>>
         ensures { Answers (λ fields. map type_value fields.items) result (fields_of (item_of self.now.table) index.0) }
     {

@@ -1,4 +1,4 @@
-//! Finds items of a table by their indexes.
+//! Finders, which look up items of a table by their indexes.
 
 ghost use Rattle.std.specs.Prelude.{◌≡◌, ◌+◌, ◌≤◌, All, length, map, nat_lt, vec_capacity, IsOk, IfOk, Ok};
 ghost use Rattle.pdb_base.specs.Answer.{Answers, Gives};
@@ -22,10 +22,10 @@ pub(crate) const BLOCK_LEN: u32 = 8;
 /// The bytes of a primitive type, which has no record.
 pub(crate) const PRIMITIVE: &[u8] = b"\xff\xff";
 
-/// Finds items of a table by their indexes, without a walk from the first one.
+/// A finder of items of a table by their indexes, which does not walk from the first one.
 ///
-/// It knows where some blocks of eight items begin, from the front on, and learns more of them from
-/// iterators that it is shown.
+/// It knows where some blocks of eight items begin, from the front of the table on, and learns
+/// where more of them begin from iterators that it is shown.
 #[derive(Debug, Drop)]
 pub struct ItemFinder<'t, I> {
     table: &'t ItemInformation<I>,
@@ -45,13 +45,13 @@ impl<'t, I> Model for ItemFinder<'t, I> {
 }
 
 impl<I: ItemIndex> ItemInformation<I> {
-    /// A finder of this table. It knows the first block, if the header counts any index.
+    /// Returns a finder of this table. It knows the first block if the header counts any index.
     ///
-    /// It asks for memory once: a place for each block that the header counts, and no more than the
-    /// table's bytes can hold.
+    /// It asks for memory once: for the positions of as many blocks as the header counts, but no
+    /// more than the table's bytes can hold.
     ///
     /// # Errors
-    /// `OutOfMemory` if memory is refused, which is not so if the header counts no index.
+    /// Returns `OutOfMemory` if memory is refused, which is never so if the header counts no index.
     pub fn finder(&self, alloc: Global) -> Result<ItemFinder<'_, I>>
         ensures finder { Answers (λ finder. finder) result
             (Ok (record { table = self.now; known = known_first self.now })) }
@@ -71,8 +71,8 @@ impl<I: ItemIndex> ItemInformation<I> {
 }
 
 impl<'t, I: ItemIndex> ItemFinder<'t, I> {
-    /// A finder of a table that knows the blocks at these positions, which a finder of the same table knew
-    /// and gave by `into_positions`.
+    /// Returns a finder of a table that knows the blocks at these positions, which a finder of the
+    /// same table returned from `into_positions`.
     pub(crate) fn with_positions(table: &'t ItemInformation<I>, positions: Vec<u32>) -> Self
         requires { ArePlaces table.now positions.items (vec_capacity positions) }
         ensures { result ≡ record { table = table.now; known = length positions.items } }
@@ -80,7 +80,7 @@ impl<'t, I: ItemIndex> ItemFinder<'t, I> {
         ItemFinder { table, positions }
     }
 
-    /// Where the blocks that it knows begin, apart from the table.
+    /// Returns the positions at which the blocks begin that the finder knows.
     pub(crate) fn into_positions(self) -> Vec<u32>
         ensures places { ArePlaces self.entry.table result.items (vec_capacity result) }
         ensures known { length result.items ≡ self.entry.known }
@@ -92,14 +92,14 @@ impl<'t, I: ItemIndex> ItemFinder<'t, I> {
         positions
     }
 
-    /// Whether it knows a block, counted from 0.
+    /// Returns whether the finder knows a block, counted from 0.
     pub(crate) fn knows(&self, block: usize) -> bool
         ensures { result ≡ nat_lt block self.now.known }
     {
         block < self.positions.len()
     }
 
-    /// The last index of the blocks that are known, or 0 where none is.
+    /// Returns the last index of the blocks that are known, or 0 if none is.
     pub fn max_index(&self) -> I
         ensures index { I.number result ≡ max_index_of self.now.table self.now.known }
         ensures few { self.now.known ≤ most_blocks self.now.table }
@@ -113,8 +113,9 @@ impl<'t, I: ItemIndex> ItemFinder<'t, I> {
         I::from((end.min(header.maximum_index as u64) - 1) as u32)
     }
 
-    /// Learns where the next block begins, if the iterator stands before its first item and that is
-    /// below the maximum. The iterator is one over the finder's table, with equal bytes and header.
+    /// Learns where the next block begins, if the iterator stands before the first item of that
+    /// block and the item's index is below the maximum. The iterator must be one over the finder's
+    /// table, or over one with equal bytes and header.
     pub fn update(&mut self, iterator: &ItemIter<'_, I>)
         requires { iterator.now.table ≡ self.old.table }
         ensures next { self.new ≡
@@ -130,7 +131,7 @@ impl<'t, I: ItemIndex> ItemFinder<'t, I> {
         }
     }
 
-    /// Learns from each iterator in turn.
+    /// Learns from each iterator in turn, as `update` does.
     pub fn update_all(&mut self, iterators: &[ItemIter<'_, I>])
         requires { All (λ iterator. iterator.table ≡ self.old.table) iterators.now }
         ensures next { self.new ≡
@@ -145,15 +146,15 @@ impl<'t, I: ItemIndex> ItemFinder<'t, I> {
         }
     }
 
-    /// The item of an index, and counts the lengths that are read, eight at most.
+    /// Returns the item of an index, and counts the lengths that are read, which are eight at most.
     ///
-    /// An index below the table's minimum is that of a primitive type, and its item has the bytes ff
-    /// ff.
+    /// An index below the table's minimum is that of a primitive type, and its item has the bytes
+    /// ff ff.
     ///
     /// # Errors
-    /// `TypeNotFound` from the maximum on; `TypeNotIndexed` if the index is in no block that is
-    /// known; if the walk stops before the item, the refusal at which it stops; `UnexpectedEof`
-    /// if it ends before the item.
+    /// Fails with `TypeNotFound` for an index from the maximum on, with `TypeNotIndexed` if the
+    /// index is in no block that is known, with the fault at which the walk stops if that is before
+    /// the item, and with `UnexpectedEof` if the walk ends before the item.
     pub fn find_counted(&self, index: I, count: &mut Count) -> Result<Item<'t, I>>
         ensures item { Gives bytes_of result (find_of self.now.table self.now.known (I.number index)) }
         ensures index { IfOk result (λ item. index_of item ≡ index) }
@@ -182,10 +183,10 @@ impl<'t, I: ItemIndex> ItemFinder<'t, I> {
         ItemIter::at(table, first as u64, *position as usize).nth(place % BLOCK_LEN, count)
     }
 
-    /// The item of an index.
+    /// Returns the item of an index.
     ///
     /// # Errors
-    /// As `find_counted`.
+    /// Fails as `find_counted` does.
     pub fn find(&self, index: I) -> Result<Item<'t, I>>
         ensures item { Gives bytes_of result (find_of self.now.table self.now.known (I.number index)) }
         ensures index { IfOk result (λ item. index_of item ≡ index) }

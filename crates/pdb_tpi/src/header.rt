@@ -30,7 +30,7 @@ pub struct Slice {
 pub struct Header {
     /// The version of the format.
     pub version: u32,
-    /// How many bytes the header takes: the items begin behind so many.
+    /// How many bytes the header takes. The items begin at this offset.
     pub header_size: u32,
     /// The index of the first item.
     pub minimum_index: u32,
@@ -98,7 +98,7 @@ fn read_fields(buffer: &mut ParseBuffer<'_>) -> Result<Header>
 }
 
 impl Header {
-    /// Refuses a header that no table of so many bytes has.
+    /// Refuses a header that no table of `len` bytes has.
     #[tactic(auto, unfolding(crate::specs::Header::checked))]
     fn check(self, len: usize) -> Result<()>
         ensures { Gives (λ x. x) result (checked self len) }
@@ -124,7 +124,7 @@ impl Header {
     }
 }
 
-/// Reads the header at the front of a table's bytes. That of a table without bytes is all 0.
+/// Reads the header at the front of a table's bytes. Every field is 0 if the table has no bytes.
 #[tactic(auto, unfolding(crate::specs::Header::header_of, crate::specs::Header::read_header_of))]
 pub fn read_header(bytes: &[u8]) -> Result<Header>
     ensures header { Gives (λ header. header) result (header_of bytes.now) }

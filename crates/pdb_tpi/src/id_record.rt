@@ -1,4 +1,4 @@
-//! What the items of the table of ids say.
+//! The values of the items of the table of ids.
 
 ghost use Rattle.std.specs.Prelude.{◌≡◌, ◌*◌, ◌≤◌, ℕ, List, length, Err, IfOk};
 ghost use Rattle.pdb_base.specs.declared.error.Error.TheVariants.{UnexpectedEof};
@@ -19,13 +19,14 @@ use pdb_values::IdData;
 use std::alloc::Global;
 
 impl<'t> Item<'t, IdIndex> {
-    /// What the record of the id says, whatever its index. Names borrow from the table; memory is taken
-    /// for lists alone.
+    /// Parses the record of the id, whatever its index. Names borrow from the table; memory is
+    /// taken for lists alone.
     ///
     /// # Errors
-    /// The first fault of the record: `UnexpectedEof` if its bytes end before a field does, or hold
-    /// fewer items than a list's count says; `UnimplementedTypeKind` by its number for a leaf that has
-    /// no record here; and `OutOfMemory` if memory for a list that the bytes hold is refused.
+    /// Fails with the first fault of the record: `UnexpectedEof` if its bytes end before a field
+    /// does, or hold fewer items than a list's count says; or `UnimplementedTypeKind` with the
+    /// leaf's number for a leaf that has no record here. Fails with `OutOfMemory` if memory for a
+    /// list that the bytes hold is refused.
     #[tactic(auto, unfolding(crate::specs::Record::id_of))]
     pub fn parse(&self, alloc: Global) -> Result<IdData<'t>>
         ensures read { Answers id_value result (id_of (bytes_of self.now)) }

@@ -6,8 +6,8 @@ ghost use Rattle.pdb_tpi.specs.Record.{kind_of};
 use byteorder::{ByteOrder, LittleEndian};
 use std::alloc::AllocError;
 
-/// An item of a table: its index, and the bytes of its record, which borrow from the table. They are
-/// two at least.
+/// An item of a table: its index, and the bytes of its record, which borrow from the table. A
+/// record has at least two bytes.
 #[derive(Debug, PartialEq)]
 pub struct Item<'t, I> {
     pub(crate) index: I,
@@ -15,7 +15,7 @@ pub struct Item<'t, I> {
     ghost least: { 2 ≤ length bytes.now },
 }
 
-/// The same item. It takes no memory.
+/// Returns the same item. It takes no memory.
 impl<'t, I: Copy> Clone for Item<'t, I> {
     ghost is_clone = { λ item other. other ≡ item };
 
@@ -32,35 +32,35 @@ impl<'t, I: Copy> Clone for Item<'t, I> {
 impl<'t, I: Copy> Copy for Item<'t, I> {}
 
 impl<'t, I: Copy> Item<'t, I> {
-    /// The index.
+    /// Returns the index of the item.
     pub fn index(&self) -> I
         ensures { result ≡ self.now.index }
     {
         self.index
     }
 
-    /// How many bytes the record has, without the length that stands before it.
+    /// Returns how many bytes the record has, without the length that stands before it.
     pub fn len(&self) -> usize
         ensures { result ≡ length self.now.bytes.now }
     {
         self.bytes.len()
     }
 
-    /// The bytes of the record, without the length that stands before it.
+    /// Returns the bytes of the record, without the length that stands before it.
     pub fn as_bytes(&self) -> &'t [u8]
         ensures { result.now ≡ self.now.bytes.now }
     {
         self.bytes
     }
 
-    /// Whether the record has no byte, which is so of none.
+    /// Returns whether the record has no bytes. This is always false.
     pub fn is_empty(&self) -> bool
         ensures { IsTrue result ↔ (self.now.bytes.now ≡ []) }
     {
         self.bytes.is_empty()
     }
 
-    /// The kind of the record: its first two bytes, the lowest first.
+    /// Returns the kind of the record: its first two bytes, the lowest first.
     pub fn raw_kind(&self) -> u16
         ensures { result ≡ kind_of self.now.bytes.now }
     {

@@ -11,8 +11,8 @@ use pdb_base::{ItemIndex, Result};
 use pdb_msf::Stream;
 use std::marker::{Model, PhantomData};
 
-/// A table of items, as of types or of ids: a stream that begins with a header, and the items behind
-/// it.
+/// A table of items, such as types or ids: a stream that begins with a header, with the items
+/// behind it.
 ///
 /// It holds the stream's bytes as they are, and its items borrow from them.
 #[derive(Debug, Drop)]
@@ -33,13 +33,15 @@ impl<I> Model for ItemInformation<I> {
 }
 
 impl<I: ItemIndex> ItemInformation<I> {
-    /// The table that a stream is. A stream without bytes is a table without items, all fields of
-    /// whose header are 0.
+    /// Parses the header of a stream, and returns the stream as a table. A stream without bytes is
+    /// a table without items, and all fields of its header are 0.
     ///
     /// # Errors
-    /// `UnexpectedEof` if the stream ends within the header; `InvalidTypeInformationHeader` if
-    /// the header's size is not from 56 to 1024 bytes, if the least index is below 4096, or if
-    /// the maximum is below it.
+    /// Fails with the first of these: `UnexpectedEof` if the stream has bytes, but fewer than the
+    /// 56 of the header's fields; `InvalidTypeInformationHeader` if the header's size is not from
+    /// 56 to 1024 bytes; `UnexpectedEof` if the stream has fewer bytes than that size;
+    /// `InvalidTypeInformationHeader` if the minimum index is below 4096, or if the maximum is
+    /// below the minimum.
     #[tactic(auto, unfolding(crate::specs::Table::table_of))]
     pub fn parse(stream: Stream) -> Result<Self>
         ensures { Gives (λ table. table) result (table_of stream) }
@@ -52,7 +54,7 @@ impl<I: ItemIndex> ItemInformation<I> {
         })
     }
 
-    /// The header, which lies within the table's bytes.
+    /// Returns the header, which lies within the table's bytes.
     pub fn header(&self) -> Header
         ensures header { result ≡ self.now.header }
         ensures sound { IsTable self.now }
@@ -60,22 +62,22 @@ impl<I: ItemIndex> ItemInformation<I> {
         self.header
     }
 
-    /// How many indexes the header counts, from its minimum to below its maximum. The walk may give
-    /// fewer items, or more.
+    /// Returns how many indexes the header counts, from its minimum to below its maximum. The
+    /// iterator may give fewer items, or more.
     pub fn len(&self) -> usize
         ensures { result ≡ count_of self.now }
     {
         (self.header.maximum_index - self.header.minimum_index) as usize
     }
 
-    /// Whether the header counts no index.
+    /// Returns whether the header counts no index.
     pub fn is_empty(&self) -> bool
         ensures { IsTrue result ↔ (count_of self.now ≡ 0) }
     {
         self.len() == 0
     }
 
-    /// An iterator before the first item.
+    /// Returns an iterator that stands before the first item.
     pub fn iter(&self) -> ItemIter<'_, I>
         ensures { result ≡ record { table = self.now; index = self.now.header.minimum_index } }
     {
@@ -87,8 +89,8 @@ impl<I: ItemIndex> ItemInformation<I> {
         )
     }
 
-    /// How many blocks of eight items a finder can know: as many as hold the counted indexes, and no
-    /// more than the bytes can.
+    /// Returns how many blocks of eight items a finder can know at most: as many as hold the
+    /// counted indexes, and no more than the bytes can hold.
     #[tactic(auto, unfolding(crate::specs::Finder::most_blocks))]
     pub(crate) fn most_blocks(&self) -> usize
         ensures { result ≡ most_blocks self.now }
@@ -97,7 +99,7 @@ impl<I: ItemIndex> ItemInformation<I> {
         self.len().div_ceil(8).min(1 + bytes / 32)
     }
 
-    /// The bytes from a position on.
+    /// Returns the bytes from a position on.
     pub(crate) fn bytes_from(&self, position: usize) -> &[u8]
         requires { position ≤ length self.now.bytes }
         ensures { result.now ≡ drop position self.now.bytes }

@@ -1,4 +1,4 @@
-//! The items of a table one after another.
+//! An iterator over the items of a table.
 
 ghost use Rattle.std.specs.Prelude.{◌≡◌, ◌+◌, ◌≤◌, ℕ, length, nat_lt, ⊤, if◌then◌else◌, IfOk, OnOk, OnErr};
 ghost use Rattle.pdb_base.specs.Answer.{Gives};
@@ -18,8 +18,8 @@ use std::marker::Model;
 
 /// An iterator over the items of a table, which stands before one of them or behind the last.
 ///
-/// It gives the items in order, whatever maximum the header says, and then None where no byte is
-/// left, or one and the same refusal for good.
+/// It yields the items in order, whatever maximum the header says. Behind the last one, it yields
+/// None if no byte is left, and otherwise fails with the same error every time.
 #[derive(Debug, Drop)]
 pub struct ItemIter<'t, I> {
     table: &'t ItemInformation<I>,
@@ -38,7 +38,7 @@ impl<'t, I> Model for ItemIter<'t, I> {
     ghost invariant = { λ i. IsPlace i.table.now i.index i.position };
 }
 
-/// Reads the item at the front of bytes, and counts its length.
+/// Reads the item at the front of bytes, and counts its length if the bytes hold it.
 #[tactic(auto, unfolding(crate::specs::Walk::first_item))]
 fn read_item<'t>(bytes: &'t [u8], count: &mut Count) -> Result<&'t [u8]>
     ensures item { Gives (λ item. item.now) result (first_item bytes.now) }
@@ -54,8 +54,8 @@ fn read_item<'t>(bytes: &'t [u8], count: &mut Count) -> Result<&'t [u8]>
 }
 
 impl<'t, I: ItemIndex> ItemIter<'t, I> {
-    /// An iterator before the item of an index, which begins at a position: where an iterator over the same
-    /// table stood once, as `place` said.
+    /// Returns an iterator before the item of an index, which begins at a position. An iterator
+    /// over the same table stood there once, as its `place` said.
     pub(crate) fn at(table: &'t ItemInformation<I>, index: u64, position: usize) -> Self
         requires { IsPlace table.now index position }
         ensures { result ≡ record { table = table.now; index = index } }
@@ -67,7 +67,8 @@ impl<'t, I: ItemIndex> ItemIter<'t, I> {
         }
     }
 
-    /// The index of the item before which the iterator stands, and the position at which that begins.
+    /// Returns the index of the item before which the iterator stands, and the position at which
+    /// that item begins.
     pub fn place(&self) -> (u64, usize)
         ensures index { result.0 ≡ self.now.index }
         ensures place { IsPlace self.now.table self.now.index result.1 }
@@ -75,7 +76,7 @@ impl<'t, I: ItemIndex> ItemIter<'t, I> {
         (self.index, self.position)
     }
 
-    /// The next item, or the fault at which the walk stops before it.
+    /// Returns the next item, or the fault at which the walk stops before it.
     pub(crate) fn read(&mut self, count: &mut Count) -> Result<Item<'t, I>>
         ensures item { Gives bytes_of result (nth_item self.old.table (place_of self.old)) }
         ensures index { IfOk result (λ item. I.number (index_of item) ≡ self.old.index) }
@@ -98,8 +99,8 @@ impl<'t, I: ItemIndex> ItemIter<'t, I> {
         })
     }
 
-    /// The item `steps` items behind the next one, or the fault at which the walk stops before it. The
-    /// iterator then stands behind that item.
+    /// Returns the item that is `steps` items behind the next one, or the fault at which the walk
+    /// stops before it. The iterator then stands behind that item.
     pub(crate) fn nth(&mut self, steps: u32, count: &mut Count) -> Result<Item<'t, I>>
         ensures item { Gives bytes_of result (nth_item self.old.table (place_of self.old + steps)) }
         ensures index { IfOk result (λ item. I.number (index_of item) ≡ self.old.index + steps) }
@@ -114,7 +115,7 @@ impl<'t, I: ItemIndex> ItemIter<'t, I> {
         self.read(count)
     }
 
-    /// The same, uncounted.
+    /// Returns the same item as `nth`, without counting lengths.
     pub(crate) fn skip(&mut self, steps: u32) -> Result<Item<'t, I>>
         ensures item { Gives bytes_of result (nth_item self.old.table (place_of self.old + steps)) }
         ensures index { IfOk result (λ item. I.number (index_of item) ≡ self.old.index + steps) }
@@ -141,7 +142,7 @@ impl<'t, I: ItemIndex> FallibleIterator for ItemIter<'t, I> {
     }
 }
 
-/// Another iterator that stands where this one does. It takes no memory.
+/// Returns another iterator that stands where this one does. It takes no memory.
 impl<'t, I: ItemIndex> Clone for ItemIter<'t, I> {
     ghost is_clone = { λ iterator other. other ≡ iterator };
 

@@ -17,8 +17,8 @@ pub fn header()
     ensures { (bytes : List ℕ) → StandAtOffsets bytes }
 {}
 
-/// A table's walk is one. Of any bytes there is exactly one, and it has at most one item per four
-/// bytes.
+/// The items that a table's walk gives are a walk of its bytes. Any bytes have exactly one walk,
+/// with at most one item per four bytes.
 #[tactic(auto, using(crate::proofs::LawLemmas::item_per_four_bytes))]
 pub fn walk()
     ensures tables { (table : Table) → AreBytes table.bytes →
@@ -28,14 +28,14 @@ pub fn walk()
         4 * length (items limit bytes) + length (rest limit bytes) ≤ length bytes }
 {}
 
-/// Where a walk stops before bytes that are left, their fault is the first that they have.
+/// If a walk stops before bytes that are left, its fault is the first one that those bytes have.
 #[tactic(auto, using(crate::proofs::LawLemmas::has_fault))]
 pub fn faults()
     ensures { (bytes : List ℕ) → HasFault bytes }
 {}
 
-/// After iterators were shown, the most blocks are known that were shown in their order, and no other
-/// number is the most.
+/// After iterators were shown to a finder, it knows the greatest number of blocks that were shown
+/// in their order, and no other number is the greatest.
 pub fn known_blocks()
     ensures is { (table : Table) (known : ℕ) (shown : List ℕ) → IsKnown table known shown (known_of table known shown) }
     ensures only { (table : Table) (known : ℕ) (shown : List ℕ) (most : ℕ) →
@@ -48,8 +48,9 @@ pub fn counts()
     ensures { (table : Table) (known i : ℕ) → ReadsFew table known i }
 {}
 
-/// Lists of fields form chains. From each index there is one, or one that breaks, and the fields of an
-/// index are those of the lists of its chain, joined in order, or the refusal with which it breaks.
+/// Lists of fields form chains. Each index has one chain, whole or broken. The fields of an index
+/// are those of the lists of its chain, joined in order, or the refusal with which the chain
+/// breaks.
 #[tactic(auto, using(crate::proofs::ChainLemmas::chain_answer))]
 pub fn chains()
     ensures { (look : LookUp) (index : ℕ) → IsChainAnswer look index }

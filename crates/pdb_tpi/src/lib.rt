@@ -1,5 +1,5 @@
-//! The tables of types and of ids: their items one after another, and one item by its index; and the
-//! fields of a type, through all lists in which they stand.
+//! The tables of types and of ids. Their items are read one after another or looked up by index,
+//! and the fields of a type are read through all lists that hold them.
 #![tactic(auto)]
 
 mod fields;
@@ -26,7 +26,7 @@ pub use pdb_records::constants;
 /// The table of types.
 pub type TypeInformation = ItemInformation<TypeIndex>;
 
-/// Finds types by their indexes.
+/// A finder of types by their indexes.
 pub type TypeFinder<'t> = ItemFinder<'t, TypeIndex>;
 
 /// An iterator over the types of a table.
@@ -38,7 +38,7 @@ pub type Type<'t> = Item<'t, TypeIndex>;
 /// The table of ids.
 pub type IdInformation = ItemInformation<IdIndex>;
 
-/// Finds ids by their indexes.
+/// A finder of ids by their indexes.
 pub type IdFinder<'t> = ItemFinder<'t, IdIndex>;
 
 /// An iterator over the ids of a table.

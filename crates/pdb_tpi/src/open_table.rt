@@ -21,22 +21,23 @@ use std::mem::replace;
 /// Where a record stands in the stream of its table.
 #[derive(Clone, Copy, Debug, PartialEq, Eq)]
 pub struct RecordPlace {
-    /// How many bytes of the stream are before it.
+    /// The offset of its first byte in the stream.
     pub offset: u32,
     /// How many bytes it has.
     pub length: u32,
 }
 
-/// A table that owns what look-ups know of it, and the place of one walk along it.
+/// A table that owns the positions that look-ups have learned, and the position of one walk along
+/// it.
 ///
-/// A finder and an iterator borrow their table. This is for a caller that can keep no borrow, and that
-/// has the bytes of the stream besides: records are given by their places.
+/// An `ItemFinder` and an `ItemIter` borrow their table. This type is for a caller that can keep no
+/// borrow, and that has the bytes of the stream anyway: it gives records by their places.
 #[derive(Debug, Drop)]
 pub struct OpenTable<I> {
     items: ItemInformation<I>,
     /// Where the blocks begin that look-ups know.
     positions: Vec<u32>,
-    /// The index before which the walk stands.
+    /// The index of the item before which the walk stands.
     index: u64,
     /// Where the item of that index begins.
     position: usize,
@@ -54,7 +55,7 @@ impl<I> Model for OpenTable<I> {
     ghost invariant = { λ t. IsOpen t.items t.positions.items (vec_capacity t.positions) t.index t.position };
 }
 
-/// Where a record of this length stands, behind whose item the next one begins.
+/// Returns where a record of `len` bytes stands whose item ends at the position `end`.
 fn record_before(end: usize, len: usize) -> RecordPlace
     requires before { len ≤ end }
     requires short { end < 0xffffffff }
@@ -66,7 +67,8 @@ fn record_before(end: usize, len: usize) -> RecordPlace
     }
 }
 
-/// An iterator before the last item whose position is known, among those up to a place in the walk.
+/// Returns an iterator that stands before the last item whose position is known, among the items up
+/// to a place in the walk.
 fn start<'t, I: ItemIndex>(
     table: &'t ItemInformation<I>,
     positions: &[u32],
@@ -86,7 +88,8 @@ fn start<'t, I: ItemIndex>(
     ItemIter::at(table, first, positions[block] as usize)
 }
 
-/// Where the blocks begin up to that of a place in the walk, as far as there are any, where some are known.
+/// Returns where the blocks begin up to the one of a place in the walk, as far as there are any,
+/// from those positions that are known already.
 fn learned<I: ItemIndex>(table: &ItemInformation<I>, positions: Vec<u32>, place: u32) -> Vec<u32>
     requires { ArePlaces table.now positions.items (vec_capacity positions) }
     ensures { ArePlaces table.now result.items (vec_capacity result) }
@@ -107,10 +110,10 @@ fn learned<I: ItemIndex>(table: &ItemInformation<I>, positions: Vec<u32>, place:
 }
 
 impl<I: ItemIndex> OpenTable<I> {
-    /// Keeps a table open. Its walk stands before the first item.
+    /// Keeps a table open, with its walk before the first item.
     ///
     /// # Errors
-    /// `OutOfMemory` if memory is refused.
+    /// Returns `OutOfMemory` if memory is refused.
     pub fn new(alloc: Global, items: ItemInformation<I>) -> Result<Self>
         ensures { Answers (λ table. table) result (Ok (first_stand items)) }
     {
@@ -124,22 +127,23 @@ impl<I: ItemIndex> OpenTable<I> {
         })
     }
 
-    /// The table.
+    /// Returns the table.
     pub fn items(&self) -> &ItemInformation<I>
         ensures { result.now ≡ self.now.table }
     {
         &self.items
     }
 
-    /// The index before whose item the walk stands: that behind the last one where it has ended.
+    /// Returns the index of the item before which the walk stands, or the index behind the last one
+    /// if the walk has ended.
     pub fn index(&self) -> u64
         ensures { result ≡ self.now.index }
     {
         self.index
     }
 
-    /// Has look-ups know where items stand, up to that of an index, as far as there are any. Those that
-    /// follow read eight lengths at most for it.
+    /// Learns where items stand, up to the one of an index, as far as there are any. Later look-ups
+    /// of that index read at most eight lengths.
     pub fn learn(&mut self, alloc: Global, index: u32)
         ensures { self.new ≡ self.old }
     {
@@ -154,8 +158,8 @@ impl<I: ItemIndex> OpenTable<I> {
         }
     }
 
-    /// The item of a place in the walk, and where its record stands; or the fault at which the walk stops
-    /// before it.
+    /// Returns the item at a place in the walk and where its record stands, or the fault at which
+    /// the walk stops before it.
     fn nth(&self, place: u32) -> Result<(Item<'_, I>, RecordPlace)>
         ensures item { Gives (λ found. bytes_of found.0) result (nth_item self.now.table place) }
         ensures index { IfOk result (λ found.
@@ -172,12 +176,13 @@ impl<I: ItemIndex> OpenTable<I> {
         Ok((item, record))
     }
 
-    /// Where the record of an index stands in the stream of the table. None of an index below the first,
-    /// which is that of a primitive type and has no record there.
+    /// Returns where the record of an index stands in the stream of the table. Returns None for an
+    /// index below the first one, which is that of a primitive type and has no record there.
     ///
     /// # Errors
-    /// `TypeNotFound` from the table's maximum on; the refusal at which the walk stops before the item;
-    /// `UnexpectedEof` if the walk ends before the item.
+    /// Fails with `TypeNotFound` for an index from the table's maximum on, with the fault at which
+    /// the walk stops if that is before the item, and with `UnexpectedEof` if the walk ends before
+    /// the item.
     #[tactic(auto, unfolding(crate::specs::Finder::item_of))]
     pub fn find(&self, index: u32) -> Result<Option<RecordPlace>>
         ensures { Gives (λ place. place) result (located self.now.table index) }
@@ -193,10 +198,10 @@ impl<I: ItemIndex> OpenTable<I> {
         Ok(Some(place))
     }
 
-    /// The item of an index, wherever in the table it stands.
+    /// Returns the item of an index, wherever in the table it stands.
     ///
     /// # Errors
-    /// As `find`.
+    /// Fails as `find` does.
     #[tactic(auto, unfolding(crate::specs::Finder::item_of))]
     pub fn item(&self, index: u32) -> Result<Item<'_, I>>
         ensures item { Gives bytes_of result (item_of self.now.table index) }
@@ -216,10 +221,11 @@ impl<I: ItemIndex> OpenTable<I> {
         Ok(item)
     }
 
-    /// Where the next record of the walk stands in the stream of the table, or None behind the last one.
+    /// Returns where the next record of the walk stands in the stream of the table, or None behind
+    /// the last one.
     ///
     /// # Errors
-    /// The fault at which the walk stops, and the walk stays there.
+    /// Fails with the fault at which the walk stops. The walk then stays where it is.
     pub fn step(&mut self) -> Result<Option<RecordPlace>>
         ensures place { Gives (λ place. (place, self.new)) result (step_located self.old) }
         ensures kept { OnErr result (self.new ≡ self.old) }
@@ -235,7 +241,7 @@ impl<I: ItemIndex> OpenTable<I> {
         }
     }
 
-    /// Has the walk stand before the first item again.
+    /// Moves the walk back to before the first item.
     pub fn rewind(&mut self)
         ensures { self.new ≡ first_stand self.old.table }
     {

@@ -1,4 +1,4 @@
-//! What the items of the table of types say.
+//! The values of the items of the table of types.
 
 ghost use Rattle.std.specs.Prelude.{◌≡◌, ℕ, ◌<◌, ◌≤◌, List, length, Err, IfOk};
 ghost use Rattle.pdb_base.specs.declared.error.Error.TheVariants.{UnexpectedEof};
@@ -22,19 +22,23 @@ use pdb_values::{FIRST_RECORD, TypeData, type_data_for_primitive};
 use std::alloc::Global;
 
 impl<'t> Item<'t, TypeIndex> {
-    /// What the type is: the primitive type that the index names, where that is below 0x1000, and
-    /// else what the record says. Names and records within it borrow from the table; memory is taken
-    /// for lists alone.
+    /// Parses the type: returns the primitive type that the index names if that is below 0x1000,
+    /// and otherwise the value of the record. Names and the descriptors of a virtual table's shape
+    /// borrow from the table, also those of records within it; memory is taken for lists alone.
     ///
     /// # Errors
-    /// `TypeNotFound` for an index below 0x1000 that names no type. Else the first fault of the
-    /// record: `UnexpectedEof` if its bytes end before a field does, `UnexpectedNumericPrefix`
-    /// if a number of variable width has an unknown prefix, `UnimplementedTypeKind` by its number
-    /// for a leaf that has no record here, for a list of fields within one, and for a pointer whose
-    /// kind or mode is unknown, `UnimplementedFeature` for an array's dimension above 0xffffffff; and
-    /// `OutOfMemory` if memory for a list is refused, which is asked for only once the list's first
-    /// item is there. So a count that the bytes don't hold is `UnexpectedEof`, also as the first entry
-    /// of a list of fields.
+    /// Returns `TypeNotFound` for an index below 0x1000 that names no type.
+    ///
+    /// For any other index, fails with the first fault of the record: `UnexpectedEof` if its bytes
+    /// end before a field does, or if an array has bytes behind its dimensions and their padding;
+    /// `UnexpectedNumericPrefix` if a number of variable width has an unknown prefix;
+    /// `UnimplementedTypeKind` with the leaf's number for a leaf that has no record here, for a
+    /// list of fields within one, and for a pointer whose kind or mode is unknown; or
+    /// `UnimplementedFeature` for an array's dimension above 0xffffffff.
+    ///
+    /// Fails with `OutOfMemory` if memory for a list is refused, which is asked for only once the
+    /// bytes are known to hold the list's first item. So an argument list whose count says more
+    /// than the bytes hold gives `UnexpectedEof`, also as the first entry of a list of fields.
     #[inline(always)]
     #[tactic(auto, unfolding(crate::specs::Record::type_of))]
     pub fn parse(&self, alloc: Global) -> Result<TypeData<'t>>

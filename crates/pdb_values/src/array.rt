@@ -18,7 +18,7 @@ pub struct ArrayType {
     /// The type of an index.
     pub indexing_type: TypeIndex,
 
-    /// How far apart elements lie, in bytes, where that is stated.
+    /// The distance from one element to the next in bytes, if the record states it.
     pub stride: Option<u32>,
 
     /// How many bytes the array takes in each dimension, the outermost first.
@@ -26,10 +26,10 @@ pub struct ArrayType {
 }
 
 impl ArrayType {
-    /// An equal array, in memory of its own.
+    /// Returns an equal array, in memory of its own.
     ///
     /// # Errors
-    /// `OutOfMemory` if memory is refused, which is asked for only if there is a dimension.
+    /// Returns `OutOfMemory` if memory is refused, which is asked for only if there is a dimension.
     pub fn clone(&self, alloc: Global) -> Result<Self>
         ensures copied { Answers array_value result (Ok (array_value self.now)) }
         ensures want { LacksOnlyIf result (HasItem (array_value self.now).dimensions) }

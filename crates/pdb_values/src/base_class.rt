@@ -1,4 +1,4 @@
-//! What a class has of the classes that it derives from.
+//! Base classes, and the pointer to a class's table of virtual functions.
 
 use crate::class::ClassKind;
 use pdb_base::TypeIndex;
@@ -10,7 +10,7 @@ pub struct BaseClassType {
     /// Whether it is a class or an interface.
     pub kind: ClassKind,
 
-    /// Who may reach it.
+    /// Its attributes, which say who may access it.
     pub attributes: FieldAttributes,
 
     /// The base class.
@@ -27,7 +27,7 @@ pub struct VirtualBaseClassType {
     /// Whether the class itself names it, and not a base class.
     pub direct: bool,
 
-    /// Who may reach it.
+    /// Its attributes, which say who may access it.
     pub attributes: FieldAttributes,
 
     /// The base class.
@@ -36,10 +36,10 @@ pub struct VirtualBaseClassType {
     /// The type of the pointer to the table of virtual bases.
     pub base_pointer: TypeIndex,
 
-    /// Where that pointer stands, in bytes from the address point.
+    /// The offset of that pointer in bytes, from the address point.
     pub base_pointer_offset: u32,
 
-    /// The place of the base class in that table.
+    /// The position of the base class in that table.
     pub virtual_base_offset: u32,
 }
 

@@ -1,16 +1,16 @@
-//! Members of some bits.
+//! Bit fields.
 
 use pdb_base::TypeIndex;
 
-/// A member that takes some bits of its type: `lfBitfield` of Microsoft's cvinfo.h.
+/// A bit field, a member that takes some bits of its type: `lfBitfield` of Microsoft's cvinfo.h.
 #[derive(Clone, Copy, Debug, PartialEq, Eq)]
 pub struct BitfieldType {
-    /// The type that the bits are of.
+    /// The type whose bits it takes.
     pub underlying_type: TypeIndex,
 
     /// How many bits it takes.
     pub length: u8,
 
-    /// The place of its lowest bit, from the lowest of the type on.
+    /// The position of its lowest bit, counted from the lowest bit of the type.
     pub position: u8,
 }

@@ -3,7 +3,7 @@
 use pdb_base::{RawString, TypeIndex};
 use pdb_flags::TypeProperties;
 
-/// Which of the three a class is declared as.
+/// Whether a class is declared as a `class`, a `struct` or an `interface`.
 #[derive(Clone, Copy, Debug, PartialEq, Eq)]
 pub enum ClassKind {
     /// A `class`.
@@ -19,20 +19,20 @@ pub enum ClassKind {
 /// A class, a structure or an interface: `lfClass` of Microsoft's cvinfo.h.
 #[derive(Clone, Debug, PartialEq, Eq, Drop)]
 pub struct ClassType<'t> {
-    /// Which of the three it is.
+    /// Whether it is a class, a structure or an interface.
     pub kind: ClassKind,
 
     /// How many members its field list has.
     pub count: u16,
 
-    /// What is said of it beside.
+    /// Its properties, such as whether it is packed or nested in another type.
     pub properties: TypeProperties,
 
     /// Its members, in a field list.
     pub fields: Option<TypeIndex>,
 
-    /// The list of the classes that it derives from. Linkers leave it out and name base classes in the
-    /// field list.
+    /// The list of the classes that it derives from. Linkers leave it out and name base classes in
+    /// the field list.
     pub derived_from: Option<TypeIndex>,
 
     /// The shape of its table of virtual functions.

@@ -7,7 +7,7 @@ ghost use Rattle.pdb_base.specs.Memory.{LacksOnlyIf, HasItem};
 use pdb_base::Result;
 use std::alloc::Global;
 
-/// Equal items, in memory of their own; where there are none, no memory is asked for.
+/// Copies items into memory of their own. Asks for no memory if there are none.
 pub(crate) fn copy_items<T: Copy>(alloc: Global, items: &[T]) -> Result<Vec<T>>
     ensures copied { Answers (λ copies. copies.items) result (Ok items.now) }
     ensures want { LacksOnlyIf result (HasItem items.now) }

@@ -9,7 +9,7 @@ pub struct EnumerationType<'t> {
     /// How many values it has.
     pub count: u16,
 
-    /// What is said of it beside.
+    /// Its properties, such as whether it is packed or nested in another type.
     pub properties: TypeProperties,
 
     /// The type that holds a value.
@@ -28,7 +28,7 @@ pub struct EnumerationType<'t> {
 /// A value of an enumeration: `lfEnumerate` of Microsoft's cvinfo.h.
 #[derive(Clone, Debug, PartialEq, Eq, Drop)]
 pub struct EnumerateType<'t> {
-    /// Who may reach it.
+    /// Its attributes, which say who may access it.
     pub attributes: FieldAttributes,
 
     /// The number that it stands for.

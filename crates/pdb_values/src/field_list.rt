@@ -1,4 +1,4 @@
-//! Lists of what a type has inside.
+//! Lists of the fields of a class, a union or an enumeration.
 
 ghost use Rattle.std.specs.Prelude.{Ok};
 ghost use Rattle.pdb_base.specs.Answer.{Answers};
@@ -18,15 +18,15 @@ pub struct FieldList<'t> {
     /// The members or values.
     pub fields: Vec<TypeData<'t>>,
 
-    /// The list that goes on where this one ends, if one does.
+    /// The index of the list that continues this one, if there is one.
     pub continuation: Option<TypeIndex>,
 }
 
 impl<'t> FieldList<'t> {
-    /// An equal list, with memory of its own for its fields and for their lists.
+    /// Returns an equal list, with memory of its own for its fields and for their lists.
     ///
     /// # Errors
-    /// `OutOfMemory` if memory is refused, which is asked for only if there is a field.
+    /// Returns `OutOfMemory` if memory is refused, which is asked for only if there is a field.
     pub fn clone(&self, alloc: Global) -> Result<Self>
         ensures copied { Answers field_list_value result (Ok (field_list_value self.now)) }
         ensures want { LacksOnlyIf result (HasListItem (field_list_value self.now)) }

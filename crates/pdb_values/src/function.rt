@@ -16,7 +16,7 @@ pub struct ProcedureType {
     /// The type that it returns.
     pub return_type: Option<TypeIndex>,
 
-    /// How it is called.
+    /// Its attributes, which say how it is called.
     pub attributes: FunctionAttributes,
 
     /// How many parameters it has.
@@ -35,10 +35,10 @@ pub struct MemberFunctionType {
     /// The class that it is a method of.
     pub class_type: TypeIndex,
 
-    /// The type of `this`, which a static method has not.
+    /// The type of `this`, or None for a static method.
     pub this_pointer_type: Option<TypeIndex>,
 
-    /// How it is called.
+    /// Its attributes, which say how it is called.
     pub attributes: FunctionAttributes,
 
     /// How many parameters it has, without `this`.
@@ -47,7 +47,7 @@ pub struct MemberFunctionType {
     /// The list of their types.
     pub argument_list: TypeIndex,
 
-    /// How many bytes `this` is moved by before it is used.
+    /// How many bytes `this` is adjusted by before it is used.
     pub this_adjustment: u32,
 }
 
@@ -59,10 +59,10 @@ pub struct ArgumentList {
 }
 
 impl ArgumentList {
-    /// An equal list, in memory of its own.
+    /// Returns an equal list, in memory of its own.
     ///
     /// # Errors
-    /// `OutOfMemory` if memory is refused, which is asked for only if the list has an item.
+    /// Returns `OutOfMemory` if memory is refused, which is asked for only if the list has an item.
     pub fn clone(&self, alloc: Global) -> Result<Self>
         ensures copied { Answers argument_types result (Ok (argument_types self.now)) }
         ensures want { LacksOnlyIf result (HasItem (argument_types self.now)) }

@@ -5,7 +5,7 @@ use pdb_base::{IdIndex, RawString, TypeIndex};
 /// A function: `lfFuncId` of Microsoft's cvinfo.h.
 #[derive(Clone, Debug, PartialEq, Eq, Drop)]
 pub struct FunctionId<'t> {
-    /// The scope that it is declared in, none where it is the global one.
+    /// The scope that it is declared in, or None for the global scope.
     pub scope: Option<IdIndex>,
 
     /// Its type.

@@ -1,4 +1,4 @@
-//! Ids as their records say them.
+//! The values of id records.
 
 ghost use Rattle.std.specs.Prelude.{Ok};
 ghost use Rattle.pdb_base.specs.Answer.{Answers};
@@ -12,7 +12,7 @@ use crate::source_id::UserDefinedTypeSourceId;
 use pdb_base::Result;
 use std::alloc::Global;
 
-/// What a record of an id says.
+/// The value of an id record.
 #[derive(Debug, PartialEq, Eq, Drop)]
 pub enum IdData<'t> {
     /// A function.
@@ -35,10 +35,10 @@ pub enum IdData<'t> {
 }
 
 impl<'t> IdData<'t> {
-    /// An equal value, with memory of its own for a list.
+    /// Returns an equal value, with memory of its own for a list.
     ///
     /// # Errors
-    /// `OutOfMemory` if memory is refused, which is asked for only if a list has an item.
+    /// Returns `OutOfMemory` if memory is refused, which is asked for only if a list has an item.
     pub fn clone(&self, alloc: Global) -> Result<Self>
         ensures copied { Answers id_value result (Ok (id_value self.now)) }
         ensures want { LacksOnlyIf result (HasIdListItem (id_value self.now)) }

@@ -9,14 +9,15 @@ ghost use Rattle.pdb_values.specs.declared.primitive.TheConstants.{FIRST_RECORD}
 
 pub mod derived;
 
-/// Each primitive type has one index below 0x1000, and an index that stands for none is refused by name.
+/// Each primitive type has one index below 0x1000. An index that stands for none is refused with
+/// `TypeNotFound` and that index.
 #[tactic(auto, using(crate::proofs::PrimitiveLemmas::has_one_index, crate::proofs::PrimitiveLemmas::is_refused_by_index))]
 pub fn primitives()
     ensures one { (type : PrimitiveType) → HasOneIndex type }
     ensures refused { (index : ℕ) → IsRefusedByIndex index }
 {}
 
-/// The values of a field list are a list, and nothing beside.
+/// The values of a field list are a list and nothing else.
 #[tactic(auto, using(crate::proofs::lemmas::Fields::listed, crate::proofs::lemmas::Fields::unlisted))]
 pub fn field_lists()
     ensures listed { (values : List TypeValue) → values_in (as_fields values) ≡ values }

@@ -1,4 +1,4 @@
-//! The values that records of types and of ids say: structs and enums with the fields of the records,
+//! The values of type records and id records: structs and enums with the fields of the records,
 //! which borrow their names from the records' bytes. The records are those of Microsoft's cvinfo.h.
 #![tactic(auto)]
 

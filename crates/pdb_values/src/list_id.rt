@@ -9,8 +9,8 @@ use crate::copy_items::copy_items;
 use pdb_base::{IdIndex, RawString, Result, TypeIndex};
 use std::alloc::Global;
 
-/// What a module was built with: the tool, its arguments and their like, each the id of a text:
-/// `lfBuildInfo` of Microsoft's cvinfo.h.
+/// What a module was built with: the tool, its arguments and so on, each as the id of a text. This
+/// is `lfBuildInfo` of Microsoft's cvinfo.h.
 #[derive(Debug, PartialEq, Eq, Drop)]
 pub struct BuildInfoId {
     /// The ids, in order.
@@ -27,7 +27,7 @@ pub struct StringListId {
 /// A text: `lfStringId` of Microsoft's cvinfo.h.
 #[derive(Clone, Debug, PartialEq, Eq, Drop)]
 pub struct StringId<'t> {
-    /// The list of its first parts, where it has others than its last.
+    /// The list of its first parts, if it has parts other than the last.
     pub substrings: Option<IdIndex>,
 
     /// Its last part.
@@ -35,10 +35,10 @@ pub struct StringId<'t> {
 }
 
 impl BuildInfoId {
-    /// An equal list, in memory of its own.
+    /// Returns an equal list, in memory of its own.
     ///
     /// # Errors
-    /// `OutOfMemory` if memory is refused, which is asked for only if the list has an item.
+    /// Returns `OutOfMemory` if memory is refused, which is asked for only if the list has an item.
     pub fn clone(&self, alloc: Global) -> Result<Self>
         ensures copied { Answers build_arguments result (Ok (build_arguments self.now)) }
         ensures want { LacksOnlyIf result (HasItem (build_arguments self.now)) }
@@ -49,10 +49,10 @@ impl BuildInfoId {
 }
 
 impl StringListId {
-    /// An equal list, in memory of its own.
+    /// Returns an equal list, in memory of its own.
     ///
     /// # Errors
-    /// `OutOfMemory` if memory is refused, which is asked for only if the list has an item.
+    /// Returns `OutOfMemory` if memory is refused, which is asked for only if the list has an item.
     pub fn clone(&self, alloc: Global) -> Result<Self>
         ensures copied { Answers text_parts result (Ok (text_parts self.now)) }
         ensures want { LacksOnlyIf result (HasItem (text_parts self.now)) }

@@ -6,7 +6,7 @@ use pdb_flags::FieldAttributes;
 /// A data member that each object has: `lfMember` of Microsoft's cvinfo.h.
 #[derive(Clone, Debug, PartialEq, Eq, Drop)]
 pub struct MemberType<'t> {
-    /// Who may reach it.
+    /// Its attributes, which say who may access it.
     pub attributes: FieldAttributes,
 
     /// Its type.
@@ -19,10 +19,10 @@ pub struct MemberType<'t> {
     pub name: RawString<'t>,
 }
 
-/// A data member that the class has once: `lfSTMember` of Microsoft's cvinfo.h.
+/// A static data member, which the class has once: `lfSTMember` of Microsoft's cvinfo.h.
 #[derive(Clone, Debug, PartialEq, Eq, Drop)]
 pub struct StaticMemberType<'t> {
-    /// Who may reach it.
+    /// Its attributes, which say who may access it.
     pub attributes: FieldAttributes,
 
     /// Its type.
@@ -35,7 +35,7 @@ pub struct StaticMemberType<'t> {
 /// A type that is declared in a class: `lfNestType` and `lfNestTypeEx` of Microsoft's cvinfo.h.
 #[derive(Clone, Debug, PartialEq, Eq, Drop)]
 pub struct NestedType<'t> {
-    /// Who may reach it. The word is 0 where the record has none.
+    /// Its attributes, which say who may access it. They are 0 if the record has none.
     pub attributes: FieldAttributes,
 
     /// The type.

@@ -10,7 +10,7 @@ use pdb_base::{RawString, Result, TypeIndex};
 use pdb_flags::FieldAttributes;
 use std::alloc::Global;
 
-/// Methods of one name: `lfMethod` of Microsoft's cvinfo.h.
+/// Overloaded methods, which share one name: `lfMethod` of Microsoft's cvinfo.h.
 #[derive(Clone, Debug, PartialEq, Eq, Drop)]
 pub struct OverloadedMethodType<'t> {
     /// How many methods have the name.
@@ -26,44 +26,45 @@ pub struct OverloadedMethodType<'t> {
 /// A method that shares its name with no other: `lfOneMethod` of Microsoft's cvinfo.h.
 #[derive(Clone, Debug, PartialEq, Eq, Drop)]
 pub struct MethodType<'t> {
-    /// Who may reach it, and how it is called.
+    /// Its attributes, which say who may access it and whether it is static or virtual.
     pub attributes: FieldAttributes,
 
     /// Its type.
     pub method_type: TypeIndex,
 
-    /// Its place in the table of virtual functions, in bytes, where the method introduces one.
+    /// Its offset in the table of virtual functions in bytes, if the method introduces one.
     pub vtable_offset: Option<u32>,
 
     /// Its name.
     pub name: RawString<'t>,
 }
 
-/// The methods of one name, in order: the list of `mlMethod` behind `lfMethod` in Microsoft's cvinfo.h.
+/// The methods that share one name, in order: the list of `mlMethod` behind `lfMethod` in
+/// Microsoft's cvinfo.h.
 #[derive(Debug, PartialEq, Eq, Drop)]
 pub struct MethodList {
     /// The methods.
     pub methods: Vec<MethodListEntry>,
 }
 
-/// One of the methods of a name: `mlMethod` of Microsoft's cvinfo.h.
+/// One of the methods that share a name: `mlMethod` of Microsoft's cvinfo.h.
 #[derive(Clone, Copy, Debug, PartialEq, Eq)]
 pub struct MethodListEntry {
-    /// Who may reach it, and how it is called.
+    /// Its attributes, which say who may access it and whether it is static or virtual.
     pub attributes: FieldAttributes,
 
     /// Its type.
     pub method_type: TypeIndex,
 
-    /// Its place in the table of virtual functions, in bytes, where the method introduces one.
+    /// Its offset in the table of virtual functions in bytes, if the method introduces one.
     pub vtable_offset: Option<u32>,
 }
 
 impl MethodList {
-    /// An equal list, in memory of its own.
+    /// Returns an equal list, in memory of its own.
     ///
     /// # Errors
-    /// `OutOfMemory` if memory is refused, which is asked for only if the list has an item.
+    /// Returns `OutOfMemory` if memory is refused, which is asked for only if the list has an item.
     pub fn clone(&self, alloc: Global) -> Result<Self>
         ensures copied { Answers listed_methods result (Ok (listed_methods self.now)) }
         ensures want { LacksOnlyIf result (HasItem (listed_methods self.now)) }

@@ -15,7 +15,7 @@ pub struct PrimitiveType {
     /// The type, or what the pointer points to.
     pub kind: PrimitiveKind,
 
-    /// The pointer, if it is one.
+    /// How the pointer is held, if it is one.
     pub indirection: Option<Indirection>,
 }
 
@@ -45,8 +45,8 @@ pub enum Indirection {
 }
 
 impl Indirection {
-    /// The pointer of this number, `Some(None)` where it is the number of no pointer, or None where it is
-    /// no number at all.
+    /// Returns the indirection with this number: `Some(None)` for 0, which stands for no pointer,
+    /// or None for a number above 7, which stands for nothing.
     fn numbered(number: u32) -> Option<Option<Self>>
         ensures { result ≡ numbered indirections number }
     {
@@ -64,7 +64,7 @@ impl Indirection {
     }
 }
 
-/// Which primitive type, as `TYPE_ENUM_e` of Microsoft's cvinfo.h numbers it.
+/// The kind of a primitive type, as `TYPE_ENUM_e` of Microsoft's cvinfo.h numbers it.
 #[derive(Clone, Copy, Debug, PartialEq, Eq)]
 pub enum PrimitiveKind {
     /// No type is stated.
@@ -195,7 +195,7 @@ pub enum PrimitiveKind {
 }
 
 impl PrimitiveKind {
-    /// The type of this number, or None where it is the number of none.
+    /// Returns the primitive type with this number, or None if there is none.
     fn numbered(number: u32) -> Option<Self>
         ensures { result ≡ numbered primitive_kinds number }
     {
@@ -250,14 +250,14 @@ impl PrimitiveKind {
 /// The least index of a type that has a record: those below stand for primitive types.
 pub const FIRST_RECORD: u32 = 0x1000;
 
-/// The number of the type, in the low byte of an index.
+/// Returns the number of the primitive type, which is the low byte of an index.
 fn kind_number(index: TypeIndex) -> u32
     ensures { result ≡ bits index.0 0 8 }
 {
     index.0 & 0xff
 }
 
-/// The number of the pointer, in the four bits above.
+/// Returns the number of the indirection, which is in the four bits above the low byte of an index.
 fn indirection_number(index: TypeIndex) -> u32
     requires { index.0 < first_record }
     ensures { result ≡ bits index.0 8 4 }
@@ -265,11 +265,12 @@ fn indirection_number(index: TypeIndex) -> u32
     index.0 >> 8
 }
 
-/// The primitive type that an index below 0x1000 stands for: its low byte is the type's number, and
-/// the bits above say whether it is a pointer to that type, and which.
+/// Returns the primitive type that an index below 0x1000 stands for. The index's low byte is the
+/// number of the type, and the bits above say whether it is a pointer to that type, and which kind
+/// of pointer.
 ///
 /// # Errors
-/// `TypeNotFound` if the byte or the bits are no number of cvinfo.h.
+/// Returns `TypeNotFound` if the byte or the bits are no number that cvinfo.h has.
 #[tactic(auto, unfolding(crate::specs::Primitive::primitive_kind, crate::specs::Primitive::primitive_indirection, crate::specs::Primitive::primitive_type, crate::specs::TypeView::primitive_of))]
 pub fn type_data_for_primitive<'t>(index: TypeIndex) -> Result<TypeData<'t>>
     requires { index.0 < first_record }

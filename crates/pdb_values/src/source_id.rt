@@ -9,12 +9,12 @@ pub enum UserDefinedTypeSourceFileRef {
     /// The id of the file's name.
     Local(IdIndex),
 
-    /// The number of the module, and the place of the file's name in the string table.
+    /// The number of the module, and the offset of the file's name in the string table.
     Remote(u16, StringRef),
 }
 
-/// Where a type is declared: `lfUdtSrcLine` of Microsoft's cvinfo.h, or `lfUdtModSrcLine`, which says the
-/// module too.
+/// Where a type is declared: `lfUdtSrcLine` of Microsoft's cvinfo.h, or `lfUdtModSrcLine`, which
+/// names the module too.
 #[derive(Clone, Debug, PartialEq, Eq, Drop)]
 pub struct UserDefinedTypeSourceId {
     /// The type.

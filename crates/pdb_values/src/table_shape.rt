@@ -6,6 +6,6 @@ pub struct VirtualTableShapeType<'t> {
     /// How many functions the table has.
     pub count: u16,
 
-    /// What sort of pointer each function has, in half a byte each, as the record's bytes have them.
+    /// The sort of pointer of each function, half a byte each, as they stand in the record's bytes.
     pub descriptors: &'t [u8],
 }

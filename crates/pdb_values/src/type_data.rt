@@ -1,4 +1,4 @@
-//! Types as their records say them.
+//! The values of type records.
 
 ghost use Rattle.std.specs.Prelude.{◌≡◌, Ok};
 ghost use Rattle.std.specs.Option.{option_map};
@@ -26,11 +26,11 @@ use crate::union_type::UnionType;
 use pdb_base::{RawString, Result};
 use std::alloc::Global;
 
-/// What a record of a type says, or a primitive type, which has no record.
+/// The value of a type record, or a primitive type, which has no record.
 #[cycle(data)]
 #[derive(Debug, PartialEq, Eq, Drop)]
 pub enum TypeData<'t> {
-    /// A type that has no record, as `int`.
+    /// A type that has no record, such as `int`.
     Primitive(PrimitiveType),
 
     /// A class, a structure or an interface.
@@ -42,13 +42,13 @@ pub enum TypeData<'t> {
     /// The type of a method.
     MemberFunction(MemberFunctionType),
 
-    /// Methods of one name.
+    /// Overloaded methods, which share one name.
     OverloadedMethod(OverloadedMethodType<'t>),
 
     /// A method that shares its name with no other.
     Method(MethodType<'t>),
 
-    /// A data member that the class has once.
+    /// A static data member, which the class has once.
     StaticMember(StaticMemberType<'t>),
 
     /// A type that is declared in a class.
@@ -84,7 +84,7 @@ pub enum TypeData<'t> {
     /// A union.
     Union(UnionType<'t>),
 
-    /// A member that takes some bits of its type.
+    /// A bit field.
     Bitfield(BitfieldType),
 
     /// The members of a class or a union, or the values of an enumeration.
@@ -93,7 +93,7 @@ pub enum TypeData<'t> {
     /// The types of a function's arguments.
     ArgumentList(ArgumentList),
 
-    /// The methods of one name.
+    /// The list of the methods that share one name.
     MethodList(MethodList),
 
     /// The shape of a table of virtual functions.
@@ -101,8 +101,9 @@ pub enum TypeData<'t> {
 }
 
 impl<'t> TypeData<'t> {
-    /// The name of a class, a union or an enumeration, of a data member, a nested type, the methods of one
-    /// name or the value of an enumeration. Nothing else has one here.
+    /// Returns the name of a class, a union or an enumeration, of a data member, of a nested type,
+    /// of overloaded methods, or of a value of an enumeration. Returns None for everything else,
+    /// also for a method that shares its name with no other.
     pub fn name(&self) -> Option<RawString<'t>>
         ensures { option_map text_bytes result ≡ name_of (type_value self.now) }
     {
@@ -119,10 +120,10 @@ impl<'t> TypeData<'t> {
         }
     }
 
-    /// An equal value, with memory of its own for each list.
+    /// Returns an equal value, with memory of its own for each list.
     ///
     /// # Errors
-    /// `OutOfMemory` if memory is refused, which is asked for only if a list has an item.
+    /// Returns `OutOfMemory` if memory is refused, which is asked for only if a list has an item.
     pub fn clone(&self, alloc: Global) -> Result<Self>
         ensures copied { Answers type_value result (Ok (type_value self.now)) }
         ensures want { LacksOnlyIf result (HasListItem (type_value self.now)) }
@@ -131,7 +132,7 @@ impl<'t> TypeData<'t> {
     }
 }
 
-/// An equal type.
+/// Returns an equal type, with memory of its own for each list.
 #[cycle(copy)]
 pub(crate) fn copy_type<'t>(alloc: Global, original: &TypeData<'t>) -> Result<TypeData<'t>>
     ensures copied { Answers type_value result (Ok (type_value original.now)) }
@@ -172,7 +173,7 @@ pub(crate) fn copy_type<'t>(alloc: Global, original: &TypeData<'t>) -> Result<Ty
     }
 }
 
-/// An equal field list.
+/// Returns an equal field list, with memory of its own for its fields and for their lists.
 #[cycle(copy)]
 pub(crate) fn copy_list<'t>(alloc: Global, list: &FieldList<'t>) -> Result<FieldList<'t>>
     ensures copied { Answers field_list_value result (Ok (field_list_value list.now)) }
@@ -185,7 +186,7 @@ pub(crate) fn copy_list<'t>(alloc: Global, list: &FieldList<'t>) -> Result<Field
     })
 }
 
-/// Equal fields; where there are none, no memory is asked for.
+/// Copies fields into memory of their own. Asks for no memory if there are none.
 #[cycle(copy)]
 fn copy_fields<'t>(alloc: Global, fields: &[TypeData<'t>]) -> Result<Vec<TypeData<'t>>>
     ensures copied { Answers (λ copies. fields_value copies.items) result (Ok (fields_value fields.now)) }

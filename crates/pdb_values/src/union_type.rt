@@ -9,7 +9,7 @@ pub struct UnionType<'t> {
     /// How many members its field list has.
     pub count: u16,
 
-    /// What is said of it beside.
+    /// Its properties, such as whether it is packed or nested in another type.
     pub properties: TypeProperties,
 
     /// Its members, in a field list.

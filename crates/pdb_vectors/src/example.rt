@@ -6,18 +6,19 @@ ghost use Rattle.pdb_vectors.specs.Example.{directory, page, s1_bytes, s1_of};
 use pdb_base::{Error, Result};
 use std::alloc::Global;
 
-/// Bytes in a page of S1.
+/// The size of a page of S1 in bytes.
 const PAGE_SIZE: usize = 512;
 
 /// The header: page size 512, free page map 1, 8 pages used, a directory of 32 bytes, and page 3 in
-/// the list.
+/// the list of the pages that hold the directory's page numbers.
 pub const HEADER: &[u8] =
     b"Microsoft C/C++ MSF 7.00\r\n\x1a\x44\x53\x00\x00\x00\x00\x02\x00\x00\x01\x00\x00\x00\x08\x00\x00\x00\x20\x00\x00\x00\x00\x00\x00\x00\x03\x00\x00\x00";
 
-/// The directory as far as the size of stream 3: four streams, of 0 and 600 bytes, and absent.
+/// The directory up to where the size of stream 3 begins: the count of four streams, and the sizes
+/// of the first three, which are 0 bytes, 600 bytes, and absent.
 pub const SIZES: &[u8] = b"\x04\x00\x00\x00\x00\x00\x00\x00\x58\x02\x00\x00\xff\xff\xff\xff";
 
-/// The directory behind it: pages 6 and 5 of stream 1, and page 7 of stream 3.
+/// The directory behind the size of stream 3: pages 6 and 5 of stream 1, and page 7 of stream 3.
 pub const PAGES: &[u8] = b"\x06\x00\x00\x00\x05\x00\x00\x00\x07\x00\x00\x00";
 
 /// The number of the directory's page.
@@ -26,7 +27,7 @@ pub const LOCATION: &[u8] = b"\x02\x00\x00\x00";
 /// The bytes of stream 3 of S1.
 pub const HELLO: &[u8] = b"hello";
 
-/// Adds a page that begins with these bytes and is filled up with one byte.
+/// Adds a page that begins with these bytes and is filled up with the byte `fill`.
 #[tactic(auto, unfolding(crate::specs::Example::page))]
 fn push_page(file: &mut Vec<u8>, front: &[u8], fill: u8) -> Result<()>
     requires { length front.now ≤ 512 }
@@ -40,7 +41,7 @@ fn push_page(file: &mut Vec<u8>, front: &[u8], fill: u8) -> Result<()>
     Ok(())
 }
 
-/// The first 512 of these bytes.
+/// Returns the first 512 of these bytes, or all if there are fewer.
 #[tactic(auto, using(crate::proofs::Pages::front))]
 fn page_of(bytes: &[u8]) -> &[u8]
     ensures front { result.now ≡ take 512 bytes.now }
@@ -49,7 +50,7 @@ fn page_of(bytes: &[u8]) -> &[u8]
     &bytes[..PAGE_SIZE.min(bytes.len())]
 }
 
-/// The directory, of 32 bytes, with this size of stream 3.
+/// Returns the directory of 32 bytes with this size of stream 3.
 #[tactic(auto, using(crate::proofs::Constants::is_directory))]
 fn directory(alloc: Global, size: u32) -> Result<Vec<u8>>
     ensures bytes { IfOk result (λ bytes. bytes.items ≡ directory size) }
@@ -62,10 +63,11 @@ fn directory(alloc: Global, size: u32) -> Result<Vec<u8>>
     Ok(bytes)
 }
 
-/// The file S1 with other bytes as stream 3: the first 512 of these, which is what its page holds.
+/// Returns the file S1 with other bytes as stream 3: the first 512 of `stream`, which is what a
+/// page holds.
 ///
 /// # Errors
-/// `OutOfMemory` if memory is refused.
+/// Returns `OutOfMemory` if memory is refused.
 #[tactic(auto, using(crate::proofs::Constants::is_header, crate::proofs::Constants::is_location), unfolding(crate::specs::Example::s1_of))]
 pub fn s1_with(alloc: Global, stream: &[u8]) -> Result<Vec<u8>>
     ensures bytes { IfOk result (λ file. file.items ≡ s1_of (take 512 stream.now)) }
@@ -86,11 +88,11 @@ pub fn s1_with(alloc: Global, stream: &[u8]) -> Result<Vec<u8>>
     Ok(file)
 }
 
-/// The file S1: 4096 bytes with four streams. Stream 0 is empty, stream 1 is 512 times `a` and 88
-/// times `b`, stream 2 is absent, and stream 3 is `hello`.
+/// Returns the file S1: 4096 bytes with four streams. Stream 0 is empty, stream 1 is 512 times `a`
+/// and 88 times `b`, stream 2 is absent, and stream 3 is `hello`.
 ///
 /// # Errors
-/// `OutOfMemory` if memory is refused.
+/// Returns `OutOfMemory` if memory is refused.
 #[tactic(auto, using(crate::proofs::Constants::is_hello))]
 pub fn s1(alloc: Global) -> Result<Vec<u8>>
     ensures bytes { IfOk result (λ file. file.items ≡ s1_bytes) }

@@ -11,7 +11,8 @@ use std::io;
 use std::io::ErrorKind;
 use std::marker::Model;
 
-/// Bytes of which one view fails, whatever it asks for. Every other view is that of the bytes.
+/// A source of bytes in memory of which one view fails, whatever it asks for. Every other view is
+/// that of the bytes.
 #[derive(Debug, Drop)]
 pub struct Failing {
     bytes: Vec<u8>,
@@ -33,22 +34,24 @@ impl Model for Failing {
 }
 
 impl Failing {
-    /// A source of these bytes of which view number `n` fails with kind `Other`, counted from 1. For 0
-    /// none does.
+    /// Returns a source of these bytes whose view number `n`, counted from 1, fails with kind
+    /// `Other`. If `n` is 0, no view fails.
     pub fn new(bytes: Vec<u8>, n: u64) -> Self
         ensures { result ≡ record { bytes = bytes.items; until = n; kind = ErrorKind.Other; faults = 0 } }
     {
         Failing::of_kind(bytes, n, ErrorKind::Other)
     }
 
-    /// The same source, but its view fails with kind `PermissionDenied`.
+    /// Returns the source that `new` returns, except that its view fails with kind
+    /// `PermissionDenied`.
     pub fn denied(bytes: Vec<u8>, n: u64) -> Self
         ensures { result ≡ record { bytes = bytes.items; until = n; kind = ErrorKind.PermissionDenied; faults = 0 } }
     {
         Failing::of_kind(bytes, n, ErrorKind::PermissionDenied)
     }
 
-    /// The same source with a kind that is neither `UnexpectedEof` nor `OutOfMemory`.
+    /// Returns the source that `new` returns, except that its view fails with this kind, which must
+    /// be neither `UnexpectedEof` nor `OutOfMemory`.
     fn of_kind(bytes: Vec<u8>, n: u64, kind: ErrorKind) -> Self
         requires { IsOther kind }
         ensures { result ≡ record { bytes = bytes.items; until = n; kind = kind; faults = 0 } }
@@ -65,7 +68,8 @@ impl Failing {
 impl Source for Failing {
     ghost state = { state_of };
 
-    /// The bytes that the slices name, or a fault of the source's kind where this is the view that fails.
+    /// Returns the bytes that the slices name, or an error of the source's kind if this is the view
+    /// that fails.
     fn view(&mut self, alloc: Global, slices: &[SourceSlice]) -> Result<ReadView, io::Error>
         ensures view { Shows (HasFailed (state_of self.old) (state_of self.new)) (λ v. v) result
             (bytes_at self.old.bytes (positions slices.now)) }

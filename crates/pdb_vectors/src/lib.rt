@@ -1,5 +1,5 @@
-//! The example file S1, tables and sources to try readers on, and the worked rows of the format as
-//! tests.
+//! The example file S1, tables and sources to test readers with, and the worked examples of the
+//! format as tests.
 #![tactic(auto)]
 
 mod example;

@@ -11,7 +11,7 @@ use std::alloc::{AllocError, Global};
 use std::io;
 use std::marker::Model;
 
-/// Bytes that note the slices of each view, in the order of the views.
+/// A source of bytes in memory that notes the slices of each view, in the order of the views.
 #[derive(Debug, Drop)]
 pub struct Noting {
     bytes: Vec<u8>,
@@ -28,7 +28,7 @@ impl Model for Noting {
 }
 
 impl Noting {
-    /// A source of these bytes, without notes.
+    /// Returns a source of these bytes, without notes.
     pub fn new(alloc: Global, bytes: Vec<u8>) -> Self
         ensures { result ≡ record { bytes = bytes.items; notes = [] } }
     {
@@ -38,7 +38,7 @@ impl Noting {
         }
     }
 
-    /// The slices of each view so far.
+    /// Returns the slices of each view so far.
     pub fn notes(&self) -> &[Vec<SourceSlice>]
         ensures { map (λ note. note.items) result.now ≡ self.now.notes }
     {
@@ -49,8 +49,8 @@ impl Noting {
 impl Source for Noting {
     ghost state = { state_of };
 
-    /// The bytes that the slices name, which are noted first. Where the note finds no memory, the
-    /// view is refused with kind `OutOfMemory`, and nothing is noted.
+    /// Notes the slices, and then returns the bytes that they name. If there is no memory for the
+    /// note, the view is refused with kind `OutOfMemory`, and nothing is noted.
     fn view(&mut self, alloc: Global, slices: &[SourceSlice]) -> Result<ReadView, io::Error>
         ensures view { Shows (HasFailed (state_of self.old) (state_of self.new)) (λ v. v) result
             (bytes_at self.old.bytes (positions slices.now)) }

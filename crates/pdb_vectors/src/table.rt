@@ -1,4 +1,4 @@
-//! Tables of types or ids, for rows that ask of their items.
+//! Tables of types or ids, for tests that ask for their items.
 
 ghost use Rattle.std.specs.Prelude.{◌≡◌, IfOk, IfErr};
 ghost use Rattle.pdb_vectors.specs.Tables.{table_bytes};
@@ -6,13 +6,14 @@ ghost use Rattle.pdb_vectors.specs.Tables.{table_bytes};
 use pdb_base::{Error, Result};
 use std::alloc::Global;
 
-/// Bytes in the header of a table.
+/// The size of the header of a table in bytes.
 const HEADER_SIZE: usize = 56;
 
-/// The bytes of a table: 56 of a header, of which these three fields are not 0, and then the items.
+/// Returns the bytes of a table: a header of 56 bytes, of which all but these three fields are 0,
+/// and then the items.
 ///
 /// # Errors
-/// `OutOfMemory` if memory is refused.
+/// Returns `OutOfMemory` if memory is refused.
 #[tactic(auto, unfolding(crate::specs::Tables::table_bytes))]
 pub fn item_table(
     alloc: Global,

@@ -1,4 +1,4 @@
-//! The worked rows. Errors are told by their texts.
+//! The worked examples as tests. Errors are compared by their texts.
 
 mod buffers;
 mod indexes;
@@ -13,7 +13,7 @@ use std::io::ErrorKind;
 use std::test::Fail;
 use std::{fmt, io};
 
-/// The file S1 with some bytes set to others.
+/// Returns the file S1 with some bytes set to others.
 fn edited(alloc: Global, edits: &[(usize, u8)]) -> pdb_base::Result<Vec<u8>> {
     let mut file = s1(alloc)?;
     for (place, byte) in edits {
@@ -24,7 +24,7 @@ fn edited(alloc: Global, edits: &[(usize, u8)]) -> pdb_base::Result<Vec<u8>> {
     Ok(file)
 }
 
-/// Whether `get` answers this: bytes, or the text of an error.
+/// Returns whether `get` answers with `want`: bytes, or the text of an error.
 fn answers(alloc: Global, answer: pdb_base::Result<Stream>, want: &[u8]) -> bool {
     match answer {
         Ok(stream) => stream.into_bytes().as_slice() == want,
@@ -32,17 +32,17 @@ fn answers(alloc: Global, answer: pdb_base::Result<Stream>, want: &[u8]) -> bool
     }
 }
 
-/// Whether a value's text is this one.
+/// Returns whether a value is displayed as `want`.
 fn shows<T: fmt::Display>(alloc: Global, value: &T, want: &str) -> bool {
     matches!(value.to_string(alloc), Ok(text) if text.as_str() == want)
 }
 
-/// Whether a value's text for readers of the code is this one.
+/// Returns whether a value's debug text is `want`.
 fn shows_debug<T: fmt::Debug>(alloc: Global, value: &T, want: &str) -> bool {
     matches!(format!(in alloc; "{value:?}"), Ok(text) if text.as_str() == want)
 }
 
-/// The bytes of stream 1: 512 times `a`, 88 times `b`.
+/// Returns the bytes of stream 1: 512 times `a`, 88 times `b`.
 fn stream_1(alloc: Global) -> pdb_base::Result<Vec<u8>> {
     let mut bytes = vec![in alloc; b'a'; 512]?;
     bytes.resize(600, b'b')?;
@@ -57,14 +57,15 @@ const SOURCE_ENDS: &[u8] = b"IO error while reading PDB: unexpected end of file"
 
 const OUT_OF_RANGE: &[u8] = b"MSF referred to page number (9) out of range";
 
-/// Where the page number of stream 3 stands in S1, the second one of stream 1, and the directory's size.
+/// The offsets in S1 of the page number of stream 3, of the second one of stream 1, and of the
+/// directory's size.
 const PAGE_OF_3: usize = 1052;
 
 const PAGE_OF_1: usize = 1048;
 
 const DIRECTORY_SIZE: usize = 44;
 
-/// Whether an edited S1 answers this for a stream, and answers it again.
+/// Returns whether an edited S1 answers with `want` for a stream, and does so again.
 fn answers_twice(
     alloc: Global,
     edits: &[(usize, u8)],
@@ -78,7 +79,7 @@ fn answers_twice(
     Ok(once && again)
 }
 
-/// Whether S1 answers so many of the first bytes of stream 1, and answers them again.
+/// Returns whether S1 answers with the first `len` bytes of stream 1, and does so again.
 fn answers_front(alloc: Global, limit: Option<usize>, len: usize) -> pdb_base::Result<bool> {
     let whole = stream_1(alloc)?;
     let front = &whole.as_slice()[..len.min(whole.len())];
@@ -136,7 +137,7 @@ fn streams(rt: HostRuntime) -> Result<(), Fail> {
     Ok(())
 }
 
-/// The count of streams that S1 claims, where it stands.
+/// The edits by which S1 claims 0xffffffff streams.
 const CLAIMED: [(usize, u8); 4] = [(1024, 0xff), (1025, 0xff), (1026, 0xff), (1027, 0xff)];
 
 #[test]
@@ -163,7 +164,7 @@ fn claimed_streams(rt: HostRuntime) -> Result<(), Fail> {
     Ok(())
 }
 
-/// Whether opening answers this: nothing, or the text of an error.
+/// Returns whether opening the file fails with the text `want`, or succeeds if that is empty.
 fn opens(alloc: Global, file: Vec<u8>, want: &str) -> bool {
     match open_msf(alloc, file) {
         Ok(_) => want.is_empty(),

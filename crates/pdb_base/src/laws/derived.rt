@@ -1,5 +1,5 @@
-//! What `Default`, `==` and the order of each type say. The functions do nothing: each contract is a
-//! law. Equal values hash alike, which the trait `Hash` demands of each type.
+//! What `Default`, `==` and the order of each type say. The functions do nothing: each contract is
+//! a law. Equal values hash alike, which the trait `Hash` demands of each type.
 
 ghost use Rattle.std.specs.Prelude.{◌≡◌, ◌↔◌, [], IsTrue};
 ghost use Rattle.pdb_base.specs.declared.count.Count.{Count};
@@ -19,74 +19,74 @@ use crate::parse::Le;
 use crate::raw_string::RawString;
 use crate::variant::Variant;
 
-/// The index of a stream is that of none by default. Indexes are equal just where their numbers are,
-/// and compare as these.
+/// The default index of a stream names no stream. Indexes are equal exactly if their numbers are,
+/// and compare as their numbers do.
 pub fn stream_indexes()
     ensures default { DefaultsTo ⟦<StreamIndex as Default>⟧.is_default (record { 0 = no_stream }) }
     ensures equal { TellsApart ⟦<StreamIndex as PartialEq>⟧.eq }
     ensures order { OrdersBy (λ index. index.0) ⟦<StreamIndex as Ord>⟧.cmp }
 {}
 
-/// The index of a type is 0 by default. Indexes are equal just where their numbers are, and compare as
-/// these.
+/// The default index of a type is 0. Indexes are equal exactly if their numbers are, and compare as
+/// their numbers do.
 pub fn type_indexes()
     ensures default { DefaultsTo ⟦<TypeIndex as Default>⟧.is_default (record { 0 = 0 }) }
     ensures equal { TellsApart ⟦<TypeIndex as PartialEq>⟧.eq }
     ensures order { OrdersBy (λ index. index.0) ⟦<TypeIndex as Ord>⟧.cmp }
 {}
 
-/// The index of an id is 0 by default. Indexes are equal just where their numbers are, and compare as
-/// these.
+/// The default index of an id is 0. Indexes are equal exactly if their numbers are, and compare as
+/// their numbers do.
 pub fn id_indexes()
     ensures default { DefaultsTo ⟦<IdIndex as Default>⟧.is_default (record { 0 = 0 }) }
     ensures equal { TellsApart ⟦<IdIndex as PartialEq>⟧.eq }
     ensures order { OrdersBy (λ index. index.0) ⟦<IdIndex as Ord>⟧.cmp }
 {}
 
-/// The place of a source file is 0 by default. Places are equal just where their numbers are, and
-/// compare as these.
+/// The default offset of a source file is 0. Offsets are equal exactly if their numbers are, and
+/// compare as their numbers do.
 pub fn file_indexes()
     ensures default { DefaultsTo ⟦<FileIndex as Default>⟧.is_default (record { 0 = 0 }) }
     ensures equal { TellsApart ⟦<FileIndex as PartialEq>⟧.eq }
     ensures order { OrdersBy (λ index. index.0) ⟦<FileIndex as Ord>⟧.cmp }
 {}
 
-/// Places of symbols are equal just where their numbers are, and compare as these.
+/// Offsets of symbols are equal exactly if their numbers are, and compare as their numbers do.
 pub fn symbol_indexes()
     ensures equal { TellsApart ⟦<SymbolIndex as PartialEq>⟧.eq }
     ensures order { OrdersBy (λ index. index.0) ⟦<SymbolIndex as Ord>⟧.cmp }
 {}
 
-/// A register's number is 0 by default. Registers are equal just where their numbers are, and compare
-/// as these.
+/// The default number of a register is 0. Registers are equal exactly if their numbers are, and
+/// compare as their numbers do.
 pub fn registers()
     ensures default { DefaultsTo ⟦<Register as Default>⟧.is_default (record { 0 = 0 }) }
     ensures equal { TellsApart ⟦<Register as PartialEq>⟧.eq }
     ensures order { OrdersBy (λ register. register.0) ⟦<Register as Ord>⟧.cmp }
 {}
 
-/// A local index has the default of the index that it is, and is equal to another, and compares to it,
-/// just as the indexes do.
+/// The default of a local index is that of the index that it holds. Local indexes are equal, and
+/// compare, exactly as the indexes that they hold do.
 pub fn local_indexes<I: ItemIndex + Ord>()
     ensures default { (index : Local I) → ⟦<Local<I> as Default>⟧.is_default index → I.is_default index.0 }
     ensures equal { (a b : Local I) → ⟦<Local<I> as PartialEq>⟧.eq a b ≡ I.eq a.0 b.0 }
     ensures order { (a b : Local I) → ⟦<Local<I> as Ord>⟧.cmp a b ≡ I.cmp a.0 b.0 }
 {}
 
-/// Numeric leaves are equal just where they are one number in one width.
+/// Numeric leaves are equal exactly if they are the same number in the same width.
 pub fn variants()
     ensures { TellsApart ⟦<Variant as PartialEq>⟧.eq }
 {}
 
-/// A text is empty by default. Texts are equal just where their bytes are. They compare by the first of
-/// these that differ, and where none do by their lengths.
+/// The default text is empty. Texts are equal exactly if their bytes are. They compare by the first
+/// bytes that differ or, if none do, by their lengths.
 pub fn texts()
     ensures default { (text : RawString) → ⟦<RawString<'static> as Default>⟧.is_default text → text.0.now ≡ [] }
     ensures equal { (a b : RawString) → IsTrue (⟦<RawString<'static> as PartialEq>⟧.eq a b) ↔ (a.0.now ≡ b.0.now) }
     ensures order { (a b : RawString) → ⟦<RawString<'static> as Ord>⟧.cmp a b ≡ slice_cmp nat_cmp a.0.now b.0.now }
 {}
 
-/// No call is counted by default. Counts are equal just where the calls are.
+/// The default count is of no calls. Counts are equal exactly if they count as many calls.
 pub fn counts()
     ensures default { (count : Count) → ⟦<Count as Default>⟧.is_default count → calls_of count ≡ 0 }
     ensures equal { TellsApart ⟦<Count as PartialEq>⟧.eq }

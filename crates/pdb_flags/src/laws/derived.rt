@@ -15,7 +15,7 @@ use crate::pointer_kind::PointerKind;
 use crate::pointer_mode::PointerMode;
 use crate::type_properties::TypeProperties;
 
-/// Flag words are equal just where all of their bits are.
+/// Flag words are equal exactly if all of their bits are.
 pub fn words()
     ensures fields { (a b : FieldAttributes) → Decides (⟦<FieldAttributes as PartialEq>⟧.eq a b) (a ≡ b) }
     ensures functions { (a b : FunctionAttributes) → Decides (⟦<FunctionAttributes as PartialEq>⟧.eq a b) (a ≡ b) }
@@ -23,7 +23,7 @@ pub fn words()
     ensures types { (a b : TypeProperties) → Decides (⟦<TypeProperties as PartialEq>⟧.eq a b) (a ≡ b) }
 {}
 
-/// Kinds and modes of pointers are equal just where they are one.
+/// Kinds and modes of pointers are equal exactly if they are the same.
 pub fn kinds_and_modes()
     ensures kinds { (a b : PointerKind) → Decides (⟦<PointerKind as PartialEq>⟧.eq a b) (a ≡ b) }
     ensures modes { (a b : PointerMode) → Decides (⟦<PointerMode as PartialEq>⟧.eq a b) (a ≡ b) }

@@ -7,7 +7,7 @@ use crate::frame_data::FrameData;
 use crate::new_frame_data::NewFrameData;
 use crate::old_frame_data::OldFrameData;
 
-/// Records of either format are equal just where all fields are, and so is what both say of a frame.
+/// Records of either format, and the frames made of them, are equal exactly if all fields are.
 pub fn records()
     ensures old { TellsApart ⟦<OldFrameData as PartialEq>⟧.eq }
     ensures new { TellsApart ⟦<NewFrameData as PartialEq>⟧.eq }

@@ -16,17 +16,17 @@ use pdb_base::{Error, ParseBuffer, Result};
 use pdb_values::ArrayType;
 use std::alloc::Global;
 
-/// How many bytes a pad has that begins with a byte.
+/// Returns how many bytes a pad has that begins with `byte`.
 fn pad_length(byte: u8) -> usize
     ensures { result ≡ behind_pad byte + 1 }
 {
     (byte % 16).max(1) as usize
 }
 
-/// Passes by padding.
+/// Skips padding.
 ///
 /// # Errors
-/// `UnexpectedEof` if the last pad is cut.
+/// Returns `UnexpectedEof` if the bytes end within the last pad.
 pub(crate) fn skip_padding(buffer: &mut ParseBuffer<'_>) -> Result<()>
     ensures { Gives (λ nothing. (tt, left buffer.new)) result (padding_at (left buffer.old)) }
 {
@@ -40,10 +40,10 @@ pub(crate) fn skip_padding(buffer: &mut ParseBuffer<'_>) -> Result<()>
     Ok(())
 }
 
-/// One dimension.
+/// Reads one dimension.
 ///
 /// # Errors
-/// `UnimplementedFeature` if it is above 0xffffffff.
+/// Fails as `parse_num` does, and with `UnimplementedFeature` if the dimension is above 0xffffffff.
 fn parse_dimension(buffer: &mut ParseBuffer<'_>) -> Result<u32>
     ensures { Gives (λ n. (n, left buffer.new)) result (dimension_at (left buffer.old)) }
 {
@@ -55,7 +55,7 @@ fn parse_dimension(buffer: &mut ParseBuffer<'_>) -> Result<u32>
     }
 }
 
-/// Whether the dimensions end here, by a zero byte, which is passed by.
+/// Returns whether a zero byte ends the dimensions here, and skips that byte.
 fn ends_dimensions(buffer: &mut ParseBuffer<'_>) -> Result<bool>
     ensures { Gives (λ ends. (ends, left buffer.new)) result (end_at (left buffer.old)) }
 {
@@ -66,7 +66,7 @@ fn ends_dimensions(buffer: &mut ParseBuffer<'_>) -> Result<bool>
     Ok(true)
 }
 
-/// The dimensions of an array.
+/// Reads the dimensions of an array.
 fn parse_dimensions(alloc: Global, buffer: &mut ParseBuffer<'_>) -> Result<Vec<u32>>
     ensures read { Answers (λ list. (list.items, left buffer.new)) result (dimensions_at (left buffer.old)) }
     ensures want { LacksOnlyIf result (HoldsDimension (left buffer.old)) }
@@ -80,7 +80,12 @@ fn parse_dimensions(alloc: Global, buffer: &mut ParseBuffer<'_>) -> Result<Vec<u
     }
 }
 
-/// The dimensions of an array and padding, behind which nothing is left.
+/// Reads the dimensions of an array and the padding behind them, which reach to the end of the
+/// bytes.
+///
+/// # Errors
+/// Fails as reading the dimensions or the padding does, and with `UnexpectedEof` if bytes are left
+/// behind them.
 #[tactic(auto, unfolding(crate::specs::Arrays::dimensions_to_end))]
 fn parse_last_dimensions(alloc: Global, buffer: &mut ParseBuffer<'_>) -> Result<Vec<u32>>
     ensures read { Answers (λ list. (list.items, left buffer.new)) result (dimensions_to_end (left buffer.old)) }
@@ -95,7 +100,7 @@ fn parse_last_dimensions(alloc: Global, buffer: &mut ParseBuffer<'_>) -> Result<
     }
 }
 
-/// An array, with a stride or without.
+/// Reads an array, with a stride or without.
 #[tactic(auto, unfolding(crate::specs::Row::row, crate::specs::Lists::array_row, crate::specs::Arrays::array_at))]
 pub(crate) fn parse_array(
     alloc: Global,

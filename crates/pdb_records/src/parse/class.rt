@@ -13,7 +13,7 @@ use pdb_base::{ParseBuffer, Result};
 use pdb_flags::TypeProperties;
 use pdb_values::{ClassKind, ClassType, TypeData, UnionType};
 
-/// A class, a struct or an interface.
+/// Reads a class, a struct or an interface.
 #[tactic(auto, unfolding(crate::specs::Row::row, crate::specs::Rows::class_row))]
 pub(crate) fn parse_class<'t>(
     buffer: &mut ParseBuffer<'t>,
@@ -37,7 +37,8 @@ pub(crate) fn parse_class<'t>(
     }))
 }
 
-/// The same with more room for properties.
+/// Reads a class, a struct or an interface whose properties take 32 bits, of which the low 16 are
+/// kept.
 #[tactic(auto, unfolding(crate::specs::Row::row, crate::specs::Rows::wide_class_row))]
 pub(crate) fn parse_wide_class<'t>(
     buffer: &mut ParseBuffer<'t>,
@@ -64,7 +65,7 @@ pub(crate) fn parse_wide_class<'t>(
     }))
 }
 
-/// A union.
+/// Reads a union.
 #[tactic(auto, unfolding(crate::specs::Row::row, crate::specs::Rows::union_row))]
 pub(crate) fn parse_union<'t>(buffer: &mut ParseBuffer<'t>, leaf: u16) -> Result<TypeData<'t>>
     ensures { Gives (λ t. (type_value t, left buffer.new)) result (plain_at (union_row leaf) (left buffer.old)) }

@@ -23,7 +23,7 @@ pub enum CountWidth {
     Bits32,
 }
 
-/// A count.
+/// Reads a count.
 fn parse_count(buffer: &mut ParseBuffer<'_>, width: CountWidth) -> Result<usize>
     ensures { Gives (λ count. (count, left buffer.new)) result (number_at (count_bytes width) (left buffer.old)) }
 {
@@ -33,7 +33,7 @@ fn parse_count(buffer: &mut ParseBuffer<'_>, width: CountWidth) -> Result<usize>
     }
 }
 
-/// So many indexes, which are known to be there.
+/// Reads `count` indexes, whose bytes are known to be left.
 fn parse_held_indexes<I: Index>(
     alloc: Global,
     buffer: &mut ParseBuffer<'_>,
@@ -51,10 +51,11 @@ fn parse_held_indexes<I: Index>(
     Ok(indexes)
 }
 
-/// So many indexes.
+/// Reads `count` indexes.
 ///
 /// # Errors
-/// `UnexpectedEof` if the bytes don't hold so many, before memory is asked for.
+/// Fails with `UnexpectedEof` if the bytes don't hold that many, before memory is asked for, and
+/// with `OutOfMemory` if memory is refused.
 fn parse_indexes<I: Index>(
     alloc: Global,
     buffer: &mut ParseBuffer<'_>,
@@ -71,10 +72,11 @@ fn parse_indexes<I: Index>(
     parse_held_indexes(alloc, buffer, count)
 }
 
-/// Indexes behind their count.
+/// Reads a count and the indexes behind it.
 ///
 /// # Errors
-/// `UnexpectedEof` if the bytes don't hold as many as the count says, before memory is asked for.
+/// Fails with `UnexpectedEof` if the bytes end before the count does or don't hold as many indexes
+/// as it says, before memory is asked for, and with `OutOfMemory` if memory is refused.
 pub(crate) fn parse_counted<I: Index>(
     alloc: Global,
     buffer: &mut ParseBuffer<'_>,

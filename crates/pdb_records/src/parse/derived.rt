@@ -13,7 +13,7 @@ use pdb_bits::is_set;
 use pdb_flags::PointerAttributes;
 use pdb_values::{BitfieldType, ModifierType, PointerType, TypeData};
 
-/// A pointer.
+/// Reads a pointer.
 #[tactic(auto, unfolding(crate::specs::Row::row, crate::specs::Rows::pointer_row))]
 pub(crate) fn parse_pointer<'t>(buffer: &mut ParseBuffer<'t>) -> Result<TypeData<'t>>
     ensures { Gives (λ t. (type_value t, left buffer.new)) result (plain_at pointer_row (left buffer.old)) }
@@ -34,7 +34,7 @@ pub(crate) fn parse_pointer<'t>(buffer: &mut ParseBuffer<'t>) -> Result<TypeData
     }))
 }
 
-/// A type with qualifiers.
+/// Reads a type with qualifiers.
 #[tactic(auto, unfolding(crate::specs::Row::row, crate::specs::Rows::modifier_row))]
 pub(crate) fn parse_modifier<'t>(buffer: &mut ParseBuffer<'t>) -> Result<TypeData<'t>>
     ensures { Gives (λ t. (type_value t, left buffer.new)) result (plain_at modifier_row (left buffer.old)) }
@@ -49,7 +49,7 @@ pub(crate) fn parse_modifier<'t>(buffer: &mut ParseBuffer<'t>) -> Result<TypeDat
     }))
 }
 
-/// Some bits of a member.
+/// Reads a bit field.
 #[tactic(auto, unfolding(crate::specs::Row::row, crate::specs::Rows::bitfield_row))]
 pub(crate) fn parse_bitfield<'t>(buffer: &mut ParseBuffer<'t>) -> Result<TypeData<'t>>
     ensures { Gives (λ t. (type_value t, left buffer.new)) result (plain_at bitfield_row (left buffer.old)) }

@@ -9,6 +9,6 @@ pub enum FieldEntry<'t> {
     /// A field.
     Field(TypeData<'t>),
 
-    /// The list that goes on where this one ends.
+    /// The index of the list that continues this one.
     Continues(TypeIndex),
 }

@@ -11,7 +11,7 @@ use pdb_base::{ParseBuffer, Result};
 use pdb_flags::{FieldAttributes, TypeProperties};
 use pdb_values::{EnumerateType, EnumerationType, TypeData};
 
-/// An enumeration.
+/// Reads an enumeration.
 #[tactic(auto, unfolding(crate::specs::Row::row, crate::specs::Rows::enumeration_row))]
 pub(crate) fn parse_enumeration<'t>(buffer: &mut ParseBuffer<'t>, leaf: u16) -> Result<TypeData<'t>>
     ensures { Gives (λ t. (type_value t, left buffer.new)) result (plain_at (enumeration_row leaf) (left buffer.old)) }
@@ -28,7 +28,7 @@ pub(crate) fn parse_enumeration<'t>(buffer: &mut ParseBuffer<'t>, leaf: u16) -> 
     }))
 }
 
-/// A value of an enumeration.
+/// Reads a value of an enumeration.
 #[tactic(auto, unfolding(crate::specs::Row::row, crate::specs::Rows::enumerate_row))]
 pub(crate) fn parse_enumerate<'t>(buffer: &mut ParseBuffer<'t>, leaf: u16) -> Result<TypeData<'t>>
     ensures { Gives (λ t. (type_value t, left buffer.new)) result (plain_at (enumerate_row leaf) (left buffer.old)) }

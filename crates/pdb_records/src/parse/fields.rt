@@ -21,7 +21,8 @@ use pdb_base::{ParseBuffer, Result, TypeIndex};
 use pdb_values::{FieldList, TypeData};
 use std::alloc::Global;
 
-/// The list that goes on, behind two bytes of padding, whatever they are.
+/// Reads the index of the list that continues a list of fields. Two bytes of padding, whatever they
+/// are, stand before it.
 #[inline(always)]
 #[tactic(auto, unfolding(crate::specs::Row::row, crate::specs::Rows::continuation_row))]
 fn parse_continuation(buffer: &mut ParseBuffer<'_>) -> Result<TypeIndex>
@@ -31,7 +32,7 @@ fn parse_continuation(buffer: &mut ParseBuffer<'_>) -> Result<TypeIndex>
     parse_type_index(buffer)
 }
 
-/// What stands behind the leaf of an entry.
+/// Reads what stands behind the leaf of an entry.
 #[inline(always)]
 fn parse_behind_entry<'t>(
     alloc: Global,
@@ -51,7 +52,7 @@ fn parse_behind_entry<'t>(
     }
 }
 
-/// An entry, with padding behind it.
+/// Reads an entry and the padding behind it.
 #[inline(always)]
 #[tactic(auto, unfolding(crate::specs::Fields::field_at))]
 fn parse_field<'t>(alloc: Global, buffer: &mut ParseBuffer<'t>) -> Result<FieldEntry<'t>>
@@ -68,7 +69,7 @@ fn parse_field<'t>(alloc: Global, buffer: &mut ParseBuffer<'t>) -> Result<FieldE
     }
 }
 
-/// A list of fields and of the list that goes on.
+/// Returns a list of these fields, with the index of the list that continues it, if there is one.
 fn field_list<'t>(fields: Vec<TypeData<'t>>, continuation: Option<TypeIndex>) -> TypeData<'t>
     ensures { type_value result ≡ values.field_list (fields_value fields.entry.items) continuation }
 {
@@ -78,7 +79,7 @@ fn field_list<'t>(fields: Vec<TypeData<'t>>, continuation: Option<TypeIndex>) ->
     })
 }
 
-/// Entries to the end of the bytes, as a list of fields.
+/// Reads entries to the end of the bytes, and returns them as a list of fields.
 #[inline(never)]
 pub(crate) fn parse_field_list<'t>(
     alloc: Global,

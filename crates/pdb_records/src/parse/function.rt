@@ -14,7 +14,7 @@ use pdb_values::{
     MemberFunctionType, MethodListEntry, MethodType, OverloadedMethodType, ProcedureType, TypeData,
 };
 
-/// A function.
+/// Reads the type of a function.
 #[tactic(auto, unfolding(crate::specs::Row::row, crate::specs::Rows::procedure_row))]
 pub(crate) fn parse_procedure<'t>(buffer: &mut ParseBuffer<'t>) -> Result<TypeData<'t>>
     ensures { Gives (λ t. (type_value t, left buffer.new)) result (plain_at procedure_row (left buffer.old)) }
@@ -27,7 +27,7 @@ pub(crate) fn parse_procedure<'t>(buffer: &mut ParseBuffer<'t>) -> Result<TypeDa
     }))
 }
 
-/// A method.
+/// Reads the type of a method.
 #[tactic(auto, unfolding(crate::specs::Row::row, crate::specs::Rows::member_function_row))]
 pub(crate) fn parse_member_function<'t>(buffer: &mut ParseBuffer<'t>) -> Result<TypeData<'t>>
     ensures { Gives (λ t. (type_value t, left buffer.new)) result (plain_at member_function_row (left buffer.old)) }
@@ -43,7 +43,7 @@ pub(crate) fn parse_member_function<'t>(buffer: &mut ParseBuffer<'t>) -> Result<
     }))
 }
 
-/// All methods of one name.
+/// Reads the entry for overloaded methods, which share one name.
 #[tactic(auto, unfolding(crate::specs::Row::row, crate::specs::Rows::overloaded_method_row))]
 pub(crate) fn parse_overloaded_method<'t>(
     buffer: &mut ParseBuffer<'t>,
@@ -59,7 +59,7 @@ pub(crate) fn parse_overloaded_method<'t>(
     }))
 }
 
-/// The one method of a name.
+/// Reads a method that shares its name with no other.
 #[tactic(auto, unfolding(crate::specs::Row::row, crate::specs::Rows::method_row))]
 pub(crate) fn parse_method<'t>(buffer: &mut ParseBuffer<'t>, leaf: u16) -> Result<TypeData<'t>>
     ensures { Gives (λ t. (type_value t, left buffer.new)) result (plain_at (method_row leaf) (left buffer.old)) }
@@ -77,7 +77,7 @@ pub(crate) fn parse_method<'t>(buffer: &mut ParseBuffer<'t>, leaf: u16) -> Resul
     }))
 }
 
-/// A method in a list of methods.
+/// Reads a method in a list of methods.
 #[tactic(auto, unfolding(crate::specs::Row::row, crate::specs::Rows::listed_method_row))]
 pub(crate) fn parse_listed_method(buffer: &mut ParseBuffer<'_>) -> Result<MethodListEntry>
     ensures { Gives (λ t. (t, left buffer.new)) result (row listed_method_row (left buffer.old)) }

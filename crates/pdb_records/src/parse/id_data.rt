@@ -18,7 +18,7 @@ use pdb_base::{Error, ParseBuffer, Result};
 use pdb_values::{BuildInfoId, IdData, StringListId};
 use std::alloc::Global;
 
-/// The id record of a leaf, of this number.
+/// Reads the id record behind a leaf, whose number is `number`.
 fn parse_id_leaf<'t>(
     alloc: Global,
     buffer: &mut ParseBuffer<'t>,
@@ -41,10 +41,11 @@ fn parse_id_leaf<'t>(
     }
 }
 
-/// The id record behind a leaf.
+/// Reads the id record behind the leaf with this number.
 ///
 /// # Errors
-/// `UnimplementedTypeKind` for a leaf that has none.
+/// Returns `UnimplementedTypeKind` if the leaf has no id record here, and otherwise fails as
+/// reading the record does.
 #[tactic(auto, unfolding(crate::specs::Ids::behind_id_leaf))]
 fn parse_behind_id_leaf<'t>(
     alloc: Global,
@@ -60,7 +61,7 @@ fn parse_behind_id_leaf<'t>(
     }
 }
 
-/// The record at the front of a buffer.
+/// Reads the id record at the front of a buffer.
 #[tactic(auto, unfolding(crate::specs::Ids::id_at))]
 fn parse_id_record<'t>(alloc: Global, buffer: &mut ParseBuffer<'t>) -> Result<IdData<'t>>
     ensures read { Answers (λ id. (id_value id, left buffer.new)) result (id_at (left buffer.old)) }
@@ -70,17 +71,18 @@ fn parse_id_record<'t>(alloc: Global, buffer: &mut ParseBuffer<'t>) -> Result<Id
     parse_behind_id_leaf(alloc, buffer, number)
 }
 
-/// Reads an id record: the bytes of an item of the table of ids, from its leaf on. Names borrow from the
-/// bytes; memory is taken for lists alone.
+/// Reads an id record: the bytes of an item of the table of ids, from its leaf on. Names borrow
+/// from the bytes; memory is taken for lists alone.
 ///
-/// The layouts are those of Microsoft's cvinfo.h, behind the leaves that it names `LF_FUNC_ID` and so on.
-/// A scope, and the list of a text's first parts, is None where its number is 0. Bytes behind the last
-/// field of a record are ignored.
+/// The layouts are those of Microsoft's cvinfo.h, behind the leaves that it names `LF_FUNC_ID` and
+/// so on. A scope, or the list of a text's first parts, is None if its number is 0. Bytes behind
+/// the last field of a record are ignored.
 ///
 /// # Errors
-/// The first fault: `UnexpectedEof` if the bytes end before a field does, or hold fewer items than
-/// a list's count says; `UnimplementedTypeKind` by its number for a leaf that has no record here; and
-/// `OutOfMemory` if memory for a list that the bytes hold is refused.
+/// Fails with the first fault of the record: `UnexpectedEof` if the bytes end before a field does,
+/// or hold fewer items than a list's count says; or `UnimplementedTypeKind` with the leaf's number
+/// for a leaf that has no record here. Fails with `OutOfMemory` if memory for a list that the bytes
+/// hold is refused.
 pub fn parse_id_data<'t>(alloc: Global, bytes: &'t [u8]) -> Result<IdData<'t>>
     ensures read { Answers id_value result (id_record bytes.now) }
     ensures answers { SaysAssigned id_value (IsId bytes.now) (NoId bytes.now) result }

@@ -18,7 +18,7 @@ use pdb_values::{
     UserDefinedTypeSourceId,
 };
 
-/// What id record without a list stands behind a leaf.
+/// The kind of id record without a list that stands behind a leaf.
 #[derive(Clone, Copy, Debug, PartialEq, Eq)]
 pub enum PlainIdLeaf {
     /// A function.
@@ -38,7 +38,8 @@ pub enum PlainIdLeaf {
 }
 
 impl PlainIdLeaf {
-    /// The id record without a list that stands behind the leaf of this number.
+    /// Returns the kind of id record without a list that stands behind the leaf with this number,
+    /// or None if there is none.
     pub(crate) fn from_number(number: u16) -> Option<Self>
         ensures { result ≡ plain_id_leaf number }
     {
@@ -53,7 +54,7 @@ impl PlainIdLeaf {
     }
 }
 
-/// An id record without a list, behind its leaf.
+/// Reads an id record without a list, behind its leaf.
 pub(crate) fn parse_plain_id<'t>(
     buffer: &mut ParseBuffer<'t>,
     number: u16,
@@ -71,7 +72,7 @@ pub(crate) fn parse_plain_id<'t>(
     }
 }
 
-/// A function.
+/// Reads the id of a function.
 #[tactic(auto, unfolding(crate::specs::Row::row, crate::specs::IdRows::function_id_row))]
 fn parse_function_id<'t>(buffer: &mut ParseBuffer<'t>, leaf: u16) -> Result<IdData<'t>>
     ensures { Gives (λ id. (id_value id, left buffer.new)) result
@@ -84,7 +85,7 @@ fn parse_function_id<'t>(buffer: &mut ParseBuffer<'t>, leaf: u16) -> Result<IdDa
     }))
 }
 
-/// A method.
+/// Reads the id of a method.
 #[tactic(auto, unfolding(crate::specs::Row::row, crate::specs::IdRows::member_function_id_row))]
 fn parse_member_function_id<'t>(buffer: &mut ParseBuffer<'t>, leaf: u16) -> Result<IdData<'t>>
     ensures { Gives (λ id. (id_value id, left buffer.new)) result
@@ -97,7 +98,7 @@ fn parse_member_function_id<'t>(buffer: &mut ParseBuffer<'t>, leaf: u16) -> Resu
     }))
 }
 
-/// A text.
+/// Reads the id of a text.
 #[tactic(auto, unfolding(crate::specs::Row::row, crate::specs::IdRows::string_id_row))]
 fn parse_string_id<'t>(buffer: &mut ParseBuffer<'t>, leaf: u16) -> Result<IdData<'t>>
     ensures { Gives (λ id. (id_value id, left buffer.new)) result (plain_id_at (string_id_row leaf) (left buffer.old)) }
@@ -108,7 +109,7 @@ fn parse_string_id<'t>(buffer: &mut ParseBuffer<'t>, leaf: u16) -> Result<IdData
     }))
 }
 
-/// Where a type is declared.
+/// Reads where a type is declared.
 #[tactic(auto, unfolding(crate::specs::Row::row, crate::specs::IdRows::source_row))]
 fn parse_source<'t>(buffer: &mut ParseBuffer<'t>) -> Result<IdData<'t>>
     ensures { Gives (λ id. (id_value id, left buffer.new)) result (plain_id_at source_row (left buffer.old)) }
@@ -120,7 +121,7 @@ fn parse_source<'t>(buffer: &mut ParseBuffer<'t>) -> Result<IdData<'t>>
     }))
 }
 
-/// Where a type is declared, and in which module.
+/// Reads where a type is declared, and in which module.
 #[tactic(auto, unfolding(crate::specs::Row::row, crate::specs::IdRows::remote_source_row))]
 fn parse_remote_source<'t>(buffer: &mut ParseBuffer<'t>) -> Result<IdData<'t>>
     ensures { Gives (λ id. (id_value id, left buffer.new)) result (plain_id_at remote_source_row (left buffer.old)) }

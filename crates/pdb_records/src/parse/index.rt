@@ -12,7 +12,7 @@ pub(crate) trait Index: Copy {
     // The index that a number says.
     ghost said: { ℕ → Self };
 
-    /// The index of this number.
+    /// Returns the index with this number.
     fn from_number(number: u32) -> Self
         ensures { result ≡ said number };
 }
@@ -33,7 +33,7 @@ impl Index for IdIndex {
     }
 }
 
-/// An index.
+/// Reads an index.
 #[inline(always)]
 pub(crate) fn parse_index<I: Index>(buffer: &mut ParseBuffer<'_>) -> Result<I>
     ensures { Gives (λ index. (index, left buffer.new)) result (index_at I.said (left buffer.old)) }

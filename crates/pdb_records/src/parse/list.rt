@@ -13,7 +13,7 @@ use pdb_base::{ParseBuffer, Result};
 use pdb_values::{MethodList, MethodListEntry};
 use std::alloc::Global;
 
-/// All methods of one name, to the end of the bytes.
+/// Reads the list of the methods that share one name, to the end of the bytes.
 pub(crate) fn parse_method_list(alloc: Global, buffer: &mut ParseBuffer<'_>) -> Result<MethodList>
     ensures read { Answers (λ list. (list.methods.items, left buffer.new)) result
         (to_end (row listed_method_row) (left buffer.old)) }

@@ -14,7 +14,7 @@ use pdb_values::{
     VirtualBaseClassType, VirtualFunctionTablePointerType,
 };
 
-/// A data member of each object.
+/// Reads a data member that each object has.
 #[tactic(auto, unfolding(crate::specs::Row::row, crate::specs::Rows::member_row))]
 pub(crate) fn parse_member<'t>(buffer: &mut ParseBuffer<'t>, leaf: u16) -> Result<TypeData<'t>>
     ensures { Gives (λ t. (type_value t, left buffer.new)) result (plain_at (member_row leaf) (left buffer.old)) }
@@ -27,7 +27,7 @@ pub(crate) fn parse_member<'t>(buffer: &mut ParseBuffer<'t>, leaf: u16) -> Resul
     }))
 }
 
-/// A data member of the class itself.
+/// Reads a static data member, which the class has once.
 #[tactic(auto, unfolding(crate::specs::Row::row, crate::specs::Rows::static_member_row))]
 pub(crate) fn parse_static_member<'t>(
     buffer: &mut ParseBuffer<'t>,
@@ -43,7 +43,8 @@ pub(crate) fn parse_static_member<'t>(
     }))
 }
 
-/// A type that is defined in a class. Its first word is its attributes, or says nothing.
+/// Reads a type that is defined in a class. Its first word is its attributes if `has_attributes`
+/// holds, and is ignored otherwise.
 #[tactic(auto, unfolding(crate::specs::Row::row, crate::specs::Rows::nested_row))]
 pub(crate) fn parse_nested<'t>(
     buffer: &mut ParseBuffer<'t>,
@@ -61,7 +62,7 @@ pub(crate) fn parse_nested<'t>(
     }))
 }
 
-/// A base class.
+/// Reads a base class.
 #[tactic(auto, unfolding(crate::specs::Row::row, crate::specs::Rows::base_row))]
 pub(crate) fn parse_base_class<'t>(
     buffer: &mut ParseBuffer<'t>,
@@ -77,7 +78,7 @@ pub(crate) fn parse_base_class<'t>(
     }))
 }
 
-/// A virtual base class.
+/// Reads a virtual base class.
 #[tactic(auto, unfolding(crate::specs::Row::row, crate::specs::Rows::virtual_base_row))]
 pub(crate) fn parse_virtual_base_class<'t>(
     buffer: &mut ParseBuffer<'t>,
@@ -96,7 +97,7 @@ pub(crate) fn parse_virtual_base_class<'t>(
     }))
 }
 
-/// A pointer to a table of virtual functions.
+/// Reads a pointer to a table of virtual functions.
 #[tactic(auto, unfolding(crate::specs::Row::row, crate::specs::Rows::table_pointer_row))]
 pub(crate) fn parse_table_pointer<'t>(buffer: &mut ParseBuffer<'t>) -> Result<TypeData<'t>>
     ensures { Gives (λ t. (type_value t, left buffer.new)) result (plain_at table_pointer_row (left buffer.old)) }

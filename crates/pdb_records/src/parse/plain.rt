@@ -29,7 +29,7 @@ use crate::parse::table_shape::parse_table_shape;
 use pdb_base::{ParseBuffer, Result};
 use pdb_values::{ClassKind, TypeData};
 
-/// What record without a list stands behind a leaf.
+/// The kind of record without a list that stands behind a leaf.
 #[derive(Clone, Copy, Debug, PartialEq, Eq)]
 pub enum PlainLeaf {
     /// A class, a struct or an interface.
@@ -47,10 +47,10 @@ pub enum PlainLeaf {
     /// The type of a method.
     MemberFunction,
 
-    /// All methods of one name.
+    /// Overloaded methods, which share one name.
     OverloadedMethod,
 
-    /// The one method of a name.
+    /// A method that shares its name with no other.
     Method,
 
     /// A base class or a base interface.
@@ -59,7 +59,7 @@ pub enum PlainLeaf {
     /// A pointer to a table of virtual functions.
     TablePointer,
 
-    /// A data member of the class itself.
+    /// A static data member, which the class has once.
     StaticMember,
 
     /// A pointer or a reference.
@@ -80,7 +80,7 @@ pub enum PlainLeaf {
     /// A union.
     Union,
 
-    /// Some bits of a member.
+    /// A bit field.
     Bitfield,
 
     /// A virtual base class, direct or not.
@@ -91,7 +91,8 @@ pub enum PlainLeaf {
 }
 
 impl PlainLeaf {
-    /// The record without a list that stands behind the leaf of this number.
+    /// Returns the kind of record without a list that stands behind the leaf with this number, or
+    /// None if there is none.
     pub(crate) fn from_number(number: u16) -> Option<Self>
         ensures { result ≡ plain_leaf number }
     {
@@ -125,7 +126,7 @@ impl PlainLeaf {
     }
 }
 
-/// A record without a list, behind its leaf.
+/// Reads a record without a list, behind its leaf.
 pub(crate) fn parse_plain<'t>(
     buffer: &mut ParseBuffer<'t>,
     number: u16,

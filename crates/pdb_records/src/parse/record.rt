@@ -1,4 +1,4 @@
-//! What stands behind a leaf.
+//! Parsers for what stands behind a leaf.
 
 ghost use Rattle.pdb_base.specs.Answer.{Answers};
 ghost use Rattle.pdb_base.specs.Memory.{LacksOnlyIf};
@@ -16,7 +16,7 @@ use pdb_base::{Error, ParseBuffer, Result};
 use pdb_values::{ArgumentList, TypeData};
 use std::alloc::Global;
 
-/// The record of a leaf, of this number.
+/// Reads the record behind a leaf, whose number is `number`.
 #[inline(always)]
 fn parse_leaf<'t>(
     alloc: Global,
@@ -41,10 +41,11 @@ fn parse_leaf<'t>(
     }
 }
 
-/// The record behind a leaf, but for a list of fields.
+/// Reads the record behind the leaf with this number, but for a list of fields.
 ///
 /// # Errors
-/// `UnimplementedTypeKind` for a leaf that has none.
+/// Returns `UnimplementedTypeKind` if the leaf has no record here or is that of a list of fields,
+/// and otherwise fails as reading the record does.
 #[inline(never)]
 #[tactic(auto, unfolding(crate::specs::Records::behind_leaf))]
 pub(crate) fn parse_behind_leaf<'t>(

@@ -1,4 +1,4 @@
-//! What stands in records.
+//! Parsers for the fields that stand in records.
 
 ghost use Rattle.std.specs.Prelude.{◌≡◌};
 ghost use Rattle.std.specs.Option.{option_map};
@@ -11,7 +11,7 @@ use crate::constants::LF_ST_MAX;
 use crate::parse::index::parse_index;
 use pdb_base::{IdIndex, ParseBuffer, RawString, Result, TypeIndex};
 
-/// The index of a type.
+/// Reads the index of a type.
 #[inline(always)]
 pub(crate) fn parse_type_index(buffer: &mut ParseBuffer<'_>) -> Result<TypeIndex>
     ensures { Gives (λ index. (index, left buffer.new)) result (read_shape type_index (left buffer.old)) }
@@ -19,7 +19,7 @@ pub(crate) fn parse_type_index(buffer: &mut ParseBuffer<'_>) -> Result<TypeIndex
     parse_index(buffer)
 }
 
-/// The index of a type, or none, for which 0 and 0xffff stand.
+/// Reads the index of a type, or None, for which 0 and 0xffff stand.
 #[inline(always)]
 pub(crate) fn parse_some_type(buffer: &mut ParseBuffer<'_>) -> Result<Option<TypeIndex>>
     ensures { Gives (λ index. (index, left buffer.new)) result (read_shape some_type (left buffer.old)) }
@@ -30,7 +30,7 @@ pub(crate) fn parse_some_type(buffer: &mut ParseBuffer<'_>) -> Result<Option<Typ
     }
 }
 
-/// The index of an id.
+/// Reads the index of an id.
 #[inline(always)]
 pub(crate) fn parse_id_index(buffer: &mut ParseBuffer<'_>) -> Result<IdIndex>
     ensures { Gives (λ index. (index, left buffer.new)) result (read_shape id_index (left buffer.old)) }
@@ -38,7 +38,7 @@ pub(crate) fn parse_id_index(buffer: &mut ParseBuffer<'_>) -> Result<IdIndex>
     parse_index(buffer)
 }
 
-/// The index of an id, or none, for which 0 stands.
+/// Reads the index of an id, or None, for which 0 stands.
 #[inline(always)]
 pub(crate) fn parse_some_id(buffer: &mut ParseBuffer<'_>) -> Result<Option<IdIndex>>
     ensures { Gives (λ index. (index, left buffer.new)) result (read_shape some_id (left buffer.old)) }
@@ -49,7 +49,8 @@ pub(crate) fn parse_some_id(buffer: &mut ParseBuffer<'_>) -> Result<Option<IdInd
     }
 }
 
-/// A text in a record of a leaf.
+/// Reads a text in a record of a leaf. It ends with a NUL if the leaf is above `LF_ST_MAX`, and
+/// otherwise stands behind a byte that says its length.
 #[inline(always)]
 pub(crate) fn parse_text<'t>(buffer: &mut ParseBuffer<'t>, leaf: u16) -> Result<RawString<'t>>
     ensures { Gives (λ name. (name.0.now, left buffer.new)) result (read_shape (text leaf) (left buffer.old)) }
@@ -61,7 +62,7 @@ pub(crate) fn parse_text<'t>(buffer: &mut ParseBuffer<'t>, leaf: u16) -> Result<
     }
 }
 
-/// A text in a record of a leaf, where the record has it.
+/// Reads a text in a record of a leaf, if `is_there` says that the record has one.
 #[inline(always)]
 pub(crate) fn parse_some_text<'t>(
     buffer: &mut ParseBuffer<'t>,
@@ -78,14 +79,14 @@ pub(crate) fn parse_some_text<'t>(
     }
 }
 
-/// The low 16 bits of a number.
+/// Returns the low 16 bits of a number.
 pub(crate) fn low_16_bits(number: u32) -> u16
     ensures { result ≡ low_16 number }
 {
     (number % 0x1_0000) as u16
 }
 
-/// The low 32 bits of a number.
+/// Returns the low 32 bits of a number.
 pub(crate) fn low_32_bits(number: u64) -> u32
     ensures { result ≡ low_32 number }
 {

@@ -10,12 +10,12 @@ use crate::dbi_header::DBIHeader;
 use crate::debug_header::DBIExtraStreams;
 use crate::stream_names::StreamName;
 
-/// Headers are equal just where all fields are.
+/// Headers are equal exactly if all fields are.
 pub fn headers()
     ensures { TellsApart ⟦<DBIHeader as PartialEq>⟧.eq }
 {}
 
-/// No role has a stream by default. Roles are equal just where each has the same stream.
+/// No role has a stream by default. Roles are equal exactly if each has the same stream.
 pub fn roles()
     ensures default { DefaultsTo ⟦<DBIExtraStreams as Default>⟧.is_default (record {
       fpo = record { 0 = no_stream };
@@ -33,7 +33,8 @@ pub fn roles()
     ensures equal { TellsApart ⟦<DBIExtraStreams as PartialEq>⟧.eq }
 {}
 
-/// A named stream is equal to another just where its name has the same bytes and the stream is the same.
+/// A named stream is equal to another exactly if its name has the same bytes and the stream is the
+/// same.
 pub fn named_streams()
     ensures { (a b : StreamName) →
         IsTrue (⟦<StreamName<'static> as PartialEq>⟧.eq a b) ↔ (named_view a ≡ named_view b) }

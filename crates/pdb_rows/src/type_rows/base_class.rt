@@ -12,7 +12,7 @@ use pdb_base::{Error, Result};
 use pdb_values::{BaseClassType, VirtualBaseClassType, VirtualFunctionTablePointerType};
 use std::alloc::Global;
 
-/// The row of a base class.
+/// Returns the row of a base class.
 #[tactic(auto, unfolding(crate::specs::TypeRows::base_class_fields))]
 pub(crate) fn base_class_row<'t>(alloc: Global, head: Head, base: BaseClassType) -> Result<Row<'t>>
     ensures ok { IfOk result (λ row. row_shown row ≡ headed head.index head.leaf (base_class_fields base)) }
@@ -30,7 +30,7 @@ pub(crate) fn base_class_row<'t>(alloc: Global, head: Head, base: BaseClassType)
     Ok(Row { fields })
 }
 
-/// The row of a virtual base class.
+/// Returns the row of a virtual base class.
 #[tactic(auto, unfolding(crate::specs::TypeRows::virtual_base_fields))]
 pub(crate) fn virtual_base_row<'t>(
     alloc: Global,
@@ -61,7 +61,7 @@ pub(crate) fn virtual_base_row<'t>(
     Ok(Row { fields })
 }
 
-/// The row of the pointer to a table of virtual functions.
+/// Returns the row of the pointer to a table of virtual functions.
 #[tactic(auto, unfolding(crate::specs::TypeRows::table_pointer_fields))]
 pub(crate) fn table_pointer_row<'t>(
     alloc: Global,

@@ -14,7 +14,7 @@ use pdb_base::{Error, Result};
 use pdb_values::{ClassType, UnionType};
 use std::alloc::Global;
 
-/// The row of a class, a structure or an interface.
+/// Returns the row of a class, a structure or an interface.
 #[tactic(auto, unfolding(crate::specs::TypeRows::class_fields))]
 pub(crate) fn class_row<'t>(alloc: Global, head: Head, class: &ClassType<'t>) -> Result<Row<'t>>
     ensures ok { IfOk result (λ row. row_shown row ≡
@@ -39,7 +39,7 @@ pub(crate) fn class_row<'t>(alloc: Global, head: Head, class: &ClassType<'t>) ->
     Ok(Row { fields })
 }
 
-/// The row of a union.
+/// Returns the row of a union.
 #[tactic(auto, unfolding(crate::specs::TypeRows::union_fields))]
 pub(crate) fn union_row<'t>(
     alloc: Global,

@@ -13,7 +13,7 @@ use pdb_base::{Error, Result, Variant};
 use pdb_values::{EnumerateType, EnumerationType};
 use std::alloc::Global;
 
-/// The row of an enumeration.
+/// Returns the row of an enumeration.
 #[tactic(auto, unfolding(crate::specs::TypeRows::enumeration_fields))]
 pub(crate) fn enumeration_row<'t>(
     alloc: Global,
@@ -40,7 +40,7 @@ pub(crate) fn enumeration_row<'t>(
     Ok(Row { fields })
 }
 
-/// A number of one of the widths that an enumeration's value has.
+/// Returns the value of a number of any width that an enumeration's values may have.
 fn variant<'t>(number: Variant) -> Value<'t>
     ensures { value_shown result ≡ variant_shown number }
 {
@@ -56,7 +56,7 @@ fn variant<'t>(number: Variant) -> Value<'t>
     }
 }
 
-/// The row of a value of an enumeration.
+/// Returns the row of a value of an enumeration.
 #[tactic(auto, unfolding(crate::specs::TypeRows::enumerate_fields))]
 pub(crate) fn enumerate_row<'t>(
     alloc: Global,

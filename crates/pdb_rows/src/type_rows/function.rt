@@ -12,7 +12,7 @@ use pdb_base::{Error, Result};
 use pdb_values::{MemberFunctionType, ProcedureType};
 use std::alloc::Global;
 
-/// The row of the type of a function.
+/// Returns the row of the type of a function.
 #[tactic(auto, unfolding(crate::specs::TypeRows::procedure_fields))]
 pub(crate) fn procedure_row<'t>(
     alloc: Global,
@@ -41,7 +41,7 @@ pub(crate) fn procedure_row<'t>(
     Ok(Row { fields })
 }
 
-/// The row of the type of a method.
+/// Returns the row of the type of a method.
 #[tactic(auto, unfolding(crate::specs::TypeRows::member_function_fields))]
 pub(crate) fn member_function_row<'t>(
     alloc: Global,

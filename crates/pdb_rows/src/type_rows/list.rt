@@ -17,7 +17,7 @@ use pdb_base::{Error, Result};
 use pdb_values::{ArgumentList, ArrayType, FieldList, MethodList, VirtualTableShapeType};
 use std::alloc::Global;
 
-/// The row of an array.
+/// Returns the row of an array.
 #[tactic(auto, unfolding(crate::specs::TypeRows::array_fields))]
 pub(crate) fn array_row<'t>(alloc: Global, head: Head, array: &ArrayType) -> Result<Row<'t>>
     ensures ok { IfOk result (λ row. row_shown row ≡
@@ -36,7 +36,7 @@ pub(crate) fn array_row<'t>(alloc: Global, head: Head, array: &ArrayType) -> Res
     Ok(Row { fields })
 }
 
-/// The row of a list of fields.
+/// Returns the row of a list of fields.
 #[tactic(auto, unfolding(crate::specs::TypeRows::field_list_fields))]
 pub(crate) fn field_list_row<'t>(alloc: Global, head: Head, list: &FieldList<'_>) -> Result<Row<'t>>
     ensures ok { IfOk result (λ row. row_shown row ≡
@@ -52,7 +52,7 @@ pub(crate) fn field_list_row<'t>(alloc: Global, head: Head, list: &FieldList<'_>
     Ok(Row { fields })
 }
 
-/// The row of the types of a function's arguments.
+/// Returns the row of the types of a function's arguments.
 #[tactic(auto, unfolding(crate::specs::TypeRows::argument_list_fields))]
 pub(crate) fn argument_list_row<'t>(
     alloc: Global,
@@ -72,7 +72,7 @@ pub(crate) fn argument_list_row<'t>(
     Ok(Row { fields })
 }
 
-/// The row of a list of methods.
+/// Returns the row of a list of methods.
 #[tactic(auto, unfolding(crate::specs::TypeRows::method_list_fields))]
 pub(crate) fn method_list_row<'t>(alloc: Global, head: Head, list: &MethodList) -> Result<Row<'t>>
     ensures ok { IfOk result (λ row. row_shown row ≡
@@ -90,7 +90,7 @@ pub(crate) fn method_list_row<'t>(alloc: Global, head: Head, list: &MethodList) 
     Ok(Row { fields })
 }
 
-/// The row of the shape of a table of virtual functions.
+/// Returns the row of the shape of a table of virtual functions.
 #[tactic(auto, unfolding(crate::specs::TypeRows::table_shape_fields))]
 pub(crate) fn table_shape_row<'t>(
     alloc: Global,

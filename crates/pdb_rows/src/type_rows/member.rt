@@ -13,7 +13,7 @@ use pdb_base::{Error, Result};
 use pdb_values::{MemberType, NestedType, StaticMemberType};
 use std::alloc::Global;
 
-/// The row of a data member.
+/// Returns the row of a data member.
 #[tactic(auto, unfolding(crate::specs::TypeRows::member_fields))]
 pub(crate) fn member_row<'t>(alloc: Global, head: Head, member: &MemberType<'t>) -> Result<Row<'t>>
     ensures ok { IfOk result (λ row. row_shown row ≡
@@ -33,7 +33,7 @@ pub(crate) fn member_row<'t>(alloc: Global, head: Head, member: &MemberType<'t>)
     Ok(Row { fields })
 }
 
-/// The row of a static data member.
+/// Returns the row of a static data member.
 #[tactic(auto, unfolding(crate::specs::TypeRows::static_member_fields))]
 pub(crate) fn static_member_row<'t>(
     alloc: Global,
@@ -56,7 +56,7 @@ pub(crate) fn static_member_row<'t>(
     Ok(Row { fields })
 }
 
-/// The row of a type that is declared in a class.
+/// Returns the row of a type that is declared in a class.
 #[tactic(auto, unfolding(crate::specs::TypeRows::nested_fields))]
 pub(crate) fn nested_row<'t>(alloc: Global, head: Head, nested: &NestedType<'t>) -> Result<Row<'t>>
     ensures ok { IfOk result (λ row. row_shown row ≡

@@ -14,7 +14,7 @@ use pdb_base::{Error, Result};
 use pdb_values::{Indirection, PrimitiveType};
 use std::alloc::Global;
 
-/// The pointer to a primitive type, if it is one.
+/// Returns the value of the kind of pointer to a primitive type, or `Absent` if it isn't a pointer.
 fn indirection<'t>(pointer: Option<Indirection>) -> Value<'t>
     ensures { value_shown result ≡ optional_text (option_map indirection_word pointer) }
 {
@@ -24,7 +24,7 @@ fn indirection<'t>(pointer: Option<Indirection>) -> Value<'t>
     }
 }
 
-/// The row of a type that has no record.
+/// Returns the row of a type that has no record.
 pub(crate) fn primitive_row<'t>(
     alloc: Global,
     head: Head,

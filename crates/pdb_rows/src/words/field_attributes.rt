@@ -9,7 +9,8 @@ use pdb_base::{Error, Result};
 use pdb_flags::FieldAttributes;
 use std::alloc::Global;
 
-/// Who may reach a member: `private`, `protected` or `public`, or None if nothing is said.
+/// Returns who may access a member: `private`, `protected` or `public`, or None if the attributes
+/// don't say.
 #[tactic(auto, unfolding(crate::specs::Words::access_word))]
 pub(crate) fn access_word(word: FieldAttributes) -> Option<&'static str>
     ensures { option_map (λ name. name.now) result ≡ access_word word }
@@ -22,7 +23,7 @@ pub(crate) fn access_word(word: FieldAttributes) -> Option<&'static str>
     }
 }
 
-/// The attributes that a member has.
+/// Returns the words for the attributes that a member has.
 #[tactic(auto, unfolding(crate::specs::Words::field_words))]
 pub(crate) fn field_words(alloc: Global, word: FieldAttributes) -> Result<Vec<&'static str>>
     ensures ok { IfOk result (λ words. map (λ name. name.now) words.items ≡ field_words word) }

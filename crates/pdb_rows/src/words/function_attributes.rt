@@ -8,7 +8,7 @@ use pdb_base::{Error, Result};
 use pdb_flags::FunctionAttributes;
 use std::alloc::Global;
 
-/// The attributes that a function has.
+/// Returns the words for the attributes that a function has.
 #[tactic(auto, unfolding(crate::specs::Words::function_words))]
 pub(crate) fn function_words(alloc: Global, word: FunctionAttributes) -> Result<Vec<&'static str>>
     ensures ok { IfOk result (λ words. map (λ name. name.now) words.items ≡ function_words word) }

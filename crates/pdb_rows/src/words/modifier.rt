@@ -8,7 +8,7 @@ use pdb_base::{Error, Result};
 use pdb_values::ModifierType;
 use std::alloc::Global;
 
-/// The modifiers that a type has.
+/// Returns the words for the modifiers that a type has.
 #[tactic(auto, unfolding(crate::specs::Words::modifier_words))]
 pub(crate) fn modifier_words(alloc: Global, modifier: ModifierType) -> Result<Vec<&'static str>>
     ensures ok { IfOk result (λ words. map (λ name. name.now) words.items ≡ modifier_words modifier) }

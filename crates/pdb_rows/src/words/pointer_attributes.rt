@@ -9,7 +9,7 @@ use pdb_base::{Error, Result};
 use pdb_flags::{PointerAttributes, PointerKind, PointerMode};
 use std::alloc::Global;
 
-/// The name of a pointer's kind.
+/// Returns the name of a pointer's kind.
 #[tactic(auto, unfolding(crate::specs::Words::kind_word))]
 pub(crate) fn kind_word(kind: PointerKind) -> &'static str
     ensures { result.now ≡ kind_word (kind_number kind) }
@@ -31,7 +31,7 @@ pub(crate) fn kind_word(kind: PointerKind) -> &'static str
     }
 }
 
-/// The name of a pointer's mode.
+/// Returns the name of a pointer's mode.
 #[tactic(auto, unfolding(crate::specs::Words::mode_word))]
 pub(crate) fn mode_word(mode: PointerMode) -> &'static str
     ensures { result.now ≡ mode_word (mode_number mode) }
@@ -45,7 +45,7 @@ pub(crate) fn mode_word(mode: PointerMode) -> &'static str
     }
 }
 
-/// The attributes that a pointer has.
+/// Returns the words for the attributes that a pointer has.
 #[tactic(auto, unfolding(crate::specs::Words::pointer_words))]
 pub(crate) fn pointer_words(alloc: Global, word: PointerAttributes) -> Result<Vec<&'static str>>
     ensures ok { IfOk result (λ words. map (λ name. name.now) words.items ≡ pointer_words word) }

@@ -5,7 +5,7 @@ ghost use Rattle.pdb_rows.specs.Words.{indirection_word, primitive_word};
 
 use pdb_values::{Indirection, PrimitiveKind};
 
-/// The name of a primitive type.
+/// Returns the name of a primitive type.
 pub(crate) fn primitive_word(kind: PrimitiveKind) -> &'static str
     ensures { result.now ≡ primitive_word kind }
 {
@@ -55,7 +55,7 @@ pub(crate) fn primitive_word(kind: PrimitiveKind) -> &'static str
     }
 }
 
-/// The name of the pointer to a primitive type.
+/// Returns the name of a kind of pointer to a primitive type.
 pub(crate) fn indirection_word(pointer: Indirection) -> &'static str
     ensures { result.now ≡ indirection_word pointer }
 {

@@ -8,7 +8,7 @@ use pdb_base::{Error, Result};
 use pdb_space::SectionCharacteristics;
 use std::alloc::Global;
 
-/// The flags that a section has.
+/// Returns the words for the flags that a section has.
 #[tactic(auto, unfolding(crate::specs::Words::section_words))]
 pub(crate) fn section_words(
     alloc: Global,

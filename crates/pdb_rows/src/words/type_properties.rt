@@ -8,7 +8,7 @@ use pdb_base::{Error, Result};
 use pdb_flags::TypeProperties;
 use std::alloc::Global;
 
-/// The properties that a type has.
+/// Returns the words for the properties that a type has.
 #[tactic(auto, unfolding(crate::specs::Words::property_words))]
 pub(crate) fn property_words(alloc: Global, word: TypeProperties) -> Result<Vec<&'static str>>
     ensures ok { IfOk result (λ words. map (λ name. name.now) words.items ≡ property_words word) }

@@ -1,5 +1,5 @@
-//! What `Default` and `==` of each type say that no law of addresses and records tells. The functions do
-//! nothing: each contract is a law.
+//! What `Default` and `==` of each type say that no law of addresses and records tells. The
+//! functions do nothing: each contract is a law.
 
 ghost use Rattle.std.specs.Prelude.{◌≡◌, replicate};
 ghost use Rattle.pdb_base.specs.Derived.{DefaultsTo, TellsApart};
@@ -25,13 +25,13 @@ pub fn section_offsets()
         (record { section = 0; offset = 0 }) }
 {}
 
-/// No flag is set by default. Flags are equal just where their words are.
+/// No flag is set by default. Flags are equal exactly if their words are.
 pub fn section_characteristics()
     ensures default { DefaultsTo ⟦<SectionCharacteristics as Default>⟧.is_default (record { 0 = 0 }) }
     ensures equal { TellsApart ⟦<SectionCharacteristics as PartialEq>⟧.eq }
 {}
 
-/// Every field of a section's header is 0 by default. Headers are equal just where all fields are.
+/// Every field of a section's header is 0 by default. Headers are equal exactly if all fields are.
 pub fn section_headers()
     ensures default { DefaultsTo ⟦<ImageSectionHeader as Default>⟧.is_default (record {
       name = replicate 8 0;

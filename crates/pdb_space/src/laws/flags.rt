@@ -2,7 +2,8 @@
 
 ghost use Rattle.pdb_space.specs.SectionFlags.{HasMask, executable, initialized_data, uninitialized_data, other, info, remove, comdat, defer_speculative_exceptions, global_pointer_relative, purgeable, locked, preload, lnk_nreloc_ovfl, discardable, not_cached, not_paged, shared, execute, read, write};
 
-/// Each flag of a section is told by the mask that the PE format publishes for it.
+/// Each flag of a section is set exactly if the bit of the mask is set that the PE format publishes
+/// for it.
 pub fn section_flags()
     ensures executable { HasMask executable 0x00000020 }
     ensures initialized_data { HasMask initialized_data 0x00000040 }

@@ -10,7 +10,8 @@ use crate::header::{Header, Slice};
 use crate::item::Item;
 use pdb_base::{IdIndex, TypeIndex};
 
-/// Every field of a header and of a slice is 0 by default. Two are equal just where all fields are.
+/// Every field of a header and of a slice is 0 by default. Two are equal if and only if all their
+/// fields are.
 pub fn headers()
     ensures default { DefaultsTo ⟦<Header as Default>⟧.is_default empty_header }
     ensures equal { TellsApart ⟦<Header as PartialEq>⟧.eq }
@@ -18,7 +19,7 @@ pub fn headers()
     ensures slices_equal { TellsApart ⟦<Slice as PartialEq>⟧.eq }
 {}
 
-/// Items are equal just where their indexes are, and the bytes of their records.
+/// Items are equal if and only if their indexes and the bytes of their records are.
 pub fn items()
     ensures types { (a b : Item TypeIndex) →
         IsTrue (⟦<Item<'static, TypeIndex> as PartialEq>⟧.eq a b) ↔

@@ -1,5 +1,5 @@
-//! What `==` of each type says whose values hold no list. The functions do nothing: each contract is a
-//! law.
+//! What `==` says for each type whose values hold no list. The functions do nothing: each contract
+//! is a law.
 
 ghost use Rattle.pdb_base.specs.Derived.{TellsApart};
 ghost use Rattle.pdb_values.specs.Class.{class_value};
@@ -25,14 +25,14 @@ use crate::primitive::{Indirection, PrimitiveKind, PrimitiveType};
 use crate::source_id::{UserDefinedTypeSourceFileRef, UserDefinedTypeSourceId};
 use crate::union_type::UnionType;
 
-/// Primitive types are equal just where both their kinds and their pointers are.
+/// Primitive types are equal if and only if both their kinds and their indirections are.
 pub fn primitives()
     ensures kinds { TellsApart ⟦<PrimitiveKind as PartialEq>⟧.eq }
     ensures indirections { TellsApart ⟦<Indirection as PartialEq>⟧.eq }
     ensures types { TellsApart ⟦<PrimitiveType as PartialEq>⟧.eq }
 {}
 
-/// Types that have no name are equal just where all fields are.
+/// Types without a name are equal if and only if all their fields are.
 pub fn unnamed_types()
     ensures pointers { TellsApart ⟦<PointerType as PartialEq>⟧.eq }
     ensures modifiers { TellsApart ⟦<ModifierType as PartialEq>⟧.eq }
@@ -41,7 +41,7 @@ pub fn unnamed_types()
     ensures member_functions { TellsApart ⟦<MemberFunctionType as PartialEq>⟧.eq }
 {}
 
-/// Parts of a class that have no name are equal just where all fields are.
+/// Parts of a class without a name are equal if and only if all their fields are.
 pub fn unnamed_parts()
     ensures kinds { TellsApart ⟦<ClassKind as PartialEq>⟧.eq }
     ensures bases { TellsApart ⟦<BaseClassType as PartialEq>⟧.eq }
@@ -50,15 +50,16 @@ pub fn unnamed_parts()
     ensures methods { TellsApart ⟦<MethodListEntry as PartialEq>⟧.eq }
 {}
 
-/// Types that have a name are equal just where all fields are, the names by their bytes.
+/// Types with a name are equal if and only if all their fields are. Names are compared by their
+/// bytes.
 pub fn named_types()
     ensures classes { TellsApartBy class_value ⟦<ClassType<'static> as PartialEq>⟧.eq }
     ensures unions { TellsApartBy union_value ⟦<UnionType<'static> as PartialEq>⟧.eq }
     ensures enumerations { TellsApartBy enumeration_value ⟦<EnumerationType<'static> as PartialEq>⟧.eq }
 {}
 
-/// Parts of a class or an enumeration that have a name are equal just where all fields are, the names
-/// by their bytes.
+/// Parts of a class or an enumeration with a name are equal if and only if all their fields are.
+/// Names are compared by their bytes.
 pub fn named_parts()
     ensures members { TellsApartBy member_value ⟦<MemberType<'static> as PartialEq>⟧.eq }
     ensures static_members { TellsApartBy static_member_value ⟦<StaticMemberType<'static> as PartialEq>⟧.eq }
@@ -70,7 +71,8 @@ pub fn named_parts()
     ensures enumerates { TellsApartBy enumerate_value ⟦<EnumerateType<'static> as PartialEq>⟧.eq }
 {}
 
-/// Ids that hold no list are equal just where all fields are, the names by their bytes.
+/// Ids that hold no list are equal if and only if all their fields are. Names are compared by their
+/// bytes.
 pub fn ids()
     ensures functions { TellsApartBy function_value ⟦<FunctionId<'static> as PartialEq>⟧.eq }
     ensures member_functions { TellsApartBy member_function_value ⟦<MemberFunctionId<'static> as PartialEq>⟧.eq }
