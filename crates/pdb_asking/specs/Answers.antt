@@ -17,11 +17,11 @@ use Rattle.pdb_rows.specs.Refused.{refusal_shown}
 use Rattle.pdb_rows.specs.Row.{ShownField, ShownRow, hexadecimal, kind, text}
 use Rattle.pdb_asking.specs.Questions.{Asking}
 
--- a question, as it is repeated before its answer
+-- the row of a question, which is repeated before its answer
 abbrev pub question_shown : List ℕ → ShownRow
 question_shown line = (codes "question", text line) ∷ []
 
--- what is told of a line that asks nothing: the words that a question may have
+-- what is shown for a line that asks nothing: the words that a question may have
 abbrev pub no_query : List ℕ
 no_query = codes "no question: stream N [LIMIT] | type S I | id S I | name S O | ranges S A B | fields S I"
 
@@ -44,7 +44,7 @@ record_shown index leaf name = (codes "index", hexadecimal index) ∷ (codes "ki
 abbrev pub range_shown : Range ℕ → ShownRow
 range_shown range = (codes "start", hexadecimal range.start) ∷ (codes "end", hexadecimal range.end) ∷ []
 
--- the lines of a reply in JSON: one for each field of a list, and for each range
+-- the lines of a reply in JSON: for a list, one line for each field; for ranges, one line for each
 abbrev pub json_text : Reply → List ℕ
 json_text (replies.Bytes stream) = row_text Json (bytes_shown stream.items)
 json_text (replies.Record index leaf name) = row_text Json (record_shown index leaf (option_map (λ copy. copy.items) name))
@@ -53,18 +53,18 @@ json_text (replies.Name name) = row_text Json (name_field (Some name.items) ∷ 
 json_text (replies.Ranges ranges) = flat_map (λ range. row_text Json (range_shown range)) ranges.items
 json_text (replies.Refused e) = row_text Json (refusal_shown (refusal_of e) ∷ [])
 
--- The lines of a reply: in text those that the other program prints, and a refusal in both forms as a row.
+-- The lines of a reply: in text, the lines that `pdbq` prints; but a refusal is a row in both forms.
 unfoldable pub reply_text : Form → Reply → List ℕ
 reply_text form (replies.Refused e) = row_text form (refusal_shown (refusal_of e) ∷ [])
 reply_text Text reply = reply_lines reply
 reply_text Json reply = json_text reply
 
--- the lines of an answer: of the reply, or that nothing was asked
+-- the lines of an answer: those of the reply, or a line that says that nothing was asked
 abbrev pub answer_text : Form → Option Reply → List ℕ
 answer_text form (Some reply) = reply_text form reply
 answer_text form None = row_text form unasked_shown
 
--- whether it answers the question
+-- whether there is a reply, and it isn't a refusal
 abbrev pub is_answer : Option Reply → Bool
 is_answer None = false
 is_answer (Some (replies.Refused e)) = false
@@ -74,7 +74,8 @@ is_answer (Some reply) = true
 unfoldable pub answered_text : Form → List ℕ → Option Reply → List ℕ
 answered_text form line reply = row_text form (question_shown line) ++ answer_text form reply
 
--- the reply to a question, which a line that asks nothing has not, and the replies to the others
+-- the reply to a question, and the replies that are left for the others; a line that asks nothing has
+-- none
 abbrev pub next_reply : Option Query → List Reply → Option Reply × List Reply
 next_reply None replies = (None, replies)
 next_reply (Some query) [] = (None, [])

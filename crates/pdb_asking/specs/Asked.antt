@@ -1,4 +1,4 @@
--- What stands on a writer when a file was asked questions.
+-- What is written when a file is asked questions.
 use Rattle.std.specs.Prelude.{◌≡◌, ◌⊎◌, ◌&&◌, ℕ, Bool, true, false, List, [], ◌∷◌, ◌++◌, Option, Some, None, Result, Ok, Err}
 use Rattle.std.specs.Io.KnownBytes.{Appends, Keeps}
 use Rattle.pdb_base.specs.declared.error.Error.{Error}
@@ -12,14 +12,14 @@ use Rattle.pdb_rows.specs.Written.{IsCut, IsFront}
 use Rattle.pdb_asking.specs.Answers.{answered_text, is_answer}
 use Rattle.pdb_asking.specs.Questions.{Asking, questions_in}
 
--- What a file replies to a question: nothing where it asks nothing, and else what the file says, or its
--- refusal.
+-- What a file replies to a question: nothing if the line asks nothing, and else what the file says, or
+-- its refusal.
 abbrev pub IsReplied : List ℕ → Head → Option Query → Option Reply → Type 0
 IsReplied file head None reply = reply ≡ None
 IsReplied file head (Some query) None = ⊥
 IsReplied file head (Some query) (Some reply) = IsReply ⊥ reply (reply_of file head query)
 
--- The first question, with the lines of its answer behind it, and then the others; and whether all are
+-- The lines of the first question and of its answer, followed by those of the others, and whether all are
 -- answered.
 pub record IsAnsweredThen (form : Form) (file : List ℕ) (head : Head) (question : Asking) (others : List ℕ → Bool → Type 0) (lines : List ℕ) (all : Bool) : Type 0 where
   pub reply : Option Reply
@@ -41,13 +41,13 @@ pub record AreLinesOf (form : Form) (file questions : List ℕ) (lines : List �
   pub is_head : opened file ≡ Ok head
   pub are_answered : AreAnswered form file head (questions_in questions) lines all
 
--- nothing of the lines of all answers, or a front of them
+-- nothing was written, or a front of the lines of all answers
 pub data IsPart (form : Form) (file questions : List ℕ) (old new : Option (List ℕ)) : Type 0 where
   nothing : Keeps old new → IsPart form file questions old new
   front : (lines : List ℕ) (all : Bool) → AreLinesOf form file questions lines all → IsFront lines old new → IsPart form file questions old new
 
--- A file was asked the questions of a text: the lines of all answers stand on the writer, and the result
--- is whether all are answered. Or the file is refused, and nothing was written; or the lines were cut short.
+-- A file was asked the questions in a text: the lines of all answers were written, and the result is
+-- whether all are answered. Or the file is refused, and nothing was written; or the lines were cut short.
 abbrev pub IsAsked : Form → List ℕ → List ℕ → Option (List ℕ) → Option (List ℕ) → Result Bool Error → Type 0
 IsAsked form file questions old new (Ok all) = (lines : List ℕ) × AreLinesOf form file questions lines all × Appends old new lines
 IsAsked form file questions old new (Err e) = ((opened file ≡ Err (refusal_of e)) × Keeps old new) ⊎ (IsCut e × IsPart form file questions old new)

@@ -1,4 +1,4 @@
--- Questions: the lines of a text, and the query that the words of each spell.
+-- Questions: the lines of a text, and the query that the words of each line form.
 use Rattle.std.specs.Prelude.{ℕ, Bool, ◌==◌, ◌||◌, if◌then◌else◌, not, filter, List, [], ◌∷◌, length, map, Option, Some, None, option_and_then}
 use Rattle.std.specs.List.{filter_map, list_all, slice_split}
 use Rattle.std.specs.Str.{is_utf8}
@@ -6,15 +6,15 @@ use Rattle.pdb_command.specs.Words.{query_of}
 use Rattle.pdb_container.specs.declared.query.Query.{Query}
 use Rattle.pdb_asking.specs.declared.question.Question.{Question}
 
--- the bytes that end a line: a line feed, and a carriage return
+-- whether a byte ends a line: a line feed or a carriage return
 abbrev pub ends_line : ℕ → Bool
 ends_line byte = byte == 10 || byte == 13
 
--- the bytes that stand between words: a blank, and a tab
+-- whether a byte separates words: a space or a tab
 abbrev pub is_blank : ℕ → Bool
 is_blank byte = byte == 32 || byte == 9
 
--- what stands between such bytes, if anything does
+-- the pieces between such bytes that aren't empty
 abbrev pub pieces : (ℕ → Bool) → List ℕ → List (List ℕ)
 pieces ends bytes = filter (λ piece. not (length piece == 0)) (slice_split ends bytes)
 
@@ -24,19 +24,19 @@ lines_of text = pieces ends_line text
 abbrev pub words_of : List ℕ → List (List ℕ)
 words_of line = pieces is_blank line
 
--- words, if each is a text
+-- the words, if each of them is UTF-8
 abbrev pub texts_of : List (List ℕ) → Option (List (List ℕ))
 texts_of words = if list_all is_utf8 words then Some words else None
 
--- the query that the words of a line spell
+-- the query that the words of a line form, if they form one
 unfoldable pub query_in : List ℕ → Option Query
 query_in line = option_and_then query_of (texts_of (words_of line))
 
--- a line, and what it asks
+-- a line, and the query that it asks, if it asks one
 abbrev pub Asking : Type 0
 Asking = List ℕ × Option Query
 
--- a question of the code
+-- the line and the query of a `Question`
 abbrev pub asked : Question → Asking
 asked question = (question.line.now, question.query)
 

@@ -1,13 +1,13 @@
--- How a buffer is printed: the bytes of its slice as a literal has them, and its position.
+-- How a buffer is printed: the bytes of its slice as in a literal, and its position.
 use Rattle.std.specs.Prelude.{ℕ, ◌-◌, List, ◌++◌, length, replicate, flat_map, false, codes}
 use Rattle.std.specs.Fmt.{decimal, digits}
 use Rattle.pdb_base.specs.ErrorText.{digit_zero}
 use Rattle.pdb_base.specs.Place.{Place}
 
--- `\x` and two lower-case hexadecimal digits
+-- a byte as `\x` and two lower-case hexadecimal digits
 abbrev pub escaped : ℕ → List ℕ
 escaped byte = codes "\\x" ++ replicate (2 - length (digits 16 false byte)) digit_zero ++ digits 16 false byte
 
--- the whole slice, whatever was read of it, and the position in decimal
+-- the whole slice, however much of it was read, and the position in decimal
 abbrev pub buffer_text : Place → List ℕ
 buffer_text place = codes "ParseBuf::from(\"" ++ flat_map escaped place.slice ++ codes "\").as_bytes() at offset " ++ decimal place.pos

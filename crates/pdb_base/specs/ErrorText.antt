@@ -11,15 +11,15 @@ digit_zero = 48
 abbrev pub hexadecimal : ℕ → List ℕ
 hexadecimal n = codes "0x" ++ digits 16 false n
 
--- the same with zeros in front of the digits, so that there are at least four
+-- the same, with zeros before the digits so that there are at least four
 abbrev pub hexadecimal_of_four : ℕ → List ℕ
 hexadecimal_of_four n = codes "0x" ++ replicate (4 - length (digits 16 false n)) digit_zero ++ digits 16 false n
 
--- what stands before the text of an `io::Error`, which is not the library's own
+-- what is printed before the text of an `io::Error`, which is not the library's own
 abbrev pub io_error_front : List ℕ
 io_error_front = codes "IO error while reading PDB: "
 
--- None where the text is not the library's own: that of an `io::Error`
+-- the text of a refusal, or None for an `io::Error`, whose text is not the library's own
 abbrev pub text_of : Refusal → Option (List ℕ)
 text_of unrecognized_file_format = Some (codes "UnrecognizedFileFormat")
 text_of (page_reference_out_of_range page) = Some (codes "MSF referred to page number (" ++ decimal page ++ codes ") out of range")

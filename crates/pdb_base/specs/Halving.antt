@@ -1,4 +1,4 @@
--- Search by halving among numbers that stand at places 0, 1, and so on.
+-- Binary search among numbers at the places 0, 1, and so on.
 use Rattle.std.specs.Prelude.{◌≡◌, ℕ, ◌-◌, ◌<◌, ◌≤◌, length}
 use Rattle.std.specs.Int.Digits.{digits_of}
 
@@ -6,13 +6,13 @@ use Rattle.std.specs.Int.Digits.{digits_of}
 unfoldable pub binary_digits : ℕ → ℕ
 binary_digits n = length (digits_of 2 n)
 
--- no number at these places is below one before it
+-- The numbers at the first `places` places don't decrease.
 abbrev pub Rises : (ℕ → ℕ) → ℕ → Type 0
 Rises number places = (i j : ℕ) → i ≤ j → j < places → number i ≤ number j
 
--- A search for the last number at or below a bound has found a place. Right before it stands a number at
--- or below the bound, which is `last`, unless nothing stands before it. Where the numbers rise, all before
--- the place are at or below the bound, and all from it on are above.
+-- What a search for the last number at or below a bound has found: the place after that number. If `place`
+-- isn't 0, the number before it is `last`, which is at or below the bound. If the numbers don't decrease, all
+-- numbers before `place` are at or below the bound, and all from it on are above the bound.
 pub record IsFound (number : ℕ → ℕ) (places bound place last : ℕ) : Type 0 where
   pub within : place ≤ places
   pub before : 0 < place → (number (place - 1) ≡ last) × (last ≤ bound)

@@ -3,7 +3,7 @@ use Rattle.std.specs.Prelude.{ℕ, ◌==◌, List, ◌++◌, Option, Some, None,
 use Rattle.std.specs.Fmt.{decimal}
 use Rattle.pdb_base.specs.ErrorText.{hexadecimal}
 
--- the number that stands for no stream, 0xffff
+-- the number 0xffff, which stands for no stream
 abbrev pub no_stream : ℕ
 no_stream = 65535
 
@@ -15,6 +15,6 @@ stream_number n = if n == no_stream then None else Some n
 abbrev pub stream_text : ℕ → List ℕ
 stream_text n = if n == no_stream then codes "None" else decimal n
 
--- the number of an index behind the name of its type, as `TypeIndex(0x1000)`
+-- how an index is printed for debugging: the name of its type and its number, for example `TypeIndex(0x1000)`
 abbrev pub debug_text : List ℕ → ℕ → List ℕ
 debug_text name n = name ++ codes "(" ++ hexadecimal n ++ codes ")"

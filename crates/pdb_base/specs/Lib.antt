@@ -15,5 +15,5 @@ pub mod Numeric
 pub mod Spelling
 pub mod Laws
 pub mod Derived
--- the words of the libraries below that the contracts of this one speak in
+-- definitions of lower libraries that the contracts of this one use
 pub use Rattle.byteorder.specs.Endian

@@ -1,7 +1,7 @@
--- Records of one size in bytes that follow one another.
+-- Records of the same size that follow one another in bytes.
 use Rattle.std.specs.Prelude.{ℕ, ◌*◌, ◌/◌, List, length, map, take, drop}
 use Rattle.std.specs.List.{range_with_len}
 
--- what bytes spell, so many bytes for each value: value k stands behind k times so many
+-- the values that bytes spell, `size` bytes each: value k begins at offset `size` times k
 unfoldable pub spelled : {A : Type 0} → ℕ → (List ℕ → A) → List ℕ → List A
 spelled size value bytes = map (λ k. value (take size (drop (size * k) bytes))) (range_with_len 0 (length bytes / size))

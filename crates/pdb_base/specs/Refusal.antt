@@ -1,12 +1,12 @@
--- What a refusal says: an `Error` without what no contract can name. A text counts by its bytes and
--- an `io::Error` by its kind, so two errors that say the same are one refusal.
+-- What a refusal says: an `Error` without what no contract can name. A text is kept as its bytes and an
+-- `io::Error` as its kind, so two errors that say the same are the same refusal.
 use Rattle.std.specs.Prelude.{ℕ, List}
 use Rattle.std.specs.declared.io.ErrorKind.{ErrorKind}
 use Rattle.std.specs.IoError.{error_kind}
 use Rattle.pdb_base.specs.declared.error.Error.{Error}
 use Rattle.pdb_base.specs.declared.error.Error.TheVariants as errors
 
--- the refusals, one for each variant of `Error`, with the numbers that it names
+-- the refusals, one for each variant of `Error`, with its numbers, its text or the kind of its `io::Error`
 pub data Refusal : Type 0 where
   unrecognized_file_format stream_name_not_found unexpected_eof global_symbols_not_found : Refusal
   symbol_too_short type_too_short address_map_not_found lines_not_found : Refusal
@@ -20,7 +20,7 @@ pub data Refusal : Type 0 where
   invalid_stream_length unimplemented_feature invalid_type_information_header : List ℕ → Refusal
   io_error : ErrorKind → Refusal
 
--- the refusal that an error is
+-- the refusal that an error stands for
 abbrev pub refusal_of : Error → Refusal
 refusal_of errors.UnrecognizedFileFormat = unrecognized_file_format
 refusal_of (errors.PageReferenceOutOfRange page) = page_reference_out_of_range page

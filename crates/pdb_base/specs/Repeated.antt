@@ -1,13 +1,13 @@
--- Values one after another, so many of them.
+-- A number of values that follow one another.
 use Rattle.std.specs.Prelude.{◌≡◌, ℕ, zero, suc, List, [], ◌∷◌, ◌++◌, Ok}
 use Rattle.pdb_base.specs.Answer.{Answer, ◌>>=◌}
 
--- the front of bytes that spells the values, each behind the one before
+-- `front` spells the values, each after the one before.
 abbrev pub SpellsEach : {A : Type 0} → (A → List ℕ → Type 0) → List A → List ℕ → Type 0
 SpellsEach {A} Spells [] front = front ≡ []
 SpellsEach {A} Spells (x ∷ xs) front = (head : List ℕ) × (tail : List ℕ) × Spells x head × SpellsEach Spells xs tail × (head ++ tail ≡ front)
 
--- so many values, each read behind the one before
+-- `count` values, each read after the one before
 abbrev pub repeated : {A : Type 0} → (List ℕ → Answer (A × List ℕ)) → ℕ → List ℕ → Answer (List A × List ℕ)
 repeated read zero bytes = Ok ([], bytes)
 repeated read (suc count) bytes = read bytes >>= λ x. repeated read count x.1 >>= λ xs. Ok (x.0 ∷ xs.0, xs.1)

@@ -1,4 +1,4 @@
--- What bytes spell: which front of bytes spells which value, said without reading them.
+-- Which front of bytes spells which value, defined without reading them.
 use Rattle.std.specs.Prelude.{◌≡◌, ◌≢◌, ◌<◌, ◌⊎◌, ℕ, ℤ, List, [], ◌∷◌, ◌++◌, length, Some, Ok}
 use Rattle.std.specs.List.{AllByRecursion}
 use Rattle.std.specs.Int.{Width, cast_signed}
@@ -7,33 +7,33 @@ use Rattle.pdb_base.specs.declared.variant.Variant.{Variant}
 use Rattle.pdb_base.specs.Answer.{Answer}
 use Rattle.pdb_base.specs.Numeric.{NumberKind, u16, Numeral, least_leaf, numeric_leaves, unsigned_leaves, kind_behind, bytes_of, variant_of}
 
--- a number in so many bytes, the lowest first
+-- `front` spells a number in `width` bytes, little-endian.
 pub record SpellsNumber (width number : ℕ) (front : List ℕ) : Type 0 where
   pub len : length front ≡ width
   pub is : little_number width front ≡ number
 
--- a signed number in so many bytes, in two's complement
+-- `front` spells a signed number in `width` bytes, little-endian, in two's complement.
 pub record SpellsSigned (signed : Width) (width : ℕ) (number : ℤ) (front : List ℕ) : Type 0 where
   pub bits : ℕ
   pub spelled : SpellsNumber width bits front
   pub is : cast_signed signed bits ≡ number
 
--- a text and its NUL, with no NUL before
+-- `front` spells a text without a NUL, followed by a NUL.
 pub record SpellsText (text front : List ℕ) : Type 0 where
   pub no_nul : AllByRecursion (λ byte. byte ≢ 0) text
   pub is : text ++ 0 ∷ [] ≡ front
 
--- a byte that says how long a text is, and the text
+-- The bytes spell a text: a byte with its length, and the text.
 abbrev pub SpellsPascalText : List ℕ → List ℕ → Type 0
 SpellsPascalText text front = length text ∷ text ≡ front
 
--- a number below 0x8000, which stands for itself in two bytes
+-- `front` spells a number below 0x8000, which stands for itself in two bytes.
 pub record SpellsItself (numeral : Numeral) (front : List ℕ) : Type 0 where
   pub kind : numeral.kind ≡ u16
   pub small : numeral.number < least_leaf
   pub spelled : SpellsNumber 2 numeral.number front
 
--- a prefix in two bytes that says what the number is, and behind it the number
+-- `front` spells a number after a prefix: two bytes that say its kind, and then the number.
 pub record SpellsPrefixed (leaves : List (ℕ × NumberKind)) (numeral : Numeral) (front : List ℕ) : Type 0 where
   pub prefix : ℕ
   pub says : kind_behind leaves prefix ≡ Some numeral.kind
@@ -43,30 +43,30 @@ pub record SpellsPrefixed (leaves : List (ℕ × NumberKind)) (numeral : Numeral
   pub tail_spelled : SpellsNumber (bytes_of numeral.kind) numeral.number tail
   pub is : head ++ tail ≡ front
 
--- a number of variable width, where these leaves are its prefixes
+-- The bytes spell a number of variable width, with these leaves as its prefixes.
 abbrev pub SpellsNumeral : List (ℕ × NumberKind) → Numeral → List ℕ → Type 0
 SpellsNumeral leaves numeral front = SpellsItself numeral front ⊎ SpellsPrefixed leaves numeral front
 
--- a number of variable width without a sign
+-- `front` spells an unsigned number of variable width.
 pub record SpellsNum (number : ℕ) (front : List ℕ) : Type 0 where
   pub numeral : Numeral
   pub spelled : SpellsNumeral unsigned_leaves numeral front
   pub is : numeral.number ≡ number
 
--- a number of variable width, in its width
+-- `front` spells a number of variable width, and `value` is that number as a `Variant`.
 pub record SpellsVariant (value : Variant) (front : List ℕ) : Type 0 where
   pub numeral : Numeral
   pub spelled : SpellsNumeral numeric_leaves numeral front
   pub is : variant_of numeral ≡ value
 
--- Bytes begin with a front that spells a value, and go on with the rest.
+-- The bytes begin with a front that spells the value, and the rest follows it.
 pub record Begins {A : Type 0} (Spells : A → List ℕ → Type 0) (bytes : List ℕ) (value : A) (rest : List ℕ) : Type 0 where
   pub front : List ℕ
   pub spelled : Spells value front
   pub is : front ++ rest ≡ bytes
 
--- A reader reads just what is spelled: the value that a front of bytes spells, and the rest. So of
--- any bytes at most one front spells a value.
+-- A reader reads exactly what is spelled: the value that a front of the bytes spells, and the rest. So at
+-- most one front of any bytes spells a value.
 pub record ReadsWhatIsSpelled {A : Type 0} (Spells : A → List ℕ → Type 0) (read : List ℕ → Answer (A × List ℕ)) : Type 0 where
   pub found : (bytes : List ℕ) (value : A) (rest : List ℕ) → read bytes ≡ Ok (value, rest) → Begins Spells bytes value rest
   pub only : (bytes : List ℕ) (value : A) (rest : List ℕ) → Begins Spells bytes value rest → read bytes ≡ Ok (value, rest)

@@ -1,4 +1,4 @@
--- Parts of a word, whose lowest bit is that of place 0.
+-- Single bits of a word, of which the lowest is that of place 0.
 use Rattle.std.specs.Prelude.{ℕ, Bool, ◌==◌}
 use Rattle.pdb_bits.specs.Bits.{bits}
 

@@ -1,11 +1,11 @@
--- What an export tells of how it ended: a status, and the numbers that go with it.
+-- How an exported function says how it ended: with a status, and the numbers that go with it.
 use Rattle.std.specs.Prelude.{ℕ, ◌+◌, bytes_eq, if◌then◌else◌, List, [], ◌∷◌, codes}
 use Rattle.std.specs.declared.io.ErrorKind.{ErrorKind}
 use Rattle.std.specs.declared.io.ErrorKind.TheVariants as kinds
 use Rattle.pdb_base.specs.Refusal.{Refusal, unrecognized_file_format, stream_name_not_found, unexpected_eof, global_symbols_not_found, symbol_too_short, type_too_short, address_map_not_found, lines_not_found, invalid_compressed_annotation, out_of_memory, page_reference_out_of_range, invalid_page_size, stream_not_found, unimplemented_symbol_kind, type_not_found, unimplemented_type_kind, not_a_cross_module_ref, cross_module_ref_not_found, unexpected_numeric_prefix, unimplemented_debug_subsection, unimplemented_file_checksum_kind, invalid_file_checksum_offset, unknown_binary_annotation, type_not_indexed, invalid_stream_length, unimplemented_feature, invalid_type_information_header, io_error}
 use Rattle.pdb_c.specs.declared.fault.Fault.{Fault}
 
--- ---- misuse, and what is no refusal
+-- ---- misuse, and other faults that are no refusals
 
 -- nothing is wrong
 abbrev pub fine : Fault
@@ -15,7 +15,7 @@ fine = record { status = 0; first = 0; second = 0 }
 abbrev pub already_open : Fault
 already_open = record { status = 100; first = 0; second = 0 }
 
--- the handle holds nothing of what the call asks of
+-- the handle holds nothing of the kind that the call needs
 abbrev pub not_open : Fault
 not_open = record { status = 101; first = 0; second = 0 }
 
@@ -23,21 +23,21 @@ not_open = record { status = 101; first = 0; second = 0 }
 abbrev pub too_small : Fault
 too_small = record { status = 102; first = 0; second = 0 }
 
--- the caller's stream has more bytes than a stream can
+-- the caller's stream has more bytes than a stream can have
 abbrev pub too_long : Fault
 too_long = record { status = 103; first = 0; second = 0 }
 
--- the caller's fault is none that a call tells, or has no text of the library
+-- the caller's fault isn't one that a call returns, or the library has no text for it
 abbrev pub no_text : Fault
 no_text = record { status = 104; first = 0; second = 0 }
 
--- what is asked for is nowhere
+-- what is asked for was not found
 abbrev pub nowhere : Fault
 nowhere = record { status = 105; first = 0; second = 0 }
 
 -- ---- texts within refusals
 
--- the place of a text among others, counted from that number on; 0 where it is not among them
+-- the number of a text among others, which are numbered from `n` on; 0 if it is not among them
 abbrev pub place_among : ℕ → List (List ℕ) → List ℕ → ℕ
 place_among n [] text = 0
 place_among n (known ∷ more) text = if bytes_eq text known then n else place_among (n + 1) more text
@@ -55,7 +55,7 @@ texts =
 abbrev pub text_number : List ℕ → ℕ
 text_number text = place_among 1 texts text
 
--- the number of the kind of an error of a source; a file in memory has no others
+-- the number of the kind of an error of a source; a file in memory has no other kinds
 abbrev pub kind_number : ErrorKind → ℕ
 kind_number kinds.UnexpectedEof = 1
 kind_number kinds.OutOfMemory = 2
@@ -63,7 +63,7 @@ kind_number kind = 0
 
 -- ---- refusals
 
--- the fault that tells a refusal: a status for each, and its own numbers, or the number of its text
+-- the fault of a refusal: a status for each, and the refusal's own numbers, or the number of its text
 abbrev pub fault_of : Refusal → Fault
 fault_of unrecognized_file_format = record { status = 1; first = 0; second = 0 }
 fault_of (page_reference_out_of_range page) = record { status = 2; first = page; second = 0 }

@@ -1,4 +1,4 @@
--- What a file of the caller's says.
+-- What is read of a caller's file.
 use Rattle.std.specs.Prelude.{ℕ, List, Some}
 use Rattle.pdb_base.specs.Answer.{Answer, ◌>>=◌}
 use Rattle.pdb_msf.specs.Header.{Head, opened}
@@ -9,7 +9,7 @@ use Rattle.pdb_c.specs.declared.content.Content.{Content}
 use Rattle.pdb_c.specs.declared.content.Content.TheVariants as contents
 use Rattle.pdb_c.specs.Handle.{held_as}
 
--- what a file says, once its header is read
+-- what is read of a file, whose header is read first
 abbrev pub said : {A : Type 0} → (List ℕ → Head → Answer A) → List ℕ → Answer A
 said says file = opened file >>= λ head. says file head
 
@@ -17,15 +17,15 @@ said says file = opened file >>= λ head. says file head
 abbrev pub stream_said : ℕ → ℕ → List ℕ → Answer (List ℕ)
 stream_said number limit file = said (λ bytes head. stream_of bytes head number (Some limit)) file
 
--- the bytes of the first stream of a name
+-- the bytes of the first stream with a name
 abbrev pub named_stream_said : List ℕ → List ℕ → Answer (List ℕ)
 named_stream_said name file = said (λ bytes head. file_named_stream bytes head name) file
 
--- the plan of a file, as what a handle holds
+-- the plan of a file, as the contents of a handle
 abbrev pub plan_said : List ℕ → Answer Content
 plan_said file = held_as contents.File (plan_of file)
 
--- its string table, its address map and its frame table, as what a handle holds
+-- its string table, its address map and its frame table, as the contents of a handle
 abbrev pub names_said : List ℕ → Answer Content
 names_said file = held_as contents.Names (said file_string_table file)
 

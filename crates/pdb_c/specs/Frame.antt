@@ -4,7 +4,7 @@ use Rattle.pdb_frames.specs.declared.frame_data.FrameData.{FrameData}
 use Rattle.pdb_frames.specs.FrameNumbers.{kind_number}
 use Rattle.pdb_c.specs.declared.frame.Frame.{Frame}
 
--- a test as a number
+-- a Boolean as a number
 abbrev pub flag : Bool → ℕ
 flag true = 1
 flag false = 0

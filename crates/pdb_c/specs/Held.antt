@@ -8,7 +8,7 @@ use Rattle.pdb_c.specs.contracts.content.Content.{the_row}
 use denote.RawPtr.{Ptr}
 use base.Fml.{Fml, ftrue}
 
--- the content, and the right to free its block; nothing where there is no content
+-- the contents, and the right to free their block; nothing if there are no contents
 abbrev pub owned : Global → Ptr → Option Content → Fml
 owned alloc p None = ftrue
 owned alloc p (Some content) = box_owns (ghosts.dealloc_token alloc) the_row p content

@@ -1,4 +1,4 @@
--- What stream 1 says of a file, as a caller sees it.
+-- The information about a file in its stream 1, as a caller sees it.
 use Rattle.std.specs.Prelude.{ℕ, List, length, map, Ok, Err}
 use Rattle.std.specs.List.{flat_map}
 use Rattle.pdb_base.specs.Answer.{Answer, ◌>>=◌}
@@ -11,15 +11,15 @@ use Rattle.pdb_c.specs.Fault.{fault_of}
 use Rattle.pdb_c.specs.File.{said}
 use Rattle.pdb_c.specs.Records.{Fielded, fielded, unfielded}
 
--- what stream 1 says
+-- the information in stream 1
 abbrev pub information_said : List ℕ → Answer PDBInformation
 information_said file = said file_information file
 
--- the numbers by which a file is told from others, for the caller
+-- the numbers that tell a file from others, for the caller
 abbrev pub information_of : PDBInformation → Information
 information_of said = record { version = said.version; signature = said.signature; age = said.age; guid = said.guid }
 
--- the streams that it names, in the order of their entries
+-- the streams that stream 1 names, in the order of their entries
 abbrev pub names_said : List ℕ → Answer (List Named)
 names_said file = information_said file >>= stream_names_of
 
@@ -27,7 +27,7 @@ names_said file = information_said file >>= stream_names_of
 abbrev pub named_row : Named → NamedStream
 named_row named = record { number = named.stream; name_length = length named.name }
 
--- the streams and the bytes of their names, one name behind another, or what tells their refusal
+-- the streams and the bytes of their names, one name behind another, or the fault of their refusal
 abbrev pub named_told : List NamedStream → List ℕ → Answer (List Named) → Fielded NamedStream
 named_told rows names (Ok streams) = fielded rows names (map named_row streams) (flat_map (λ named. named.name) streams)
 named_told rows names (Err refusal) = unfielded (fault_of refusal) rows names

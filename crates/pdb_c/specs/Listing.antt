@@ -1,4 +1,4 @@
--- What the code lists of fields, seen apart from where it lies.
+-- The rows and names of the code's listing of fields, independent of where they are stored.
 use Rattle.pdb_c.specs.declared.fields.Listing.{Listing as Held}
 use Rattle.pdb_c.specs.Records.{Listing}
 

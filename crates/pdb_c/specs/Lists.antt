@@ -1,4 +1,4 @@
--- The lists and the unique name that the record of a type has, as a caller sees them.
+-- The lists and the unique name in a type record, as a caller sees them.
 use Rattle.std.specs.Prelude.{ℕ, List, map, Option, Some, None, Ok}
 use Rattle.pdb_base.specs.Answer.{Answer, ◌>>=◌}
 use Rattle.pdb_values.specs.declared.method.MethodListEntry.{MethodListEntry}
@@ -8,7 +8,7 @@ use Rattle.pdb_tpi.specs.Record.{type_of}
 use Rattle.pdb_c.specs.declared.row.Row.{Row}
 use Rattle.pdb_c.specs.Row.{no_numbers, row}
 
--- a method of a list for the caller: as a method that stands alone, but without a name
+-- a method of a list for the caller: like a method that isn't in a list, but without a name
 abbrev pub method_row : MethodListEntry → Row
 method_row method = row 5 (record no_numbers { attributes = Some method.attributes; type_index = Some method.method_type.0; extra = method.vtable_offset })
 
@@ -28,7 +28,7 @@ dimensions_in value = None
 abbrev pub dimensions_of : ℕ → List ℕ → Answer (Option (List ℕ))
 dimensions_of index bytes = type_of index bytes >>= λ value. Ok (dimensions_in value)
 
--- the name by which a class, a union or an enumeration is told from others of its name, if it has one
+-- the name that tells a class, a union or an enumeration from others of its name, if it has one
 abbrev pub plain_unique_name : PlainValue → Option (List ℕ)
 plain_unique_name (values.class v) = v.unique_name
 plain_unique_name (values.union v) = v.unique_name

@@ -1,16 +1,16 @@
--- The names of a string table, all of them.
+-- The offsets of all names of a string table.
 use Rattle.std.specs.Prelude.{◌≡◌, ◌⊎◌, ◌+◌, ◌^◌, ◌≤◌, ℕ, List, [], ◌∷◌, length, Ok, Err}
 use Rattle.pdb_base.specs.Refusal.{Refusal, out_of_memory}
 use Rattle.pdb_space.specs.StringTable.{name_of}
 use Rattle.pdb_c.specs.Copied.{Copied, untouched, written}
 use Rattle.pdb_c.specs.Fault.{fault_of}
 
--- No name stands at an offset: no NUL follows there, or the offset doesn't fit 32 bits.
+-- No name begins at an offset: no NUL follows there, or the offset doesn't fit 32 bits.
 abbrev pub HasNoName : List ℕ → ℕ → Type 0
 HasNoName names offset = (2 ^ 32 ≤ offset) ⊎ ((refusal : Refusal) × (name_of names offset ≡ Err refusal))
 
--- These are the offsets of all names from one on: none where no name stands there, and else that one and
--- those behind the name's NUL.
+-- These are the offsets of all names from one offset on: none if no name begins there, and else that
+-- offset and those behind the name's NUL.
 abbrev pub StandFrom : List ℕ → ℕ → List ℕ → Type 0
 StandFrom names from [] = HasNoName names from
 StandFrom names from (offset ∷ offsets) =

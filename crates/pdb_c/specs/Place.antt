@@ -6,6 +6,6 @@ use Rattle.pdb_c.specs.declared.place.Place.{Place}
 abbrev pub place_of : SectionPlace → Place
 place_of place = record { offset = place.offset; section = place.section }
 
--- the place that it is
+-- the place that a caller's place stands for
 abbrev pub section_place : Place → SectionPlace
 section_place place = record { section = place.section; offset = place.offset }

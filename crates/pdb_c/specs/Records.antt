@@ -1,4 +1,4 @@
--- What the record of a type says, as a caller sees it: its row, its name and its lists.
+-- The contents of a type record, as a caller sees them: its row, its name and its lists.
 use Rattle.std.specs.Prelude.{◌≡◌, ◌⊎◌, ℕ, ◌||◌, nat_lt, if◌then◌else◌, is_some, unwrap_or, List, [], ◌++◌, length, drop, map, Option, Some, None, Ok, Err}
 use Rattle.std.specs.List.{flat_map}
 use Rattle.std.specs.Option.{option_map}
@@ -13,13 +13,13 @@ use Rattle.pdb_c.specs.Fault.{fine, fault_of, nowhere, too_small}
 use Rattle.pdb_c.specs.Frame.{flag}
 use Rattle.pdb_c.specs.Row.{row_of}
 
--- what is written of a list that there may not be
+-- what is written of a list that may be absent
 abbrev pub if_copied : {A : Type 0} → List A → Answer (Option (List A)) → Copied A
 if_copied room (Ok (Some items)) = written room items
 if_copied room (Ok None) = untouched nowhere room
 if_copied room (Err refusal) = untouched (fault_of refusal) room
 
--- the name of the type of an index that a record says
+-- the name of the type in a record of this index
 abbrev pub type_name : ℕ → List ℕ → Answer (Option (List ℕ))
 type_name index bytes = type_of index bytes >>= λ value. Ok (name_of value)
 
@@ -39,7 +39,7 @@ fields_in value = None
 abbrev pub fields_of_record : ℕ → List ℕ → Answer (Option (List TypeValue))
 fields_of_record index bytes = type_of index bytes >>= λ value. Ok (fields_in value)
 
--- the bytes of a field's name, none where it has no name
+-- the bytes of a field's name; none if the field has no name
 abbrev pub name_bytes : TypeValue → List ℕ
 name_bytes value = unwrap_or (name_of value) []
 
@@ -55,16 +55,16 @@ pub record Listing : Type 0 where
 abbrev pub listing : List TypeValue → Listing
 listing fields = record { rows = map field_row fields; names = flat_map name_bytes fields }
 
--- the same of what may be fields
+-- the same for fields that may be absent
 abbrev pub listings : Answer (Option (List TypeValue)) → Answer (Option Listing)
 listings meant = meant >>= λ fields. Ok (option_map listing fields)
 
--- fields that there are
+-- the answer with fields, as one in which fields may be absent
 abbrev pub all_found : Answer (List TypeValue) → Answer (Option (List TypeValue))
 all_found meant = meant >>= λ fields. Ok (Some fields)
 
--- how a call ended that writes rows and their names, how many of both there are, and the caller's arrays
--- afterwards
+-- the result of a call that writes rows and their names: how it ended, how many there are of both, and
+-- the caller's arrays afterwards
 pub record Fielded (R : Type 0) : Type 0 where
   pub fault : Fault
   pub rows : List R
@@ -76,20 +76,20 @@ pub record Fielded (R : Type 0) : Type 0 where
 abbrev pub unfielded : {R : Type 0} → Fault → List R → List ℕ → Fielded R
 unfielded fault rows names = record { fault = fault; rows = rows; count = 0; names = names; size = 0 }
 
--- Rows and names at the fronts of the arrays, the names one behind another. Where there is no room for all of
--- either, nothing is written, and it is told how many there are.
+-- The rows and the names are written at the fronts of the arrays, the names one behind another. If there
+-- is no room for all of either, nothing is written, and the counts still say how many there are.
 abbrev pub fielded : {R : Type 0} → List R → List ℕ → List R → List ℕ → Fielded R
 fielded rows names told bytes =
     if nat_lt (length rows) (length told) || nat_lt (length names) (length bytes)
     then record { fault = too_small; rows = rows; count = length told; names = names; size = length bytes }
     else record { fault = fine; rows = told ++ drop (length told) rows; count = length told; names = bytes ++ drop (length bytes) names; size = length bytes }
 
--- the fields that are meant, or what tells their refusal
+-- the fields that are meant are written, or the fault is that of their refusal
 abbrev pub fields_told : List FieldRow → List ℕ → Answer (Option (List TypeValue)) → Fielded FieldRow
 fields_told rows names (Ok (Some fields)) = fielded rows names (map field_row fields) (flat_map name_bytes fields)
 fields_told rows names (Ok None) = unfielded nowhere rows names
 fields_told rows names (Err refusal) = unfielded (fault_of refusal) rows names
 
--- What is meant was written; or memory was refused, and nothing was.
+-- What is meant was written; or memory was refused, and nothing was written.
 abbrev pub FieldsOrLacks : {R : Type 0} → Fielded R → List R → List ℕ → Fielded R → Type 0
 FieldsOrLacks done rows names meant = (done ≡ meant) ⊎ (done ≡ unfielded (fault_of out_of_memory) rows names)

@@ -25,16 +25,16 @@ roles_of streams = record {
   original_section_headers = streams.original_section_headers.0;
 }
 
--- what a file says of roles
+-- the roles of the streams of a file
 abbrev pub roles_said : List ℕ → Answer DBIExtraStreams
 roles_said file = said file_roles file
 
--- Memory was refused, and the caller's value is as it was.
+-- Memory was refused, and the caller's value stays as it was.
 abbrev pub LacksValue : {B : Type 0} → B → Fault → B → Type 0
 LacksValue old fault new = (fault ≡ fault_of out_of_memory) × (new ≡ old)
 
--- What is meant was written for the caller, or the refusal that is meant is told and the caller's value is
--- as it was; or memory was refused.
+-- What is meant was written for the caller; or the fault is that of the refusal that is meant, and the
+-- caller's value stays as it was; or memory was refused.
 abbrev pub IsAnswered : {A B : Type 0} → (A → B) → Answer A → B → Fault → B → Type 0
 IsAnswered shown (Ok value) old fault new = ((fault ≡ fine) × (new ≡ shown value)) ⊎ LacksValue old fault new
 IsAnswered shown (Err refusal) old fault new = ((fault ≡ fault_of refusal) × (new ≡ old)) ⊎ LacksValue old fault new

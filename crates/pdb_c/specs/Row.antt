@@ -1,4 +1,4 @@
--- What a record of a type says, as a caller sees it: a row of numbers, of which each shape has some.
+-- The contents of a type record, as a caller sees them: a row of numbers, of which each shape has some.
 use Rattle.std.specs.Prelude.{ℕ, ◌+◌, ◌*◌, Bool, false, is_some, unwrap_or, int_lt, pos, unsigned_abs, Option, Some, None}
 use Rattle.std.specs.Option.{option_map}
 use Rattle.pdb_base.specs.declared.index.TypeIndex.{TypeIndex}
@@ -18,7 +18,7 @@ class_kind kinds.Class = 0
 class_kind kinds.Struct = 1
 class_kind kinds.Interface = 2
 
--- a number of one of the widths is below 0
+-- whether a number of any width is below 0
 abbrev pub is_negative : Variant → Bool
 is_negative (variants.I8 n) = int_lt n (pos 0)
 is_negative (variants.I16 n) = int_lt n (pos 0)
@@ -26,7 +26,7 @@ is_negative (variants.I32 n) = int_lt n (pos 0)
 is_negative (variants.I64 n) = int_lt n (pos 0)
 is_negative value = false
 
--- how far it is from 0
+-- the absolute value of a number of any width
 abbrev pub magnitude : Variant → ℕ
 magnitude (variants.U8 n) = n
 magnitude (variants.U16 n) = n
@@ -37,7 +37,7 @@ magnitude (variants.I16 n) = unsigned_abs n
 magnitude (variants.I32 n) = unsigned_abs n
 magnitude (variants.I64 n) = unsigned_abs n
 
--- the number of an index that may be none
+-- the number of a type's index, if there is one
 abbrev pub index_in : Option TypeIndex → Option ℕ
 index_in index = option_map (λ index. index.0) index
 
@@ -104,11 +104,11 @@ shape_of (values.field_list fields continuation) = 19
 shape_of (values.argument_list arguments) = 20
 shape_of (values.method_list methods) = 21
 
--- a bit where a number stands
+-- the weight of a number's bit if the number is present, and else 0
 abbrev pub bit : ℕ → Option ℕ → ℕ
 bit weight number = weight * flag (is_some number)
 
--- the row of a shape and its numbers, each 0 where it doesn't stand
+-- the row of a shape and its numbers; a number that is absent is 0
 unfoldable pub row : ℕ → Numbers → Row
 row shape numbers = record {
   kind = unwrap_or numbers.kind 0;

@@ -1,4 +1,4 @@
--- What calls tell of a handle that holds a table.
+-- What calls on a handle that holds a table return.
 use Rattle.std.specs.Prelude.{ℕ, List, Option, Some, None}
 use Rattle.pdb_tpi.specs.StepLaws.{first_stand}
 use Rattle.pdb_tpi.specs.OpenTable.{step_located}
@@ -12,7 +12,7 @@ use Rattle.pdb_c.specs.Fault.{fine, not_open}
 use Rattle.pdb_c.specs.Records.{Fielded, fields_told, unfielded}
 use Rattle.pdb_c.specs.Tables.{Stepped, fields_in_table, stepped}
 
--- what a step of the walk tells, and what the handle holds afterwards
+-- the result of a step of the walk, and what the handle holds afterwards
 pub record Step : Type 0 where
   pub fault : Fault
   pub value : Located
@@ -25,7 +25,7 @@ abbrev pub step_told : Located → Option Content → Step
 step_told old (Some (contents.Table table)) = step_seen (stepped table (step_located table))
 step_told old held = record { fault = not_open; value = old; held = held }
 
--- how a call ended that sets the walk back to the first item, and what the handle holds afterwards
+-- the result of a call that sets the walk back to the first item, and what the handle holds afterwards
 pub record Rewound : Type 0 where
   pub fault : Fault
   pub held : Option Content
@@ -34,7 +34,7 @@ abbrev pub rewound : Option Content → Rewound
 rewound (Some (contents.Table table)) = record { fault = fine; held = Some (contents.Table (first_stand table.table)) }
 rewound held = record { fault = not_open; held = held }
 
--- the fields of a list of the table that a handle holds
+-- the fields of a field list in the table that a handle holds
 abbrev pub fields_asked : List FieldRow → List ℕ → ℕ → Option Stand → Fielded FieldRow
 fields_asked rows names index (Some table) = fields_told rows names (fields_in_table index table)
 fields_asked rows names index None = unfielded not_open rows names

@@ -1,4 +1,4 @@
--- The lines that a reply is printed as.
+-- The lines in which a reply is printed.
 use Rattle.std.specs.Prelude.{ℕ, ◌*◌, List, [], ◌∷◌, ◌++◌, length, map, take, drop, codes, Option, Some, None}
 use Rattle.std.specs.Int.{div_ceil}
 use Rattle.std.specs.Option.{option_map}
@@ -22,7 +22,7 @@ line text = text ++ line_feed ∷ []
 abbrev pub hex_line : List ℕ → List ℕ
 hex_line bytes = line (encode_lower bytes)
 
--- line k of bytes, 32 a line
+-- line `k` of the bytes, with 32 bytes a line
 abbrev pub line_of : List ℕ → ℕ → List ℕ
 line_of all k = take 32 (drop (32 * k) all)
 
@@ -30,12 +30,13 @@ line_of all k = take 32 (drop (32 * k) all)
 unfoldable pub hex_lines : List ℕ → List ℕ
 hex_lines all = flat_map (λ k. hex_line (line_of all k)) (range_with_len 0 (div_ceil (length all) 32))
 
--- the text of a name, or `-` where there is none
+-- the text of a name, or `-` if there is none
 abbrev pub name_text : Option (List ℕ) → List ℕ
 name_text (Some name) = lossy name
 name_text None = codes "-"
 
--- a record: its index, its kind in four digits at least, and its name, with blanks between them
+-- the line of a record: its index, its kind in at least four digits, and its name, with spaces between
+-- them
 unfoldable pub record_line : ℕ → ℕ → Option (List ℕ) → List ℕ
 record_line index kind name = line (hexadecimal index ++ codes " " ++ hexadecimal_of_four kind ++ codes " " ++ name_text name)
 
@@ -43,7 +44,7 @@ record_line index kind name = line (hexadecimal index ++ codes " " ++ hexadecima
 unfoldable pub name_lines : List (Option (List ℕ)) → List ℕ
 name_lines names = flat_map (λ name. line (name_text name)) names
 
--- a range: where it starts, two dots, and where it ends
+-- the line of a range: its start, two dots, and its end
 abbrev pub range_line : Range ℕ → List ℕ
 range_line range = line (hexadecimal range.start ++ codes ".." ++ hexadecimal range.end)
 
@@ -51,7 +52,7 @@ range_line range = line (hexadecimal range.start ++ codes ".." ++ hexadecimal ra
 unfoldable pub range_lines : List (Range ℕ) → List ℕ
 range_lines ranges = flat_map range_line ranges
 
--- the lines that a reply is printed as; a refusal has none
+-- the lines in which a reply is printed; a refusal has none
 abbrev pub reply_lines : Reply → List ℕ
 reply_lines (replies.Bytes stream) = hex_lines stream.items
 reply_lines (replies.Record index kind name) = record_line index kind (option_map (λ copy. copy.items) name)

@@ -18,8 +18,9 @@ use Rattle.pdb_command.specs.declared.outcome.Outcome.{Outcome}
 use Rattle.pdb_command.specs.Lines.{line, hex_lines, record_line, name_lines, range_lines, reply_lines}
 use Rattle.pdb_command.specs.Words.{query_of}
 
--- What is printed of a reply: a stream's bytes in hexadecimal lines, a record on a line, a line for each
--- field with its name, a name's text on a line, or a line for each range that the addresses are moved to.
+-- What is printed for a reply: the bytes of a stream in lines of hexadecimal digits, a record on one
+-- line, one line with the name of each field, the text of a name on a line, or one line for each range to
+-- which the addresses are moved.
 abbrev pub IsPrinted : Said → List ℕ → Type 0
 IsPrinted (bytes stream) out = out ≡ hex_lines stream
 IsPrinted (entry index kind text) out = out ≡ record_line index kind text
@@ -39,8 +40,8 @@ pub record IsAnsweredBy (lines : List ℕ) (outcome : Outcome) : Type 0 where
   pub out : outcome.out.items ≡ lines
   pub err : outcome.err.items ≡ []
 
--- The text of a refusal: the library's own, and of an `io::Error`, which has a text that is not the
--- library's, that text behind the library's words.
+-- The text of a refusal is the library's own. An `io::Error` has a text that isn't the library's, and
+-- that text stands behind the library's words.
 pub record IsTextOf (refusal : Refusal) (text : List ℕ) : Type 0 where
   pub own : IfSome (text_of refusal) (λ own. text ≡ own)
   pub front : (kind : ErrorKind) → refusal ≡ io_error kind → (cause : List ℕ) × (text ≡ io_error_front ++ cause)
@@ -57,36 +58,37 @@ pub record IsRefused (refusal : Refusal) (outcome : Outcome) : Type 0 where
   pub out : outcome.out.items ≡ []
   pub err : IsLineOf refusal outcome.err.items
 
--- what is shown of a reply: its lines, or a refusal's text
+-- what is shown for a reply: its lines, or the text of a refusal
 abbrev pub ShowsReply : Reply → Outcome → Type 0
 ShowsReply (replies.Refused e) outcome = IsRefused (refusal_of e) outcome
 ShowsReply reply outcome = IsAnsweredBy (reply_lines reply) outcome
 
--- how the program is called
+-- the text that shows how the program is called
 abbrev pub usage_text : List ℕ
 usage_text = codes "usage: pdbq stream N [LIMIT] | type S I | id S I | name S O | ranges S A B | fields S I"
 
--- status 2: the words that the program takes on a line of standard error
+-- status 2: the words that the program takes, on a line of standard error
 pub record IsUsage (outcome : Outcome) : Type 0 where
   pub status : outcome.status ≡ 2
   pub out : outcome.out.items ≡ []
   pub err : outcome.err.items ≡ line usage_text
 
--- what the program does about an answer: it prints what is said, or it tells the refusal
+-- what the program does with an answer: it prints what is said, or shows the refusal
 abbrev pub IsOutcomeOf : Answer Said → Outcome → Type 0
 IsOutcomeOf (Ok said) outcome = IsAnswered said outcome
 IsOutcomeOf (Err refusal) outcome = IsRefused refusal outcome
 
--- what a file answers to a query
+-- the answer of a file to a query
 unfoldable pub answer_of : List ℕ → Query → Answer Said
 answer_of file query = opened file >>= λ head. reply_of file head query
 
--- the query that the words spell, and the file that is asked: without words stream 1 of S1
+-- the query that the words form, and the file that it asks; without words, these are stream 1 and the
+-- file S1
 abbrev pub asked : List (List ℕ) → List ℕ → Option (Query × List ℕ)
 asked [] file = Some (queries.Stream 1 None, s1_bytes)
 asked words file = option_map (λ query. (query, file)) (query_of words)
 
--- what the program shows: the answer to what was asked, or want of memory, or how to ask
+-- what the program shows: the answer to what was asked, or that memory was refused, or else the usage
 abbrev pub Shows : Option (Query × List ℕ) → Outcome → Type 0
 Shows (Some question) outcome = IsOutcomeOf (answer_of question.1 question.0) outcome ⊎ IsRefused out_of_memory outcome
 Shows None outcome = IsUsage outcome

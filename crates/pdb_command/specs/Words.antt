@@ -8,7 +8,7 @@ use Rattle.std.specs.Str.Parse.{digits_value}
 use Rattle.pdb_container.specs.declared.query.Query.{Query}
 use Rattle.pdb_container.specs.declared.query.Query.TheVariants as queries
 
--- each byte is a digit in the base
+-- whether each byte is a digit in the base
 abbrev pub are_digits : ℕ → List ℕ → Bool
 are_digits base digits = list_all (λ digit. nat_lt (digit_value digit) base) digits
 
@@ -18,11 +18,12 @@ spelled base most digits =
     if (nat_lt 0 (length digits) && nat_le (length digits) most) && (are_digits base digits && nat_le (digits_value base digits) 0xffffffff)
     then Some (digits_value base digits) else None
 
--- a number is 1 to 10 decimal digits, or `0x` and 1 to 8 hexadecimal digits of either case
+-- the number that a word of 1 to 10 decimal digits, or of `0x` and 1 to 8 hexadecimal digits of either
+-- case, stands for
 unfoldable pub number_of : List ℕ → Option ℕ
 number_of word = if starts_with nat_eq word (codes "0x") then spelled 16 8 (drop 2 word) else spelled 10 10 word
 
--- two words are two numbers
+-- the two numbers that two words stand for
 unfoldable pub two_numbers : List (List ℕ) → Option (ℕ × ℕ)
 two_numbers (first ∷ second ∷ []) = option_and_then (λ a. option_map (λ b. (a, b)) (number_of second)) (number_of first)
 two_numbers _ = None
@@ -37,12 +38,12 @@ unfoldable pub ranges_asked : List (List ℕ) → Option Query
 ranges_asked (stream ∷ ends) = option_and_then (λ s. option_map (λ two. queries.Ranges s two.0 two.1) (two_numbers ends)) (number_of stream)
 ranges_asked [] = None
 
--- two words are the same
+-- whether two words are the same
 abbrev pub same : List ℕ → List ℕ → Bool
 same word other = pointwise nat_eq word other
 
--- what a command of two numbers asks: a record by its index, a name by its offset, or the fields of a list
--- by its index
+-- the query of a command that takes two numbers, of which the first is a stream: a record by its index, a
+-- name by its offset, or the fields of a list by its index
 abbrev pub pair_of : List ℕ → ℕ → ℕ → Option Query
 pair_of command stream number =
     if same command (codes "type") then Some (queries.TypeRecord stream number)
@@ -51,7 +52,7 @@ pair_of command stream number =
     else if same command (codes "fields") then Some (queries.Fields stream number)
     else None
 
--- what each command asks with the words behind it
+-- the query of a command with the words behind it
 unfoldable pub query_of : List (List ℕ) → Option Query
 query_of [] = None
 query_of (command ∷ words) =

@@ -9,7 +9,7 @@ use Rattle.pdb_container.specs.declared.opened.Opened.{Opened}
 use Rattle.pdb_container.specs.declared.opened.Opened.TheVariants as tables
 use Rattle.pdb_container.specs.Reply.{Said, IsReply, moved, type_in, id_in, fields_in, name_in, stream_asked, said_within}
 
--- What a stream that is opened as a table says to a query, if the query asks of such a table.
+-- What a stream that is opened as a table answers to a query, if the query asks such a table.
 abbrev pub said_by : Opened → Query → Option (Answer Said)
 said_by (tables.Types types) (queries.TypeRecord stream index) = Some (type_in index types.table)
 said_by (tables.Types types) (queries.Fields stream index) = Some (fields_in index types.table)
@@ -18,23 +18,23 @@ said_by (tables.Names names) (queries.Name stream offset) = Some (name_in offset
 said_by (tables.Omap omap) (queries.Ranges stream start end) = Some (Ok (moved omap (record { start = start; end = end })))
 said_by opened query = None
 
--- a reply where something is said, which is that
+-- there is a reply if and only if there is an answer, and the reply gives that answer
 abbrev pub RepliesIf : Option Reply → Option (Answer Said) → Type 0
 RepliesIf None None = ⊤
 RepliesIf (Some reply) (Some said) = IsReply ⊥ reply said
 RepliesIf reply said = ⊥
 
--- Queries, a place for the reply to each, and which of them are answered.
+-- Queries, the replies to them, and for each query whether it is answered.
 pub record Progress : Type 0 where
   pub queries : List Query
   pub replies : List Reply
   pub answered : List Bool
 
--- the query at a place
+-- the query at an index
 abbrev pub query_at : Progress → ℕ → Query
 query_at asked i = get_or asked.queries i (queries.Stream 0 None)
 
--- whether it is answered
+-- whether the query at an index is answered
 abbrev pub is_answered : Progress → ℕ → Bool
 is_answered asked i = get_or asked.answered i false
 
@@ -43,29 +43,29 @@ pub record IsUnanswered (asks : List Query) (asked : Progress) : Type 0 where
   pub queries : asked.queries ≡ asks
   pub none : (i : ℕ) → is_answered asked i ≡ false
 
--- The query at a place is answered with a reply, and nothing else changes.
+-- The query at an index is answered with this reply, and nothing else changes.
 pub record IsAnsweredWith (at : ℕ) (reply : Reply) (old new : Progress) : Type 0 where
   pub queries : new.queries ≡ old.queries
   pub here : is_answered new at ≡ true
   pub reply_is : (d : Reply) → get_or new.replies at d ≡ reply
   pub others : (i : ℕ) (d : Reply) → i ≢ at → (is_answered new i ≡ is_answered old i) × (get_or new.replies i d ≡ get_or old.replies i d)
 
--- The reply to each query that is answered says what is meant. It may be refused by a fault of the source
--- where that is not sound.
+-- The reply to each query that is answered gives the answer that is meant. If the source is not sound,
+-- the reply may be a refusal for a fault of the source instead.
 abbrev pub AreRight : Bool → (Query → Answer Said) → Progress → Type 0
 AreRight sound meant asked = (i : ℕ) (d : Reply) → is_answered asked i ≡ true → IsReply (¬ IsTrue sound) (get_or asked.replies i d) (meant (query_at asked i))
 
--- More of the queries are answered than before, and rightly if those before were.
+-- The queries that were answered still are, and others may be; all rightly, if those before were.
 pub record IsAnsweredOn (means : (Query → Answer Said) → Type 0) (old new : Progress) : Type 0 where
   pub queries : new.queries ≡ old.queries
   pub stays : (i : ℕ) → is_answered old i ≡ true → is_answered new i ≡ true
   pub right : (sound : Bool) (meant : Query → Answer Said) → means meant → AreRight sound meant old → AreRight sound meant new
 
--- what is meant of the queries that ask of a stream is what it says, opened as a table
+-- the answer that is meant for a query of this stream is what the stream, opened as a table, answers
 abbrev pub MeansTable : ℕ → Opened → (Query → Answer Said) → Type 0
 MeansTable number opened meant = (query : Query) (said : Answer Said) → (stream_asked query).0 ≡ number → said_by opened query ≡ Some said → meant query ≡ said
 
--- what is meant of the queries that ask this of a stream is what its bytes say
+-- the answer that is meant for a query of this stream, up to this limit, is what these bytes answer
 abbrev pub MeansStream : ℕ × Option ℕ → List ℕ → (Query → Answer Said) → Type 0
 MeansStream stream bytes meant = (query : Query) → stream_asked query ≡ stream → meant query ≡ said_within query bytes
 
@@ -90,20 +90,21 @@ abbrev pub AsksOmap : Query → Type 0
 AsksOmap (queries.Ranges stream start end) = ⊤
 AsksOmap query = ⊥
 
--- A stream answers the query at a place, and others that ask the same of it. Where it refuses that query,
--- nothing is answered.
+-- The bytes of a stream answer the query at an index, and maybe others that ask for the same stream up to
+-- the same limit. If they refuse that query, nothing is answered.
 abbrev pub AnswersAt : List ℕ → ℕ → Progress → Result (Unit {0}) Error → Progress → Type 0
 AnswersAt bytes at old (Ok done) new = IsAnsweredOn (MeansStream (stream_asked (query_at old at)) bytes) old new × (is_answered new at ≡ true)
 AnswersAt bytes at old (Err e) new = RefusesUnless ⊥ e (said_within (query_at old at) bytes) × (new ≡ old)
 
--- A file answers the query at a place, and others. A source that fails refuses that query alone.
+-- A file answers the query at an index, and maybe others. If the source fails, it refuses that query
+-- alone.
 pub record IsAnsweredFrom (failed : Type 0) (meant : Query → Answer Said) (at : ℕ) (old new : Progress) : Type 0 where
   pub queries : new.queries ≡ old.queries
   pub stays : (i : ℕ) → is_answered old i ≡ true → is_answered new i ≡ true
   pub answered : is_answered new at ≡ true
   pub right : (sound : Bool) → (failed → ¬ IsTrue sound) → AreRight sound meant old → AreRight sound meant new
 
--- A file answers the query at a place, and others. Where it refuses that query, nothing is answered.
+-- A file answers the query at an index, and maybe others. If it refuses that query, nothing is answered.
 abbrev pub AnswersFrom : Type 0 → (Query → Answer Said) → ℕ → Progress → Result (Unit {0}) Error → Progress → Type 0
 AnswersFrom failed meant at old (Ok done) new = IsAnsweredFrom failed meant at old new
 AnswersFrom failed meant at old (Err e) new = RefusesUnless failed e (meant (query_at old at)) × (new ≡ old)

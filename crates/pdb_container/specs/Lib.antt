@@ -1,7 +1,7 @@
 pub mod Reply
 pub mod Asked
 pub mod Lookup
--- the words that the contracts of what this crate gives on speak in
+-- the definitions that the contracts of what this crate re-exports cite
 pub use Rattle.pdb_bits.specs.Bits
 pub use Rattle.pdb_bits.specs.Parts
 pub use Rattle.pdb_base.specs.Refusal

@@ -1,16 +1,16 @@
--- What a finder knows that is shown a walk along its table.
+-- What a finder knows after a walk along its table was shown to it.
 use Rattle.std.specs.Prelude.{◌≡◌, ℕ, ◌-◌, ◌*◌, ◌<◌, ◌≤◌, Bool, ◌&&◌, nat_le, not}
 use Rattle.pdb_tpi.specs.Table.{Table}
 use Rattle.pdb_tpi.specs.Steps.{Stand}
 use Rattle.pdb_tpi.specs.Finder.{Indexed, first_of, block_of, is_counted}
 
--- A finder of the table knows each block of counted indexes that begins among so many items of the walk,
--- or right behind them.
+-- A finder of the table knows each block of counted indexes whose first item is among the first `walked`
+-- items of the walk, or right behind them.
 pub record KnowsWalked (table : Table) (walked : ℕ) (finder : Indexed) : Type 0 where
   pub same : finder.table ≡ table
   pub blocks : (block : ℕ) → first_of table block < table.header.maximum_index → 8 * block ≤ walked → block < finder.known
 
--- The finder was shown an iterator over its table that has come to a place.
+-- The finder was shown an iterator over its table as it walked up to this stand.
 pub record IsShown (table : Table) (stand : Stand) (finder : Indexed) : Type 0 where
   pub same : stand.table ≡ table
   pub least : table.header.minimum_index ≤ stand.index
@@ -22,6 +22,7 @@ pub record Walked : Type 0 where
   pub known : ℕ
   pub index : ℕ
 
--- An index that is not counted has no block, and the block of each other is known.
+-- Whether the block of an index is known. This holds for each index that isn't counted, as it has no
+-- block.
 abbrev pub is_known : Table → ℕ → ℕ → Bool
 is_known table known i = not (is_counted table i && nat_le known (block_of table i))

@@ -1,4 +1,4 @@
--- What a file replies to a query, and what a run over many queries answers.
+-- What a file replies to a query, and what a run over many queries returns.
 use Rattle.std.specs.Prelude.{◌≡◌, ◌≤◌, ◌⊎◌, List, [], ◌∷◌, length, map, ⊤, ℕ, All, Option, None, Result, Ok, Err}
 use Rattle.std.specs.Global.{Vec}
 use Rattle.std.specs.Option.{option_map}
@@ -24,7 +24,7 @@ use Rattle.pdb_container.specs.declared.query.Query.TheVariants as queries
 use Rattle.pdb_container.specs.declared.query.Reply.{Reply}
 use Rattle.pdb_container.specs.declared.query.Reply.TheVariants as replies
 
--- what a reply says
+-- the contents of a reply
 pub data Said : Type 0 where
   bytes : List ℕ → Said  -- the bytes of a stream
   entry : ℕ → ℕ → Option (List ℕ) → Said  -- a record: its index, its kind, and its name if it has one
@@ -32,57 +32,58 @@ pub data Said : Type 0 where
   name : List ℕ → Said  -- a name
   moved : List Mapping → Range ℕ → Said  -- where a table moves the addresses of a range
 
--- ---- what is meant
+-- ---- the answers that are meant
 
--- a type of a table, by its index: the item of that index in the whole walk, and what it says
+-- the type of an index in a table: the index, kind and name of its item, which is looked up in the whole
+-- walk
 unfoldable pub type_in : ℕ → Table → Answer Said
 type_in index table = do
   item ← item_of table index
   value ← type_of index item
   Ok (entry index (kind_of item) (types.name_of value))
 
--- an id of a table, by its index
+-- the id of an index in a table
 unfoldable pub id_in : ℕ → Table → Answer Said
 id_in index table = do
   item ← item_of table index
   value ← id_of item
   Ok (entry index (kind_of item) (id_name value))
 
--- the names of the fields of a list of a table, and of the lists in which it goes on
+-- the names of the fields of a field list in a table, and of the lists that continue it
 unfoldable pub fields_in : ℕ → Table → Answer Said
 fields_in index table = do
   all ← fields_of (item_of table) index
   Ok (fields (map types.name_of all))
 
--- a type of the table that a stream is
+-- the type of an index in the table that a stream holds
 unfoldable pub type_within : ℕ → List ℕ → Answer Said
 type_within index stream = table_of stream >>= type_in index
 
--- an id of the table that a stream is
+-- the id of an index in the table that a stream holds
 unfoldable pub id_within : ℕ → List ℕ → Answer Said
 id_within index stream = table_of stream >>= id_in index
 
--- the fields of a list of the table that a stream is
+-- the names of the fields of a field list in the table that a stream holds
 unfoldable pub fields_within : ℕ → List ℕ → Answer Said
 fields_within index stream = table_of stream >>= fields_in index
 
--- the name at an offset of the names of a string table
+-- the name at an offset in the names of a string table
 unfoldable pub name_in : ℕ → List ℕ → Answer Said
 name_in offset names = do
   text ← name_of names offset
   Ok (name text)
 
--- the name at an offset of the string table that a stream is
+-- the name at an offset in the string table that a stream holds
 unfoldable pub name_within : ℕ → List ℕ → Answer Said
 name_within offset stream = names_of stream >>= name_in offset
 
--- where the OMAP table that a stream is moves the addresses of a range
+-- where the OMAP table that a stream holds moves the addresses of a range
 unfoldable pub moved_within : Range ℕ → List ℕ → Answer Said
 moved_within asked stream = do
   table ← omap.table_of stream
   Ok (moved table asked)
 
--- the stream that a query asks of, and how many of its bytes at most
+-- the stream that a query asks, and at most how many of its bytes
 abbrev pub stream_asked : Query → ℕ × Option ℕ
 stream_asked (queries.Stream number limit) = (number, limit)
 stream_asked (queries.TypeRecord stream index) = (stream, None)
@@ -91,7 +92,7 @@ stream_asked (queries.Name stream offset) = (stream, None)
 stream_asked (queries.Ranges stream start end) = (stream, None)
 stream_asked (queries.Fields stream index) = (stream, None)
 
--- what the bytes of that stream say to the query
+-- what the bytes of that stream answer to the query
 abbrev pub said_within : Query → List ℕ → Answer Said
 said_within (queries.Stream number limit) stream = Ok (bytes stream)
 said_within (queries.TypeRecord number index) stream = type_within index stream
@@ -100,24 +101,24 @@ said_within (queries.Name number offset) stream = name_within offset stream
 said_within (queries.Ranges number start end) stream = moved_within (record { start = start; end = end }) stream
 said_within (queries.Fields number index) stream = fields_within index stream
 
--- The reply to a query of an open file: what the stream that is asked for says. The first fault is that
--- of the stream, of the table in it, of the look-up, of the record that was looked up, in this order.
+-- The reply to a query of an open file: what the stream that it asks answers. The first fault is that of
+-- the stream, then of the table in it, then of the look-up, then of the record that was looked up.
 abbrev pub reply_of : List ℕ → Head → Query → Answer Said
 reply_of file head query = stream_of file head (stream_asked query).0 (stream_asked query).1 >>= said_within query
 
--- ---- what is replied
+-- ---- the replies
 
--- Ranges are where a table moves the addresses of a range. Over a table whose sources never fall they
--- are its parts of the range, in order, and laid end to end they are where the addresses go one by one.
--- Over another table they are at most one for each record. None is ever empty.
+-- These ranges are where a table moves the addresses of a range. If the table's sources never decrease,
+-- they are the table's parts of the range, in order, and laid end to end they are where the addresses are
+-- moved one by one. In any table, there is at most one range for each record, and none is empty.
 pub record AreMoved (table : List Mapping) (asked : Range ℕ) (ranges : List (Range ℕ)) : Type 0 where
   pub parts : IsSortedBySource table → ranges ≡ parts table asked
   pub laid : IsSortedBySource table → end_to_end ranges ≡ pointwise (shift table) asked
   pub few : length ranges ≤ length table
   pub not_empty : All IsNotEmpty ranges
 
--- A reply says what is meant. A refusal is the one that is meant, or want of memory, or another fault
--- of the source, which is so only where `failed` holds.
+-- A reply gives the answer that is meant. A refusal is the one that is meant, or says that memory was
+-- refused, or is another fault of the source, which is possible only if `failed` holds.
 abbrev pub IsReply : Type 0 → Reply → Answer Said → Type 0
 IsReply failed (replies.Bytes stream) meant = meant ≡ Ok (bytes stream.items)
 IsReply failed (replies.Record index kind text) meant = meant ≡ Ok (entry index kind (option_map (λ copy. copy.items) text))
@@ -126,14 +127,14 @@ IsReply failed (replies.Name text) meant = meant ≡ Ok (name text.items)
 IsReply failed (replies.Ranges ranges) meant = (table : List Mapping) × (asked : Range ℕ) × (meant ≡ Ok (moved table asked)) × AreMoved table asked ranges.items
 IsReply failed (replies.Refused e) meant = RefusesUnless failed e meant
 
--- A call that takes memory and reads no source: it replies what is meant, or refuses as is meant, or
--- memory was refused.
+-- A call that takes memory and reads no source returns the reply that is meant, or fails with the refusal
+-- that is meant, or because memory was refused.
 abbrev pub Replies : Result Reply Error → Answer Said → Type 0
 Replies (Ok reply) meant = IsReply ⊥ reply meant
 Replies (Err e) meant = (meant ≡ Err (refusal_of e)) ⊎ (e ≡ errors.OutOfMemory)
 
--- A call that reads a source: the same, or the source failed of itself, which is so only where `failed`
--- holds.
+-- A call that reads a source does the same, or fails because the source itself failed, which is possible
+-- only if `failed` holds.
 abbrev pub RepliesUnless : Type 0 → Result Reply Error → Answer Said → Type 0
 RepliesUnless failed (Ok reply) meant = IsReply failed reply meant
 RepliesUnless failed (Err e) meant = RefusesUnless failed e meant
@@ -144,7 +145,7 @@ AreReplies failed file head [] [] = ⊤
 AreReplies failed file head (query ∷ queries) (reply ∷ replies) = IsReply failed reply (reply_of file head query) × AreReplies failed file head queries replies
 AreReplies failed file head _ _ = ⊥
 
--- A run answers the replies of the file, or refuses as opening the file does.
+-- A run returns the replies of the file, or fails as opening the file does.
 abbrev pub IsRun : Type 0 → List ℕ → List Query → Result (Vec Reply) Error → Type 0
 IsRun failed file queries (Ok replies) = (head : Head) × (opened file ≡ Ok head) × AreReplies failed file head queries replies.items
 IsRun failed file queries (Err e) = RefusesUnless failed e (opened file)

@@ -8,8 +8,8 @@ use Rattle.pdb_rows.specs.declared.form.Form.{Form}
 use Rattle.pdb_asking.specs.Asked.{IsAsked}
 use Rattle.pdb_dump.specs.Served.{IsEnded, IsNotRead, joined}
 
--- The questions that an input had are asked of the file that another had: of their bytes where they are
--- known.
+-- The questions in one input are asked of the file in another; if the bytes of either input are known,
+-- they are those questions or that file.
 pub record IsAskedOf (form : Form) (had_file had_questions old new : Option (List ℕ)) (result : Result Bool Error) : Type 0 where
   pub file : List ℕ
   pub whole : IfSome had_file (λ bytes. file ≡ bytes)
@@ -17,7 +17,7 @@ pub record IsAskedOf (form : Form) (had_file had_questions old new : Option (Lis
   pub all_questions : IfSome had_questions (λ bytes. questions ≡ bytes)
   pub asked : IsAsked form file questions old new result
 
--- whether questions were asked, whatever the answers are
+-- the result of asking, without the flag whether all questions were answered
 abbrev pub done_of : Result Bool Error → Result (Unit {0}) Error
 done_of (Ok all) = Ok tt
 done_of (Err fault) = Err fault
@@ -31,8 +31,8 @@ abbrev pub is_refused : Result Bool Error → Bool
 is_refused (Ok all) = not all
 is_refused (Err fault) = false
 
--- What the program did with questions about a file: what it wrote on the output, that this was handed on,
--- and how it ended: as behind a listing, but with status 1 where a question was not answered.
+-- What the program did with questions about a file: what it wrote to the output, which it then flushed,
+-- and how it ended: as behind a listing, but with status 1 if a question was not answered.
 pub record AreServed (form : Form) (had_file had_questions out out' err err' : Option (List ℕ)) (ended : Ended) : Type 0 where
   pub written : Option (List ℕ)
   pub result : Result Bool Error

@@ -17,15 +17,15 @@ use Rattle.pdb_tables.specs.Listing.{IsListed}
 use Rattle.pdb_dump.specs.declared.words.Command.{Command}
 use Rattle.pdb_dump.specs.declared.words.Command.TheVariants as commands
 
--- the streams of types and of ids, where none is given
+-- the numbers of the streams of types and of ids, which are used if none is given
 abbrev pub type_stream : ℕ
 type_stream = 2
 
 abbrev pub id_stream : ℕ
 id_stream = 4
 
--- What is listed of the table in a stream, as its bytes say it; or the stream is refused, and nothing is
--- written.
+-- The table in a stream is listed, as the bytes of the stream determine; or the stream is refused or
+-- can't be read, and nothing is written.
 pub data IsListedIn (listed : List ℕ → Option (List ℕ) → Option (List ℕ) → Result (Unit {0}) Error → Type 0) (file : List ℕ) (head : Head) (n : ℕ) (out out' : Option (List ℕ)) (result : Result (Unit {0}) Error) : Type 0 where
   read : (stream : List ℕ) → stream_of file head n None ≡ Ok stream → listed stream out out' result → IsListedIn listed file head n out out' result
   unread : (fault : Error) → result ≡ Err fault → (stream_of file head n None ≡ Err (refusal_of fault)) ⊎ IsCut fault → Keeps out out' → IsListedIn listed file head n out out' result
@@ -52,7 +52,7 @@ DoesIn form commands.Frames file head = IsListed (file_frames form file head)
 DoesIn form (commands.FramesIn old new) file head = IsListed (frames_in form file head old new)
 DoesIn form (commands.Map address streams) file head = IsMapped form (map_in file head streams) address
 
--- What a command does with a file; or its header is refused, and nothing is written.
+-- What a command does with a file; or the header is refused or can't be read, and nothing is written.
 pub data Does (form : Form) (command : Command) (file : List ℕ) (out out' : Option (List ℕ)) (result : Result (Unit {0}) Error) : Type 0 where
   listed : (head : Head) → opened file ≡ Ok head → DoesIn form command file head out out' result → Does form command file out out' result
   refused : (fault : Error) → result ≡ Err fault → (opened file ≡ Err (refusal_of fault)) ⊎ IsCut fault → Keeps out out' → Does form command file out out' result

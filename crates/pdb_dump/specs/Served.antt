@@ -12,7 +12,8 @@ use Rattle.pdb_rows.specs.declared.form.Form.{Form}
 use Rattle.pdb_dump.specs.Listed.{Does}
 use Rattle.pdb_dump.specs.declared.words.Command.{Command}
 
--- What a command lists of the file that an input had is listed: of its bytes where they are known.
+-- What a command lists of the file in an input is listed; if the bytes of the input are known, these are
+-- the file.
 pub record IsListedOf (form : Form) (command : Command) (had old new : Option (List ℕ)) (result : Result (Unit {0}) Error) : Type 0 where
   pub file : List ℕ
   pub whole : IfSome had (λ bytes. file ≡ bytes)
@@ -25,29 +26,29 @@ pub record IsNotRead (old new : Option (List ℕ)) (result : Result (Unit {0}) E
   pub unread : IsUnread fault
   pub kept : Keeps old new
 
--- who reads the output has closed it
+-- the reader of the output has closed it
 abbrev pub IsClosed : Error → Type 0
 IsClosed (IoError cause) = error_kind cause ≡ kinds.BrokenPipe
 IsClosed other = ⊥
 
--- status 0, and nothing is told
+-- status 0, and nothing is written to standard error
 pub record IsQuiet (old new : Option (List ℕ)) (ended : Ended) : Type 0 where
   pub status : ended.status ≡ 0
   pub kept : Keeps old new
 
--- How the program ends: quietly where all was listed, or where who reads it has closed the output, and
--- else it tells the fault, with status 1.
+-- How the program ends: quietly if all was listed, or if the reader of the output has closed it; and else
+-- it reports the fault, with status 1.
 abbrev pub IsEnded : Result (Unit {0}) Error → Option (List ℕ) → Option (List ℕ) → Ended → Type 0
 IsEnded (Ok done) old new ended = IsQuiet old new ended
 IsEnded (Err fault) old new ended = (IsClosed fault → IsQuiet old new ended) × ((IsClosed fault → ⊥) → IsTold fault old new ended)
 
--- how listing went, and then handing on what was written: the first fault
+-- the result of listing and of the flush behind it: the first fault, if there is one
 abbrev pub joined : Result (Unit {0}) Error → Result (Unit {0}) io.Error → Result (Unit {0}) Error
 joined (Err fault) flushed = Err fault
 joined (Ok done) (Err cause) = Err (IoError cause)
 joined (Ok done) (Ok flushed) = Ok tt
 
--- What the program did with a command and an input: what it listed on the output, that this was handed on,
+-- What the program did with a command and an input: what it wrote to the output, which it then flushed,
 -- and how it ended.
 pub record IsServed (form : Form) (command : Command) (had out out' err err' : Option (List ℕ)) (ended : Ended) : Type 0 where
   pub written : Option (List ℕ)

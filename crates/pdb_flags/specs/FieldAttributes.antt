@@ -1,9 +1,9 @@
--- The word of 16 bits that says who may reach a member, and how a method is called. Its parts lie in
--- this order from the lowest bit on, as `CV_fldattr_t` of Microsoft's cvinfo.h has them.
+-- The word of 16 bits that says who may access a member, and how a method is called. Its parts are in this
+-- order from the lowest bit on, as in `CV_fldattr_t` of Microsoft's cvinfo.h.
 use Rattle.std.specs.Prelude.{ℕ, Bool, ◌==◌, ◌||◌}
 use Rattle.pdb_bits.specs.Bits.{bits}
 
--- who may reach the member, 2 bits
+-- who may access the member, 2 bits
 abbrev pub access : ℕ → ℕ
 access word = bits word 0 2
 
@@ -11,38 +11,39 @@ access word = bits word 0 2
 abbrev pub method_property : ℕ → ℕ
 method_property word = bits word 2 3
 
--- virtual, of a method of a base class
+-- the number of a virtual method that overrides one of a base class
 abbrev pub virtual : ℕ
 virtual = 1
 
--- static, without an object
+-- the number of a static method, which is called without an object
 abbrev pub static : ℕ
 static = 2
 
--- virtual, and of no method of a base class, so that it introduces a place in the table of virtual functions
+-- the number of a virtual method that overrides none and so introduces an entry in
+-- the table of virtual functions
 abbrev pub intro : ℕ
 intro = 4
 
--- virtual, of a method of a base class, and without a body
+-- the number of a virtual method that overrides one of a base class and has no body
 abbrev pub pure_virtual : ℕ
 pure_virtual = 5
 
--- introduces a place, and without a body
+-- the number of a virtual method that introduces an entry and has no body
 abbrev pub pure_intro : ℕ
 pure_intro = 6
 
--- the method is virtual, and neither pure nor introduces a place
+-- whether the method is virtual, and neither pure nor introduces an entry
 abbrev pub is_virtual : ℕ → Bool
 is_virtual word = method_property word == virtual
 
--- the method is static
+-- whether the method is static
 abbrev pub is_static : ℕ → Bool
 is_static word = method_property word == static
 
--- the method is pure, and introduces no place
+-- whether the method is pure virtual and introduces no entry
 abbrev pub is_pure_virtual : ℕ → Bool
 is_pure_virtual word = method_property word == pure_virtual
 
--- the method introduces a place, which then stands in its record
+-- whether the method introduces an entry, pure or not; the place of the entry is then in its record
 abbrev pub is_intro_virtual : ℕ → Bool
 is_intro_virtual word = method_property word == intro || method_property word == pure_intro

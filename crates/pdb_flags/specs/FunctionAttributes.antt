@@ -1,4 +1,4 @@
--- The word of 16 bits that says how a function is called: a byte with the calling convention, of the
+-- The word of 16 bits that says how a function is called: the calling convention in the low byte, by the
 -- numbers of `CV_call_e` in Microsoft's cvinfo.h, and above it the bits of `CV_funcattr_t`.
 use Rattle.std.specs.Prelude.{ℕ, Bool}
 use Rattle.pdb_bits.specs.Bits.{bits}
@@ -8,14 +8,14 @@ use Rattle.pdb_bits.specs.Parts.{is_set}
 abbrev pub calling_convention : ℕ → ℕ
 calling_convention word = bits word 0 8
 
--- it answers a user-defined type as C++ does
+-- whether the function returns a user-defined type as C++ does
 abbrev pub cxx_return_udt : ℕ → Bool
 cxx_return_udt word = is_set word 8
 
--- it is a constructor
+-- whether the function is a constructor
 abbrev pub is_constructor : ℕ → Bool
 is_constructor word = is_set word 9
 
--- it is a constructor of a class with virtual bases
+-- whether the function is a constructor of a class with virtual bases
 abbrev pub is_constructor_with_virtual_bases : ℕ → Bool
 is_constructor_with_virtual_bases word = is_set word 10

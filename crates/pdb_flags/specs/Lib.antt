@@ -4,6 +4,6 @@ pub mod FieldAttributes
 pub mod FunctionAttributes
 pub mod PointerAttributes
 pub mod Laws
--- the words of the libraries below that the contracts of this one speak in
+-- definitions of lower libraries that the contracts of this one use
 pub use Rattle.pdb_bits.specs.Bits
 pub use Rattle.pdb_bits.specs.Parts

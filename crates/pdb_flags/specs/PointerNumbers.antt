@@ -5,7 +5,7 @@ use Rattle.pdb_flags.specs.declared.pointer_kind.PointerKind.TheVariants.{Near16
 use Rattle.pdb_flags.specs.declared.pointer_mode.PointerMode.{PointerMode}
 use Rattle.pdb_flags.specs.declared.pointer_mode.PointerMode.TheVariants.{Pointer, LValueReference, Member, MemberFunction, RValueReference}
 
--- how a pointer of this kind is marked: `CV_ptrtype_e` of Microsoft's cvinfo.h
+-- the number of a kind of pointer, as in `CV_ptrtype_e` of Microsoft's cvinfo.h
 abbrev pub kind_number : PointerKind → ℕ
 kind_number Near16 = 0
 kind_number Far16 = 1
@@ -21,7 +21,7 @@ kind_number Near32 = 10
 kind_number Far32 = 11
 kind_number Ptr64 = 12
 
--- how a pointer of this mode is marked: `CV_ptrmode_e` of Microsoft's cvinfo.h
+-- the number of a mode of pointer, as in `CV_ptrmode_e` of Microsoft's cvinfo.h
 abbrev pub mode_number : PointerMode → ℕ
 mode_number Pointer = 0
 mode_number LValueReference = 1

@@ -1,50 +1,50 @@
--- The word of 16 bits that says properties of a class, a union or an enumeration. Its parts lie in
--- this order from the lowest bit on, as `CV_prop_t` of Microsoft's cvinfo.h has them.
+-- The word of 16 bits that says properties of a class, a union or an enumeration. Its parts are in this order
+-- from the lowest bit on, as in `CV_prop_t` of Microsoft's cvinfo.h.
 use Rattle.std.specs.Prelude.{ℕ, Bool}
 use Rattle.pdb_bits.specs.Bits.{bits}
 use Rattle.pdb_bits.specs.Parts.{is_set}
 
--- the members are packed
+-- whether the members of the type are packed
 abbrev pub packed : ℕ → Bool
 packed word = is_set word 0
 
--- it has constructors or destructors
+-- whether the type has constructors or destructors
 abbrev pub constructors : ℕ → Bool
 constructors word = is_set word 1
 
--- it has overloaded operators
+-- whether the type has overloaded operators
 abbrev pub overloaded_operators : ℕ → Bool
 overloaded_operators word = is_set word 2
 
--- it is nested in another type
+-- whether the type is nested in another type
 abbrev pub is_nested_type : ℕ → Bool
 is_nested_type word = is_set word 3
 
--- other types are nested in it
+-- whether other types are nested in the type
 abbrev pub contains_nested_types : ℕ → Bool
 contains_nested_types word = is_set word 4
 
--- it overloads assignment
+-- whether the type overloads assignment
 abbrev pub overloaded_assignment : ℕ → Bool
 overloaded_assignment word = is_set word 5
 
--- it has casting methods
+-- whether the type has casting methods
 abbrev pub overloaded_casting : ℕ → Bool
 overloaded_casting word = is_set word 6
 
--- it is declared here and defined by another record
+-- whether the type is only declared here and another record defines it
 abbrev pub forward_reference : ℕ → Bool
 forward_reference word = is_set word 7
 
--- it is defined in a scope of its own
+-- whether the type is defined in a scope of its own
 abbrev pub scoped_definition : ℕ → Bool
 scoped_definition word = is_set word 8
 
--- a second name stands behind the name
+-- whether the name is followed by a second one
 abbrev pub has_unique_name : ℕ → Bool
 has_unique_name word = is_set word 9
 
--- no class derives from it
+-- whether no class may derive from the type
 abbrev pub sealed : ℕ → Bool
 sealed word = is_set word 10
 
@@ -52,10 +52,10 @@ sealed word = is_set word 10
 abbrev pub hfa : ℕ → ℕ
 hfa word = bits word 11 2
 
--- it is intrinsic
+-- whether the type is intrinsic
 abbrev pub intrinsic_type : ℕ → Bool
 intrinsic_type word = is_set word 13
 
--- the kind of user-defined type of the component model, 2 bits
+-- the kind of type of the component model that it is, 2 bits
 abbrev pub mocom : ℕ → ℕ
 mocom word = bits word 14 2

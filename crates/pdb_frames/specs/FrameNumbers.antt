@@ -1,4 +1,4 @@
--- The kinds of frames: their numbers and names.
+-- The kinds of frames, with their numbers and names.
 use Rattle.std.specs.Prelude.{ℕ, ◌==◌, if◌then◌else◌, List, codes}
 use Rattle.pdb_frames.specs.declared.frame_type.FrameType.{FrameType}
 use Rattle.pdb_frames.specs.declared.frame_type.FrameType.TheVariants.{FPO, Trap, TSS, Standard, FrameData, Unknown}
@@ -12,7 +12,7 @@ kind_number Standard = 3
 kind_number FrameData = 4
 kind_number Unknown = 0xff
 
--- the kind that two bits say
+-- the kind for a number of two bits
 abbrev pub frame_type_of : ℕ → FrameType
 frame_type_of number = if number == 0 then FPO else (if number == 1 then Trap else (if number == 2 then TSS else Standard))
 

@@ -1,4 +1,4 @@
--- What records of both formats say of a frame.
+-- What the records of both formats say about a frame.
 use Rattle.std.specs.Prelude.{◌*◌, ◌%◌, ◌^◌, false, Some, None}
 use Rattle.pdb_bits.specs.Bits.{bits}
 use Rattle.pdb_bits.specs.Parts.{is_set}
@@ -8,7 +8,8 @@ use Rattle.pdb_frames.specs.declared.frame_data.FrameData.{FrameData}
 use Rattle.pdb_frames.specs.declared.old_frame_data.OldFrameData.{OldFrameData}
 use Rattle.pdb_frames.specs.declared.new_frame_data.NewFrameData.{NewFrameData}
 
--- the frame that an old record says; it counts locals, parameters and registers in units of 4 bytes
+-- the frame in a record of the older format, which counts locals, parameters and
+-- saved registers in units of 4 bytes
 unfoldable pub of_old : OldFrameData → FrameData
 of_old frame = record {
   ty = frame_type_of (bits frame.flags 14 2);
@@ -26,7 +27,7 @@ of_old frame = record {
   program = None;
 }
 
--- the frame that a new record says; it counts in bytes
+-- the frame in a record of the newer format, which counts in bytes
 unfoldable pub of_new : NewFrameData → FrameData
 of_new frame = record {
   ty = kinds.FrameData;

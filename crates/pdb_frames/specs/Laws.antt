@@ -1,4 +1,4 @@
--- What the definitions say in other words.
+-- The definitions, stated in other words.
 use Rattle.std.specs.Prelude.{◌≡◌, ◌↔◌, ℕ, ◌+◌, ◌<◌, ◌≤◌, Bool, IsTrue, List, [], ◌∷◌, length, map, Option, Some, None, Result, Ok, count_by}
 use Rattle.std.specs.declared.cmp.Ordering.{Ordering}
 use Rattle.std.specs.Ordering.{nat_cmp}
@@ -13,34 +13,37 @@ use Rattle.pdb_frames.specs.declared.frame_data.FrameData.{FrameData}
 use Rattle.pdb_frames.specs.declared.old_frame_data.OldFrameData.{OldFrameData}
 use Rattle.pdb_frames.specs.declared.new_frame_data.NewFrameData.{NewFrameData}
 
--- Code is at the addresses from its start to before its end, wherever the end lies.
+-- Code covers the addresses from its start to before its end, wherever the end is.
 abbrev pub CoversToItsEnd : Span → ℕ → Type 0
 CoversToItsEnd span address = IsTrue (covers span address) ↔ ((span.start ≤ address) × (address < span.start + span.size))
 
--- Frames by their starts are the same frames, of which as many pass any test, and no start falls.
+-- `by_start` gives the same frames, of which as many pass any test as before,
+-- and their starts don't decrease.
 pub record IsSortedByStart (frames : List FrameData) : Type 0 where
   pub same : (test : FrameData → Bool) → count_by test (by_start frames) ≡ count_by test frames
   pub rises : IsNonDecreasingBy (λ frame. frame.code_start) (by_start frames)
 
--- Where the starts of both streams increase, frames merged by their heads are all new ones and those
--- old ones whose start no new one has, by start, and their starts increase, too.
+-- What holds if the starts of both streams increase: comparing heads gives the merged frames,
+-- which are all new ones and those old ones whose start no new one has, ordered by start, and the
+-- starts of the result increase.
 pub record IsMerged (frames : Frames) : Type 0 where
   pub same : by_heads frames.old frames.new ≡ merge frames.old frames.new
   pub increases : IsStrictlyIncreasing (map (λ frame. frame.code_start) (merge frames.old frames.new))
 
--- Frames are those of all new records, in the order of the records, and of some old ones, in theirs.
+-- The frames are those of all new records, in the order of the records, and of some old ones, in theirs.
 pub data IsWoven : List OldFrameData → List NewFrameData → List FrameData → Type 0 where
   end : IsWoven [] [] []
   takes_new : {frame : NewFrameData} {old : List OldFrameData} {new : List NewFrameData} {frames : List FrameData} → IsWoven old new frames → IsWoven old (frame ∷ new) (of_new frame ∷ frames)
   takes_old : {frame : OldFrameData} {old : List OldFrameData} {new : List NewFrameData} {frames : List FrameData} → IsWoven old new frames → IsWoven (frame ∷ old) new (of_old frame ∷ frames)
   drops_old : {frame : OldFrameData} {old : List OldFrameData} {new : List NewFrameData} {frames : List FrameData} → IsWoven old new frames → IsWoven (frame ∷ old) new frames
 
--- None comes only where nothing is left, and nothing comes behind it. Another step leaves fewer.
+-- None is yielded only if nothing is left, and then nothing is left after it either. A step
+-- that yields a frame leaves fewer.
 pub record EndsForGood {E : Type 0} (left : List FrameData) (result : Result (Option FrameData) E) (others : List FrameData) : Type 0 where
   pub ends : result ≡ Ok None → (left ≡ []) × (others ≡ [])
   pub shorter : (frame : FrameData) → result ≡ Ok (Some frame) → length others < length left
 
--- kinds compare as their numbers, and are equal just where they are one
+-- Kinds compare as their numbers do, and are equal if and only if they are the same kind.
 pub record ComparesByNumber (eq : FrameType → FrameType → Bool) (compared : FrameType → FrameType → Ordering) : Type 0 where
   pub equal : (a b : FrameType) → IsTrue (eq a b) ↔ (a ≡ b)
   pub order : (a b : FrameType) → compared a b ≡ nat_cmp (kind_number a) (kind_number b)

@@ -5,7 +5,7 @@ pub mod Frames
 pub mod Merge
 pub mod Table
 pub mod Laws
--- the words of the libraries below that the contracts of this one speak in
+-- definitions of lower libraries that the contracts of this one use
 pub use Rattle.pdb_base.specs.Refusal
 pub use Rattle.pdb_base.specs.Answer
 pub use Rattle.pdb_base.specs.Reading

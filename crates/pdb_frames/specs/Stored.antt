@@ -1,4 +1,4 @@
--- Records of frames as they stand in bytes. Of each number the lowest byte comes first.
+-- Records of frames as they are stored. Each number is little-endian.
 use Rattle.std.specs.Prelude.{ℕ, List, drop}
 use Rattle.pdb_base.specs.Endian.{little_number}
 use Rattle.pdb_base.specs.Records.{spelled}
@@ -8,7 +8,7 @@ use Rattle.pdb_frames.specs.declared.new_frame_data.NewFrameData.{NewFrameData}
 use Rattle.pdb_frames.specs.declared.old_frame_data.TheConstants.{OLD_SIZE}
 use Rattle.pdb_frames.specs.declared.new_frame_data.TheConstants.{NEW_SIZE}
 
--- the record of the older format that bytes spell
+-- the record of the older format in bytes
 unfoldable pub old_frame : List ℕ → OldFrameData
 old_frame bytes = record {
   code_start = little_number 4 bytes;
@@ -18,7 +18,7 @@ old_frame bytes = record {
   flags = little_number 2 (drop 14 bytes);
 }
 
--- the record of the newer format that bytes spell
+-- the record of the newer format in bytes
 unfoldable pub new_frame : List ℕ → NewFrameData
 new_frame bytes = record {
   code_start = little_number 4 bytes;
@@ -32,18 +32,18 @@ new_frame bytes = record {
   flags = little_number 4 (drop 28 bytes);
 }
 
--- the addresses of an old record's code
+-- the addresses that an old record's code covers
 abbrev pub old_span : OldFrameData → Span
 old_span frame = record { start = frame.code_start; size = frame.code_size }
 
--- the addresses of a new record's code
+-- the addresses that a new record's code covers
 abbrev pub new_span : NewFrameData → Span
 new_span frame = record { start = frame.code_start; size = frame.code_size }
 
--- the old records that bytes spell, one after another
+-- the old records in bytes, one after another
 abbrev pub old_frames : List ℕ → List OldFrameData
 old_frames bytes = spelled OLD_SIZE old_frame bytes
 
--- the new records that bytes spell, one after another
+-- the new records in bytes, one after another
 abbrev pub new_frames : List ℕ → List NewFrameData
 new_frames bytes = spelled NEW_SIZE new_frame bytes

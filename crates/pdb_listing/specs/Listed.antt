@@ -1,4 +1,4 @@
--- What stands on a writer behind a listing, and why it ended.
+-- What a listing writes, and why it ended.
 use Rattle.std.specs.Prelude.{◌≡◌, ◌⊎◌, ℕ, List, [], ◌++◌, take, Option, Result, Ok, Err}
 use Rattle.std.specs.Io.KnownBytes.{Appends, Keeps}
 use Rattle.std.specs.declared.io.Error as io
@@ -12,7 +12,7 @@ use Rattle.pdb_tpi.specs.Steps.{walk, walk_rest}
 use Rattle.pdb_tpi.specs.Table.{Table, table_of}
 use Rattle.pdb_tpi.specs.Walk.{fault_of}
 
--- the lines of the first so many items of a table
+-- the lines of the first `count` items of a table
 abbrev pub lines_of : (ℕ → List ℕ → List ℕ) → Table → ℕ → List ℕ
 lines_of line table count = lines_from line table.header.minimum_index (take count (walk table))
 
@@ -20,39 +20,40 @@ lines_of line table count = lines_from line table.header.minimum_index (take cou
 abbrev pub all_lines : (ℕ → List ℕ → List ℕ) → Table → List ℕ
 all_lines line table = lines_from line table.header.minimum_index (walk table)
 
--- Lines were added to others: those that are meant, or none since they are refused so, or memory was refused.
+-- The lines that are meant are added to others; or the call fails with the refusal that is meant, or
+-- because memory was refused.
 abbrev pub Pushes : Result (Unit {0}) Error → List ℕ → List ℕ → Answer (List ℕ) → Type 0
 Pushes (Ok done) old new meant = (added : List ℕ) × (meant ≡ Ok added) × (new ≡ old ++ added)
 Pushes (Err fault) old new meant = (meant ≡ Err (refusal_of fault)) ⊎ (fault ≡ OutOfMemory)
 
--- A listing of a table, by the line of an item:
---   whole    the lines of all items stand there, and no byte is left behind them
---   stopped  the lines of all items stand there, and the fault is the one at which the walk stops
---   lacking  memory was refused, behind the lines of some first items
---   cut      the writer failed, and a front of the lines stands there
+-- A listing of a table, with a line for each item, ended in one of these ways:
+--   whole    the lines of all items were written, and no byte is left behind the items
+--   stopped  the lines of all items were written, and the fault is the one at which the walk stops
+--   lacking  memory was refused after the lines of some first items were written
+--   cut      the writer failed, and a front of the lines was written
 pub data IsWalked (line : ℕ → List ℕ → List ℕ) (table : Table) (out out' : Option (List ℕ)) : Result (Unit {0}) Error → Type 0 where
   whole : walk_rest table ≡ [] → Appends out out' (all_lines line table) → IsWalked line table out out' (Ok tt)
   stopped : (fault : Error) → fault_of (walk_rest table) ≡ refusal_of fault → Appends out out' (all_lines line table) → IsWalked line table out out' (Err fault)
   lacking : (count : ℕ) → Appends out out' (lines_of line table count) → IsWalked line table out out' (Err OutOfMemory)
   cut : (cause : io.Error) → IsFront (all_lines line table) out out' → IsWalked line table out out' (Err (IoError cause))
 
--- A listing of the table that a stream is, or the stream is refused as a table, and nothing was written.
+-- The table that a stream holds was listed; or the stream is refused as a table, and nothing was written.
 pub data IsListed (line : ℕ → List ℕ → List ℕ) (stream : List ℕ) (out out' : Option (List ℕ)) (result : Result (Unit {0}) Error) : Type 0 where
   walked : (table : Table) → table_of stream ≡ Ok table → IsWalked line table out out' result → IsListed line stream out out' result
   refused : (fault : Error) → result ≡ Err fault → table_of stream ≡ Err (refusal_of fault) → Keeps out out' → IsListed line stream out out' result
 
--- the lines of members, of which there are none where they are refused
+-- the lines of members; none if the members are refused
 abbrev pub members_text : Answer (List ℕ) → List ℕ
 members_text (Ok lines) = lines
 members_text (Err fault) = []
 
--- One record in full, and then its members, as they are meant:
---   whole_shown    both stand there
---   stopped_shown  the record stands there, and the fault is that of its members
+-- One record was to be written in full, and then its members, and this ended in one of these ways:
+--   whole_shown    both were written
+--   stopped_shown  the record was written, and the fault is that of its members
 --   refused_shown  the table, the look-up or the record is refused, and nothing was written
 --   unread_shown   memory was refused, and nothing was written
---   lacking_shown  memory was refused behind the record
---   cut_shown      the writer failed, and a front of the record and its members stands there
+--   lacking_shown  memory was refused after the record was written
+--   cut_shown      the writer failed, and a front of the record and its members was written
 pub data IsShown (meant : Answer (List ℕ × Answer (List ℕ))) (out out' : Option (List ℕ)) : Result (Unit {0}) Error → Type 0 where
   whole_shown : (text members : List ℕ) → meant ≡ Ok (text, Ok members) → Appends out out' (text ++ members) → IsShown meant out out' (Ok tt)
   stopped_shown : (text : List ℕ) (fault : Error) → meant ≡ Ok (text, Err (refusal_of fault)) → Appends out out' text → IsShown meant out out' (Err fault)

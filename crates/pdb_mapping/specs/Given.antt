@@ -1,4 +1,4 @@
--- The address map of a file, or one that is made of given streams.
+-- The address map of a file, or one made from given streams.
 use Rattle.std.specs.Prelude.{ℕ, ◌&&◌, if◌then◌else◌, Bool, List, [], Option, Ok, unwrap_or}
 use Rattle.std.specs.Option.{is_none}
 use Rattle.pdb_base.specs.Answer.{Answer, ◌>>=◌}
@@ -10,15 +10,15 @@ use Rattle.pdb_space.specs.Omap.{Mapping, table_of}
 use Rattle.pdb_space.specs.declared.section_header.ImageSectionHeader.{ImageSectionHeader}
 use Rattle.pdb_mapping.specs.declared.given.MapStreams.{MapStreams}
 
--- the section headers in the stream of a number, if one is given
+-- the section headers in the stream with this number, if a number is given
 unfoldable pub sections_in : List ℕ → Head → Option ℕ → Answer (Option (List ImageSectionHeader))
 sections_in file head number = stream_numbered file head number >>= said_by section_headers_of
 
--- the OMAP table in the stream of a number, if one is given
+-- the OMAP table in the stream with this number, if a number is given
 unfoldable pub omap_in : List ℕ → Head → Option ℕ → Answer (Option (List Mapping))
 omap_in file head number = stream_numbered file head number >>= said_by table_of
 
--- the address map that given streams make
+-- the address map made from given streams
 unfoldable pub given_map : List ℕ → Head → MapStreams → Answer Arrangement
 given_map file head streams = do
   sections ← sections_in file head streams.sections
@@ -31,6 +31,6 @@ given_map file head streams = do
 abbrev pub gives_none : MapStreams → Bool
 gives_none streams = is_none streams.sections && is_none streams.transformed && is_none streams.to_original && is_none streams.to_transformed
 
--- the address map that given streams make; the file's own where none is given
+-- the address map made from given streams, or the file's own if none is given
 unfoldable pub map_in : List ℕ → Head → MapStreams → Answer Arrangement
 map_in file head streams = if gives_none streams then file_address_map file head else given_map file head streams

@@ -1,4 +1,4 @@
--- The lines of what is made of an address.
+-- The lines that show what an address map makes of an address.
 use Rattle.std.specs.Prelude.{◌≡◌, ◌⊎◌, ℕ, List, [], ◌∷◌, ◌++◌, codes, Option, Result, Ok, Err}
 use Rattle.std.specs.Io.KnownBytes.{Appends, Keeps}
 use Rattle.std.specs.Option.{is_some, option_map}
@@ -16,7 +16,7 @@ use Rattle.pdb_mapping.specs.Made.{IsMadeOfInternal, IsMadeOfLoaded}
 use Rattle.pdb_mapping.specs.declared.made.OfInternal.{OfInternal}
 use Rattle.pdb_mapping.specs.declared.made.OfLoaded.{OfLoaded}
 
--- an address that is made of another: of which kind each is, whether there is one, and the address
+-- the row of an address made from another: the kind of each, whether there is one, and the address
 abbrev pub address_shown : List ℕ → List ℕ → Option ℕ → ShownRow
 address_shown from to address =
     (codes "from", text from)
@@ -25,7 +25,7 @@ address_shown from to address =
     ∷ (codes "address", optional_hexadecimal address)
     ∷ []
 
--- the same of a place in a section
+-- the same for a section offset
 abbrev pub place_shown : List ℕ → List ℕ → Option SectionPlace → ShownRow
 place_shown from to place =
     (codes "from", text from)
@@ -35,25 +35,25 @@ place_shown from to place =
     ∷ (codes "offset", optional_hexadecimal (option_map (λ place. place.offset) place))
     ∷ []
 
--- the lines of an address and a place that are made by way of the other image
+-- the lines of an address and of a section offset in the other image
 abbrev pub crossed_text : Form → List ℕ → List ℕ → List ℕ → Option ℕ → Option SectionPlace → List ℕ
 crossed_text form from to_address to_place address place =
     row_text form (address_shown from to_address address) ++ row_text form (place_shown from to_place place)
 
--- the lines of an address in the image as it is loaded
+-- the lines for an address in the image as it is loaded
 unfoldable pub loaded_text : Form → OfLoaded → List ℕ
 loaded_text form made =
     row_text form (place_shown (codes "rva") (codes "section_offset") made.section_offset)
     ++ crossed_text form (codes "rva") (codes "internal_rva") (codes "internal_offset") made.internal_rva made.internal_offset
 
--- the lines of an address in the original image
+-- the lines for an address in the original image
 unfoldable pub internal_text : Form → OfInternal → List ℕ
 internal_text form made =
     row_text form (place_shown (codes "internal_rva") (codes "internal_offset") made.internal_offset)
     ++ crossed_text form (codes "internal_rva") (codes "rva") (codes "section_offset") made.rva made.section_offset
 
--- the lines of what a map makes of a number, as an address of the image as it is loaded, and then as one of
--- the original
+-- The lines for a number: for it as an address in the image as it is loaded, and then as one in the
+-- original image.
 pub record AreLinesOf (form : Form) (map : Arrangement) (address : ℕ) (lines : List ℕ) : Type 0 where
   pub loaded : OfLoaded
   pub is_loaded : IsMadeOfLoaded map address loaded
@@ -61,13 +61,13 @@ pub record AreLinesOf (form : Form) (map : Arrangement) (address : ℕ) (lines :
   pub is_internal : IsMadeOfInternal map address internal
   pub are_lines : lines ≡ loaded_text form loaded ++ internal_text form internal
 
--- nothing of these lines, or a front of them
+-- nothing was written, or a front of these lines
 pub data IsPart (form : Form) (meant : Answer Arrangement) (address : ℕ) (old new : Option (List ℕ)) : Type 0 where
   nothing : Keeps old new → IsPart form meant address old new
   front : (map : Arrangement) (lines : List ℕ) → meant ≡ Ok map → AreLinesOf form map address lines → IsFront lines old new → IsPart form meant address old new
 
--- The lines of an address by the map that is meant. Or the map is refused, and nothing was written; or the
--- lines were cut short.
+-- The lines for an address by the map that is meant were written. Or the map is refused, and nothing was
+-- written; or the lines were cut short.
 abbrev pub IsMapped : Form → Answer Arrangement → ℕ → Option (List ℕ) → Option (List ℕ) → Result (Unit {0}) Error → Type 0
 IsMapped form meant address old new (Ok done) = (map : Arrangement) × (lines : List ℕ) × (meant ≡ Ok map) × AreLinesOf form map address lines × Appends old new lines
 IsMapped form meant address old new (Err e) = ((meant ≡ Err (refusal_of e)) × Keeps old new) ⊎ (IsCut e × IsPart form meant address old new)

@@ -1,4 +1,4 @@
--- The directory of a file: u32 count of streams, a u32 size for each, then the page numbers of the
+-- The directory of a file: a u32 count of streams, a u32 size for each, and then the page numbers of the
 -- first stream, of the second and so on, as many for each as its size takes.
 use Rattle.std.specs.Prelude.{◌≡◌, ℕ, ◌+◌, ◌*◌, ◌<◌, ◌≤◌, not, nat_lt, nat_le, ◌==◌, if◌then◌else◌, List, length, map, take, drop, min, slice_get, slice_index, vec_capacity, Ok}
 use Rattle.std.specs.List.{sum_by, range_with_len}
@@ -12,24 +12,25 @@ use Rattle.pdb_msf.specs.declared.directory.StreamPlace.{StreamPlace}
 use Rattle.pdb_msf.specs.declared.directory.StreamEntry.{StreamEntry}
 use Rattle.pdb_msf.specs.Header.{Head, directory_pages}
 
--- the size that says that a stream is absent
+-- the size that marks a stream as absent
 abbrev pub absent : ℕ
 absent = 0xffffffff
 
--- how many pages a stream of this size takes: none if it is absent
+-- how many pages a stream of this size takes, which is 0 if it is absent
 unfoldable pub pages_taken : ℕ → ℕ → ℕ
 pages_taken page_size size = if size == absent then 0 else pages page_size size
 
--- the sizes of the streams, as far as they stand in the directory, and what follows them
+-- the words after the count: the sizes of the streams, as far as the directory
+-- holds them, and what follows them
 abbrev pub sizes_of : List ℕ → List ℕ
 sizes_of directory = drop 1 (words directory)
 
--- the place at which the page numbers of stream n begin, where there are so many streams: behind the
--- count, the size of each stream, and the page numbers of the streams before
+-- the offset at which the page numbers of stream n begin in a directory of `count` streams: after the count,
+-- the size of each stream, and the page numbers of the streams before
 abbrev pub start_of : ℕ → ℕ → List ℕ → ℕ → ℕ
 start_of page_size count directory n = 4 + 4 * count + 4 * sum_by (pages_taken page_size) (take n (sizes_of directory))
 
--- Where stream n stands in a directory: its size, and the place at which its page numbers begin.
+-- Where stream n is in a directory: its size, and the offset at which its page numbers begin.
 unfoldable pub place_in : ℕ → ℕ → List ℕ → Answer StreamPlace
 place_in page_size n directory = do
   count ← present (slice_get (words directory) 0)
@@ -45,39 +46,40 @@ pub record Entry : Type 0 where
   pub size : ℕ
   pub pages : List ℕ
 
--- an entry that was read
+-- what an entry that was read says
 abbrev pub entry_view : StreamEntry → Entry
 entry_view entry = record { size = entry.size; pages = entry.pages.items }
 
--- a stream that is there, with the number of pages that its size takes
+-- The stream is present, and the entry has as many page numbers as its size takes pages.
 pub record HasPages (geometry : Geometry) (entry : StreamEntry) : Type 0 where
   pub size : entry.size < absent
   pub pages : length entry.pages.items ≡ pages geometry.page_size entry.size
 
--- Stream n of a directory. Its page numbers are the words from its place on.
+-- Stream n of a directory. Its page numbers are the words from its offset on.
 unfoldable pub entry_of : Geometry → ℕ → List ℕ → Answer Entry
 entry_of geometry n directory = do
   place ← place_in geometry.page_size n directory
   numbers ← page_numbers geometry.pages_used (pages geometry.page_size place.size) (words (drop place.start directory))
   Ok (record { size = place.size; pages = numbers })
 
--- The directory's bytes. Its page numbers stand in the pages that the header lists.
+-- The bytes of the directory. Its page numbers are in the pages that the header lists.
 unfoldable pub directory_of : List ℕ → Head → Answer (List ℕ)
 directory_of file head = do
   location ← found (scatter file head.geometry.page_size head.location (4 * directory_pages head.geometry))
   numbers ← page_numbers head.geometry.pages_used (directory_pages head.geometry) (words location)
   found (scatter file head.geometry.page_size numbers head.geometry.directory_size)
 
--- the first word of a directory, its count of streams
+-- the first word of a directory, which is its count of streams
 abbrev pub count_of : List ℕ → ℕ
 count_of directory = slice_index (words directory) 0
 
--- the places at which page numbers begin, of each stream whose size stands in the directory
+-- the offsets at which page numbers begin, one for each stream whose size is in the directory
 abbrev pub starts_of : ℕ → List ℕ → List ℕ
 starts_of page_size directory =
     map (start_of page_size (count_of directory) directory) (range_with_len 0 (min (count_of directory) (length (sizes_of directory))))
 
--- A directory that is kept has the places of its streams, in no more memory than one for each four bytes.
+-- A directory that is kept in memory has the offsets of its streams, in a vector with capacity for at most
+-- one offset per four bytes of the directory.
 pub record HasStarts (page_size : ℕ) (directory : Directory) : Type 0 where
   pub starts : directory.starts.items ≡ starts_of page_size directory.bytes.items
   pub small : 4 * vec_capacity directory.starts ≤ length directory.bytes.items

@@ -10,15 +10,16 @@ use Rattle.pdb_msf.specs.Pages.{scatter}
 use Rattle.pdb_msf.specs.Header.{Head, IsHeader, directory_pages, header_view}
 use Rattle.pdb_msf.specs.Directory.{Entry, HasStarts, directory_of, entry_of, place_in}
 
--- an open file: its source, what its header says, how many bytes reading streams has asked of the
--- source, and whether its directory is kept
+-- an open file: its source, what its header says, how many bytes were requested from the source to read
+-- streams, and whether its directory is kept in memory
 pub record Opened (S : Type 0) : Type 0 where
   pub source : S
   pub head : Head
   pub asked : ℕ
   pub located : Bool
 
--- a file of which no stream was asked yet
+-- No stream of the file has been asked for yet: no bytes were requested to read
+-- streams, and the directory isn't kept.
 pub record IsFresh {S : Type 0} (file : Opened S) : Type 0 where
   pub asked : file.asked ≡ 0
   pub located : file.located ≡ false
@@ -28,7 +29,7 @@ abbrev pub limited : ℕ → Option ℕ → ℕ
 limited size None = size
 limited size (Some limit) = min size limit
 
--- where stream n of a file stands in the directory
+-- where stream n of a file is in the directory
 abbrev pub placed : List ℕ → Head → ℕ → Answer StreamPlace
 placed file head n = directory_of file head >>= place_in head.geometry.page_size n
 
@@ -36,29 +37,29 @@ placed file head n = directory_of file head >>= place_in head.geometry.page_size
 abbrev pub described : List ℕ → Head → ℕ → Answer Entry
 described file head n = directory_of file head >>= entry_of head.geometry n
 
--- the bytes of stream n of a file, at most as many as the limit
+-- the bytes of stream n of a file, at most as many as the limit says
 unfoldable pub stream_of : List ℕ → Head → ℕ → Option ℕ → Answer (List ℕ)
 stream_of file head n limit = do
   directory ← directory_of file head
   entry ← entry_of head.geometry n directory
   found (scatter file head.geometry.page_size entry.pages (limited entry.size limit))
 
--- how many bytes are asked for to locate the directory: its page numbers, four bytes each, and its
--- bytes; none where it is kept
+-- how many bytes are requested to locate the directory: its page numbers, four bytes each,
+-- and its bytes; 0 if it is kept
 abbrev pub locating : Bool → Geometry → ℕ
 locating located geometry = if located then 0 else 4 * directory_pages geometry + geometry.directory_size
 
--- how many bytes are asked for of a stream: its size, cut to the limit; none where it is refused
+-- how many bytes of a stream are requested: its size, cut to the limit, or 0 if the stream is refused
 abbrev pub wanted : Answer Entry → Option ℕ → ℕ
 wanted (Ok entry) limit = limited entry.size limit
 wanted (Err refusal) limit = 0
 
--- A directory that is kept is the one that the file has, with the places of its streams.
+-- The directory that is kept is the one that the file has, with the offsets of its streams.
 pub record IsKeptOf (file : List ℕ) (head : Head) (directory : Directory) : Type 0 where
   pub bytes : directory_of file head ≡ Ok directory.bytes.items
   pub places : HasStarts head.geometry.page_size directory
 
--- An open file has a header that was read and, where its directory is kept, the one that the file has.
+-- An open file has a header that was read and, if its directory is kept, the directory that the file has.
 pub record IsOpen (file : List ℕ) (header : Header) (directory : Option Directory) : Type 0 where
   pub read : IsHeader header
   pub kept : IfSome directory (IsKeptOf file (header_view header))

@@ -1,6 +1,6 @@
--- The header of a file in the MSF 7.00 format (the layout of `BIGMSF_HDR` in Microsoft's msf.cpp):
--- 32 bytes of magic, then u32 page size, free page map, pages used, directory size and a reserved
--- one, and from byte 52 on the list of the pages that hold the directory's page numbers.
+-- The header of a file in the MSF 7.00 format (the layout of `BIGMSF_HDR` in Microsoft's msf.cpp): 32 bytes
+-- of magic, then five u32, which are page size, free page map, pages used, directory size and a reserved
+-- field, and from byte 52 on the list of the pages that hold the directory's page numbers.
 use Rattle.std.specs.Prelude.{◌≡◌, ℕ, ◌*◌, Bool, IsTrue, ◌&&◌, not, nat_eq, nat_lt, nat_le, if◌then◌else◌, List, [], ◌∷◌, ◌++◌, length, take, Ok, Err, codes}
 use Rattle.std.specs.List.{starts_with}
 use Rattle.std.specs.Int.{is_power_of_two}
@@ -11,11 +11,11 @@ use Rattle.pdb_msf.specs.declared.header.Geometry.{Geometry}
 use Rattle.pdb_msf.specs.declared.header.Header.{Header}
 use Rattle.pdb_msf.specs.Pages.{pages, words, page_numbers}
 
--- a power of two from 256 to 8,388,608
+-- whether a page size is valid: a power of two from 256 to 8,388,608
 abbrev pub is_page_size : ℕ → Bool
 is_page_size size = is_power_of_two size && (nat_le 0x100 size && nat_le size 0x800000)
 
--- what a header says: its numbers, and the pages in which the directory's page numbers stand
+-- what a header says: its numbers, and the pages that hold the directory's page numbers
 pub record Head : Type 0 where
   pub geometry : Geometry
   pub location : List ℕ
@@ -24,22 +24,23 @@ pub record Head : Type 0 where
 abbrev pub header_view : Header → Head
 header_view header = record { geometry = header.geometry; location = header.location.items }
 
--- the 32 bytes at the front of a file of this format, 7.00
+-- the 32 bytes at the front of a file of format 7.00, which is the one that is read
 unfoldable pub big_magic : List ℕ
 big_magic = codes "Microsoft C/C++ MSF 7.00\r\n" ++ 0x1a ∷ 0x44 ∷ 0x53 ∷ 0 ∷ 0 ∷ 0 ∷ []
 
--- the 42 bytes at the front of a file of the format before it, 2.00
+-- the 42 bytes at the front of a file of the older format 2.00
 unfoldable pub small_magic : List ℕ
 small_magic = codes "Microsoft C/C++ program database 2.00\r\n" ++ 0x1a ∷ 0x4a ∷ 0x47 ∷ []
 
--- the magic of the format that is read; that of the one before it is refused by name
+-- The magic of 7.00 is accepted. Fewer than 52 bytes are refused with `unexpected_eof`, the magic of 2.00
+-- with `unimplemented_feature`, and any other with `unrecognized_file_format`.
 unfoldable pub magic_of : List ℕ → Answer (Unit {0})
 magic_of view = do
   whole ← required (nat_le 52 (length view)) unexpected_eof
   newer ← required (not (starts_with nat_eq view small_magic)) (unimplemented_feature (codes "small MSF file format"))
   required (starts_with nat_eq view big_magic) unrecognized_file_format
 
--- the fields of a header in their order, and the bytes behind them
+-- the fields of a header in their order, and the bytes after them
 unfoldable pub fields_of : List ℕ → Answer (Geometry × List ℕ)
 fields_of view = do
   magic ← front_at 32 view
@@ -54,17 +55,17 @@ fields_of view = do
 abbrev pub directory_pages : Geometry → ℕ
 directory_pages geometry = pages geometry.page_size geometry.directory_size
 
--- how many pages hold the numbers of the pages of the directory, four bytes each
+-- how many pages hold the page numbers of the directory, four bytes each
 abbrev pub location_pages : Geometry → ℕ
 location_pages geometry = pages geometry.page_size (4 * directory_pages geometry)
 
--- A header that was read has a good page size, and as many pages of location as the directory takes.
+-- A header that was read has a valid page size, and lists as many pages as the directory's page numbers take.
 pub record IsHeader (header : Header) : Type 0 where
   pub sized : IsTrue (is_page_size header.geometry.page_size)
   pub located : length header.location.items ≡ location_pages header.geometry
 
--- the numbers of the header at the front of a file, which has the format that is read and a good page
--- size, and the bytes behind them
+-- the numbers of the header at the front of a file, which must have the magic of 7.00 and a valid page
+-- size, and the bytes after them
 unfoldable pub geometry_of : List ℕ → Answer (Geometry × List ℕ)
 geometry_of view = do
   magic ← magic_of view
@@ -79,10 +80,10 @@ head_of view = do
   location ← page_numbers fields.0.pages_used (location_pages fields.0) (words fields.1)
   Ok (record { geometry = fields.0; location = location })
 
--- the front of a file, which is no database where it is shorter
+-- the first `size` bytes of a file; a shorter file is refused with `unrecognized_file_format`
 unfoldable pub opening : ℕ → List ℕ → Answer (List ℕ)
 opening size file = if nat_lt (length file) size then Err unrecognized_file_format else Ok (take size file)
 
--- the header of a file, within its first 4096 bytes
+-- the header of a file, which is within its first 4096 bytes
 unfoldable pub opened : List ℕ → Answer Head
 opened file = opening 4096 file >>= head_of

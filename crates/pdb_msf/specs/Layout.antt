@@ -1,4 +1,4 @@
--- What is kept of a file apart from its bytes, and its streams by it.
+-- What is kept of a file apart from its bytes, and how streams are read by it.
 use Rattle.std.specs.Prelude.{ℕ, List, Option, Ok, slice_get}
 use Rattle.pdb_base.specs.Answer.{Answer, ◌>>=◌}
 use Rattle.pdb_msf.specs.Source.{found}
@@ -19,15 +19,15 @@ plan_of file = do
   directory ← directory_of file head
   Ok (record { head = head; directory = directory })
 
--- how many streams a directory has, the absent ones too: its first word
+-- how many streams a directory has, including absent ones: its first word
 abbrev pub stream_count_in : List ℕ → Answer ℕ
 stream_count_in directory = present (slice_get (words directory) 0)
 
--- the size of stream n of a plan, which is there and has a place in the directory
+-- the size of stream n of a plan, which must be present and have an offset in the directory
 abbrev pub size_by : Plan → ℕ → Answer ℕ
 size_by plan n = place_in plan.head.geometry.page_size n plan.directory >>= λ place. Ok place.size
 
--- the bytes that lie where a plan has stream n, at most as many as the limit
+-- the bytes of a file that lie where a plan places stream n, at most as many as the limit says
 unfoldable pub stream_by : Plan → List ℕ → ℕ → Option ℕ → Answer (List ℕ)
 stream_by plan file n limit = do
   entry ← entry_of plan.head.geometry n plan.directory

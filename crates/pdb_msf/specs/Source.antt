@@ -1,4 +1,4 @@
--- What a source of bytes stands for, and what its views show.
+-- What a source of bytes stands for, and what views of it show.
 use Rattle.std.specs.Prelude.{◌≡◌, ◌≢◌, ◌⊎◌, ℕ, ◌<◌, ◌≤◌, Bool, true, IsTrue, nat_lt, if◌then◌else◌, List, length, map, slice_index, Option, Some, None, Result, Ok, Err, IfErr}
 use Rattle.std.specs.List.{flat_map, list_all, range_with_len}
 use Rattle.std.specs.declared.io.Error.{Error}
@@ -10,68 +10,70 @@ use Rattle.pdb_base.specs.Refusal.{Refusal, refusal_of, io_error}
 use Rattle.pdb_base.specs.Answer.{Answer}
 use Rattle.pdb_msf.specs.declared.source.SourceSlice.{SourceSlice}
 
--- A source stands for fixed bytes, for how many faults it has met so far, for the kind of the last
--- of them, if there was one, and for whether it is sound: a sound source fails only at the end of its
--- bytes, or for want of memory.
+-- The state of a source: its bytes, which are fixed, how many faults it has met so far, the kind of the
+-- last one, if there was one, and whether the source is sound. A sound source fails only at the end of
+-- its bytes or for lack of memory.
 pub record State : Type 0 where
   pub bytes : List ℕ
   pub faults : ℕ
   pub last_fault : Option ErrorKind
   pub is_sound : Bool
 
--- bytes in memory are a source that never fails but by their end, or for want of memory
+-- a source of bytes in memory, which fails only at their end or for lack of memory
 abbrev pub in_memory : List ℕ → State
 in_memory bytes = record { bytes = bytes; faults = 0; last_fault = None; is_sound = true }
 
--- What a view keeps: the bytes never change, the count of faults never falls, and a sound source
--- stays sound and meets no fault.
+-- What stays true of a source over a view: the bytes never change, the count of faults never decreases, and a
+-- sound source stays sound and meets no fault.
 pub record IsKept (old new : State) : Type 0 where
   pub bytes : new.bytes ≡ old.bytes
   pub counts : old.faults ≤ new.faults
   pub sound : IsTrue old.is_sound → IsTrue new.is_sound × (new.faults ≡ old.faults)
 
--- the source met a fault between the two
+-- The source met a fault between the two states.
 abbrev pub HasFailed : State → State → Type 0
 HasFailed old new = old.faults < new.faults
 
--- the positions of the bytes that a slice names
+-- the positions of the bytes in a slice
 abbrev pub slice_positions : SourceSlice → List ℕ
 slice_positions slice = range_with_len slice.offset slice.size
 
--- the positions that slices name, slice after slice
+-- the positions of the bytes in slices, slice after slice
 abbrev pub positions : List SourceSlice → List ℕ
 positions slices = flat_map slice_positions slices
 
--- the bytes at these positions of a file, or nothing where one of the positions is past its end
+-- the bytes at these positions of a file, or None if one of the positions is past its end
 unfoldable pub bytes_at : List ℕ → List ℕ → Option (List ℕ)
 bytes_at file at = if list_all (λ place. nat_lt place (length file)) at then Some (map (slice_index file) at) else None
 
--- neither the end of the bytes nor want of memory
+-- The kind is neither that of the end of the bytes nor that of lack of memory.
 pub record IsOther (kind : ErrorKind) : Type 0 where
   pub no_end : kind ≢ UnexpectedEof
   pub no_want : kind ≢ OutOfMemory
 
--- an error of this kind is the fault that the source met last, unless it is the end of the bytes or want of memory
+-- An error of this kind is the fault that the source met last, unless it is the end
+-- of the bytes or lack of memory.
 abbrev pub IsLastFault : State → ErrorKind → Type 0
 IsLastFault state kind = IsOther kind → state.last_fault ≡ Some kind
 
--- a refusal that is an error of the source has the kind of the fault that the source met last
+-- A refusal that is an error of the source has the kind of the fault that the source met last.
 abbrev pub TellsKind : State → Refusal → Type 0
 TellsKind state (io_error kind) = IsLastFault state kind
 TellsKind state refusal = Unit {0}
 
--- a call keeps the kind of an error that it passes on from the source
+-- A call keeps the kind of an error that it passes on from the source.
 abbrev pub KeepsKind : {X : Type 0} → State → Result X Refused → Type 0
 KeepsKind state result = IfErr result (λ e. TellsKind state (refusal_of e))
 
--- A view shows the bytes that are meant. It is refused as ending where there are none, for want of
--- memory, or by another fault, which is so only where `failed` holds.
+-- The result of a view: it shows the bytes that are meant; or it fails at the end of the bytes, which is
+-- possible only if none are meant; or it fails for lack of memory; or it fails with another fault, which is
+-- possible only if `failed` holds.
 abbrev pub Shows : {V : Type 0} → Type 0 → (V → List ℕ) → Result V Error → Option (List ℕ) → Type 0
 Shows failed bytes (Ok view) meant = meant ≡ Some (bytes view)
 Shows failed bytes (Err e) meant =
     ((error_kind e ≡ UnexpectedEof) × (meant ≡ None)) ⊎ ((error_kind e ≡ OutOfMemory) ⊎ (IsOther (error_kind e) × failed))
 
--- the bytes that were found, or else that the file ends too soon
+-- the bytes that were found, or else the refusal that the file ends too soon
 abbrev pub found : Option (List ℕ) → Answer (List ℕ)
 found (Some bytes) = Ok bytes
 found None = Err (io_error UnexpectedEof)

@@ -1,4 +1,4 @@
--- Arrays: their dimensions reach, with padding behind, to the end of the record.
+-- Array records, whose dimensions, with any padding behind them, reach to the end of the record.
 use Rattle.std.specs.Prelude.{ℕ, Bool, List, [], ◌∷◌, Ok, Err}
 use Rattle.pdb_base.specs.Refusal.{unexpected_eof}
 use Rattle.pdb_base.specs.Answer.{Answer, ◌>>=◌}
@@ -8,16 +8,16 @@ use Rattle.pdb_records.specs.Padding.{padding_at}
 use Rattle.pdb_records.specs.Lists.{ArrayHead, array_row}
 use Rattle.pdb_values.specs.Array.{ArrayValue}
 
--- an array of these dimensions
+-- the array with this head and these dimensions
 abbrev pub array_of : ArrayHead → List ℕ → ArrayValue
 array_of head dimensions = record { element_type = head.element_type; indexing_type = head.indexing_type; stride = head.stride; dimensions = dimensions }
 
--- nothing is left
+-- succeeds if no bytes are left, and else fails with `unexpected_eof`
 abbrev pub ended : List ℕ → Answer (Unit {0} × List ℕ)
 ended [] = Ok (tt, [])
 ended (byte ∷ bytes) = Err unexpected_eof
 
--- dimensions and padding, with nothing behind them
+-- reads dimensions and padding, and fails if any bytes are left behind them
 unfoldable pub dimensions_to_end : List ℕ → Answer (List ℕ × List ℕ)
 dimensions_to_end bytes = do
   ns ← dimensions_at bytes
@@ -25,7 +25,7 @@ dimensions_to_end bytes = do
   none ← ended pads.1
   Ok (ns.0, none.1)
 
--- an array, with nothing behind it
+-- reads an array, and fails if any bytes are left behind it
 unfoldable pub array_at : Bool → List ℕ → Answer (ArrayValue × List ℕ)
 array_at strided bytes = do
   head ← row (array_row strided) bytes

@@ -1,8 +1,8 @@
--- Lists whose count says more than their bytes hold.
+-- Lists whose count claims more items than their bytes hold.
 use Rattle.std.specs.Prelude.{ℕ, ◌*◌, ◌<◌, List, length}
 use Rattle.pdb_base.specs.Spelling.{SpellsNumber, Begins}
 
--- a leaf, behind it a count in so many bytes, and behind that fewer bytes than so many indexes have
+-- a leaf, then a count of `width` bytes, and then fewer bytes than that many indexes take
 abbrev pub ClaimsMore : ℕ → ℕ → List ℕ → Type 0
 ClaimsMore leaf width bytes =
     (mid : List ℕ) × Begins (SpellsNumber 2) bytes leaf mid

@@ -7,8 +7,8 @@ use Rattle.pdb_base.specs.Laws.{BeginsBadly}
 use Rattle.pdb_flags.specs.PointerAttributes.{is_pointer_word}
 use Rattle.pdb_records.specs.Shape.{Shape, Spells, pointer_leaf, num, variant, pointer_word, when, times}
 
--- The refusals that bytes can have: they end too soon, a number has an unknown prefix, a leaf has no
--- record, or what they say is not read here.
+-- The refusals that the contents of bytes can cause: the bytes end too soon, a number has an unknown
+-- prefix, no record is known for a leaf, or the bytes use a feature that the library doesn't read.
 abbrev pub IsFaultOfBytes : Refusal → Type 0
 IsFaultOfBytes unexpected_eof = Unit {0}
 IsFaultOfBytes (unexpected_numeric_prefix prefix) = Unit {0}
@@ -16,29 +16,30 @@ IsFaultOfBytes (unimplemented_type_kind kind) = Unit {0}
 IsFaultOfBytes (unimplemented_feature feature) = Unit {0}
 IsFaultOfBytes other = ⊥
 
--- bytes begin with no value
+-- the bytes begin with no value
 abbrev pub BeginsNone : {A : Type 0} → (A → List ℕ → Type 0) → List ℕ → Type 0
 BeginsNone {A} Spells bytes = (value : A) (rest : List ℕ) → ¬ Begins Spells bytes value rest
 
--- A whole bad number is refused for what it is, and where there is none, the bytes ended too soon.
+-- If the bytes begin with a whole number that is bad, they are refused for that number; if they don't,
+-- they end too soon.
 abbrev pub Judged : (ℕ → Type 0) → (ℕ → Refusal) → Refusal → Type 0
 Judged IsBad why refusal = ((n : ℕ) × IsBad n × (refusal ≡ why n)) ⊎ (((n : ℕ) → ¬ IsBad n) × (refusal ≡ unexpected_eof))
 
--- bytes begin with a whole word that is no pointer's attributes
+-- the bytes begin with a whole word that isn't a valid word of pointer attributes
 pub record BeginsBadPointer (bytes : List ℕ) (word : ℕ) : Type 0 where
   pub rest : List ℕ
   pub begins : Begins (SpellsNumber 4) bytes word rest
   pub bad : is_pointer_word word ≡ false
 
--- the first of so many that bytes refuse, behind those that stand there
+-- Of `count` values, the bytes hold the first ones or none, and refuse the next one with this refusal.
 abbrev pub FirstOf : {A : Type 0} → (A → List ℕ → Type 0) → (List ℕ → Refusal → Type 0) → ℕ → List ℕ → Refusal → Type 0
 FirstOf {A} Spells Fault zero bytes refusal = ⊥
 FirstOf {A} Spells Fault (suc count) bytes refusal =
     (BeginsNone Spells bytes × Fault bytes refusal)
     ⊎ ((value : A) × (mid : List ℕ) × Begins Spells bytes value mid × FirstOf Spells Fault count mid refusal)
 
--- why bytes that begin with no value of a shape are refused: a number by its prefix, a pointer by its
--- leaf, and else since the bytes end too soon
+-- The refusal of bytes that begin with no value of a shape. A number is refused with its prefix, a
+-- pointer with the leaf of pointers, and any other shape because the bytes end too soon.
 abbrev pub Fault : Shape → List ℕ → Refusal → Type 0
 Fault num bytes refusal = Judged (BeginsBadly unsigned_leaves bytes) (λ prefix. unexpected_numeric_prefix prefix) refusal
 Fault variant bytes refusal = Judged (BeginsBadly numeric_leaves bytes) (λ prefix. unexpected_numeric_prefix prefix) refusal
@@ -47,6 +48,6 @@ Fault (when test shape) bytes refusal = Fault shape bytes refusal
 Fault (times count shape) bytes refusal = FirstOf (Spells shape) (Fault shape) count bytes refusal
 Fault other bytes refusal = refusal ≡ unexpected_eof
 
--- bytes are refused where they begin with no value of a shape, for that reason
+-- the bytes begin with no value of a shape, and are refused with this refusal
 abbrev pub Refuses : Shape → List ℕ → Refusal → Type 0
 Refuses shape bytes refusal = BeginsNone (Spells shape) bytes × Fault shape bytes refusal

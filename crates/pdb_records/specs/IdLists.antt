@@ -1,4 +1,4 @@
--- Id records that are lists: what is asked for memory, what is refused before it is, and how long they
+-- Id records that are lists: when they take memory, which are refused before they do, and how long they
 -- can be.
 use Rattle.std.specs.Prelude.{◌⊎◌, ℕ, List, length, IsOkAnd}
 use Rattle.pdb_base.specs.Answer.{Answer}
@@ -7,13 +7,13 @@ use Rattle.pdb_values.specs.Items.{HasIdListItem}
 use Rattle.pdb_records.specs.Ids.{IsId}
 use Rattle.pdb_records.specs.Claims.{ClaimsMore}
 
--- how many items a list has; what is no list has none
+-- the number of items in a list; any other id has none
 abbrev pub item_count : IdValue → ℕ
 item_count (build_info ids) = length ids
 item_count (string_list types) = length types
 item_count (plain value) = 0
 
--- the grammar assigns a list with an item to bytes
+-- the grammar assigns to the bytes a list with at least one item
 abbrev pub HoldsIdItem : List ℕ → Type 0
 HoldsIdItem bytes = (value : IdValue) × (rest : List ℕ) × IsId bytes value rest × HasIdListItem value
 
@@ -25,10 +25,10 @@ build_info_leaf = 0x1603
 abbrev pub string_list_leaf : ℕ
 string_list_leaf = 0x1604
 
--- a list whose count its bytes don't hold
+-- a list whose count claims more items than its bytes hold
 abbrev pub IsCutIdList : List ℕ → Type 0
 IsCutIdList bytes = ClaimsMore build_info_leaf 2 bytes ⊎ ClaimsMore string_list_leaf 4 bytes
 
--- a list with an item is read
+-- the answer is a list with at least one item
 abbrev pub SaysIdItem : Answer (IdValue × List ℕ) → Type 0
 SaysIdItem answer = IsOkAnd answer (λ read. HasIdListItem read.0)

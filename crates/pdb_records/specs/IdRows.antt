@@ -1,5 +1,5 @@
--- The rows of id records: what stands in a record behind its leaf, field by field, as the structs of
--- Microsoft's cvinfo.h have it. Their texts end with a NUL.
+-- The rows of id records: the fields behind the leaf of a record, in the order of the structs in
+-- Microsoft's cvinfo.h. Their texts end with a NUL.
 use Rattle.std.specs.Prelude.{ℕ, List}
 use Rattle.pdb_base.specs.declared.index.TypeIndex.{TypeIndex}
 use Rattle.pdb_base.specs.declared.index.IdIndex.{IdIndex}
@@ -28,7 +28,7 @@ member_function_id_row leaf = do
   name ← text leaf
   gives (values.member_function (record { parent = parent; function_type = function_type; name = name }))
 
--- lfBuildInfo: the ids that a module was built with
+-- lfBuildInfo: the ids of what a module was built with
 abbrev pub build_info_row : Row (List IdIndex)
 build_info_row = counted_row Bits16 id_index
 
@@ -43,7 +43,7 @@ string_id_row leaf = do
   name ← text leaf
   gives (values.string (record { substrings = substrings; name = name }))
 
--- lfUdtSrcLine: the file is the id of its name
+-- lfUdtSrcLine: the file is given by the id of its name
 unfoldable pub source_row : Row PlainIdValue
 source_row = do
   udt ← type_index
@@ -51,8 +51,8 @@ source_row = do
   line ← u32
   gives (values.user_defined_type_source (record { udt = udt; source_file = Local file; line = line }))
 
--- lfUdtModSrcLine: the file is the place of its name in the string table, and behind the line stands
--- the number of the module
+-- lfUdtModSrcLine: the file is given by the offset of its name in the string table, and the number of the
+-- module stands behind the line
 unfoldable pub remote_source_row : Row PlainIdValue
 remote_source_row = do
   udt ← type_index

@@ -1,4 +1,4 @@
--- The leaves of type records, as Microsoft's cvinfo.h numbers them, and the row behind each.
+-- The leaves of type records, as Microsoft's cvinfo.h numbers them, and the row of fields behind each.
 use Rattle.std.specs.Prelude.{ℕ, true, false, ◌==◌, List, [], ◌∷◌, Option}
 use Rattle.std.specs.Map.{lookup}
 use Rattle.std.specs.Option.{option_map, option_or}
@@ -51,11 +51,11 @@ plain_leaves =
     ∷ (0x000a, TableShape)  -- LF_VTSHAPE
     ∷ []
 
--- the record without a list that stands behind a leaf
+-- the kind of record without a list that has the leaf of this number, if there is one
 abbrev pub plain_leaf : ℕ → Option PlainLeaf
 plain_leaf number = lookup (λ leaf. leaf == number) plain_leaves
 
--- the leaves of records with a list, but for a list of fields
+-- the leaves of records with a list, other than field lists
 abbrev pub list_leaves : List (ℕ × Leaf)
 list_leaves =
     (0x1201, ArgumentList)  -- LF_ARGLIST
@@ -65,11 +65,11 @@ list_leaves =
     ∷ (0x1516, Array true)  -- LF_STRIDED_ARRAY
     ∷ []
 
--- the record that stands behind a leaf, but for a list of fields
+-- the kind of record, other than a field list, that has the leaf of this number, if there is one
 abbrev pub leaf_of : ℕ → Option Leaf
 leaf_of number = option_or (lookup (λ leaf. leaf == number) list_leaves) (option_map Plain (plain_leaf number))
 
--- the row of a record without a list, behind the leaf of this number
+-- the row of a record without a list whose leaf has this number
 abbrev pub row_of : ℕ → PlainLeaf → Row PlainValue
 row_of number (Class kind) = class_row number kind
 row_of number WideStruct = wide_class_row number kinds.Struct

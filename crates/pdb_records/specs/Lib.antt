@@ -24,7 +24,7 @@ pub mod Ids
 pub mod Claims
 pub mod IdLists
 pub mod Assigned
--- the words of the libraries below that the contracts of this one speak in
+-- the definitions of the crates below this one that its contracts cite
 pub use Rattle.pdb_base.specs.Answer
 pub use Rattle.pdb_base.specs.Place
 pub use Rattle.pdb_base.specs.Spelling

@@ -7,7 +7,7 @@ use Rattle.pdb_records.specs.InOrder.{◌>>=◌}
 use Rattle.pdb_records.specs.declared.parse.counted.CountWidth.{CountWidth}
 use Rattle.pdb_records.specs.declared.parse.counted.CountWidth.TheVariants.{Bits16, Bits32}
 
--- a count, and so many of a shape behind it
+-- a count, followed by that many values of a shape
 unfoldable pub counted_row : CountWidth → (shape : Shape) → Row (List (Value shape))
 counted_row Bits16 shape = do
   count ← u16
@@ -18,17 +18,17 @@ counted_row Bits32 shape = do
   items ← times count shape
   gives items
 
--- lfArgList: the types of arguments
+-- lfArgList: the types of a function's arguments
 abbrev pub arguments_row : Row (List TypeIndex)
 arguments_row = counted_row Bits32 type_index
 
--- what an array says before its dimensions
+-- the fields of an array before its dimensions
 pub record ArrayHead : Type 0 where
   pub element_type : TypeIndex
   pub indexing_type : TypeIndex
   pub stride : Option ℕ
 
--- lfArray, and lfStridedArray, which has a stride: what stands before the dimensions
+-- lfArray, and lfStridedArray, which has a stride: the fields before the dimensions
 unfoldable pub array_row : Bool → Row ArrayHead
 array_row strided = do
   element_type ← type_index

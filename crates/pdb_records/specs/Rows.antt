@@ -1,6 +1,6 @@
--- The rows of type records: what stands in a record behind its leaf, field by field, as the structs of
--- Microsoft's cvinfo.h have it. A text in a record hangs on the leaf, by which it ends with a NUL or has
--- its length before it.
+-- The rows of type records: the fields behind the leaf of a record, in the order of the structs in
+-- Microsoft's cvinfo.h. It depends on the leaf whether a text in the record ends with a NUL or has its
+-- length before it.
 use Rattle.std.specs.Prelude.{ℕ, ◌+◌, ◌/◌, ◌%◌, ◌^◌, Bool, if◌then◌else◌}
 use Rattle.pdb_base.specs.declared.index.TypeIndex.{TypeIndex}
 use Rattle.pdb_bits.specs.Parts.{is_set}
@@ -46,8 +46,8 @@ class_row leaf kind = do
     unique_name = unique_name;
   }))
 
--- the same with more room for properties, in an order of fields that this library chose; the low 16 bits of
--- the properties count
+-- the same with a wider word of properties, in an order of fields that this library chose; of the
+-- properties, only the low 16 bits are kept
 unfoldable pub wide_class_row : ℕ → ClassKind → Row PlainValue
 wide_class_row leaf kind = do
   word ← u32
@@ -131,7 +131,7 @@ static_member_row leaf = do
   name ← text leaf
   gives (values.static_member (record { attributes = attributes; field_type = field_type; name = name }))
 
--- lfNestType, whose first word says nothing, and lfNestTypeEx, in which it is the attributes
+-- lfNestType, whose first word is ignored, and lfNestTypeEx, whose first word is the attributes
 unfoldable pub nested_row : ℕ → Bool → Row PlainValue
 nested_row leaf has_attributes = do
   word ← u16
@@ -143,7 +143,7 @@ nested_row leaf has_attributes = do
     name = name;
   }))
 
--- lfBClass; the low 32 bits of the offset count
+-- lfBClass; only the low 32 bits of the offset are kept
 unfoldable pub base_row : ClassKind → Row PlainValue
 base_row kind = do
   attributes ← u16
@@ -156,7 +156,7 @@ base_row kind = do
     offset = low_32 place;
   }))
 
--- lfVBClass; the low 32 bits of both offsets count
+-- lfVBClass; only the low 32 bits of both offsets are kept
 unfoldable pub virtual_base_row : Bool → Row PlainValue
 virtual_base_row direct = do
   attributes ← u16
@@ -173,7 +173,7 @@ virtual_base_row direct = do
     virtual_base_offset = low_32 entry;
   }))
 
--- lfVFuncTab, whose first word says nothing
+-- lfVFuncTab, whose first word is ignored
 unfoldable pub table_pointer_row : Row PlainValue
 table_pointer_row = do
   word ← u16
@@ -214,7 +214,7 @@ member_function_row = do
     this_adjustment = this_adjustment;
   }))
 
--- lfMethod: all methods of one name
+-- lfMethod: all methods that share one name
 unfoldable pub overloaded_method_row : ℕ → Row PlainValue
 overloaded_method_row leaf = do
   count ← u16
@@ -222,7 +222,8 @@ overloaded_method_row leaf = do
   name ← text leaf
   gives (values.overloaded_method (record { count = count; method_list = method_list; name = name }))
 
--- lfOneMethod; the place in the table of virtual functions stands there where the method introduces one
+-- lfOneMethod; the offset in the table of virtual functions is present only if the method introduces a
+-- virtual function
 unfoldable pub method_row : ℕ → Row PlainValue
 method_row leaf = do
   attributes ← u16
@@ -236,7 +237,7 @@ method_row leaf = do
     name = name;
   }))
 
--- mlMethod: a method in a list of methods, whose second word says nothing
+-- mlMethod: a method in a list of methods, whose second word is ignored
 unfoldable pub listed_method_row : Row MethodListEntry
 listed_method_row = do
   attributes ← u16
@@ -249,7 +250,7 @@ listed_method_row = do
     vtable_offset = vtable_offset;
   })
 
--- lfPointer; the class that it points into stands there where it points to a member or a method
+-- lfPointer; the class that it points into is present only if it points to a member or a method
 unfoldable pub pointer_row : Row PlainValue
 pointer_row = do
   underlying_type ← type_index
@@ -281,15 +282,15 @@ bitfield_row = do
   position ← u8
   gives (values.bitfield (record { underlying_type = underlying_type; length = length; position = position }))
 
--- lfVTShape: a count, and half a byte for each, in as many bytes as hold them
+-- lfVTShape: a count of functions, and half a byte for each, in as many bytes as hold them
 unfoldable pub table_shape_row : Row PlainValue
 table_shape_row = do
   count ← u16
   descriptors ← times ((count + 1) / 2) u8
   gives (values.virtual_table_shape (record { count = count; descriptors = descriptors }))
 
--- lfIndex, behind LF_INDEX in a list of fields: two bytes of padding, whatever they are, and the list that
--- goes on where this one ends
+-- lfIndex, behind LF_INDEX in a field list: two bytes of padding, whatever they are, and the index of the
+-- list that continues this one
 unfoldable pub continuation_row : Row TypeIndex
 continuation_row = do
   padding ← u16

@@ -1,5 +1,5 @@
--- What can stand in a record, and which bytes spell it. The shapes are those of the records in
--- Microsoft's cvinfo.h.
+-- The shapes of the fields in a record, and the bytes that spell their values. The shapes are those of
+-- the records in Microsoft's cvinfo.h.
 use Rattle.std.specs.Prelude.{◌≡◌, ℕ, Bool, true, false, ◌==◌, ◌||◌, nat_lt, if◌then◌else◌, List, [], length, Option, Some, None, Ok, Err, IsTrue}
 use Rattle.pdb_base.specs.declared.index.IdIndex.{IdIndex}
 use Rattle.pdb_base.specs.declared.index.TypeIndex.{TypeIndex}
@@ -12,7 +12,7 @@ use Rattle.pdb_base.specs.Spelling.{SpellsNumber, SpellsNum, SpellsVariant, Spel
 use Rattle.pdb_flags.specs.PointerAttributes.{is_pointer_word}
 use Rattle.pdb_base.specs.Repeated.{SpellsEach, repeated}
 
--- what can stand in a record
+-- the shape of a field in a record
 pub data Shape : Type 0 where
   u8 u16 u32 : Shape  -- a number, its lowest byte first
   num : Shape  -- a number of variable width, without a sign
@@ -24,7 +24,7 @@ pub data Shape : Type 0 where
   when : Bool → Shape → Shape  -- what stands there only under a condition
   times : ℕ → Shape → Shape  -- so many of a shape
 
--- the value that a shape has
+-- the type of the values of a shape
 abbrev pub Value : Shape → Type 0
 Value u8 = ℕ
 Value u16 = ℕ
@@ -64,30 +64,30 @@ last_pascal_leaf = 0x1500
 abbrev pub ends_texts : ℕ → Bool
 ends_texts leaf = nat_lt last_pascal_leaf leaf
 
--- a text that ends with a NUL, or one behind its length
+-- a text that ends with a NUL, or one that has its length before it
 abbrev pub SpellsTextBy : Bool → List ℕ → List ℕ → Type 0
 SpellsTextBy true = SpellsText
 SpellsTextBy false = SpellsPascalText
 
--- a number of four bytes, and what it says
+-- a number of four bytes, and the value that `said` makes of it
 pub record SpellsIndex {A : Type 0} (said : ℕ → A) (value : A) (front : List ℕ) : Type 0 where
   pub number : ℕ
   pub spelled : SpellsNumber 4 number front
   pub is : said number ≡ value
 
--- the attributes of a pointer, which have a kind and a mode
+-- a word of four bytes that is a valid word of pointer attributes: it has a kind and a mode of pointer
 pub record SpellsPointer (word : ℕ) (front : List ℕ) : Type 0 where
   pub spelled : SpellsNumber 4 word front
   pub good : IsTrue (is_pointer_word word)
 
--- what stands there only under a condition: nothing where the condition fails
+-- a field that is present only under a condition: it has no bytes if the condition fails
 abbrev pub SpellsWhen : {A : Type 0} → (A → List ℕ → Type 0) → Bool → Option A → List ℕ → Type 0
 SpellsWhen Spells true (Some value) front = Spells value front
 SpellsWhen Spells true None front = ⊥
 SpellsWhen Spells false (Some value) front = ⊥
 SpellsWhen Spells false None front = front ≡ []
 
--- so many, one after another
+-- `count` values, one after another
 pub record SpellsTimes {A : Type 0} (Spells : A → List ℕ → Type 0) (count : ℕ) (values : List A) (front : List ℕ) : Type 0 where
   pub len : length values ≡ count
   pub each : SpellsEach Spells values front
@@ -114,25 +114,26 @@ Spells (times count shape) = SpellsTimes (Spells shape) count
 abbrev pub pointer_leaf : ℕ
 pointer_leaf = 0x1002
 
--- what a number of four bytes says
+-- reads an index of four bytes, and returns what `said` makes of it
 abbrev pub index_at : {A : Type 0} → (ℕ → A) → List ℕ → Answer (A × List ℕ)
 index_at said bytes = number_at 4 bytes >>= λ n. Ok (said n.0, n.1)
 
--- the attributes of a pointer; a word without a kind and a mode is refused by the leaf of pointers
+-- reads the attributes of a pointer; a word without a kind and a mode is refused with the leaf of
+-- pointers
 abbrev pub pointer_word_at : List ℕ → Answer (ℕ × List ℕ)
 pointer_word_at bytes = number_at 4 bytes >>= λ n. if is_pointer_word n.0 then Ok n else Err (unimplemented_type_kind pointer_leaf)
 
--- a text that ends with a NUL, or one behind its length
+-- reads a text that ends with a NUL, or one that has its length before it
 abbrev pub text_by : Bool → List ℕ → Answer (List ℕ × List ℕ)
 text_by true = text_at
 text_by false = pascal_text_at
 
--- what stands there only under a condition
+-- reads a field that is present only under a condition
 abbrev pub when_at : {A : Type 0} → Bool → (List ℕ → Answer (A × List ℕ)) → List ℕ → Answer (Option A × List ℕ)
 when_at true read bytes = read bytes >>= λ x. Ok (Some x.0, x.1)
 when_at false read bytes = Ok (None, bytes)
 
--- a value of a shape at the front of bytes
+-- reads a value of a shape at the front of bytes
 abbrev pub read_shape : (shape : Shape) → List ℕ → Answer (Value shape × List ℕ)
 read_shape u8 = number_at 1
 read_shape u16 = number_at 2

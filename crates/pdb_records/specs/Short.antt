@@ -1,15 +1,15 @@
--- Lists are short beside their record: no item takes less than two bytes. The descriptors of a table's
--- shape are no list: they are bytes of the record, lent as they stand.
+-- Lists are short compared with their records: each item takes at least two bytes. The descriptors of a
+-- vtable shape don't count as a list: they are bytes that are borrowed from the record.
 use Rattle.std.specs.Prelude.{ℕ, ◌*◌, ◌≤◌, List, length}
 use Rattle.pdb_values.specs.TypeValue.{TypeValue, Fields, values_in}
 use Rattle.pdb_values.specs.TypeValue as values
 
--- at most half as many items as bytes
+-- the list has at most half as many items as there are bytes
 abbrev pub HalfAsMany : {A : Type 0} → List A → ℕ → Type 0
 HalfAsMany list bytes = 2 * length list ≤ bytes
 
--- every list in a value, also within the fields of a list of fields, has at most half as many items as
--- there are bytes
+-- Every list in a value, also in the fields of a field list, has at most half as many items as there are
+-- bytes.
 abbrev mutual
   pub IsShort : ℕ → TypeValue → Type 0
   IsShort bytes (values.array array) = HalfAsMany array.dimensions bytes
@@ -18,7 +18,7 @@ abbrev mutual
   IsShort bytes (values.field_list fields continuation) = HalfAsMany (values_in fields) bytes × AreShort bytes fields
   IsShort bytes (values.plain value) = Unit {0}
 
-  -- the same of each field
+  -- the same for each field
   pub AreShort : ℕ → Fields → Type 0
   AreShort bytes values.no_field = Unit {0}
   AreShort bytes (values.first_field value fields) = IsShort bytes value × AreShort bytes fields

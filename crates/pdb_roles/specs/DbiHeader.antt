@@ -6,15 +6,15 @@ use Rattle.pdb_base.specs.Reading.{number_at}
 use Rattle.pdb_roles.specs.Fields.{u16_in, u32_in}
 use Rattle.pdb_roles.specs.declared.dbi_header.DBIHeader.{DBIHeader}
 
--- the number at the front of every header but those of the oldest format
+-- the signature at the front of every header except those of the oldest format
 abbrev pub signature : ℕ
 signature = 0xffffffff
 
--- how many bytes a header has
+-- the size of a header in bytes
 abbrev pub header_size : ℕ
 header_size = 64
 
--- the fields, each at its offset
+-- the header with its fields, each read at its offset
 unfoldable pub dbi_header : List ℕ → DBIHeader
 dbi_header bytes = record {
   signature = u32_in 0 bytes;
@@ -39,7 +39,7 @@ dbi_header bytes = record {
   reserved = u32_in 60 bytes;
 }
 
--- the header at the front of a stream, with its three faults in the order of the bytes
+-- the header at the front of a stream; the three faults are checked in this order
 unfoldable pub dbi_header_of : List ℕ → Answer DBIHeader
 dbi_header_of stream = do
   first ← number_at 4 stream

@@ -11,8 +11,8 @@ use Rattle.pdb_roles.specs.DbiHeader.{header_size, dbi_header_of}
 use Rattle.pdb_roles.specs.declared.dbi_header.DBIHeader.{DBIHeader}
 use Rattle.pdb_roles.specs.declared.debug_header.DBIExtraStreams.{DBIExtraStreams}
 
--- the sizes of what stands before the debug header, in this order: the header, modules, section
--- contributions, the section map, file info, the type server map, edit-and-continue names
+-- the sizes of the parts before the debug header, in this order: the header, modules, section contributions,
+-- the section map, file info, the type server map, names for edit and continue
 abbrev pub sizes_before : DBIHeader → List ℕ
 sizes_before header =
     header_size ∷ header.module_list_size ∷ header.section_contribution_size ∷ header.section_map_size ∷ header.file_info_size ∷ header.type_server_map_size ∷ header.ec_substream_size ∷ []
@@ -25,16 +25,16 @@ debug_header_behind stream = do
   list ← front_at header.debug_header_size before.1
   Ok list.0
 
--- the debug header in stream 3; an empty stream has no lists
+-- the debug header in stream 3, which is empty if the stream is
 abbrev pub debug_header_of : List ℕ → Answer (List ℕ)
 debug_header_of [] = Ok []
 debug_header_of (byte ∷ bytes) = debug_header_behind (byte ∷ bytes)
 
--- the stream of a place in the list, or none behind the list's end
+-- the stream at an index of the list, or no stream if the list ends before that number does
 abbrev pub listed : ℕ → List ℕ → StreamIndex
 listed place list = record { 0 = if nat_le (2 * place + 2) (length list) then u16_in (2 * place) list else no_stream }
 
--- the streams of the eleven roles, each by its place
+-- the streams of the eleven roles, each read at its index in the list
 unfoldable pub roles_in : List ℕ → DBIExtraStreams
 roles_in list = record {
   fpo = listed 0 list;
@@ -50,16 +50,16 @@ roles_in list = record {
   original_section_headers = listed 10 list;
 }
 
--- no number of the first eleven is cut in half
+-- whether none of the first eleven numbers is cut in half
 abbrev pub is_whole : List ℕ → Bool
 is_whole list = nat_le 22 (length list) || length list % 2 == 0
 
--- what a list says
+-- the streams of the roles in a list
 unfoldable pub extra_streams : List ℕ → Answer DBIExtraStreams
 extra_streams list = do
   whole ← required (is_whole list) unexpected_eof
   Ok (roles_in list)
 
--- what stream 3 says
+-- the streams of the roles in stream 3
 unfoldable pub extra_streams_of : List ℕ → Answer DBIExtraStreams
 extra_streams_of stream = debug_header_of stream >>= extra_streams

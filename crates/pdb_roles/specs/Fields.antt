@@ -2,7 +2,7 @@
 use Rattle.std.specs.Prelude.{ℕ, List, take, drop}
 use Rattle.pdb_base.specs.Endian.{little_number}
 
--- the number in so many bytes at an offset, the lowest byte first
+-- the little-endian number in `width` bytes at an offset
 abbrev pub number_in : ℕ → ℕ → List ℕ → ℕ
 number_in width offset bytes = little_number width (take width (drop offset bytes))
 

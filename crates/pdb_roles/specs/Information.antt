@@ -1,12 +1,12 @@
--- The header of stream 1, which tells files apart: u32 version, u32 signature, u32 age, sixteen bytes of
--- a GUID, and a u32 size of the names behind it.
+-- The header of stream 1, which identifies the file: a u32 version, a u32 signature, a u32 age, sixteen bytes
+-- of a GUID, and a u32 size of the names after it.
 use Rattle.std.specs.Prelude.{ℕ, nat_le, List, length, take, drop, Ok}
 use Rattle.pdb_base.specs.Refusal.{unexpected_eof}
 use Rattle.pdb_base.specs.Answer.{Answer, ◌>>=◌, required}
 use Rattle.pdb_roles.specs.Fields.{u32_in}
 use Rattle.pdb_roles.specs.declared.information.PDBInformation.{PDBInformation}
 
--- the fields, each at its offset
+-- the information with its fields, each read at its offset
 unfoldable pub information : List ℕ → PDBInformation
 information stream = record {
   version = u32_in 0 stream;

@@ -1,4 +1,4 @@
--- What the definitions say in other words.
+-- The definitions, stated in other words.
 use Rattle.std.specs.Prelude.{◌≡◌, ◌≢◌, ◌⊎◌, ℕ, ◌+◌, ◌*◌, ◌/◌, ◌%◌, ◌<◌, ◌≤◌, min, List, [], ◌∷◌, ◌++◌, length, drop, sum, slice_get, Some, Ok, Err, codes}
 use Rattle.pdb_base.specs.Refusal.{Refusal, unexpected_eof, unimplemented_feature}
 use Rattle.pdb_base.specs.Answer.{Answer}
@@ -14,21 +14,21 @@ use Rattle.pdb_roles.specs.declared.dbi_header.DBIHeader.{DBIHeader}
 use Rattle.pdb_roles.specs.declared.debug_header.DBIExtraStreams.{DBIExtraStreams}
 use Rattle.pdb_roles.specs.declared.information.PDBInformation.{PDBInformation}
 
--- It is refused only since the bytes end too soon.
+-- The only refusal is `unexpected_eof`, which is given because the bytes end too soon.
 abbrev pub EndsTooSoon : {A : Type 0} → Answer A → Type 0
 EndsTooSoon {A} answer = (e : Refusal) → answer ≡ Err e → e ≡ unexpected_eof
 
 -- ---- the header of stream 3
 
--- A stream begins with a header: all its bytes are there, its fields stand at their offsets, and the
+-- The stream begins with a header: all its bytes are there, its fields are at their offsets, and the
 -- first of them is the signature.
 pub record HoldsHeader (stream : List ℕ) (header : DBIHeader) : Type 0 where
   pub whole : header_size ≤ length stream
   pub fields : dbi_header stream ≡ header
   pub signed : header.signature ≡ signature
 
--- The header is the one that a stream begins with; other streams are refused by the first of three
--- faults.
+-- `dbi_header_of` gives the header with which the stream begins. Any other stream is refused
+-- with the first of three faults.
 pub record FindsHeader (stream : List ℕ) : Type 0 where
   pub found : (header : DBIHeader) → dbi_header_of stream ≡ Ok header → HoldsHeader stream header
   pub only : (header : DBIHeader) → HoldsHeader stream header → dbi_header_of stream ≡ Ok header
@@ -38,17 +38,17 @@ pub record FindsHeader (stream : List ℕ) : Type 0 where
 
 -- ---- its debug header
 
--- Bytes are a part of so many bytes, and the rest.
+-- The bytes are a part of `size` bytes, followed by the rest.
 pub record IsCut (size : ℕ) (bytes part rest : List ℕ) : Type 0 where
   pub len : length part ≡ size
   pub is : part ++ rest ≡ bytes
 
--- Bytes are parts of these sizes, one behind the other, and the rest.
+-- The bytes are parts of these sizes, one after another, followed by the rest.
 abbrev pub LieInOrder : List ℕ → List ℕ → List ℕ → Type 0
 LieInOrder [] bytes rest = bytes ≡ rest
 LieInOrder (size ∷ sizes) bytes rest = (part : List ℕ) × (behind : List ℕ) × IsCut size bytes part behind × LieInOrder sizes behind rest
 
--- A stream begins with a header, and this is the debug header behind all that stands before it.
+-- The stream begins with a header, and `list` is the debug header after all the parts before it.
 pub record HoldsDebugHeader (stream list : List ℕ) : Type 0 where
   pub header : DBIHeader
   pub begins : HoldsHeader stream header
@@ -57,8 +57,8 @@ pub record HoldsDebugHeader (stream list : List ℕ) : Type 0 where
   pub rest : List ℕ
   pub taken : IsCut header.debug_header_size behind list rest
 
--- The debug header is the one that a stream holds. A stream that holds none is refused as its header is,
--- or since it ends too soon.
+-- `debug_header_behind` gives the debug header that the stream holds. A stream that holds none is refused as
+-- its header is, or because it ends too soon.
 pub record FindsDebugHeader (stream : List ℕ) : Type 0 where
   pub found : (list : List ℕ) → debug_header_behind stream ≡ Ok list → HoldsDebugHeader stream list
   pub only : (list : List ℕ) → HoldsDebugHeader stream list → debug_header_behind stream ≡ Ok list
@@ -67,14 +67,14 @@ pub record FindsDebugHeader (stream : List ℕ) : Type 0 where
 
 -- ---- roles
 
--- The stream of a place in a list: the number that stands there, or none behind the list's end. Where
--- half a number stands there it is neither.
+-- The stream at an index of a list is the number there, or no stream if the list ends before it. If the list
+-- ends in half of that number, neither holds.
 abbrev pub IsListed : List ℕ → ℕ → StreamIndex → Type 0
 IsListed list place index =
     ((rest : List ℕ) × Begins (SpellsNumber 2) (drop (2 * place) list) index.0 rest)
     ⊎ ((length list ≤ 2 * place) × (index.0 ≡ no_stream))
 
--- The eleven roles have these streams: a line a place.
+-- The eleven roles have these streams, one line for each index.
 pub record AreListed (list : List ℕ) (roles : DBIExtraStreams) : Type 0 where
   pub fpo : IsListed list 0 roles.fpo
   pub exception : IsListed list 1 roles.exception
@@ -88,8 +88,8 @@ pub record AreListed (list : List ℕ) (roles : DBIExtraStreams) : Type 0 where
   pub framedata : IsListed list 9 roles.framedata
   pub original_section_headers : IsListed list 10 roles.original_section_headers
 
--- The roles are those that a list gives. A list gives none just where it ends in half of one of the
--- first eleven numbers.
+-- `extra_streams` gives the streams of the roles in a list. It fails if and only if the list ends in half of
+-- one of the first eleven numbers.
 pub record FindsRoles (list : List ℕ) : Type 0 where
   pub found : (roles : DBIExtraStreams) → extra_streams list ≡ Ok roles → AreListed list roles
   pub only : (roles : DBIExtraStreams) → AreListed list roles → extra_streams list ≡ Ok roles
@@ -98,7 +98,7 @@ pub record FindsRoles (list : List ℕ) : Type 0 where
 
 -- ---- names
 
--- a set of bits, as a u32 number of words and so many u32
+-- `front` spells a set of bits: a u32 number of words, and as many u32 words.
 pub record SpellsSet (words front : List ℕ) : Type 0 where
   pub count : ℕ
   pub head : List ℕ
@@ -106,8 +106,8 @@ pub record SpellsSet (words front : List ℕ) : Type 0 where
   pub size : length words ≡ 4 * count
   pub is : head ++ words ≡ front
 
--- Stream 1 holds names, and behind them a table: a count, a capacity, two sets of bits, and so many
--- entries of eight bytes.
+-- Stream 1 holds names, and after them a table: a count, a capacity, two sets of bits, and as many entries of
+-- eight bytes as the count says.
 pub record HoldsMap (information : PDBInformation) (table : Map) : Type 0 where
   pub before : List ℕ
   pub behind : List ℕ
@@ -129,18 +129,18 @@ pub record HoldsMap (information : PDBInformation) (table : Map) : Type 0 where
   pub rest : List ℕ
   pub entries : IsCut (8 * number) behind_deleted table.entries rest
 
--- entry k of a table: the name that stands at its offset, and its stream
+-- What entry k of a table says: the name at its offset, and its stream.
 pub record IsNamed (table : Map) (k : ℕ) (named : Named) : Type 0 where
   pub name : IsNameAt table.names (u32_in (8 * k) table.entries) named.name
   pub stream : named.stream ≡ min (u32_in (8 * k + 4) table.entries) no_stream
 
--- a name and a stream for each entry, in order
+-- There is a name and a stream for each entry, in order.
 pub record AreNamed (table : Map) (named : List Named) : Type 0 where
   pub count : length named ≡ length table.entries / 8
   pub each : (k : ℕ) (one : Named) → slice_get named k ≡ Some one → IsNamed table k one
 
--- The named streams are those of the table that stream 1 holds. There are none just where the stream
--- ends too soon, or a name has no NUL behind it.
+-- `map_of` gives the table that stream 1 holds, and `named_in` its named streams. There are none if and only
+-- if the stream ends too soon, or a name has no NUL after it.
 pub record FindsNamed (information : PDBInformation) : Type 0 where
   pub map_found : (table : Map) → map_of information ≡ Ok table → HoldsMap information table
   pub map_only : (table : Map) → HoldsMap information table → map_of information ≡ Ok table

@@ -6,5 +6,5 @@ pub mod StreamNames
 pub mod SectionHeaders
 pub mod File
 pub mod Laws
--- the words of the libraries below that the contracts of this one speak in
+-- definitions of lower libraries that the contracts of this one use
 pub use Rattle.pdb_base.specs.Endian

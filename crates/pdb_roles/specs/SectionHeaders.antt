@@ -1,4 +1,4 @@
--- The headers of all sections of an image: forty bytes each, one behind the other.
+-- The headers of all sections of an image, forty bytes each, one after another.
 use Rattle.std.specs.Prelude.{◌%◌, ◌==◌, ℕ, List, length, Ok}
 use Rattle.pdb_base.specs.Refusal.{unexpected_eof}
 use Rattle.pdb_base.specs.Answer.{Answer, ◌>>=◌, required}

@@ -1,6 +1,6 @@
--- The named streams, which stream 1 lists behind its header: the names, and a table that leads from a
--- name's offset to a stream. The table is written as a hash table of the PDB format: a u32 count, a u32
--- capacity, two sets of bits, each as a u32 number of words and the words, and the entries.
+-- The named streams, which stream 1 lists after its header: the names, and a table that leads from the offset
+-- of a name to a stream. The table is stored as a hash table of the PDB format: a u32 count, a u32 capacity,
+-- two sets of bits, each as a u32 number of words and the words, and the entries.
 use Rattle.std.specs.Prelude.{ℕ, ◌+◌, ◌*◌, ◌/◌, ◌==◌, if◌then◌else◌, min, List, length, map, find, Option, Some, None, Ok, Err}
 use Rattle.std.specs.List.{range_with_len}
 use Rattle.std.specs.Str.{bytes_eq}
@@ -22,7 +22,7 @@ pub record Named : Type 0 where
 abbrev pub named_view : StreamName → Named
 named_view named = record { name = named.name.0.now; stream = named.stream_id.0 }
 
--- behind a set of bits: a u32 number of words, and so many u32
+-- the bytes after a set of bits, which is a u32 number of words and as many u32 words
 unfoldable pub behind_set : List ℕ → Answer (List ℕ)
 behind_set bytes = do
   count ← number_at 4 bytes
@@ -54,8 +54,8 @@ map_of information = do
   entries ← entries_at names.1
   Ok (record { names = names.0; entries = entries })
 
--- The stream of an entry and its name: u32 offset of the name, u32 number of the stream. A number of
--- 0xffff or more names no stream.
+-- The stream and the name of an entry, which is the u32 offset of the name and the u32 number of the stream.
+-- A number of 0xffff or more names no stream.
 unfoldable pub named_at : Map → ℕ → Answer Named
 named_at table place = do
   name ← name_of table.names (u32_in (8 * place) table.entries)
@@ -68,11 +68,11 @@ named_in table = collected (map (named_at table) (range_with_len 0 (length table
 unfoldable pub stream_names_of : PDBInformation → Answer (List Named)
 stream_names_of information = map_of information >>= named_in
 
--- the number of a stream that is found, if it is one
+-- the number of the entry that was found; it is refused if there is none or if it names no stream
 abbrev pub number_found : Option Named → Answer ℕ
 number_found None = Err stream_name_not_found
 number_found (Some named) = if named.stream == no_stream then Err stream_name_not_found else Ok named.stream
 
--- the number of the first stream of a name
+-- the number of the first stream with a name
 unfoldable pub number_named : List ℕ → List Named → Answer ℕ
 number_named name streams = number_found (find (λ named. bytes_eq named.name name) streams)

@@ -1,5 +1,5 @@
--- The rows of the entries of lists of fields, which have no index. The kind of an entry is told by the
--- leaf that records of today have for what it says, whose names end at a NUL.
+-- The rows of the entries of field lists, which have no index. The kind of an entry is shown as the leaf
+-- that current records with such contents have, in which names end with a NUL.
 use Rattle.std.specs.Prelude.{ℕ, Bool, if◌then◌else◌, None}
 use Rattle.pdb_values.specs.TypeValue as values
 use Rattle.pdb_values.specs.TypeValue.{TypeValue, PlainValue}
@@ -21,11 +21,11 @@ base_class_leaf Class = 0x1400
 base_class_leaf Struct = 0x1400
 base_class_leaf Interface = 0x151a
 
--- LF_VBCLASS where the class itself names the base class, and else LF_IVBCLASS
+-- LF_VBCLASS if the class itself names the base class, and else LF_IVBCLASS
 abbrev pub virtual_base_leaf : Bool → ℕ
 virtual_base_leaf direct = if direct then 0x1401 else 0x1402
 
--- the leaf of a type without a list
+-- the leaf that is shown for a type without a list
 abbrev pub plain_leaf : PlainValue → ℕ
 plain_leaf (values.primitive type) = 0x000f  -- LF_NULL
 plain_leaf (values.class type) = class_leaf type.kind
@@ -47,7 +47,7 @@ plain_leaf (values.union type) = 0x1506  -- LF_UNION
 plain_leaf (values.bitfield type) = 0x1205  -- LF_BITFIELD
 plain_leaf (values.virtual_table_shape shape) = 0x000a  -- LF_VTSHAPE
 
--- the leaf of what a type says
+-- the leaf that is shown for any type
 abbrev pub leaf_of : TypeValue → ℕ
 leaf_of (values.plain value) = plain_leaf value
 leaf_of (values.array type) = 0x1503  -- LF_ARRAY

@@ -1,4 +1,4 @@
--- What fields of rows hold.
+-- The values of the fields of rows.
 use Rattle.std.specs.Prelude.{ℕ, ◌==◌, if◌then◌else◌, List, ◌∷◌, codes, Option, Some, None}
 use Rattle.pdb_base.specs.declared.index.TypeIndex.{TypeIndex}
 use Rattle.pdb_base.specs.declared.index.IdIndex.{IdIndex}
@@ -28,7 +28,7 @@ abbrev pub optional_number : Option ℕ → ShownValue
 optional_number (Some n) = number n
 optional_number None = absent
 
--- a number that is left out where it is 0
+-- a number that is left out if it is 0
 abbrev pub nonzero : ℕ → ShownValue
 nonzero n = if n == 0 then absent else number n
 
@@ -37,6 +37,6 @@ abbrev pub optional_text : Option (List ℕ) → ShownValue
 optional_text (Some bytes) = text bytes
 optional_text None = absent
 
--- what the row of a record begins with: its index, which an entry of a list has not, and its leaf
+-- what the row of a record begins with: its index, which an entry of a list doesn't have, and its leaf
 abbrev pub headed : Option ℕ → ℕ → ShownRow → ShownRow
 headed index leaf fields = (codes "index", optional_hexadecimal index) ∷ (codes "kind", kind leaf) ∷ fields

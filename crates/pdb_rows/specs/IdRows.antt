@@ -1,4 +1,5 @@
--- The fields that are shown of ids, behind their index and leaf, called as the fields of the ids are.
+-- The fields that are shown of an id, behind its index and leaf. They have the names of the id's own
+-- fields.
 use Rattle.std.specs.Prelude.{ℕ, List, [], ◌∷◌, map, codes, Some}
 use Rattle.pdb_base.specs.declared.index.TypeIndex.{TypeIndex}
 use Rattle.pdb_base.specs.declared.index.IdIndex.{IdIndex}
@@ -26,19 +27,19 @@ member_function_fields id =
     ∷ (codes "function_type", type_index id.function_type)
     ∷ []
 
--- a text
+-- a string
 unfoldable pub string_fields : StringValue → ShownRow
 string_fields id =
     (codes "name", text id.name)
     ∷ (codes "substrings", optional_id id.substrings)
     ∷ []
 
--- the id of a file's name, or its place in the string table
+-- the id of a file's name, or the offset of the name in the string table
 abbrev pub source_file : UserDefinedTypeSourceFileRef → ShownValue
 source_file (Local id) = hexadecimal id.0
 source_file (Remote module_number place) = hexadecimal place
 
--- the number of the module, where the file is named in the string table
+-- the number of the module, if the file is named in the string table
 abbrev pub source_module : UserDefinedTypeSourceFileRef → ShownValue
 source_module (Local id) = absent
 source_module (Remote module_number place) = number module_number
@@ -67,12 +68,12 @@ plain_fields (values.member_function id) = member_function_fields id
 plain_fields (values.string id) = string_fields id
 plain_fields (values.user_defined_type_source id) = source_fields id
 
--- what is shown of an id
+-- the fields that are shown of any id
 abbrev pub id_fields : IdValue → ShownRow
 id_fields (values.plain value) = plain_fields value
 id_fields (values.build_info arguments) = build_info_fields arguments
 id_fields (values.string_list substrings) = string_list_fields substrings
 
--- the row of the id of an index, whose record has a leaf
+-- the row of the id of an index, whose record has this leaf
 unfoldable pub id_row : ℕ → ℕ → IdValue → ShownRow
 id_row index leaf id = headed (Some index) leaf (id_fields id)

@@ -1,10 +1,10 @@
--- What lines come to: a row is one line, and a text in JSON is a string.
+-- What rows are written as: a row is a single line, and a text in JSON is a JSON string.
 use Rattle.std.specs.Prelude.{◌≡◌, ℕ, ◌==◌, ◌||◌, ◌&&◌, not, nat_le, Bool, IsTrue, List, [], ◌∷◌, ◌++◌}
 use Rattle.std.specs.List.{list_all}
 use Rattle.pdb_rows.specs.Lines.{line_feed}
 use Rattle.pdb_rows.specs.Text.{quote, backslash}
 
--- none of the bytes is below 0x20, as a line feed and an escape of a terminal are
+-- no byte is below 0x20, as a line feed or the first byte of a terminal's escape sequence is
 abbrev pub IsPrintable : List ℕ → Type 0
 IsPrintable bytes = IsTrue (list_all (λ byte. nat_le 0x20 byte) bytes)
 
@@ -14,7 +14,7 @@ pub record IsLine (text : List ℕ) : Type 0 where
   pub printable : IsPrintable front
   pub ends : text ≡ front ++ line_feed ∷ []
 
--- a letter of a short escape: one of `"\/bfnrt`
+-- the letter of a short escape: one of `"\/bfnrt`
 abbrev pub is_short : ℕ → Bool
 is_short letter = letter == 0x22 || letter == 0x5c || letter == 0x2f || letter == 0x62 || letter == 0x66 || letter == 0x6e || letter == 0x72 || letter == 0x74
 

@@ -3,11 +3,11 @@ use Rattle.std.specs.Prelude.{ℕ, ◌==◌, List, [], ◌∷◌, codes, Option}
 use Rattle.std.specs.Map.{lookup}
 use Rattle.std.specs.Option.{option_or}
 
--- the name that stands beside a number
+-- the name beside a number in a table
 abbrev pub name_in : List (ℕ × List ℕ) → ℕ → Option (List ℕ)
 name_in rows number = lookup (λ row. row == number) rows
 
--- types and entries whose names end at a NUL
+-- types and entries whose names end with a NUL
 abbrev pub type_leafs : List (ℕ × List ℕ)
 type_leafs =
     (0x1501, codes "LF_TYPESERVER")
@@ -63,7 +63,7 @@ symbol_type_leafs =
     ∷ (0x1011, codes "LF_OEM2")
     ∷ []
 
--- types that other types alone refer to, with indexes of 32 bits
+-- types that only other types refer to, with indexes of 32 bits
 abbrev pub list_leafs : List (ℕ × List ℕ)
 list_leafs =
     (0x1200, codes "LF_SKIP")
@@ -100,7 +100,7 @@ entry_leafs =
     ∷ (0x140f, codes "LF_MANAGED_ST")
     ∷ []
 
--- ids, and of a later leaf of a type
+-- ids, and a later leaf of a type
 abbrev pub id_leafs : List (ℕ × List ℕ)
 id_leafs =
     (0x1601, codes "LF_FUNC_ID")
@@ -113,7 +113,7 @@ id_leafs =
     ∷ (0x1609, codes "LF_STRUCTURE19")
     ∷ []
 
--- types that symbols refer to, as they first were
+-- the original leaves of types that symbols refer to
 abbrev pub first_type_leafs : List (ℕ × List ℕ)
 first_type_leafs =
     (0x0001, codes "LF_MODIFIER_16t")
@@ -140,7 +140,7 @@ first_type_leafs =
     ∷ (0x0016, codes "LF_TYPESERVER_ST")
     ∷ []
 
--- types that other types alone refer to, as they first were
+-- the original leaves of types that only other types refer to
 abbrev pub first_list_leafs : List (ℕ × List ℕ)
 first_list_leafs =
     (0x0200, codes "LF_SKIP_16t")
@@ -158,7 +158,7 @@ first_list_leafs =
     ∷ (0x020c, codes "LF_REFSYM")
     ∷ []
 
--- entries of a field list, as they first were
+-- the original leaves of entries of a field list
 abbrev pub first_entry_leafs : List (ℕ × List ℕ)
 first_entry_leafs =
     (0x0400, codes "LF_BCLASS_16t")
@@ -177,39 +177,39 @@ first_entry_leafs =
     ∷ (0x040d, codes "LF_VFUNCOFF_16t")
     ∷ []
 
--- the name of one of the leaves of types and entries whose names end at a NUL
+-- the name of a leaf of types and entries whose names end with a NUL
 unfoldable pub type_leaf_text : ℕ → Option (List ℕ)
 type_leaf_text = name_in type_leafs
 
--- the name of one of the leaves of types that symbols refer to, with indexes of 32 bits
+-- the name of a leaf of types that symbols refer to, with indexes of 32 bits
 unfoldable pub symbol_type_leaf_text : ℕ → Option (List ℕ)
 symbol_type_leaf_text = name_in symbol_type_leafs
 
--- the name of one of the leaves of types that other types alone refer to, with indexes of 32 bits
+-- the name of a leaf of types that only other types refer to, with indexes of 32 bits
 unfoldable pub list_leaf_text : ℕ → Option (List ℕ)
 list_leaf_text = name_in list_leafs
 
--- the name of one of the leaves of entries of a field list, with indexes of 32 bits
+-- the name of a leaf of entries of a field list, with indexes of 32 bits
 unfoldable pub entry_leaf_text : ℕ → Option (List ℕ)
 entry_leaf_text = name_in entry_leafs
 
--- the name of one of the leaves of ids, and of a later leaf of a type
+-- the name of a leaf of ids, or of the later leaf of a type
 unfoldable pub id_leaf_text : ℕ → Option (List ℕ)
 id_leaf_text = name_in id_leafs
 
--- the name of one of the leaves of types that symbols refer to, as they first were
+-- the name of an original leaf of types that symbols refer to
 unfoldable pub first_type_leaf_text : ℕ → Option (List ℕ)
 first_type_leaf_text = name_in first_type_leafs
 
--- the name of one of the leaves of types that other types alone refer to, as they first were
+-- the name of an original leaf of types that only other types refer to
 unfoldable pub first_list_leaf_text : ℕ → Option (List ℕ)
 first_list_leaf_text = name_in first_list_leafs
 
--- the name of one of the leaves of entries of a field list, as they first were
+-- the name of an original leaf of entries of a field list
 unfoldable pub first_entry_leaf_text : ℕ → Option (List ℕ)
 first_entry_leaf_text = name_in first_entry_leafs
 
--- the name of a leaf
+-- the name of any leaf
 unfoldable pub leaf_text : ℕ → Option (List ℕ)
 leaf_text number =
     option_or (type_leaf_text number) (option_or (symbol_type_leaf_text number) (option_or (list_leaf_text number) (option_or (entry_leaf_text number) (option_or (id_leaf_text number) (option_or (first_type_leaf_text number) (option_or (first_list_leaf_text number) (first_entry_leaf_text number)))))))

@@ -11,7 +11,7 @@ use Rattle.pdb_rows.specs.Row as rows
 use Rattle.pdb_rows.specs.Row.{ShownValue, ShownField, ShownRow}
 use Rattle.pdb_rows.specs.Text.{four_digits, shown_text, quoted}
 
--- what items are shown as, with a separator between each two
+-- the texts of items, with a separator between each two
 abbrev pub separated : {A : Type 0} → List ℕ → (A → List ℕ) → List A → List ℕ
 separated separator text [] = []
 separated separator text (item ∷ items) = text item ++ flat_map (λ next. separator ++ text next) items
@@ -25,7 +25,7 @@ abbrev pub index_text : Form → ℕ → List ℕ
 index_text Text n = hexadecimal n
 index_text Json n = decimal n
 
--- the name of a leaf where it has one, and else its four hexadecimal digits behind `0x`
+-- the name of a leaf if it has one, and else its four hexadecimal digits behind `0x`
 abbrev pub named_leaf : ℕ → Option (List ℕ) → List ℕ
 named_leaf leaf (Some name) = name
 named_leaf leaf None = codes "0x" ++ four_digits leaf
@@ -48,7 +48,8 @@ value_text form (rows.numbers list) = list_text decimal list
 value_text form (rows.indexes list) = list_text (index_text form) list
 value_text form rows.absent = []
 
--- whether a form shows a field: not one that holds nothing, and in text not one that holds no words
+-- whether a form shows a field: no form shows a field without a value, and text shows no empty list of
+-- words
 abbrev pub is_shown_value : Form → ShownValue → Bool
 is_shown_value form rows.absent = false
 is_shown_value Text (rows.words []) = false
@@ -83,7 +84,7 @@ fields_text form row = separated (separator form) (field_text form) (filter (is_
 abbrev pub line_feed : ℕ
 line_feed = 10
 
--- a row as one line, which in JSON is an object
+-- a row as one line, which is an object in JSON
 unfoldable pub row_text : Form → ShownRow → List ℕ
 row_text Text row = fields_text Text row ++ line_feed ∷ []
 row_text Json row = codes "{" ++ fields_text Json row ++ codes "}" ++ line_feed ∷ []
@@ -92,7 +93,7 @@ row_text Json row = codes "{" ++ fields_text Json row ++ codes "}" ++ line_feed 
 unfoldable pub field_line : ShownField → List ℕ
 field_line field = shown_text Text field.0 ++ codes ": " ++ value_text Text field.1 ++ line_feed ∷ []
 
--- a row in full: in text a line for each field that is shown, and in JSON its line
+-- a row in full: in text, one line for each field that is shown; in JSON, its one line
 unfoldable pub full_text : Form → ShownRow → List ℕ
 full_text Text row = flat_map field_line (filter (is_shown Text) row)
 full_text Json row = row_text Json row

@@ -1,12 +1,12 @@
--- What a row shows, apart from where its bytes lie: a name, a word or another text is the list of its
--- bytes.
+-- A row as a value, independent of where its bytes are stored: a name, a word or another text is the list
+-- of its bytes.
 use Rattle.std.specs.Prelude.{ℕ, ℤ, Bool, List, map}
 use Rattle.pdb_rows.specs.declared.row.Field.{Field}
 use Rattle.pdb_rows.specs.declared.row.Row.{Row}
 use Rattle.pdb_rows.specs.declared.row.Value.{Value}
 use Rattle.pdb_rows.specs.declared.row.Value.TheVariants as values
 
--- what a field shows
+-- the value that a field shows
 pub data ShownValue : Type 0 where
   number : ℕ → ShownValue
   signed : ℤ → ShownValue
@@ -19,7 +19,7 @@ pub data ShownValue : Type 0 where
   indexes : List ℕ → ShownValue
   absent : ShownValue
 
--- what a field is called, and what it shows
+-- a field: its name and the value that it shows
 abbrev pub ShownField : Type 0
 ShownField = List ℕ × ShownValue
 
@@ -27,7 +27,7 @@ ShownField = List ℕ × ShownValue
 abbrev pub ShownRow : Type 0
 ShownRow = List ShownField
 
--- what a value of the code shows
+-- the shown value of a `Value`
 abbrev pub value_shown : Value → ShownValue
 value_shown (values.Number n) = number n
 value_shown (values.Signed z) = signed z
@@ -41,10 +41,10 @@ value_shown (values.Numbers list) = numbers list.items
 value_shown (values.Indexes list) = indexes list.items
 value_shown values.Absent = absent
 
--- what a field of the code shows
+-- the shown field of a `Field`
 abbrev pub field_shown : Field → ShownField
 field_shown field = (field.name.now, value_shown field.value)
 
--- what a row of the code shows
+-- the shown row of a `Row`
 abbrev pub row_shown : Row → ShownRow
 row_shown row = map field_shown row.fields.items

@@ -1,5 +1,5 @@
--- The rows of section headers, of records of OMAP tables and of frames, whose fields are called as those
--- of their types.
+-- The rows of section headers, of records of OMAP tables and of frames. Their fields have the names of
+-- the fields of those types.
 use Rattle.std.specs.Prelude.{ℕ, [], ◌∷◌, codes, Option, Some, None}
 use Rattle.pdb_frames.specs.FrameNumbers as frames
 use Rattle.pdb_frames.specs.declared.frame_data.FrameData.{FrameData}
@@ -11,7 +11,7 @@ use Rattle.pdb_rows.specs.Fields.{optional_number}
 use Rattle.pdb_rows.specs.Row.{ShownValue, ShownRow, number, hexadecimal, flag, text, words, absent}
 use Rattle.pdb_rows.specs.Words.{section_words}
 
--- the header of the section of a number
+-- the header of the section with this number
 unfoldable pub section_row : ℕ → ImageSectionHeader → ShownRow
 section_row section header =
     (codes "number", number section)
@@ -35,7 +35,7 @@ omap_row mapping =
     ∷ (codes "target_address", hexadecimal mapping.target)
     ∷ []
 
--- the place of a frame's program in the string table, if it has one
+-- the offset of a frame's program in the string table, if it has one
 abbrev pub program_place : Option StringRef → ShownValue
 program_place (Some place) = hexadecimal place
 program_place None = absent

@@ -20,7 +20,8 @@ backslash = 0x5c
 abbrev pub four_digits : ℕ → List ℕ
 four_digits n = digit_glyph false (n / 4096) ∷ digit_glyph false (n / 256 % 16) ∷ digit_glyph false (n / 16 % 16) ∷ digit_glyph false (n % 16) ∷ []
 
--- each character that has a short escape, and what stands behind the backslash (RFC 8259, section 7)
+-- each character that has a short escape, and what stands behind the backslash of that (RFC 8259, section
+-- 7)
 abbrev pub short_escapes : List (ℕ × ℕ)
 short_escapes =
     (quote, quote)
@@ -32,12 +33,12 @@ short_escapes =
     ∷ (0x0d, 0x72)  -- carriage return, `r`
     ∷ []
 
--- what stands behind the backslash of an escape: the short one, or `u` and four digits
+-- what stands behind the backslash of an escape: the letter of a short escape, or `u` and four digits
 abbrev pub behind_backslash : ℕ → Option ℕ → List ℕ
 behind_backslash c (Some letter) = letter ∷ []
 behind_backslash c None = 0x75 ∷ four_digits c
 
--- the short escape of a character, where it has one
+-- the letter of a character's short escape, if it has one
 abbrev pub short_escape : ℕ → Option ℕ
 short_escape c = lookup (λ known. known == c) short_escapes
 
@@ -45,8 +46,8 @@ short_escape c = lookup (λ known. known == c) short_escapes
 unfoldable pub escape : ℕ → List ℕ
 escape c = backslash ∷ behind_backslash c (short_escape c)
 
--- whether a form escapes a character: text the control characters of Unicode (U+0000 to U+001F and
--- U+007F to U+009F), and JSON those below U+0020, the quote and the backslash
+-- Whether a form escapes a character: text escapes the control characters of Unicode (U+0000 to U+001F
+-- and U+007F to U+009F), and JSON those below U+0020, the quote and the backslash.
 abbrev pub is_escaped : Form → ℕ → Bool
 is_escaped Text c = nat_lt c 0x20 || nat_le 0x7f c && nat_lt c 0xa0
 is_escaped Json c = nat_lt c 0x20 || c == quote || c == backslash
@@ -59,7 +60,7 @@ is_plain byte = nat_le 0x20 byte && nat_le byte 0x7e && not (byte == quote) && n
 unfoldable pub shown_char : Form → ℕ → List ℕ
 shown_char form c = if is_escaped form c then escape c else encode_utf8 c
 
--- a text as a form shows it: its characters, with U+FFFD for each run of bytes that is none
+-- a text as a form shows it: its characters, with U+FFFD for each run of bytes that is no character
 unfoldable pub shown_text : Form → List ℕ → List ℕ
 shown_text form bytes = flat_map (shown_char form) (lossy_chars bytes)
 

@@ -1,6 +1,6 @@
--- The fields that are shown of types, behind their index and leaf. They are called as the fields of the
--- types are; a flag word is told by the words of the flags that are set, and by fields of their own for
--- the numbers in it.
+-- The fields that are shown of a type, behind its index and leaf. They have the names of the type's own
+-- fields. A word of flags is shown as the names of the flags that are set, and the numbers in it have
+-- fields of their own.
 use Rattle.std.specs.Prelude.{ℕ, List, [], ◌∷◌, length, map, codes, Option, Some}
 use Rattle.std.specs.Option.{option_map}
 use Rattle.pdb_base.specs.declared.index.TypeIndex.{TypeIndex}
@@ -80,7 +80,7 @@ enumeration_fields type =
     ∷ (codes "unique_name", optional_text type.unique_name)
     ∷ []
 
--- the number of a value of an enumeration
+-- the number that a value of an enumeration stands for
 abbrev pub variant_shown : Variant → ShownValue
 variant_shown (variants.U8 n) = number n
 variant_shown (variants.U16 n) = number n
@@ -146,7 +146,7 @@ method_fields method =
     ∷ (codes "vtable_offset", optional_number method.vtable_offset)
     ∷ []
 
--- one of the methods of a name
+-- one method of a list of methods
 unfoldable pub listed_method_fields : MethodListEntry → ShownRow
 listed_method_fields method =
     (codes "access", optional_text (access_word method.attributes))
@@ -221,7 +221,7 @@ modifier_fields type =
     ∷ (codes "modifiers", words (modifier_words type))
     ∷ []
 
--- a member of some bits
+-- a bitfield
 unfoldable pub bitfield_fields : BitfieldType → ShownRow
 bitfield_fields type =
     (codes "underlying_type", type_index type.underlying_type)
@@ -238,7 +238,7 @@ array_fields type =
     ∷ (codes "dimensions", numbers type.dimensions)
     ∷ []
 
--- a list of fields: how many there are, and where they go on
+-- a field list: the number of its fields, and the list that continues it
 unfoldable pub field_list_fields : Fields → Option TypeIndex → ShownRow
 field_list_fields fields continuation =
     (codes "count", number (length (values_in fields)))
@@ -249,7 +249,7 @@ field_list_fields fields continuation =
 unfoldable pub argument_list_fields : List TypeIndex → ShownRow
 argument_list_fields arguments = (codes "arguments", indexes (map (λ index. index.0) arguments)) ∷ []
 
--- a list of methods: how many there are, and their types
+-- a list of methods: how many there are, and the indexes of their types
 unfoldable pub method_list_fields : List MethodListEntry → ShownRow
 method_list_fields methods =
     (codes "count", number (length methods))
@@ -263,7 +263,7 @@ table_shape_fields shape =
     ∷ (codes "descriptors", indexes shape.descriptors)
     ∷ []
 
--- a type without a list
+-- the fields that are shown of a type without a list
 abbrev pub plain_fields : PlainValue → ShownRow
 plain_fields (values.primitive type) = primitive_fields type
 plain_fields (values.class type) = class_fields type
@@ -285,7 +285,7 @@ plain_fields (values.union type) = union_fields type
 plain_fields (values.bitfield type) = bitfield_fields type
 plain_fields (values.virtual_table_shape shape) = table_shape_fields shape
 
--- what is shown of a type
+-- the fields that are shown of any type
 abbrev pub type_fields : TypeValue → ShownRow
 type_fields (values.plain value) = plain_fields value
 type_fields (values.array type) = array_fields type
@@ -293,6 +293,6 @@ type_fields (values.field_list fields continuation) = field_list_fields fields c
 type_fields (values.argument_list arguments) = argument_list_fields arguments
 type_fields (values.method_list methods) = method_list_fields methods
 
--- the row of the type of an index, whose record has a leaf
+-- the row of the type of an index, whose record has this leaf
 unfoldable pub type_row : ℕ → ℕ → TypeValue → ShownRow
 type_row index leaf type = headed (Some index) leaf (type_fields type)

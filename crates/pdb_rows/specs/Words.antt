@@ -1,4 +1,5 @@
--- What flag words say, in words: each flag by the name of the call that tells it.
+-- The words for the flags in a word of flags: each flag has the name of the method or field that holds
+-- it.
 use Rattle.std.specs.Prelude.{ℕ, ◌==◌, Bool, List, [], ◌∷◌, map, codes, Option}
 use Rattle.std.specs.List.{filter}
 use Rattle.std.specs.Map.{lookup}
@@ -14,11 +15,11 @@ use Rattle.pdb_values.specs.declared.primitive.Indirection.TheVariants as indire
 use Rattle.pdb_values.specs.declared.primitive.PrimitiveKind.{PrimitiveKind}
 use Rattle.pdb_values.specs.declared.primitive.PrimitiveKind.TheVariants as primitives
 
--- the words that stand beside true, in order
+-- the words beside true, in order
 unfoldable pub chosen : List (Bool × List ℕ) → List (List ℕ)
 chosen flags = map (λ flag. flag.1) (filter (λ flag. flag.0) flags)
 
--- the properties that a type has
+-- the names of the properties that a type has
 unfoldable pub property_words : ℕ → List (List ℕ)
 property_words word = chosen (
     (properties.packed word, codes "packed")
@@ -35,11 +36,11 @@ property_words word = chosen (
     ∷ (properties.intrinsic_type word, codes "intrinsic_type")
     ∷ [])
 
--- who may reach a member, where that is said: `CV_access_e` of Microsoft's cvinfo.h
+-- who may access a member, if its word says so: `CV_access_e` of Microsoft's cvinfo.h
 unfoldable pub access_word : ℕ → Option (List ℕ)
 access_word word = lookup (λ row. row == members.access word) ((1, codes "private") ∷ (2, codes "protected") ∷ (3, codes "public") ∷ [])
 
--- the attributes that a member has
+-- the names of the attributes that a member has
 unfoldable pub field_words : ℕ → List (List ℕ)
 field_words word = chosen (
     (members.is_virtual word, codes "is_virtual")
@@ -48,7 +49,7 @@ field_words word = chosen (
     ∷ (members.is_intro_virtual word, codes "is_intro_virtual")
     ∷ [])
 
--- the attributes that a function has
+-- the names of the attributes that a function has
 unfoldable pub function_words : ℕ → List (List ℕ)
 function_words word = chosen (
     (functions.cxx_return_udt word, codes "cxx_return_udt")
@@ -56,7 +57,7 @@ function_words word = chosen (
     ∷ (functions.is_constructor_with_virtual_bases word, codes "is_constructor_with_virtual_bases")
     ∷ [])
 
--- the modifiers that a type has
+-- the names of the modifiers that a type has
 unfoldable pub modifier_words : ModifierType → List (List ℕ)
 modifier_words modifier = chosen (
     (modifier.constant, codes "constant")
@@ -64,7 +65,7 @@ modifier_words modifier = chosen (
     ∷ (modifier.unaligned, codes "unaligned")
     ∷ [])
 
--- the attributes that a pointer has
+-- the names of the attributes that a pointer has
 unfoldable pub pointer_words : ℕ → List (List ℕ)
 pointer_words word = chosen (
     (pointers.is_flat_32 word, codes "is_flat_32")
@@ -75,7 +76,7 @@ pointer_words word = chosen (
     ∷ (pointers.is_mocom word, codes "is_mocom")
     ∷ [])
 
--- the flags that a section has
+-- the names of the flags that a section has
 unfoldable pub section_words : ℕ → List (List ℕ)
 section_words word = chosen (
     (sections.executable word, codes "executable")
@@ -128,11 +129,11 @@ mode_names =
     ∷ (4, codes "RValueReference")
     ∷ []
 
--- the name of the pointer's kind of this number
+-- the name of the kind of pointer with this number
 unfoldable pub kind_word : ℕ → List ℕ
 kind_word number = unwrap_or (lookup (λ row. row == number) kind_names) []
 
--- the name of the pointer's mode of this number
+-- the name of the mode of pointer with this number
 unfoldable pub mode_word : ℕ → List ℕ
 mode_word number = unwrap_or (lookup (λ row. row == number) mode_names) []
 
@@ -181,7 +182,7 @@ primitive_word primitives.Bool16 = codes "Bool16"
 primitive_word primitives.Bool32 = codes "Bool32"
 primitive_word primitives.Bool64 = codes "Bool64"
 
--- the name of the pointer to a primitive type
+-- the name of a kind of pointer to a primitive type
 abbrev pub indirection_word : Indirection → List ℕ
 indirection_word indirections.Near16 = codes "Near16"
 indirection_word indirections.Far16 = codes "Far16"

@@ -1,5 +1,5 @@
--- Addresses and places of an image before and after a tool rearranged it, and how each is made of
--- another. "Internal" are those of before, of which the parts of a program database speak.
+-- Addresses and places in an image before and after a tool rearranged it, and how they are converted into one
+-- another. Those of the image before are called internal; the parts of a program database use them.
 use Rattle.std.specs.Prelude.{◌≡◌, ℕ, if◌then◌else◌, List, [], Option, Some, None, IfSome, unwrap_or}
 use Rattle.std.specs.declared.ops.Range.{Range}
 use Rattle.std.specs.List.{cons_option}
@@ -11,99 +11,100 @@ use Rattle.pdb_space.specs.Ranges.{parts, unless_empty}
 use Rattle.pdb_space.specs.Sections.{section_of, address_of}
 use Rattle.pdb_space.specs.Steps.{◌>>=◌}
 
--- what is known of an image before and after: its sections, and the tables that lead across
+-- what is known of an image before and after: its sections, and the OMAP tables
+-- that lead from one to the other
 pub record Arrangement : Type 0 where
   pub original_sections : List ImageSectionHeader
   pub transformed_sections : Option (List ImageSectionHeader)
   pub transformed_to_original : Option (List Mapping)
   pub original_to_transformed : Option (List Mapping)
 
--- where a table moves an address; without a table it stays
+-- where an OMAP table moves an address; without a table the address stays the same
 abbrev pub translated : Option (List Mapping) → ℕ → Option ℕ
 translated None address = Some address
 translated (Some table) address = shift table address
 
--- the parts of a range as a table moves them; without a table the range itself, if it isn't empty
+-- the parts of a range as an OMAP table moves them; without a table the range itself, if it isn't empty
 unfoldable pub translated_parts : Option (List Mapping) → Range ℕ → List (Range ℕ)
 translated_parts None range = cons_option (unless_empty range) []
 translated_parts (Some table) range = parts table range
 
--- the sections of the image as it is loaded: the original ones, where no others are known
+-- the sections of the image as it is loaded, which are the original ones if no others are known
 abbrev pub loaded_sections : Arrangement → List ImageSectionHeader
 loaded_sections map = unwrap_or map.transformed_sections map.original_sections
 
--- ---- what is made of an address in the image as it is loaded
+-- ---- conversions of an address in the image as it is loaded
 
--- the internal address from which it was moved
+-- the internal address from which this address was moved
 unfoldable pub rva_to_internal_rva : Arrangement → ℕ → Option ℕ
 rva_to_internal_rva map address = translated map.transformed_to_original address
 
--- its place in a section of the image as it is loaded
+-- the place of this address in a section of the image as it is loaded
 unfoldable pub rva_to_section_offset : Arrangement → ℕ → Option SectionPlace
 rva_to_section_offset map address = section_of (loaded_sections map) address
 
--- the place of the internal address in a section of the original
+-- the place of its internal address in a section of the original image
 unfoldable pub rva_to_internal_offset : Arrangement → ℕ → Option SectionPlace
 rva_to_internal_offset map address = do
   internal ← rva_to_internal_rva map address
   section_of map.original_sections internal
 
--- ---- what is made of an internal address
+-- ---- conversions of an internal address
 
--- the address to which it was moved
+-- the address to which this internal address was moved
 unfoldable pub internal_rva_to_rva : Arrangement → ℕ → Option ℕ
 internal_rva_to_rva map internal = translated map.original_to_transformed internal
 
--- the place of that address in a section of the image as it is loaded
+-- the place of the address to which it was moved, in a section of the image as it is loaded
 unfoldable pub internal_rva_to_section_offset : Arrangement → ℕ → Option SectionPlace
 internal_rva_to_section_offset map internal = do
   address ← internal_rva_to_rva map internal
   section_of (loaded_sections map) address
 
--- its place in a section of the original
+-- the place of this internal address in a section of the original image
 unfoldable pub internal_rva_to_internal_offset : Arrangement → ℕ → Option SectionPlace
 internal_rva_to_internal_offset map internal = section_of map.original_sections internal
 
--- ---- what is made of a place in the image as it is loaded
+-- ---- conversions of a place in the image as it is loaded
 
--- its address
+-- the address of this place
 unfoldable pub section_offset_to_rva : Arrangement → SectionPlace → Option ℕ
 section_offset_to_rva map place = address_of (loaded_sections map) place
 
--- the internal address from which its address was moved
+-- the internal address from which the address of this place was moved
 unfoldable pub section_offset_to_internal_rva : Arrangement → SectionPlace → Option ℕ
 section_offset_to_internal_rva map place = do
   address ← section_offset_to_rva map place
   rva_to_internal_rva map address
 
--- The internal place of that internal address. Without transformed sections it is the same place,
--- whatever sections there are.
+-- The place of that internal address in the original image. Without transformed sections it is the same place
+-- as given, whatever sections there are.
 unfoldable pub section_offset_to_internal_offset : Arrangement → SectionPlace → Option SectionPlace
 section_offset_to_internal_offset map place =
     if is_none map.transformed_sections then Some place else section_offset_to_internal_rva map place >>= internal_rva_to_internal_offset map
 
--- ---- what is made of an internal place
+-- ---- conversions of an internal place
 
--- its internal address
+-- the internal address of this place
 unfoldable pub internal_offset_to_internal_rva : Arrangement → SectionPlace → Option ℕ
 internal_offset_to_internal_rva map place = address_of map.original_sections place
 
--- the address to which its internal address was moved
+-- the address to which the internal address of this place was moved
 unfoldable pub internal_offset_to_rva : Arrangement → SectionPlace → Option ℕ
 internal_offset_to_rva map place = do
   internal ← internal_offset_to_internal_rva map place
   internal_rva_to_rva map internal
 
--- The place of that address. Without transformed sections it is the same place, whatever sections there
--- are.
+-- The place of that address in the image as it is loaded. Without transformed sections it is the same place
+-- as given, whatever sections there are.
 unfoldable pub internal_offset_to_section_offset : Arrangement → SectionPlace → Option SectionPlace
 internal_offset_to_section_offset map place =
     if is_none map.transformed_sections then Some place else internal_offset_to_rva map place >>= rva_to_section_offset map
 
--- ---- over a table that isn't sorted
+-- ---- conversions with a table that isn't sorted
 
--- Some record of the table, at or below the address that is started from, moves it, and the result is what
--- is made of where it goes.
+-- The conversion starts from an address; some record of the table with a source at or below it moves it, and
+-- the result is what is made of the address to which it is moved.
 pub record ComesSomehow {A : Type 0} (start : Option ℕ) (made : ℕ → Option A) (table : List Mapping) (result : A) : Type 0 where
   pub address : ℕ
   pub starts : start ≡ Some address
@@ -111,8 +112,9 @@ pub record ComesSomehow {A : Type 0} (start : Option ℕ) (made : ℕ → Option
   pub moves : MovesSomehow table address goes_to
   pub comes : made goes_to ≡ Some result
 
--- What comes of a conversion by way of a table: what is meant, where there is no table or its sources never
--- fall; and over another table nothing, or what that table makes somehow.
+-- The result of a conversion that uses a table. If there is no table, or if the sources of the table don't
+-- decrease, it is the one that is meant. With any table it is None, or a result that some record of the
+-- table gives, as `somehow` says.
 pub record IsByTable {A : Type 0} (table : Option (List Mapping)) (meant : Option A) (somehow : List Mapping → A → Type 0) (result : Option A) : Type 0 where
   pub exact : IfSome table IsSortedBySource → result ≡ meant
   pub bound : IfSome table (λ records. IfSome result (somehow records))

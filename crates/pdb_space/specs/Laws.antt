@@ -1,5 +1,5 @@
--- What the sums, comparisons and conversions of addresses come to, and what is said of tables, ranges and
--- sections in other words.
+-- What sums, comparisons and conversions of addresses come to, and the definitions of tables, ranges and
+-- sections, stated in other words.
 use Rattle.std.specs.Prelude.{◌≡◌, ◌≢◌, ◌↔◌, ◌⊎◌, ◌+◌, ◌-◌, ◌<◌, ◌≤◌, ℕ, List, slice_get, Option, Some, None}
 pub use Rattle.pdb_base.specs.Derived.{TellsApart}
 use Rattle.pdb_space.specs.declared.section_header.ImageSectionHeader.{ImageSectionHeader}
@@ -11,57 +11,60 @@ use Rattle.std.specs.Ordering.{MatchOrdering}
 use Rattle.pdb_space.specs.Sum.{Fits, fitting, clipped, wrapped, largest, distance_from, wrapped_distance_from}
 use Rattle.pdb_space.specs.SectionPlace.{SectionPlace}
 
--- A number that fits is left as it is. Of one that doesn't, nothing or the largest number is left.
+-- A number of at most 32 bits stays as it is. For a larger number, `fitting` gives None and `clipped`
+-- the largest number of 32 bits.
 pub record IsCutToFit (number : ℕ) : Type 0 where
   pub fits : Fits number → (fitting number ≡ Some number) × (clipped number ≡ number) × (wrapped number ≡ number)
   pub past : largest < number → (fitting number ≡ None) × (clipped number ≡ largest)
 
--- What lies behind the start by a number's distance from it is the number.
+-- The start plus the distance of a number from it is the number.
 pub record IsReached (start number : ℕ) : Type 0 where
   pub straight : (far : ℕ) → distance_from start number ≡ Some far → start + far ≡ number
   pub wrapping : Fits start → Fits number → wrapped (start + wrapped_distance_from start number) ≡ number
 
--- numbers compare as less, equal or greater just as they are
+-- Numbers compare as less, equal or greater in their usual order.
 abbrev pub OrdersByNumber : (ℕ → ℕ → Ordering) → Type 0
 OrdersByNumber compared = (a b : ℕ) → MatchOrdering (compared a b) (a < b) (a ≡ b) (b < a)
 
--- Places compare as nothing just where they lie in two sections, as equal just where they are one
--- place, and as less or greater just where their offsets are so in one section.
+-- Places don't compare if and only if they are in different sections. They compare as equal if and
+-- only if they are the same place, and as less or greater if and only if they are in the same
+-- section and their offsets compare so.
 pub record OrdersWithinSections (compared : SectionPlace → SectionPlace → Option Ordering) : Type 0 where
   pub across : (a b : SectionPlace) → (compared a b ≡ None) ↔ (a.section ≢ b.section)
   pub equal : (a b : SectionPlace) → (compared a b ≡ Some Equal) ↔ (a ≡ b)
   pub less : (a b : SectionPlace) → (compared a b ≡ Some Less) ↔ ((a.section ≡ b.section) × (a.offset < b.offset))
   pub greater : (a b : SectionPlace) → (compared a b ≡ Some Greater) ↔ ((a.section ≡ b.section) × (b.offset < a.offset))
 
--- what is made of a value, made back, is the value
+-- A value that is converted and then converted back is the same value.
 abbrev pub IsUndone : {A B : Type 0} → (A → B → Type 0) → (B → A → Type 0) → Type 0
 IsUndone {A} {B} made back = (x y : A) (between : B) → made x between → back between y → y ≡ x
 
--- each of two conversions undoes the other
+-- Each of two conversions undoes the other.
 abbrev pub UndoEachOther : {A B : Type 0} → (A → B → Type 0) → (B → A → Type 0) → Type 0
 UndoEachOther made back = IsUndone made back × IsUndone back made
 
--- a record comes before those of a higher source, and among records of one source before those of a higher target
+-- A record comes before those with a higher source and, among records with the same source,
+-- before those with a higher target.
 abbrev pub ComesBefore : Mapping → Mapping → Type 0
 ComesBefore a b = (a.source < b.source) ⊎ ((a.source ≡ b.source) × (a.target < b.target))
 
--- records compare as less, equal or greater just as they come before one another
+-- Records compare as less, equal or greater by `ComesBefore`.
 abbrev pub OrdersBySource : (Mapping → Mapping → Ordering) → Type 0
 OrdersBySource compared = (a b : Mapping) → MatchOrdering (compared a b) (ComesBefore a b) (a ≡ b) (ComesBefore b a)
 
--- With each item an iterator has fewer left, and after None it answers None for good.
+-- With each item that an iterator yields, it has fewer left. After it has yielded None, it yields only None.
 pub record EndsForGood {S A : Type 0} (next_gives : S → Option A → S → Type 0) (left : S → ℕ) : Type 0 where
   pub fewer : (before after : S) (item : A) → next_gives before (Some item) after → left after < left before
   pub ended : (before after later : S) (answer : Option A) → next_gives before None after → next_gives after answer later → answer ≡ None
 
--- Without a table that leads there, an address keeps its number.
+-- If no table leads to the other image, an address has the same number there.
 pub record KeepsNumbers (map : Arrangement) (address : ℕ) : Type 0 where
   pub internal : map.transformed_to_original ≡ None → rva_to_internal_rva map address ≡ Some address
   pub loaded : map.original_to_transformed ≡ None → internal_rva_to_rva map address ≡ Some address
 
--- A place of an address in the section at an index: all sections up to it begin at or below the address,
--- it reaches the address, and none before it does. Its number, from 1, fits 16 bits, and the place lies as
--- far behind its start as the address does.
+-- The place of an address in the section at an index. All sections up to that one begin at or below the
+-- address, and it is the first that reaches the address. Its number, which is the index plus one, fits in 16
+-- bits, and the offset of the place is the distance of the address from the section's start.
 pub record IsFirstToReach (sections : List ImageSectionHeader) (address : ℕ) (place : SectionPlace) : Type 0 where
   pub index : ℕ
   pub section : ImageSectionHeader

@@ -11,6 +11,6 @@ pub mod Conversions
 pub mod Laws
 pub mod StringTable
 pub mod StringTableLaws
--- the words of the libraries below that the contracts of this one speak in
+-- definitions of lower libraries that the contracts of this one use
 pub use Rattle.pdb_base.specs.ErrorText
 pub use Rattle.pdb_base.specs.Endian

@@ -1,5 +1,5 @@
--- OMAP tables: where addresses go when a tool rearranges an image. A record says where the addresses
--- from its source on go, as far as the next record's source.
+-- OMAP tables, which say where addresses go if a tool rearranges an image. A record says where the addresses
+-- go from its source up to the source of the next record.
 use Rattle.std.specs.Prelude.{◌≡◌, ℕ, ◌+◌, ◌-◌, ◌%◌, ◌≤◌, ◌==◌, nat_le, if◌then◌else◌, List, length, map, filter, drop, slice_index, codes, Contains, Option, Some, None, option_and_then, Ok}
 use Rattle.std.specs.List.{last_or}
 use Rattle.std.specs.List.Sorted.{IsNonDecreasingBy}
@@ -15,11 +15,11 @@ pub record Mapping : Type 0 where
   pub source : ℕ
   pub target : ℕ
 
--- the record that eight bytes spell: u32 source, u32 target
+-- the record in eight bytes: a u32 source and a u32 target
 unfoldable pub mapping_of : List ℕ → Mapping
 mapping_of bytes = record { source = little_number 4 bytes; target = little_number 4 (drop 4 bytes) }
 
--- the record at the front of bytes, and what is behind its eight bytes
+-- the record at the front of bytes, and what follows its eight bytes
 abbrev pub first_mapping : List ℕ → Answer (Mapping × List ℕ)
 first_mapping bytes = read_as mapping_of (front_at 8 bytes)
 
@@ -27,21 +27,21 @@ first_mapping bytes = read_as mapping_of (front_at 8 bytes)
 abbrev pub mappings_of : List ℕ → List Mapping
 mappings_of bytes = spelled 8 mapping_of bytes
 
--- the source of the record at a place
+-- the source of the record at an index
 abbrev pub source_at : List Mapping → ℕ → ℕ
 source_at table place = slice_index (map (λ mapping. mapping.source) table) place
 
--- the target of the record at a place
+-- the target of the record at an index
 abbrev pub target_at : List Mapping → ℕ → ℕ
 target_at table place = slice_index (map (λ mapping. mapping.target) table) place
 
--- the table that a stream holds, which is records and nothing else
+-- the table in a stream, whose length must be a multiple of eight
 unfoldable pub table_of : List ℕ → Answer (List Mapping)
 table_of bytes = do
   whole ← required (length bytes % 8 == 0) (invalid_stream_length (codes "OMAP"))
   Ok (mappings_of bytes)
 
--- sources never fall from record to record
+-- The sources don't decrease from record to record.
 abbrev pub IsSortedBySource : List Mapping → Type 0
 IsSortedBySource table = IsNonDecreasingBy (λ mapping. mapping.source) table
 
@@ -49,16 +49,16 @@ IsSortedBySource table = IsNonDecreasingBy (λ mapping. mapping.source) table
 abbrev pub last_at_or_below : List Mapping → ℕ → Option Mapping
 last_at_or_below table address = last_or None (filter (λ mapping. nat_le mapping.source address) table)
 
--- Where a record moves an address: as far behind its target as the address is behind its source. A
--- target of 0 stands for nowhere, and past 32 bits there is no address.
+-- Where a record moves an address: to its target plus the distance of the address from its source. The
+-- address goes nowhere if the target is 0 or the sum does not fit in 32 bits.
 unfoldable pub moved : Mapping → ℕ → Option ℕ
 moved mapping address = if mapping.target == 0 then None else fitting (mapping.target + (address - mapping.source))
 
--- where a table moves an address: where the last record at or below it does
+-- where a table moves an address: where the last record with a source at or below it does
 unfoldable pub shift : List Mapping → ℕ → Option ℕ
 shift table address = option_and_then (λ mapping. moved mapping address) (last_at_or_below table address)
 
--- Some record of the table, at or below the address, moves it there.
+-- Some record of the table with a source at or below the address moves it to `result`.
 pub record MovesSomehow (table : List Mapping) (address result : ℕ) : Type 0 where
   pub mapping : Mapping
   pub contained : Contains table mapping

@@ -7,15 +7,15 @@ use Rattle.pdb_base.specs.Answer.{Answer, ◌>>=◌}
 use Rattle.pdb_base.specs.Reading.{front_at}
 use Rattle.pdb_space.specs.declared.section_header.ImageSectionHeader.{ImageSectionHeader}
 
--- What the flags say of the alignment: bits 20 to 23 hold the exponent of the power of two plus one,
--- from 1 to 14, and bit 3 without these is the older form of 1. All else says nothing.
+-- The alignment that the flags give: bits 20 to 23 hold the exponent of the power of two plus one, from 1 to
+-- 14, and bit 3 without these is the older form of 1. Any other flags give none.
 unfoldable pub alignment_of : ℕ → Option ℕ
 alignment_of word =
     let exponent = bits word 20 4 in
     if bits word 3 1 == 1 then (if exponent == 0 then Some 1 else None)
     else (if nat_le 1 exponent && nat_le exponent 14 then Some (2 ^ (exponent - 1)) else None)
 
--- the header that forty bytes are
+-- the header in forty bytes
 unfoldable pub section_header : List ℕ → ImageSectionHeader
 section_header bytes = record {
   name = take 8 bytes;
@@ -30,7 +30,7 @@ section_header bytes = record {
   characteristics = record { 0 = little_number 4 (drop 36 bytes) };
 }
 
--- the header at the front of bytes, and the bytes behind it
+-- the header at the front of bytes, and the bytes after it
 unfoldable pub section_header_at : List ℕ → Answer (ImageSectionHeader × List ℕ)
 section_header_at bytes = do
   front ← front_at 40 bytes

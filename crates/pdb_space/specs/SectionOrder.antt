@@ -1,4 +1,4 @@
--- Places are in partial order: what `PartialOrd` asks of `order_within_section`.
+-- The partial order of places: what `PartialOrd` demands of `order_within_section`.
 use Rattle.std.specs.Prelude.{◌≡◌, Bool, true, ◌==◌, ◌&&◌, Some}
 use Rattle.std.proofs.Common.{arith}
 use Rattle.std.proofs.lemmas.Bool.Decides.{nat_tests}
@@ -9,7 +9,7 @@ use Rattle.std.specs.Ordering.{ordering_reverse}
 use Rattle.std.specs.Cmp.{IsPartialOrder}
 use Rattle.pdb_space.specs.SectionPlace.{SectionPlace, order_within_section}
 
--- the same offset in the same section
+-- whether two places have the same offset in the same section
 abbrev pub same_place : SectionPlace → SectionPlace → Bool
 same_place a b = a.offset == b.offset && a.section == b.section
 
@@ -25,6 +25,6 @@ equal_places x y = (λ same. grind (arith, nat_tests), λ equal. grind (arith, n
 same_order : (x y z : SectionPlace) → same_place x y ≡ true → order_within_section x z ≡ order_within_section y z
 same_order x y z same = grind (arith, nat_tests)
 
--- the order within a section is a partial order, and equal in it are equal places alone
+-- The order within a section is a partial order, in which only the same places are equal.
 pub is_partial_order : IsPartialOrder same_place order_within_section
 is_partial_order = record { antisymm = antisymm_order; trans = trans_order; matches_eq = equal_places; congr = same_order }

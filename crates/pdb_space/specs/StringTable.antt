@@ -1,6 +1,6 @@
--- The string table, which the stream `/names` holds (the layout of `NMT` in Microsoft's nmt.h): a u32
--- signature, a u32 that says how names are hashed, a u32 size of the names, and the names, each ended
--- by a NUL.
+-- The string table, which the stream `/names` holds (the layout of `NMT` in Microsoft's nmt.h):
+-- a u32 signature, a u32 version of the hash of names, a u32 size of the names, and the names,
+-- each of which ends with a NUL.
 use Rattle.std.specs.Prelude.{ℕ, Bool, ◌==◌, ◌||◌, List, Ok, drop, codes}
 use Rattle.pdb_base.specs.Refusal.{unimplemented_feature}
 use Rattle.pdb_base.specs.Answer.{Answer, ◌>>=◌, required}
@@ -12,11 +12,11 @@ use Rattle.pdb_space.specs.declared.string_table.Header.{Header}
 abbrev pub signature : ℕ
 signature = 0xeffeeffe
 
--- the versions of the hash are 1 and 2
+-- whether a version of the hash is known, which 1 and 2 are
 abbrev pub is_known_version : ℕ → Bool
 is_known_version version = version == 1 || version == 2
 
--- the three numbers of a header, and the bytes behind them
+-- the three numbers of a header, and the bytes after them
 unfoldable pub header_at : List ℕ → Answer (Header × List ℕ)
 header_at bytes = do
   signature ← number_at 4 bytes
@@ -24,7 +24,7 @@ header_at bytes = do
   names_size ← number_at 4 hash_version.1
   Ok (record { signature = signature.0; hash_version = hash_version.0; names_size = names_size.0 }, names_size.1)
 
--- the names of the string table in a stream, with the four faults in their order
+-- the names of the string table in a stream; the four faults are checked in this order
 unfoldable pub names_of : List ℕ → Answer (List ℕ)
 names_of stream = do
   header ← header_at stream

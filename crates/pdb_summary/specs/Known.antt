@@ -4,6 +4,6 @@ use Rattle.pdb_roles.specs.StreamNames.{named_view}
 use Rattle.pdb_summary.specs.Streams as streams
 use Rattle.pdb_summary.specs.declared.streams.Known.{Known}
 
--- the same apart from where the names lie
+-- the same as a value, in which each name is the list of its bytes
 abbrev pub known_view : Known → streams.Known
 known_view known = record { page_size = known.page_size; roles = known.roles; names = map named_view known.names.now }

@@ -1,4 +1,4 @@
--- How a part of a file that is refused is told among those that are not.
+-- How a part of a file that is refused is shown among the parts that are not.
 use Rattle.std.specs.Prelude.{ℕ, List, [], ◌∷◌, codes}
 use Rattle.pdb_base.specs.Refusal.{Refusal}
 use Rattle.pdb_rows.specs.declared.form.Form.{Form}
@@ -8,7 +8,7 @@ use Rattle.pdb_rows.specs.Row.{ShownField, ShownRow, number, text}
 use Rattle.pdb_summary.specs.declared.refused.Part.{Part}
 use Rattle.pdb_summary.specs.declared.refused.Part.TheVariants as parts
 
--- which part is told of
+-- the field that names the part
 abbrev pub part_shown : Part → ShownField
 part_shown parts.Header = (codes "part", text (codes "header"))
 part_shown parts.Directory = (codes "part", text (codes "directory"))
@@ -17,7 +17,7 @@ part_shown parts.Names = (codes "part", text (codes "names"))
 part_shown (parts.Stream n) = (codes "stream", number n)
 part_shown (parts.Table n) = (codes "table", number n)
 
--- the part, and why it is refused
+-- the row of a part that is refused, and why
 abbrev pub refused_shown : Part → Refusal → ShownRow
 refused_shown part refusal = part_shown part ∷ refusal_shown refusal ∷ []
 

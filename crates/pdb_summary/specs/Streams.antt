@@ -1,4 +1,4 @@
--- What a summary says of each stream.
+-- What a summary shows of each stream.
 use Rattle.std.specs.Prelude.{ℕ, ◌==◌, Bool, false, if◌then◌else◌, List, [], ◌∷◌, length, codes, Option, Some, None, Ok, Err}
 use Rattle.std.specs.Option.{option_map, option_map_or}
 use Rattle.std.specs.List.{find, flat_map, range_with_len}
@@ -18,11 +18,11 @@ use Rattle.pdb_rows.specs.Row.{ShownRow, ShownValue, number, absent}
 use Rattle.pdb_summary.specs.Refused.{refused_line}
 use Rattle.pdb_summary.specs.declared.refused.Part.TheVariants as parts
 
--- whether an index names the stream of a number
+-- whether a stream index is this number
 abbrev pub is_of : StreamIndex → ℕ → Bool
 is_of index n = option_map_or (λ m. m == n) (stream_number index.0) false
 
--- the role of a stream that the debug header lists, the first where it has several
+-- the role that the debug header gives a stream, or the first one if it gives several
 unfoldable pub listed_role : DBIExtraStreams → ℕ → Option (List ℕ)
 listed_role roles n =
     if is_of roles.fpo n then Some (codes "fpo")
@@ -51,11 +51,11 @@ role_of roles n =
 abbrev pub name_of : List Named → ℕ → Option (List ℕ)
 name_of names n = option_map (λ named. named.name) (find (λ named. named.stream == n) names)
 
--- how many pages of a size hold so many bytes; that is not known where the size of a page is not, which is then 0
+-- the number of pages that hold so many bytes; absent if the size of a page isn't known, which is then 0
 abbrev pub pages_held : ℕ → ℕ → ShownValue
 pages_held page_size size = if page_size == 0 then absent else number (pages page_size size)
 
--- a stream: its number, its size in bytes, how many pages hold it, its role and its name
+-- the row of a stream: its number, its size in bytes, how many pages hold it, its role and its name
 abbrev pub stream_shown : ℕ → ℕ → ℕ → Option (List ℕ) → Option (List ℕ) → ShownRow
 stream_shown page_size n size role name =
     (codes "stream", number n) ∷ (codes "bytes", number size) ∷ (codes "pages", pages_held page_size size) ∷ (codes "role", optional_text role) ∷ (codes "name", optional_text name) ∷ []
@@ -66,11 +66,11 @@ pub record Known : Type 0 where
   pub roles : DBIExtraStreams
   pub names : List Named
 
--- the line of a stream of a number and a size
+-- the line of a stream with this number and this size
 abbrev pub size_line : Form → Known → ℕ → ℕ → List ℕ
 size_line form known n size = row_text form (stream_shown known.page_size n size (role_of known.roles n) (name_of known.names n))
 
--- what is said of the stream of a number: nothing where there is none
+-- the line of the stream with this number; nothing, if there is no such stream
 abbrev pub said_of : Form → Known → ℕ → Answer (List ℕ) → List ℕ
 said_of form known n (Ok stream) = size_line form known n (length stream)
 said_of form known n (Err (stream_not_found m)) = []

@@ -1,4 +1,4 @@
--- What a file is made of.
+-- The summary of a file, which shows what the file is made of.
 use Rattle.std.specs.Prelude.{ℕ, List, [], ◌∷◌, ◌++◌, length, drop, codes, Ok, Err}
 use Rattle.pdb_base.specs.Answer.{Answer, ◌>>=◌}
 use Rattle.pdb_base.specs.Reading.{number_at}
@@ -19,8 +19,8 @@ use Rattle.pdb_summary.specs.declared.refused.Part.{Part}
 use Rattle.pdb_summary.specs.declared.refused.Part.TheVariants as parts
 use Rattle.pdb_tables.specs.Listing.{Listing, whole}
 
--- the size of a page and how many pages are used, as they stand in the header from byte 32 on, with the
--- number of the map of free pages between them
+-- the size of a page and the number of pages that are used, which stand in the header from byte 32 on,
+-- with the number of the free page map between them
 unfoldable pub pages_of : List ℕ → Answer (ℕ × ℕ)
 pages_of file = do
   page_size ← number_at 4 (drop 32 file)
@@ -28,25 +28,25 @@ pages_of file = do
   pages_used ← number_at 4 free_page_map.1
   Ok (page_size.0, pages_used.0)
 
--- a file: the size of its pages, how many it uses, and its size, in bytes
+-- the row of a file: the size of its pages, how many pages it uses, and its size in bytes
 abbrev pub pages_shown : ℕ × ℕ → ℕ → ShownRow
 pages_shown pages size = (codes "page_size", number pages.0) ∷ (codes "pages", number pages.1) ∷ (codes "bytes", number size) ∷ []
 
--- what a part says, or in its place what it says where it is empty
+-- the value that was read for a part, or the given empty one if the part is refused
 abbrev pub said_or : {A : Type 0} → A → Answer A → A
 said_or empty (Ok said) = said
 said_or empty (Err refusal) = empty
 
--- the size of a page as the header says it, and 0 where it does not
+-- the size of a page that the header has, or 0 if the header doesn't have it
 abbrev pub page_size_of : List ℕ → ℕ
 page_size_of file = (said_or (0, 0) (pages_of file)).0
 
--- that a part is refused, if it is
+-- the line of the refusal of a part, if it is refused
 abbrev pub told : {A : Type 0} → Form → Part → Answer A → List ℕ
 told form part (Ok said) = []
 told form part (Err refusal) = refused_line form part refusal
 
--- no stream has a role
+-- no stream, and the roles if no stream has one
 abbrev pub none : StreamIndex
 none = record { 0 = no_stream }
 
@@ -69,25 +69,25 @@ no_roles = record {
 unfoldable pub names_of : List ℕ → Head → Answer (List Named)
 names_of file head = file_information file head >>= stream_names_of
 
--- the streams of a file, behind that their names are refused, if they are
+-- the lines of the streams of a file, behind the line of the refusal of their names, if these are refused
 abbrev pub named_part : Form → ℕ → DBIExtraStreams → List ℕ → Head → Answer (List Named) → List ℕ
 named_part form page_size roles file head names =
     told form parts.Names names ++ stream_lines form (record { page_size = page_size; roles = roles; names = said_or [] names }) file head
 
--- the streams of a file, behind what is refused of their roles and names
+-- the lines of the streams of a file, behind the lines of the refusals of their roles and names
 unfoldable pub streams_part : Form → List ℕ → Head → List ℕ
 streams_part form file head =
     told form parts.Roles (file_roles file head) ++ named_part form (page_size_of file) (said_or no_roles (file_roles file head)) file head (names_of file head)
 
--- the tables of types and of ids
+-- the lines of the tables of types and of ids
 unfoldable pub tables_part : Form → List ℕ → Head → List ℕ
 tables_part form file head = table_part form 2 file head ++ table_part form 4 file head
 
--- whether the directory of a file is read
+-- succeeds if the directory of a file can be read, and else has its refusal
 unfoldable pub directory_read : List ℕ → Head → Answer (Unit {0})
 directory_read file head = directory_of file head >>= λ directory. Ok tt
 
--- all parts of a file whose directory is read, and else that it is refused
+-- the lines of all parts of a file whose directory can be read, or else the line of its refusal
 abbrev pub parts_by : Form → List ℕ → Head → Answer (Unit {0}) → List ℕ
 parts_by form file head (Ok done) = streams_part form file head ++ tables_part form file head
 parts_by form file head (Err refusal) = refused_line form parts.Directory refusal
@@ -95,7 +95,7 @@ parts_by form file head (Err refusal) = refused_line form parts.Directory refusa
 unfoldable pub parts_lines : Form → List ℕ → Head → List ℕ
 parts_lines form file head = parts_by form file head (directory_read file head)
 
--- the line of a file, or that its header is refused
+-- the line of a file's pages, or that of the refusal of its header
 abbrev pub pages_by : Form → ℕ → Answer (ℕ × ℕ) → List ℕ
 pages_by form size (Ok pages) = row_text form (pages_shown pages size)
 pages_by form size (Err refusal) = refused_line form parts.Header refusal

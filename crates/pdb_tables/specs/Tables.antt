@@ -1,4 +1,4 @@
--- What is listed of the tables of a program database, a line a record.
+-- What is listed of the tables of a program database: one line for each record.
 use Rattle.std.specs.Prelude.{ℕ, zero, suc, ◌+◌, ◌%◌, ◌^◌, ◌==◌, ◌&&◌, nat_lt, nat_le, if◌then◌else◌, Bool, true, List, [], ◌∷◌, ◌++◌, length, codes, Option, Some, None}
 use Rattle.std.specs.Option.{option_map_or}
 use Rattle.std.specs.Result.{result_ok}
@@ -24,8 +24,8 @@ abbrev pub section_lines : Form → ℕ → List ImageSectionHeader → List ℕ
 section_lines form n [] = []
 section_lines form n (header ∷ headers) = row_text form (section_row n header) ++ section_lines form (n + 1) headers
 
--- The section headers of a stream, forty bytes each, numbered from 1. Where the last one is cut, that is
--- told behind the others.
+-- The section headers of a stream, forty bytes each, numbered from 1. If the last one is cut, the listing
+-- ends with `unexpected_eof` behind the others.
 unfoldable pub sections_listing : Form → List ℕ → Listing
 sections_listing form stream = record {
   lines = section_lines form 1 (spelled 40 section_header stream);
@@ -36,16 +36,16 @@ sections_listing form stream = record {
 abbrev pub omap_lines : Form → List Mapping → List ℕ
 omap_lines form records = flat_map (λ mapping. row_text form (omap_row mapping)) records
 
--- whether no source is below that of the record before, nor the first below a number
+-- whether no source is below that of the record before it, and the first isn't below `highest`
 abbrev pub rises : ℕ → List Mapping → Bool
 rises highest [] = true
 rises highest (mapping ∷ records) = nat_le highest mapping.source && rises mapping.source records
 
--- what is said of a whole table: whether its sources never fall
+-- the row that says of a whole table whether its sources never decrease
 abbrev pub order_shown : Bool → ShownRow
 order_shown sorted = (codes "is_sorted", flag sorted) ∷ []
 
--- the records of an OMAP table, and behind them what is said of them all
+-- the lines of the records of an OMAP table, and behind them the line that says whether it is sorted
 abbrev pub omap_all : Form → List Mapping → List ℕ
 omap_all form records = omap_lines form records ++ row_text form (order_shown (rises 0 records))
 
@@ -57,26 +57,27 @@ omap_listing form stream = listed_of (λ records. whole (omap_all form records))
 abbrev pub frame_lines : Form → List FrameData → List ℕ
 frame_lines form frames = flat_map (λ frame. row_text form (frame_row frame)) frames
 
--- the frames of a table, by their starts as both streams have them
+-- the frames of a table: those of both streams, merged by their starts
 abbrev pub frames_listing : Form → Frames → Listing
 frames_listing form frames = whole (frame_lines form (by_heads frames.old frames.new))
 
--- where the next name begins behind one of this place and size, if 32 bits hold that
+-- the offset of the next name, behind a name of this offset and size, if 32 bits hold it
 abbrev pub next_place : ℕ → ℕ → Option ℕ
 next_place place size = if nat_lt (place + size + 1) (2 ^ 32) then Some (place + size + 1) else None
 
--- The names of a string table from a place on, at most so many, each with the place at which it begins.
--- Each ends at a NUL, and the next begins behind it. What stands behind the last NUL is no name.
+-- The names of a string table from an offset on, at most as many as the first argument, each with the
+-- offset at which it begins. Each ends with a NUL, and the next begins behind that. Bytes behind the last
+-- NUL are no name.
 unfoldable pub names_from : ℕ → List ℕ → ℕ → List (ℕ × List ℕ)
 names_from zero names place = []
 names_from (suc most) names place =
     option_map_or (λ name. (place, name) ∷ option_map_or (λ next. names_from most names next) (next_place place (length name)) []) (result_ok (name_of names place)) []
 
--- all names: no more than there are places of 32 bits
+-- all names of a string table; there are no more than there are offsets of 32 bits
 unfoldable pub all_names : List ℕ → List (ℕ × List ℕ)
 all_names names = names_from 0xffffffff names 0
 
--- what is shown of a name: its place, and its text
+-- the row of a name: its offset, and its text
 abbrev pub name_shown : ℕ × List ℕ → ShownRow
 name_shown name = (codes "offset", hexadecimal name.0) ∷ (codes "name", text name.1) ∷ []
 

@@ -1,5 +1,5 @@
--- Lists of fields, and the chains in which they go on: LF_FIELDLIST of Microsoft's cvinfo.h, whose
--- LF_INDEX names the list that goes on where this one ends.
+-- Field lists (LF_FIELDLIST of Microsoft's cvinfo.h), and the chains that they form: an LF_INDEX in a
+-- list names the list that continues it.
 use Rattle.std.specs.Prelude.{◌≡◌, ◌⊎◌, ℕ, zero, suc, ◌<◌, ◌≤◌, ◌==◌, nat_lt, if◌then◌else◌, List, [], ◌∷◌, ◌++◌, map, codes, Option, Some, None, Ok, Err}
 use Rattle.std.specs.List.{flat_map}
 use Rattle.pdb_base.specs.declared.index.TypeIndex.{TypeIndex}
@@ -12,26 +12,26 @@ use Rattle.pdb_records.specs.Fields.{field_list_leaf}
 use Rattle.pdb_tpi.specs.Record.{kind_of, type_of}
 pub mod Step
 
--- what a look-up answers of an index: the bytes of an item
+-- a look-up, which answers an index with the bytes of an item
 abbrev pub LookUp : Type 0
 LookUp = ℕ → Answer (List ℕ)
 
--- a list of fields, and the index of the list in which it goes on
+-- a field list, and the index of the list that continues it, if there is one
 pub record Listed : Type 0 where
   pub fields : List TypeValue
   pub continuation : Option TypeIndex
 
--- what a list of fields says
+-- the value of a `FieldList`
 abbrev pub listed_value : FieldList → Listed
 listed_value list = record { fields = map type_value list.fields.items; continuation = list.continuation }
 
--- the list that a type of this kind is
+-- the field list that a type is; any other type is refused with its kind
 abbrev pub listed : ℕ → TypeValue → Answer Listed
 listed kind (field_list fields continuation) = Ok (record { fields = values_in fields; continuation = continuation })
 listed kind other = Err (unimplemented_type_kind kind)
 
--- The list of fields of an index. The first fault is that of the look-up, then that the item is of
--- another kind, then that of the record.
+-- The field list of an index. The first fault is that of the look-up, then that the item is of another
+-- kind, then that of the record.
 unfoldable pub list_of : LookUp → ℕ → Answer Listed
 list_of look index = do
   item ← look index
@@ -39,19 +39,19 @@ list_of look index = do
   value ← type_of index item
   listed (kind_of item) value
 
--- the refusal of a list that goes on in one that is not below it
+-- the refusal of a list whose continuation doesn't have an index below its own
 abbrev pub not_below : Refusal
 not_below = unimplemented_feature (codes "field list continuation not below its list")
 
 -- ---- chains
 
--- Lists lead from one index to another: the first is the list of the one index, each goes on in the next,
--- whose index is below its own, and the last goes on in the list of the other index.
+-- Lists lead from one index to another: the first is the list of index `from`, each is continued by the
+-- next, whose index is below its own, and the last is continued by the list of index `to`.
 abbrev pub Lead : LookUp → ℕ → List Listed → ℕ → Type 0
 Lead look from [] to = from ≡ to
 Lead look from (list ∷ lists) to = (list_of look from ≡ Ok list) × ((next : TypeIndex) × (list.continuation ≡ Some next) × (next.0 < from) × Lead look next.0 lists to)
 
--- Lists form the chain from an index on: they lead to a last one, which goes on in none.
+-- Lists form the chain of an index: they lead from that index to a last list, which has no continuation.
 pub record IsChain (look : LookUp) (index : ℕ) (lists : List Listed) : Type 0 where
   pub before : List Listed
   pub at : ℕ
@@ -61,7 +61,7 @@ pub record IsChain (look : LookUp) (index : ℕ) (lists : List Listed) : Type 0 
   pub is_last : list_of look at ≡ Ok last
   pub ends : last.continuation ≡ None
 
--- a list goes on in one that is not below it
+-- the continuation of a list doesn't have an index below that of the list
 pub record GoesUp (look : LookUp) (index : ℕ) : Type 0 where
   pub list : Listed
   pub next : TypeIndex
@@ -69,8 +69,8 @@ pub record GoesUp (look : LookUp) (index : ℕ) : Type 0 where
   pub goes_on : list.continuation ≡ Some next
   pub above : index ≤ next.0
 
--- The chain from an index on breaks with a refusal: lists lead to an index whose list is refused so, or
--- whose list goes on in one that is not below it.
+-- The chain of an index breaks with a refusal: lists lead to an index whose list is refused with it, or
+-- whose list has a continuation that isn't below it.
 pub record Breaks (look : LookUp) (index : ℕ) (refusal : Refusal) : Type 0 where
   pub before : List Listed
   pub at : ℕ
@@ -79,32 +79,32 @@ pub record Breaks (look : LookUp) (index : ℕ) (refusal : Refusal) : Type 0 whe
 
 -- ---- the fields
 
--- fields in front of others
+-- fields, followed by others
 abbrev pub in_front : List TypeValue → Answer (List TypeValue) → Answer (List TypeValue)
 in_front fields others = others >>= λ more. Ok (fields ++ more)
 
--- the fields of the lists in which the list of an index goes on, where `behind` says those of a list that
--- is below it
+-- the fields of the lists that continue the list of an index; `behind` gives the fields from a list on
+-- whose index is below that one
 abbrev pub continued : (ℕ → Answer (List TypeValue)) → ℕ → Option TypeIndex → Answer (List TypeValue)
 continued behind index None = Ok []
 continued behind index (Some next) = if nat_lt next.0 index then behind next.0 else Err not_below
 
--- the fields of a list with those of the lists in which it goes on
+-- the fields of a list, followed by those of the lists that continue it
 abbrev pub joined : (ℕ → Answer (List TypeValue)) → ℕ → Listed → Answer (List TypeValue)
 joined behind index list = in_front list.fields (continued behind index list.continuation)
 
--- the same from an index on, along so many lists at most
+-- the same from an index on, along at most as many lists as the first argument
 abbrev along : ℕ → LookUp → ℕ → Answer (List TypeValue)
 along zero look index = Err not_below
 along (suc most) look index = list_of look index >>= joined (along most look) index
 
--- The fields of the lists of the chain from an index on, joined in order, or the refusal with which the
--- chain breaks. Since each list is below the one before, an index has a chain of no more lists than
--- indexes up to it.
+-- The fields of the lists in the chain of an index, joined in order, or the refusal with which the chain
+-- breaks. Each list has an index below that of the list before, so a chain has no more lists than there
+-- are indexes up to its first.
 unfoldable pub fields_of : LookUp → ℕ → Answer (List TypeValue)
 fields_of look index = along (suc index) look index
 
--- What the answer is in words of chains: the joined fields of the one chain there is, or the refusal with
+-- What `fields_of` answers, in terms of chains: the joined fields of the only chain, or the refusal with
 -- which it breaks, and never both.
 pub record IsChainAnswer (look : LookUp) (index : ℕ) : Type 0 where
   pub joined : (lists : List Listed) → IsChain look index lists → fields_of look index ≡ Ok (flat_map (λ list. list.fields) lists)

@@ -1,5 +1,5 @@
--- The header of a table of items (the layout of `HDR` in Microsoft's tpi.h): fields of fixed sizes,
--- and behind them, from the header's own size on, the items.
+-- The header of a table of items (the layout of `HDR` in Microsoft's tpi.h): fields of fixed sizes. The
+-- items stand behind it, from offset `header_size` on.
 use Rattle.std.specs.Prelude.{ℕ, pos, nat_le, List, [], ◌∷◌, length, Ok, codes}
 use Rattle.std.specs.Int.{w32}
 use Rattle.pdb_base.specs.Refusal.{unexpected_eof, invalid_type_information_header}
@@ -8,11 +8,11 @@ use Rattle.pdb_base.specs.Reading.{number_at, signed_at}
 use Rattle.pdb_tpi.specs.declared.header.Header.{Header}
 use Rattle.pdb_tpi.specs.declared.header.Slice.{Slice}
 
--- a slice at 0 of no bytes
+-- a slice of no bytes at offset 0
 abbrev pub empty_slice : Slice
 empty_slice = record { offset = pos 0; size = 0 }
 
--- the header of a table without bytes: every field is 0
+-- the header of a table without bytes, in which every field is 0
 abbrev pub empty_header : Header
 empty_header = record {
   version = 0;
@@ -29,14 +29,14 @@ empty_header = record {
   hash_adj = empty_slice;
 }
 
--- a place in the hash stream: a signed offset and a size
+-- reads a slice of the hash stream: a signed offset and a size
 unfoldable pub slice_of : List ℕ → Answer (Slice × List ℕ)
 slice_of bytes = do
   offset ← signed_at w32 4 bytes
   size ← number_at 4 offset.1
   Ok (record { offset = offset.0; size = size.0 }, size.1)
 
--- the fields in their order, and the bytes behind them
+-- reads the fields in order, and returns them and the bytes behind them
 unfoldable pub header_fields : List ℕ → Answer (Header × List ℕ)
 header_fields bytes = do
   version ← number_at 4 bytes
@@ -69,8 +69,8 @@ header_fields bytes = do
     hash_adj.1,
   )
 
--- what a header must be for a table of so many bytes: its size from 56 to 1024, and within them; its
--- indexes from 4096 on, the last not before the first
+-- Checks the header of a table of `len` bytes: its size must be from 56 to 1024 and at most `len`, its
+-- minimum index at least 4096, and its maximum index not below the minimum.
 unfoldable pub checked : Header → ℕ → Answer (Unit {0})
 checked header len = do
   least ← required (nat_le 56 header.header_size) (invalid_type_information_header (codes "header size is impossibly small"))
@@ -79,14 +79,14 @@ checked header len = do
   typed ← required (nat_le 4096 header.minimum_index) (invalid_type_information_header (codes "minimum type index is < 4096"))
   required (nat_le header.minimum_index header.maximum_index) (invalid_type_information_header (codes "maximum type index is < minimum type index"))
 
--- the header that stands at the front of a table's bytes
+-- reads and checks the header at the front of a table's bytes
 unfoldable pub read_header_of : List ℕ → Answer Header
 read_header_of bytes = do
   fields ← header_fields bytes
   good ← checked fields.0 (length bytes)
   Ok fields.0
 
--- the header of a table: a table without bytes has the empty one
+-- the header of a table; a table without bytes has the empty header
 unfoldable pub header_of : List ℕ → Answer Header
 header_of [] = Ok empty_header
 header_of (byte ∷ bytes) = read_header_of (byte ∷ bytes)

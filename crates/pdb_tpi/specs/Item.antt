@@ -1,4 +1,4 @@
--- What an item shows.
+-- The index and the bytes of an item.
 use Rattle.std.specs.Prelude.{ℕ, List}
 use Rattle.pdb_tpi.specs.declared.item.Item.{Item}
 

@@ -1,4 +1,4 @@
--- What the definitions of headers, of the walk and of finders say in other words.
+-- The definitions of headers, of the walk and of finders, restated in other words.
 use Rattle.std.specs.Prelude.{◌≡◌, ℕ, ◌+◌, ◌-◌, ◌%◌, ◌<◌, ◌≤◌, List, ◌++◌, length, take, drop, IsTrue, Ok}
 use Rattle.std.specs.Int.{w32, cast_signed}
 use Rattle.std.specs.List.{AllByRecursion}
@@ -14,11 +14,11 @@ use Rattle.pdb_tpi.specs.Finder.{is_counted, block_of, reads_of}
 abbrev pub AreBytes : List ℕ → Type 0
 AreBytes bytes = AllByRecursion (λ byte. byte < 256) bytes
 
--- the number of so many bytes at an offset, the lowest first
+-- the number of `width` bytes at an offset, lowest byte first
 abbrev pub number_in : ℕ → ℕ → List ℕ → ℕ
 number_in width offset bytes = little_number width (take width (drop offset bytes))
 
--- The fields of a header stand at fixed offsets, and 56 bytes hold them.
+-- The fields of a header stand at fixed offsets, within the first 56 bytes.
 abbrev pub StandAtOffsets : List ℕ → Type 0
 StandAtOffsets bytes =
     56 ≤ length bytes
@@ -41,22 +41,22 @@ StandAtOffsets bytes =
       drop 56 bytes,
     )
 
--- Of any bytes there is exactly one walk.
+-- For any bytes, there is exactly one walk.
 pub record WalksOnce (limit : ℕ) (bytes : List ℕ) : Type 0 where
   pub is : IsWalk limit bytes (items limit bytes) (rest limit bytes)
   pub only : (found : List (List ℕ)) (left : List ℕ) → IsWalk limit bytes found left → (found ≡ items limit bytes) × (left ≡ rest limit bytes)
 
--- The fault of the bytes at which a walk stops: where they end within a length or within the item
--- behind it, where the length leaves no room for a kind, and else, before a whole item, that its index
--- would be too large.
+-- The fault of the bytes at which a walk stops: that they end within a length or within the item behind
+-- it, that the length leaves no room for a kind, or, if a whole item stands there, that its index would
+-- be too large.
 pub record HasFault (bytes : List ℕ) : Type 0 where
   pub no_length : length bytes < 2 → fault_of bytes ≡ unexpected_eof
   pub too_short : 2 ≤ length bytes → little_number 2 (take 2 bytes) < 2 → fault_of bytes ≡ type_too_short
   pub cut : 2 ≤ little_number 2 (take 2 bytes) → length bytes < 2 + little_number 2 (take 2 bytes) → fault_of bytes ≡ unexpected_eof
   pub whole : (item more : List ℕ) → IsItem item → bytes ≡ framed item ++ more → fault_of bytes ≡ type_not_found 0xffffffff
 
--- A look-up reads at most eight lengths, and of an item that the walk has just those of the items
--- before it in its block and its own.
+-- A look-up reads at most eight length words. If the walk has the item, these are those of the items
+-- before it in its block, and its own.
 pub record ReadsFew (table : Table) (known i : ℕ) : Type 0 where
   pub few : reads_of table known i ≤ 8
   pub found : IsTrue (is_counted table i) → block_of table i < known → i - table.header.minimum_index < length (walk table) → reads_of table known i ≡ (i - table.header.minimum_index) % 8 + 1

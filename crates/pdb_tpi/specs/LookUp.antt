@@ -1,4 +1,4 @@
--- Where types are looked up, and what is answered there.
+-- The tables in which types are looked up, and what a look-up there answers.
 use Rattle.pdb_tpi.specs.declared.fields.Types.{Types}
 use Rattle.pdb_tpi.specs.declared.fields.Types.TheVariants as places
 use Rattle.pdb_tpi.specs.Chain.{LookUp}

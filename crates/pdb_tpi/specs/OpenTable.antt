@@ -1,4 +1,4 @@
--- Where the records of a table stand in its stream, and what a table keeps that stays open.
+-- Where the records of a table stand in its stream, and what a table that stays open keeps.
 use Rattle.std.specs.Prelude.{◌≡◌, ℕ, ◌+◌, ◌-◌, nat_lt, if◌then◌else◌, List, length, take, slice_index, vec_capacity, Option, Some, None, Ok}
 use Rattle.std.specs.List.{sum_by}
 use Rattle.std.specs.Option.{option_map}
@@ -9,31 +9,31 @@ use Rattle.pdb_tpi.specs.Steps.{Stand, walk, place_of, step_of}
 use Rattle.pdb_tpi.specs.Place.{ArePlaces, IsPlace}
 use Rattle.pdb_tpi.specs.Finder.{item_of}
 
--- how many bytes an item takes: two for its length, and those of its record
+-- the number of bytes that an item takes: two for its length, and those of its record
 abbrev pub size_of : List ℕ → ℕ
 size_of item = 2 + length item
 
--- where the item of a place in the walk begins: behind the header and the items before it
+-- the offset at which item `n` of the walk begins: behind the header and the items before it
 unfoldable pub position_of : Table → ℕ → ℕ
 position_of table n = table.header.header_size + sum_by size_of (take n (walk table))
 
--- where the record of an item stands, by the item's place in the walk: behind the item's length
+-- the place of the record of item `n` of the walk: behind the item's length
 abbrev pub record_at : Table → ℕ → List ℕ → RecordPlace
 record_at table n item = record { offset = position_of table n + 2; length = length item }
 
--- Where the record of an index stands. An index below the first is that of a primitive type, whose record
--- stands nowhere.
+-- The place of the record of an index. An index below the minimum stands for a primitive type, which has
+-- no record, and so no place.
 abbrev pub located : Table → ℕ → Answer (Option RecordPlace)
 located table i =
     if nat_lt i table.header.minimum_index
     then Ok None
     else item_of table i >>= λ item. Ok (Some (record_at table (i - table.header.minimum_index) item))
 
--- where the record stands that the next step of a walk gives, and where the walk stands then
+-- the place of the record that the next step of a walk returns, and where the walk stands afterwards
 abbrev pub step_located : Stand → Answer (Option RecordPlace × Stand)
 step_located stand = step_of stand >>= λ step. Ok (option_map (λ item. record_at stand.table (place_of stand) item.1) step.0, step.1)
 
--- What a table keeps: where the blocks begin that look-ups know, and where its walk stands.
+-- What an open table keeps: where the blocks begin that look-ups know, and where its walk stands.
 pub record IsOpen (table : Table) (positions : List ℕ) (capacity index position : ℕ) : Type 0 where
   pub blocks : ArePlaces table positions capacity
   pub place : IsPlace table index position

@@ -5,13 +5,13 @@ use Rattle.pdb_tpi.specs.Walk.{items, rest}
 use Rattle.pdb_tpi.specs.Steps.{room, walk, walk_rest}
 use Rattle.pdb_tpi.specs.Finder.{first_of, most_blocks}
 
--- The walk goes on at this position with the items from place `n` on.
+-- At this position, the walk goes on with the items from number `n` on.
 pub record GoesOn (table : Table) (n position : ℕ) : Type 0 where
   pub items : drop n (walk table) ≡ items (room table - n) (drop position table.bytes)
   pub rest : walk_rest table ≡ rest (room table - n) (drop position table.bytes)
 
--- An iterator stands before an index at a position: there are that many items before it, of four bytes
--- or more each, and the walk goes on there.
+-- An iterator stands before an index, at a position: as many items as the index is above the minimum
+-- stand before the position, each of at least four bytes, and the walk goes on there.
 pub record IsPlace (table : Table) (index position : ℕ) : Type 0 where
   pub least : table.header.minimum_index ≤ index
   pub reached : index - table.header.minimum_index ≤ length (walk table)
@@ -20,8 +20,8 @@ pub record IsPlace (table : Table) (index position : ℕ) : Type 0 where
   pub short : length table.bytes < 0xffffffff
   pub goes_on : GoesOn table (index - table.header.minimum_index) position
 
--- The positions that a finder keeps: each block's first item stands at its position, below the
--- maximum, and there is a place for as many as there can be.
+-- The positions that a finder keeps: each block's first item, whose index is below the maximum, begins at
+-- its position, and the capacity is enough for the most blocks that can be known.
 pub record ArePlaces (table : Table) (positions : List ℕ) (capacity : ℕ) : Type 0 where
   pub each : (block : ℕ) → block < length positions → IsPlace table (first_of table block) (slice_index positions block)
   pub below : (block : ℕ) → block < length positions → first_of table block < table.header.maximum_index

@@ -1,4 +1,4 @@
--- What the items of a table say.
+-- The contents of the items of a table.
 use Rattle.std.specs.Prelude.{ℕ, nat_lt, if◌then◌else◌, List}
 use Rattle.pdb_base.specs.Endian.{little_number}
 use Rattle.pdb_base.specs.Answer.{Answer}
@@ -13,11 +13,11 @@ use Rattle.pdb_records.specs.Ids.{id_record}
 abbrev pub kind_of : List ℕ → ℕ
 kind_of item = little_number 2 item
 
--- the type that an item is: an index below 0x1000 names a primitive type, and any other item is a type
--- record
+-- the type of an item: an index below 0x1000 stands for a primitive type, and the item of any other index
+-- is a type record
 unfoldable pub type_of : ℕ → List ℕ → Answer TypeValue
 type_of index item = if nat_lt index first_record then primitive_of index else type_record item
 
--- the id that an item is: an id record, whatever its index
+-- the id of an item, which is an id record whatever its index
 unfoldable pub id_of : List ℕ → Answer IdValue
 id_of item = id_record item

@@ -7,7 +7,7 @@ use Rattle.pdb_base.specs.Count.{one_more}
 use Rattle.pdb_tpi.specs.Table.{Table}
 use Rattle.pdb_tpi.specs.Walk.{items, rest, fault_of}
 
--- how many indexes there are from a table's minimum to the last, 0xffffffff
+-- the number of indexes from a table's minimum to the last one, 0xffffffff
 abbrev pub room : Table → ℕ
 room table = 2 ^ 32 - table.header.minimum_index
 
@@ -15,16 +15,16 @@ room table = 2 ^ 32 - table.header.minimum_index
 abbrev pub body : Table → List ℕ
 body table = drop table.header.header_size table.bytes
 
--- the items of a table, whatever maximum its header says; the first has the minimum as its index
+-- the items of a table, whatever maximum its header has; the first item has the minimum as its index
 unfoldable pub walk : Table → List (List ℕ)
 walk table = items (room table) (body table)
 
--- what is left behind them
+-- the bytes that are left behind those items
 unfoldable pub walk_rest : Table → List ℕ
 walk_rest table = rest (room table) (body table)
 
--- an item of a table by its place in the walk, or the fault at which the walk stops before it; where
--- the walk ends before it, that is `UnexpectedEof`
+-- item `n` of the walk, or the fault at which the walk stops before it; if the walk ends before it with
+-- no bytes left, the fault is `UnexpectedEof`
 unfoldable pub nth_item : Table → ℕ → Answer (List ℕ)
 nth_item table n = option_map_or (λ item. Ok item) (slice_get (walk table) n) (Err (fault_of (walk_rest table)))
 
@@ -37,30 +37,30 @@ pub record Stand : Type 0 where
 abbrev pub place_of : Stand → ℕ
 place_of stand = stand.index - stand.table.header.minimum_index
 
--- how many items an iterator still has to give
+-- how many items an iterator has yet to return
 abbrev pub items_left : Stand → ℕ
 items_left stand = length (walk stand.table) - place_of stand
 
--- what a step gives behind the last item: nothing where no byte is left, else the fault
+-- what a step returns behind the last item: None if no byte is left, and else the fault
 abbrev pub stopped : Stand → List ℕ → Answer (Option (ℕ × List ℕ) × Stand)
 stopped stand [] = Ok (None, stand)
 stopped stand (byte ∷ rest) = Err (fault_of (byte ∷ rest))
 
--- what a step gives: the next item with its index, and where the iterator stands then
+-- what a step returns: the next item with its index, and where the iterator stands afterwards
 unfoldable pub step_of : Stand → Answer (Option (ℕ × List ℕ) × Stand)
 step_of stand =
     option_map_or (λ item. Ok (Some (stand.index, item), record stand { index = stand.index + 1 })) (slice_get (walk stand.table) (place_of stand)) (stopped stand (walk_rest stand.table))
 
--- A step gives what it is to give, each item as `seen` shows its index and bytes, and stays in its
--- table. A refused one moves nothing, so that the same refusal comes again. One that gives an item leaves
--- fewer.
+-- A step returns what `step_of` gives, if `seen` shows each item as its index and bytes, and stays in its
+-- table. A step that fails doesn't move the iterator, so the next one fails with the same refusal. A step
+-- that returns an item leaves fewer items.
 pub record IsStep {X : Type 0} (seen : X → ℕ × List ℕ) (old : Stand) (result : Result (Option X) Error) (new : Stand) : Type 0 where
   pub gives : Gives (λ item. (option_map seen item, new)) result (step_of old)
   pub kept : OnErr result (new ≡ old)
   pub stays : new.table ≡ old.table
   pub fewer : IfOk result (λ given. IfSome given (λ item. items_left new < items_left old))
 
--- a count after the next step has read its length: one more where two bytes are left for it
+-- the count of length words after the next step, which reads one if two bytes are left for it
 abbrev pub reads_one : Stand → ℕ → ℕ
 reads_one stand calls =
     if nat_lt (place_of stand) (length (walk stand.table)) || nat_le 2 (length (walk_rest stand.table)) then one_more calls else calls

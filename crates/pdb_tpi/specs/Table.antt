@@ -9,7 +9,7 @@ pub record Table : Type 0 where
   pub bytes : List ℕ
   pub header : Header
 
--- the table that a stream of bytes is
+-- the table in a stream of these bytes
 unfoldable pub table_of : List ℕ → Answer Table
 table_of bytes = header_of bytes >>= λ header. Ok (record { bytes = bytes; header = header })
 
@@ -18,7 +18,7 @@ abbrev pub count_of : Table → ℕ
 count_of table = table.header.maximum_index - table.header.minimum_index
 
 -- A table that was read: its header is within its bytes, its indexes are in order and have 32 bits, no
--- item of it has the index of a primitive type, and its bytes are those of a stream.
+-- item of it has the index of a primitive type, and it is no longer than a stream can be.
 pub record IsTable (table : Table) : Type 0 where
   pub within : table.header.header_size ≤ length table.bytes
   pub ordered : table.header.minimum_index ≤ table.header.maximum_index

@@ -1,4 +1,4 @@
--- A class, a structure or an interface, apart from where its names lie.
+-- Classes, structures and interfaces as values, in which each name is the list of its bytes.
 use Rattle.std.specs.Prelude.{ℕ, List, Option}
 use Rattle.std.specs.Option.{option_map}
 use Rattle.pdb_base.specs.declared.index.TypeIndex.{TypeIndex}
@@ -18,7 +18,7 @@ pub record ClassValue : Type 0 where
   pub name : List ℕ
   pub unique_name : Option (List ℕ)
 
--- what a class says
+-- the value of a `ClassType`
 abbrev pub class_value : ClassType → ClassValue
 class_value type = record {
   kind = type.kind;

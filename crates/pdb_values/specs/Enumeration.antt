@@ -1,4 +1,4 @@
--- Enumerations and their values, apart from where their names lie.
+-- Enumerations and their values, in which each name is the list of its bytes.
 use Rattle.std.specs.Prelude.{ℕ, List, Option}
 use Rattle.std.specs.Option.{option_map}
 use Rattle.pdb_base.specs.declared.index.TypeIndex.{TypeIndex}
@@ -22,7 +22,7 @@ pub record EnumerateValue : Type 0 where
   pub value : Variant
   pub name : List ℕ
 
--- what an enumeration says
+-- the value of an `EnumerationType`
 abbrev pub enumeration_value : EnumerationType → EnumerationValue
 enumeration_value type = record {
   count = type.count;
@@ -33,6 +33,6 @@ enumeration_value type = record {
   unique_name = option_map text_bytes type.unique_name;
 }
 
--- what a value of an enumeration says
+-- the value of an `EnumerateType`
 abbrev pub enumerate_value : EnumerateType → EnumerateValue
 enumerate_value type = record { attributes = type.attributes; value = type.value; name = text_bytes type.name }

@@ -3,6 +3,6 @@ use Rattle.std.specs.Prelude.{List}
 use Rattle.pdb_base.specs.declared.index.TypeIndex.{TypeIndex}
 use Rattle.pdb_values.specs.declared.function.ArgumentList.{ArgumentList}
 
--- the types, in order
+-- the types of the arguments, in order
 abbrev pub argument_types : ArgumentList → List TypeIndex
 argument_types list = list.arguments.items

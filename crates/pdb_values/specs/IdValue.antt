@@ -1,5 +1,5 @@
--- What a record of an id says, apart from where its bytes lie: a name is the list of its bytes, and a
--- list the list of its items.
+-- The contents of an id record as a value, independent of where its bytes are stored: a name is the list
+-- of its bytes, and a list is the list of its items.
 use Rattle.std.specs.Prelude.{ℕ, List, Option, Some, None}
 use Rattle.pdb_base.specs.declared.index.TypeIndex.{TypeIndex}
 use Rattle.pdb_base.specs.declared.index.IdIndex.{IdIndex}
@@ -25,45 +25,45 @@ pub record MemberFunctionValue : Type 0 where
   pub function_type : TypeIndex
   pub name : List ℕ
 
--- a text
+-- a string
 pub record StringValue : Type 0 where
   pub substrings : Option IdIndex
   pub name : List ℕ
 
--- what an id that is no list says
+-- the contents of an id record that is not a list
 pub data PlainIdValue : Type 0 where
   function : FunctionValue → PlainIdValue
   member_function : MemberFunctionValue → PlainIdValue
   string : StringValue → PlainIdValue
   user_defined_type_source : UserDefinedTypeSourceId → PlainIdValue
 
--- what an id says: what is no list, or the list that it is
+-- the contents of an id record: of one that is not a list, or the items of the list that it is
 pub data IdValue : Type 0 where
   plain : PlainIdValue → IdValue
   build_info : List IdIndex → IdValue
   string_list : List TypeIndex → IdValue
 
--- what a function says
+-- the value of a `FunctionId`
 abbrev pub function_value : FunctionId → FunctionValue
 function_value id = record { scope = id.scope; function_type = id.function_type; name = text_bytes id.name }
 
--- what a method says
+-- the value of a `MemberFunctionId`
 abbrev pub member_function_value : MemberFunctionId → MemberFunctionValue
 member_function_value id = record { parent = id.parent; function_type = id.function_type; name = text_bytes id.name }
 
--- what a text says
+-- the value of a `StringId`
 abbrev pub string_value : StringId → StringValue
 string_value id = record { substrings = id.substrings; name = text_bytes id.name }
 
--- the ids of what a module was built with
+-- the ids in a build info record: those of what a module was built with
 abbrev pub build_arguments : BuildInfoId → List IdIndex
 build_arguments id = id.arguments.items
 
--- the parts of a text
+-- the indexes in a string list record: those of the parts of a text
 abbrev pub text_parts : StringListId → List TypeIndex
 text_parts id = id.substrings.items
 
--- what an id says
+-- the value of an `IdData`
 abbrev pub id_value : IdData → IdValue
 id_value (ids.Function id) = plain (function (function_value id))
 id_value (ids.MemberFunction id) = plain (member_function (member_function_value id))
@@ -72,14 +72,14 @@ id_value (ids.StringList list) = string_list (text_parts list)
 id_value (ids.String id) = plain (string (string_value id))
 id_value (ids.UserDefinedTypeSource id) = plain (user_defined_type_source id)
 
--- the name of a function, a method or a text
+-- the name of a function, a method or a string; any other id has none
 abbrev pub plain_id_name : PlainIdValue → Option (List ℕ)
 plain_id_name (function value) = Some value.name
 plain_id_name (member_function value) = Some value.name
 plain_id_name (string value) = Some value.name
 plain_id_name value = None
 
--- the same of any id; a list has none
+-- the name of any id; a list has none
 abbrev pub id_name : IdValue → Option (List ℕ)
 id_name (plain value) = plain_id_name value
 id_name value = None

@@ -1,4 +1,4 @@
--- What the definition of primitive types says in other words.
+-- The definition of primitive types, restated in other words.
 use Rattle.std.specs.Prelude.{◌≡◌, ◌<◌, ℕ, Ok, Err}
 use Rattle.pdb_base.specs.Refusal.{Refusal, type_not_found}
 use Rattle.pdb_values.specs.declared.primitive.PrimitiveType.{PrimitiveType}
@@ -11,6 +11,6 @@ pub record HasOneIndex (type : PrimitiveType) : Type 0 where
   pub stands : primitive_type index ≡ Ok type
   pub only : (other : ℕ) → other < first_record → primitive_type other ≡ Ok type → other ≡ index
 
--- an index that stands for no type is refused as that index
+-- If an index stands for no type, it is refused with `type_not_found` and that index.
 abbrev pub IsRefusedByIndex : ℕ → Type 0
 IsRefusedByIndex index = (e : Refusal) → primitive_type index ≡ Err e → e ≡ type_not_found index

@@ -13,7 +13,7 @@ pub mod TypeView
 pub mod IdValue
 pub mod Items
 pub mod Laws
--- the words of the libraries below that the contracts of this one speak in
+-- the definitions of the crates below this one that its contracts cite
 pub use Rattle.pdb_base.specs.Answer
 pub mod Derived
 pub use Rattle.pdb_base.specs.Memory

@@ -1,4 +1,4 @@
--- Methods of a class, apart from where their names lie.
+-- Methods of a class as values, in which each name is the list of its bytes.
 use Rattle.std.specs.Prelude.{ℕ, List, Option}
 use Rattle.pdb_base.specs.declared.index.TypeIndex.{TypeIndex}
 use Rattle.pdb_values.specs.declared.method.OverloadedMethodType.{OverloadedMethodType}
@@ -7,7 +7,7 @@ use Rattle.pdb_values.specs.declared.method.MethodList.{MethodList}
 use Rattle.pdb_values.specs.declared.method.MethodListEntry.{MethodListEntry}
 use Rattle.pdb_values.specs.Text.{text_bytes}
 
--- methods of one name
+-- overloaded methods: the methods of a class that share one name
 pub record OverloadedMethodValue : Type 0 where
   pub count : ℕ
   pub method_list : TypeIndex
@@ -20,11 +20,11 @@ pub record MethodValue : Type 0 where
   pub vtable_offset : Option ℕ
   pub name : List ℕ
 
--- what methods of one name say
+-- the value of an `OverloadedMethodType`
 abbrev pub overloaded_method_value : OverloadedMethodType → OverloadedMethodValue
 overloaded_method_value type = record { count = type.count; method_list = type.method_list; name = text_bytes type.name }
 
--- what a method says
+-- the value of a `MethodType`
 abbrev pub method_value : MethodType → MethodValue
 method_value type = record {
   attributes = type.attributes;
@@ -33,6 +33,6 @@ method_value type = record {
   name = text_bytes type.name;
 }
 
--- the methods in a list of methods
+-- the methods in a `MethodList`, in order
 abbrev pub listed_methods : MethodList → List MethodListEntry
 listed_methods list = list.methods.items

@@ -1,6 +1,7 @@
--- The indexes below 0x1000, which stand for types without a record: the low byte says the type, and the
--- four bits above it whether it is a pointer to that type, and which. The numbers are those of
--- `TYPE_ENUM_e` and `CV_prmode_e` in Microsoft's cvinfo.h.
+-- The indexes below 0x1000, which stand for types without a record. The low byte of an index gives the
+-- type, and the four bits above it give whether the index stands for a pointer to that type, and for
+-- which kind of pointer. The numbers are those of `TYPE_ENUM_e` and `CV_prmode_e` in Microsoft's
+-- cvinfo.h.
 use Rattle.std.specs.Prelude.{ℕ, ◌==◌, List, [], ◌∷◌, Option, Some, None, Ok, Err}
 use Rattle.std.specs.Map.{lookup}
 use Rattle.pdb_bits.specs.Bits.{bits}
@@ -17,7 +18,7 @@ use Rattle.pdb_values.specs.declared.primitive.PrimitiveType.{PrimitiveType}
 abbrev pub first_record : ℕ
 first_record = FIRST_RECORD
 
--- each number of a type and the type
+-- each number that the low byte can have, and the type that it stands for
 abbrev pub primitive_kinds : List (ℕ × PrimitiveKind)
 primitive_kinds =
     (0x00, kinds.NoType)  -- T_NOTYPE
@@ -64,7 +65,7 @@ primitive_kinds =
     ∷ (0x7b, kinds.RChar32)  -- T_CHAR32
     ∷ []
 
--- each number of a mode and the pointer that it says, if it says one
+-- each number of a mode, and the kind of pointer that it stands for, if it stands for one
 abbrev pub indirections : List (ℕ × Option Indirection)
 indirections =
     (0, None)  -- CV_TM_DIRECT
@@ -77,24 +78,25 @@ indirections =
     ∷ (7, Some Near128)  -- CV_TM_NPTR128
     ∷ []
 
--- what was found for an index, or that there is no such type
+-- the value that was found for an index, or the refusal `type_not_found` if there is none
 abbrev pub found : {A : Type 0} → ℕ → Option A → Answer A
 found index (Some x) = Ok x
 found index None = Err (type_not_found index)
 
--- the row of a table that has this number
+-- the value beside this number in a table, if there is one
 abbrev pub numbered : {A : Type 0} → List (ℕ × A) → ℕ → Option A
 numbered rows number = lookup (λ row. row == number) rows
 
--- the type that an index says in its low byte
+-- the type that the low byte of an index stands for, or the refusal `type_not_found`
 unfoldable pub primitive_kind : ℕ → Answer PrimitiveKind
 primitive_kind index = found index (numbered primitive_kinds (bits index 0 8))
 
--- the pointer, if any, that an index says in its bits 8 to 11
+-- the kind of pointer that bits 8 to 11 of an index stand for, if they stand for one, or the refusal
+-- `type_not_found` if no mode has their number
 unfoldable pub primitive_indirection : ℕ → Answer (Option Indirection)
 primitive_indirection index = found index (numbered indirections (bits index 8 4))
 
--- the primitive type that an index stands for
+-- the primitive type that an index stands for, or the refusal `type_not_found` if it stands for none
 unfoldable pub primitive_type : ℕ → Answer PrimitiveType
 primitive_type index = do
   kind ← primitive_kind index

@@ -1,4 +1,4 @@
--- A text is the same wherever its bytes lie.
+-- A text is the list of its bytes, wherever they are stored.
 use Rattle.std.specs.Prelude.{ℕ, List}
 use Rattle.pdb_base.specs.declared.raw_string.RawString.{RawString}
 

@@ -1,5 +1,6 @@
--- What a record of a type says, apart from where its bytes lie: a name is the list of its bytes, and a
--- list the list of its items. What has neither stands as the code declares it.
+-- The contents of a type record as a value, independent of where its bytes are stored: a name is the list
+-- of its bytes, and a list is the list of its items. A type that has neither is the type that the code
+-- declares.
 use Rattle.std.specs.Prelude.{ℕ, List, [], ◌∷◌, Option, Some, None}
 use Rattle.pdb_base.specs.declared.index.TypeIndex.{TypeIndex}
 use Rattle.pdb_values.specs.declared.primitive.PrimitiveType.{PrimitiveType}
@@ -20,7 +21,7 @@ use Rattle.pdb_values.specs.Array.{ArrayValue}
 use Rattle.pdb_values.specs.Union.{UnionValue}
 use Rattle.pdb_values.specs.TableShape.{VirtualTableShapeValue}
 
--- what a record without a list says, or a primitive type
+-- the contents of a record without a list, or a primitive type
 pub data PlainValue : Type 0 where
   primitive : PrimitiveType → PlainValue
   class : ClassValue → PlainValue
@@ -43,7 +44,7 @@ pub data PlainValue : Type 0 where
   virtual_table_shape : VirtualTableShapeValue → PlainValue
 
 mutual
-  -- what a type says: what has no list, or the list that it is or holds
+  -- the value of a type: of one without a list, or of one that is or holds a list
   pub data TypeValue : Type 0 where
     plain : PlainValue → TypeValue
     array : ArrayValue → TypeValue
@@ -51,22 +52,22 @@ mutual
     argument_list : List TypeIndex → TypeValue
     method_list : List MethodListEntry → TypeValue
 
-  -- the values of a field list, one after another
+  -- the values of the fields of a field list, in order
   pub data Fields : Type 0 where
     no_field : Fields
     first_field : TypeValue → Fields → Fields
 
--- a list of values as that of a field list
+-- a list of values as the fields of a field list
 abbrev pub as_fields : List TypeValue → Fields
 as_fields [] = no_field
 as_fields (value ∷ values) = first_field value (as_fields values)
 
--- the values of a field list as a list
+-- the fields of a field list as a list of values
 abbrev pub values_in : Fields → List TypeValue
 values_in no_field = []
 values_in (first_field value fields) = value ∷ values_in fields
 
--- the name of a type or of a member, where its record has one that is asked for
+-- the name of a type or of a member. A `method` has a name in its record, but none is returned for it.
 abbrev pub plain_name : PlainValue → Option (List ℕ)
 plain_name (class value) = Some value.name
 plain_name (member value) = Some value.name
@@ -78,7 +79,7 @@ plain_name (enumerate value) = Some value.name
 plain_name (union value) = Some value.name
 plain_name value = None
 
--- the same of any type; a list has none
+-- the name of any type or member; a list has none
 abbrev pub name_of : TypeValue → Option (List ℕ)
 name_of (plain value) = plain_name value
 name_of value = None

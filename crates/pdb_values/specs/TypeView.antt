@@ -1,4 +1,4 @@
--- What the code's types say, seen as values that are apart from where their bytes lie.
+-- The values of the code's types (`TypeData`), independent of where their bytes are stored.
 use Rattle.std.specs.Prelude.{ℕ, List, map, Ok}
 use Rattle.pdb_base.specs.Answer.{Answer, ◌>>=◌}
 use Rattle.pdb_values.specs.declared.type_data.TypeData.{TypeData, fold-TypeData}
@@ -16,7 +16,7 @@ use Rattle.pdb_values.specs.TypeValue as values
 use Rattle.pdb_values.specs.TypeValue.{TypeValue, Fields, plain, as_fields}
 use Rattle.pdb_values.specs.Primitive.{primitive_type}
 
--- one level, with each field of a field list already seen as its value
+-- the value of one level of a `TypeData`, in which the fields of a field list are values already
 abbrev pub view_step : TypeData-F TypeValue TypeValue → TypeValue
 view_step (TypeData-F.Primitive type) = plain (values.primitive type)
 view_step (TypeData-F.Class type) = plain (values.class (class_value type))
@@ -42,19 +42,19 @@ view_step (TypeData-F.ArgumentList list) = values.argument_list (argument_types 
 view_step (TypeData-F.MethodList list) = values.method_list (listed_methods list)
 view_step (TypeData-F.VirtualTableShape type) = plain (values.virtual_table_shape (table_shape_value type))
 
--- the same of a field list
+-- the value of a field list whose fields are values already
 abbrev pub list_step : FieldList-F TypeValue TypeValue → TypeValue
 list_step list = values.field_list (as_fields list.fields.items) list.continuation
 
--- what a type says
+-- the value of a `TypeData`
 abbrev pub type_value : TypeData → TypeValue
 type_value = fold-TypeData TypeValue TypeValue view_step list_step
 
--- what the fields of a field list say
+-- the values of the fields of a field list
 abbrev pub fields_value : List TypeData → Fields
 fields_value types = as_fields (map type_value types)
 
--- what a field list says
+-- the value of a `FieldList`
 abbrev pub field_list_value : FieldList → TypeValue
 field_list_value list = values.field_list (fields_value list.fields.items) list.continuation
 

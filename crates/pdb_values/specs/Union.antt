@@ -1,4 +1,4 @@
--- A union, apart from where its names lie.
+-- Unions as values, in which each name is the list of its bytes.
 use Rattle.std.specs.Prelude.{ℕ, List, Option}
 use Rattle.std.specs.Option.{option_map}
 use Rattle.pdb_base.specs.declared.index.TypeIndex.{TypeIndex}
@@ -14,7 +14,7 @@ pub record UnionValue : Type 0 where
   pub name : List ℕ
   pub unique_name : Option (List ℕ)
 
--- what a union says
+-- the value of a `UnionType`
 abbrev pub union_value : UnionType → UnionValue
 union_value type = record {
   count = type.count;
