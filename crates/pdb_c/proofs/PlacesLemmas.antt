@@ -4,7 +4,7 @@ use Rattle.pdb_base.specs.declared.error.Error.{Error}
 use Rattle.pdb_base.specs.Refusal.{refusal_of}
 use Rattle.pdb_base.specs.Answer.{Answer}
 use Rattle.pdb_tpi.specs.Table.{Table}
-use Rattle.pdb_tpi.specs.Steps.{Stand, walk, walk_rest, place_of, IsStep, step_of, stopped}
+use Rattle.pdb_tpi.specs.Steps.{Stand, walk, walk_rest, steps_taken, IsStep, step_of, stopped}
 use Rattle.pdb_tpi.specs.Place.{IsPlace}
 use Rattle.std.proofs.lemmas.Option.{slice_get_past}
 use Rattle.pdb_tpi.proofs.StepLemmas.{step_none, step_err, step_stops}
@@ -42,7 +42,7 @@ walked_more table stand next positions more position walked place moved grown =
     }
 
 -- the end of the walk
-pub walked_all : (table : Table) (stand : Stand) (positions : List ℕ) (position : ℕ) → IsWalkedTo table stand positions → IsPlace stand.table stand.index position → length (walk stand.table) ≤ place_of stand → AreAllPositions table positions
+pub walked_all : (table : Table) (stand : Stand) (positions : List ℕ) (position : ℕ) → IsWalkedTo table stand positions → IsPlace stand.table stand.index position → length (walk stand.table) ≤ steps_taken stand → AreAllPositions table positions
 walked_all table stand positions position walked place past =
     let reached : stand.index - table.header.minimum_index ≤ length (walk table) = subst (λ (t : Table). stand.index - t.header.minimum_index ≤ length (walk t)) walked.same place.reached in
     let past' : length (walk table) ≤ stand.index - table.header.minimum_index = subst (λ (t : Table). length (walk t) ≤ stand.index - t.header.minimum_index) walked.same past in
@@ -58,8 +58,8 @@ told_stopped stand [] = refl
 told_stopped stand (byte ∷ rest) = refl
 
 -- where a step behind all items tells how the walk stops
-told_end : (stand : Stand) → length (walk stand.table) ≤ place_of stand → told (step_of stand) ≡ stop_fault (walk_rest stand.table)
-told_end stand past = ap told (step_stops stand (slice_get_past (walk stand.table) (place_of stand) past)) ∙ told_stopped stand (walk_rest stand.table)
+told_end : (stand : Stand) → length (walk stand.table) ≤ steps_taken stand → told (step_of stand) ≡ stop_fault (walk_rest stand.table)
+told_end stand past = ap told (step_stops stand (slice_get_past (walk stand.table) (steps_taken stand) past)) ∙ told_stopped stand (walk_rest stand.table)
 
 pub stop_none : {X : Type 0} (seen : X → ℕ × List ℕ) (table : Table) (stand next : Stand) (positions : List ℕ) → IsWalkedTo table stand positions → IsStep seen stand (Ok None) next → stop_fault (walk_rest table) ≡ fine
 stop_none seen table stand next positions walked step =

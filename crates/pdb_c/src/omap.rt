@@ -2,7 +2,7 @@
 
 ghost use Rattle.std.specs.Prelude.{◌≡◌, ◌<◌, length, None, Some, IfSome, IfNone};
 ghost use Rattle.pdb_base.specs.Answer.{Answers};
-ghost use Rattle.pdb_space.specs.Omap.{IsSortedBySource, MovesSomehow, shift, table_of};
+ghost use Rattle.pdb_space.specs.Omap.{IsSortedBySource, MovesSomehow, shift, omap_table_of};
 ghost use Rattle.pdb_c.specs.declared.content.Content.TheVariants.{Omap};
 ghost use Rattle.pdb_c.specs.Fault.{fine};
 ghost use Rattle.pdb_c.specs.Found.{IsFound, found, not_held};
@@ -20,7 +20,7 @@ use std::alloc::Global;
 /// Parses the OMAP table in a stream, which is copied.
 fn table_in(alloc: Global, stream: &[u8]) -> Result<Content>
     requires { length stream.now < 0xffffffff }
-    ensures { Answers (λ content. content) result (held_as Omap (table_of stream.now)) }
+    ensures { Answers (λ content. content) result (held_as Omap (omap_table_of stream.now)) }
 {
     let bytes = stream.to_vec(alloc)?;
     let table = OMAPTable::parse(Stream::new(bytes))?;
@@ -36,7 +36,7 @@ pub extern "C" fn pdb_omap_open(
     fault: &mut Fault,
 ) -> u32
     ensures opens { OpensStream stream.now omap.old.held.content
-        (held_as Omap (table_of stream.now)) fault.new omap.new.held.content }
+        (held_as Omap (omap_table_of stream.now)) fault.new omap.new.held.content }
     ensures status { result ≡ fault.new.status }
 {
     if omap.is_open() {

@@ -174,7 +174,7 @@ names_refuse bytes e is other asks = absurd asks
 
 -- ---- omap
 
-omap_mean : (bytes : List ℕ) (table : List Mapping) → omap.table_of bytes ≡ Ok table → (query : Query) (said : Answer Said) → said_by (tables.Omap table) query ≡ Some said → ((stream_asked query).1 ≡ None) × (said_within query bytes ≡ said)
+omap_mean : (bytes : List ℕ) (table : List Mapping) → omap.omap_table_of bytes ≡ Ok table → (query : Query) (said : Answer Said) → said_by (tables.Omap table) query ≡ Some said → ((stream_asked query).1 ≡ None) × (said_within query bytes ≡ said)
 unfolding moved_within
 omap_mean bytes table is (queries.Stream stream limit) said says = absurd (nothing_said said says)
 omap_mean bytes table is (queries.TypeRecord stream index) said says = absurd (nothing_said said says)
@@ -183,11 +183,11 @@ omap_mean bytes table is (queries.IdRecord stream index) said says = absurd (not
 omap_mean bytes table is (queries.Name stream offset) said says = absurd (nothing_said said says)
 omap_mean bytes table is (queries.Ranges stream start end) said says = (refl, rw is (all_said _ _ says))
 
-pub omap_fit : (bytes : List ℕ) (table : List Mapping) → omap.table_of bytes ≡ Ok table → (asking : Query) → AsksOmap asking → Fits bytes (tables.Omap table) asking
+pub omap_fit : (bytes : List ℕ) (table : List Mapping) → omap.omap_table_of bytes ≡ Ok table → (asking : Query) → AsksOmap asking → Fits bytes (tables.Omap table) asking
 omap_fit bytes table is (queries.Ranges stream start end) asks = record { whole = refl; says = refl; means = omap_mean bytes table is }
 omap_fit bytes table is other asks = absurd asks
 
-pub omap_refuse : (bytes : List ℕ) (e : Refusal) → omap.table_of bytes ≡ Err e → (asking : Query) → AsksOmap asking → said_within asking bytes ≡ Err e
+pub omap_refuse : (bytes : List ℕ) (e : Refusal) → omap.omap_table_of bytes ≡ Err e → (asking : Query) → AsksOmap asking → said_within asking bytes ≡ Err e
 unfolding moved_within
 omap_refuse bytes e is (queries.Ranges stream start end) asks = rw is refl
 omap_refuse bytes e is other asks = absurd asks

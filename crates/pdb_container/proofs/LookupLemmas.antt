@@ -8,8 +8,8 @@ use Rattle.pdb_base.specs.Reading.{number_at, front_at}
 use Rattle.pdb_base.proofs.lemmas.Collected.{ok_is}
 use Rattle.pdb_tpi.specs.Table.{Table}
 use Rattle.pdb_tpi.specs.Walk.{first_item, fault_of}
-use Rattle.pdb_tpi.specs.Steps.{Stand, walk, walk_rest, place_of, step_of, IsStep}
-use Rattle.pdb_tpi.specs.Finder.{Indexed, first_of, block_of, known_first, known_after, is_counted, item_of, find_of}
+use Rattle.pdb_tpi.specs.Steps.{Stand, walk, walk_rest, steps_taken, step_of, IsStep}
+use Rattle.pdb_tpi.specs.Finder.{FinderState, first_of, block_of, known_when_new, known_after, has_index, item_of, find_of}
 use Rattle.pdb_tpi.proofs.WalkLemmas.{nth_none}
 use Rattle.pdb_tpi.proofs.StepLemmas.{step_some, step_none}
 use Rattle.pdb_container.specs.Lookup.{KnowsWalked, IsShown, is_known}
@@ -22,7 +22,7 @@ fault_of_none = refl
 -- ---- what is known after each step
 
 -- a new finder knows the block that begins at the first item
-pub knows_first : (table : Table) → KnowsWalked table 0 (record { table = table; known = known_first table })
+pub knows_first : (table : Table) → KnowsWalked table 0 (record { table = table; known = known_when_new table })
 knows_first table = record {
   same = refl;
   blocks = λ block below reached. grind (arith, nat_tests);
@@ -35,7 +35,7 @@ known_grows table known i = grind (arith, nat_tests)
 known_next : (table : Table) (known i : ℕ) → i ≡ first_of table known → i < table.header.maximum_index → known_after table known i ≡ known + 1
 known_next table known i is below = grind (arith, nat_tests)
 
-blocks_more : (table : Table) (walked i : ℕ) (finder : Indexed) → i ≡ table.header.minimum_index + (walked + 1) → KnowsWalked table walked finder
+blocks_more : (table : Table) (walked i : ℕ) (finder : FinderState) → i ≡ table.header.minimum_index + (walked + 1) → KnowsWalked table walked finder
     → (block : ℕ) → first_of table block < table.header.maximum_index → 8 * block ≤ walked + 1 → block < known_after table finder.known i
 blocks_more table walked i finder is knows block below reached = elim (cases_lt walked (8 * block)) [
   | inl past ↦
@@ -52,21 +52,21 @@ blocks_more table walked i finder is knows block below reached = elim (cases_lt 
 ]
 
 -- and it knows each block that begins at the next item
-pub knows_more : (table : Table) (walked i : ℕ) (finder : Indexed) → i ≡ table.header.minimum_index + (walked + 1) → KnowsWalked table walked finder
+pub knows_more : (table : Table) (walked i : ℕ) (finder : FinderState) → i ≡ table.header.minimum_index + (walked + 1) → KnowsWalked table walked finder
     → KnowsWalked table (walked + 1) (record finder { known = known_after table finder.known i })
 knows_more table walked i finder is knows = record { same = knows.same; blocks = blocks_more table walked i finder is knows }
 
-pub knows_fewer : (table : Table) (fewer walked : ℕ) (finder : Indexed) → fewer ≤ walked → KnowsWalked table walked finder → KnowsWalked table fewer finder
+pub knows_fewer : (table : Table) (fewer walked : ℕ) (finder : FinderState) → fewer ≤ walked → KnowsWalked table walked finder → KnowsWalked table fewer finder
 knows_fewer table fewer walked finder le knows = record {
   same = knows.same;
   blocks = λ block below reached. let h : 8 * block ≤ walked = omega arith in knows.blocks block below h;
 }
 
 -- an iterator before the first item and a new finder
-pub shown_first : (table : Table) (stand : Stand) (finder : Indexed) → stand ≡ record { table = table; index = table.header.minimum_index } → finder ≡ record { table = table; known = known_first table } → IsShown table stand finder
+pub shown_first : (table : Table) (stand : Stand) (finder : FinderState) → stand ≡ record { table = table; index = table.header.minimum_index } → finder ≡ record { table = table; known = known_when_new table } → IsShown table stand finder
 shown_first table stand finder stands is =
     let first : Stand = record { table = table; index = table.header.minimum_index } in
-    let new : Indexed = record { table = table; known = known_first table } in
+    let new : FinderState = record { table = table; known = known_when_new table } in
     let none : 0 ≡ table.header.minimum_index - table.header.minimum_index = omega arith in
     let shown : IsShown table first new = record {
       same = refl;
@@ -76,7 +76,7 @@ shown_first table stand finder stands is =
     subst (λ (s : Stand). IsShown table s finder) (sym stands) (subst (IsShown table first) (sym is) shown)
 
 -- and what holds after another step, whose end the finder is shown
-steps_on : {X : Type 0} (seen : X → ℕ × List ℕ) (old new : Stand) (x : X) (finder : Indexed) → IsShown old.table old finder → IsStep seen old (Ok (Some x)) new
+steps_on : {X : Type 0} (seen : X → ℕ × List ℕ) (old new : Stand) (x : X) (finder : FinderState) → IsShown old.table old finder → IsStep seen old (Ok (Some x)) new
     → IsShown old.table new (record { table = finder.table; known = known_after finder.table finder.known new.index })
 steps_on {X} seen old new x finder shown step =
     let moved = step_some seen old x new step in
@@ -92,15 +92,15 @@ steps_on {X} seen old new x finder shown step =
     (subst (λ (k : ℕ). KnowsWalked old.table (old.index - old.table.header.minimum_index + 1) (record finder { known = k })) same knows) in
     record { same = step.stays; least = omega arith; knows = learned }
 
-pub shown_more : {X : Type 0} (seen : X → ℕ × List ℕ) (table : Table) (old new : Stand) (x : X) (finder updated : Indexed) → IsShown table old finder → IsStep seen old (Ok (Some x)) new
+pub shown_more : {X : Type 0} (seen : X → ℕ × List ℕ) (table : Table) (old new : Stand) (x : X) (finder updated : FinderState) → IsShown table old finder → IsStep seen old (Ok (Some x)) new
     → updated ≡ record { table = finder.table; known = known_after finder.table finder.known new.index } → IsShown table new updated
 shown_more {X} seen table old new x finder updated shown step is =
-    let after : Indexed = record { table = finder.table; known = known_after finder.table finder.known new.index } in
+    let after : FinderState = record { table = finder.table; known = known_after finder.table finder.known new.index } in
     let here = subst (λ (t : Table). IsShown t old finder → IsShown t new after) shown.same (λ s. steps_on seen old new x finder s step) shown in
     subst (IsShown table new) (sym is) here
 
 -- behind the last item the finder knows the whole walk
-pub shown_whole : (table : Table) (stand : Stand) (finder : Indexed) → IsShown table stand finder → length (walk stand.table) ≤ place_of stand → KnowsWalked table (length (walk table)) finder
+pub shown_whole : (table : Table) (stand : Stand) (finder : FinderState) → IsShown table stand finder → length (walk stand.table) ≤ steps_taken stand → KnowsWalked table (length (walk table)) finder
 shown_whole table stand finder shown past =
     let here = subst (λ (t : Table). length (walk t) ≤ stand.index - t.header.minimum_index) shown.same past in
     knows_fewer table (length (walk table)) (stand.index - table.header.minimum_index) finder here shown.knows
@@ -110,18 +110,18 @@ pub ends_there : {X : Type 0} (seen : X → ℕ × List ℕ) (old new : Stand) �
 unfolding step_of
 ends_there {X} seen old new step =
     let over = step_none seen old new step in
-    let none = slice_get_past (walk old.table) (place_of old) over.0 in
+    let none = slice_get_past (walk old.table) (steps_taken old) over.0 in
     let given : Option (ℕ × List ℕ) × Stand = (None, new) in
     let stands : Option (ℕ × List ℕ) × Stand = (None, old) in
     let is : given ≡ stands = ok_is given stands (sym step.gives ∙ rw (none, over.1) refl) in
     ap (λ (p : Option (ℕ × List ℕ) × Stand). p.1) is
 
 -- and neither does a refused one
-pub stays_shown : (table : Table) (old new : Stand) (finder : Indexed) → IsShown table old finder → new ≡ old → IsShown table new finder
+pub stays_shown : (table : Table) (old new : Stand) (finder : FinderState) → IsShown table old finder → new ≡ old → IsShown table new finder
 stays_shown table old new finder shown is = subst (λ (s : Stand). IsShown table s finder) (sym is) shown
 
 -- the fault behind a walk that ends
-pub end_fault : (table : Table) (stand : Stand) (finder : Indexed) → IsShown table stand finder → walk_rest stand.table ≡ [] → unexpected_eof ≡ fault_of (walk_rest table)
+pub end_fault : (table : Table) (stand : Stand) (finder : FinderState) → IsShown table stand finder → walk_rest stand.table ≡ [] → unexpected_eof ≡ fault_of (walk_rest table)
 end_fault table stand finder shown ends = sym (ap (λ (t : Table). fault_of (walk_rest t)) (sym shown.same) ∙ ap fault_of ends ∙ fault_of_none)
 
 -- ---- what is found
@@ -140,7 +140,7 @@ both_true true false is = absurd cc
 both_true false b is = absurd cc
 
 -- a counted index in an unknown block has no item in the walk
-pub unknown_is : (table : Table) (finder : Indexed) (i : ℕ) → KnowsWalked table (length (walk table)) finder → is_counted table i ≡ true → finder.known ≤ block_of table i
+pub unknown_is : (table : Table) (finder : FinderState) (i : ℕ) → KnowsWalked table (length (walk table)) finder → has_index table i ≡ true → finder.known ≤ block_of table i
     → item_of table i ≡ Err (fault_of (walk_rest table))
 unfolding item_of
 unknown_is table finder i knows counted unknown =
@@ -161,18 +161,18 @@ unknown_is table finder i knows counted unknown =
 pub found_known : (table : Table) (known i : ℕ) → is_known table known i ≡ true → find_of table known i ≡ item_of table i
 unfolding find_of
 found_known table known i is =
-    let test : (is_counted table i && leb known (block_of table i)) ≡ false = not_true (is_counted table i && leb known (block_of table i)) is in
+    let test : (has_index table i && leb known (block_of table i)) ≡ false = not_true (has_index table i && leb known (block_of table i)) is in
     rw test refl
 
 -- the same of a finder that is shown a walk
-pub found_shown : (table : Table) (stand : Stand) (finder : Indexed) (i : ℕ) → IsShown table stand finder → is_known table finder.known i ≡ true → find_of finder.table finder.known i ≡ item_of table i
+pub found_shown : (table : Table) (stand : Stand) (finder : FinderState) (i : ℕ) → IsShown table stand finder → is_known table finder.known i ≡ true → find_of finder.table finder.known i ≡ item_of table i
 found_shown table stand finder i shown is = ap (λ (t : Table). find_of t finder.known i) shown.knows.same ∙ found_known table finder.known i is
 
 -- an index that is not known has no item, if the walk is over
-pub missed : (table : Table) (stand : Stand) (finder : Indexed) (i : ℕ) → IsShown table stand finder → is_known table finder.known i ≡ false → length (walk stand.table) ≤ place_of stand
+pub missed : (table : Table) (stand : Stand) (finder : FinderState) (i : ℕ) → IsShown table stand finder → is_known table finder.known i ≡ false → length (walk stand.table) ≤ steps_taken stand
     → item_of table i ≡ Err (fault_of (walk_rest table))
 missed table stand finder i shown unknown past =
-    let both = both_true (is_counted table i) (leb finder.known (block_of table i)) (not_false (is_counted table i && leb finder.known (block_of table i)) unknown) in
+    let both = both_true (has_index table i) (leb finder.known (block_of table i)) (not_false (has_index table i && leb finder.known (block_of table i)) unknown) in
     unknown_is table finder i (shown_whole table stand finder shown past) both.0 (leb-true finder.known (block_of table i) both.1)
 
 -- an index below the minimum is known, since it is not counted

@@ -27,7 +27,7 @@ use Rattle.pdb_container.specs.declared.query.Reply.TheVariants as replies
 -- the contents of a reply
 pub data Said : Type 0 where
   bytes : List ℕ → Said  -- the bytes of a stream
-  entry : ℕ → ℕ → Option (List ℕ) → Said  -- a record: its index, its kind, and its name if it has one
+  item_record : ℕ → ℕ → Option (List ℕ) → Said  -- a record: its index, its kind, and its name if it has one
   fields : List (Option (List ℕ)) → Said  -- fields: the name of each, if it has one
   name : List ℕ → Said  -- a name
   moved : List Mapping → Range ℕ → Said  -- where a table moves the addresses of a range
@@ -40,14 +40,14 @@ unfoldable pub type_in : ℕ → Table → Answer Said
 type_in index table = do
   item ← item_of table index
   value ← type_of index item
-  Ok (entry index (kind_of item) (types.name_of value))
+  Ok (item_record index (kind_of item) (types.name_of value))
 
 -- the id of an index in a table
 unfoldable pub id_in : ℕ → Table → Answer Said
 id_in index table = do
   item ← item_of table index
   value ← id_of item
-  Ok (entry index (kind_of item) (id_name value))
+  Ok (item_record index (kind_of item) (id_name value))
 
 -- the names of the fields of a field list in a table, and of the lists that continue it
 unfoldable pub fields_in : ℕ → Table → Answer Said
@@ -80,7 +80,7 @@ name_within offset stream = names_of stream >>= name_in offset
 -- where the OMAP table that a stream holds moves the addresses of a range
 unfoldable pub moved_within : Range ℕ → List ℕ → Answer Said
 moved_within asked stream = do
-  table ← omap.table_of stream
+  table ← omap.omap_table_of stream
   Ok (moved table asked)
 
 -- the stream that a query asks, and at most how many of its bytes
@@ -121,7 +121,7 @@ pub record AreMoved (table : List Mapping) (asked : Range ℕ) (ranges : List (R
 -- refused, or is another fault of the source, which is possible only if `failed` holds.
 abbrev pub IsReply : Type 0 → Reply → Answer Said → Type 0
 IsReply failed (replies.Bytes stream) meant = meant ≡ Ok (bytes stream.items)
-IsReply failed (replies.Record index kind text) meant = meant ≡ Ok (entry index kind (option_map (λ copy. copy.items) text))
+IsReply failed (replies.Record index kind text) meant = meant ≡ Ok (item_record index kind (option_map (λ copy. copy.items) text))
 IsReply failed (replies.Fields names) meant = meant ≡ Ok (fields (map (λ name. option_map (λ copy. copy.items) name) names.items))
 IsReply failed (replies.Name text) meant = meant ≡ Ok (name text.items)
 IsReply failed (replies.Ranges ranges) meant = (table : List Mapping) × (asked : Range ℕ) × (meant ≡ Ok (moved table asked)) × AreMoved table asked ranges.items

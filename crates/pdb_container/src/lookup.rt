@@ -4,7 +4,7 @@
 ghost use Rattle.std.specs.Prelude.{◌≡◌, ◌≤◌, map, Ok, true, IfOk, IfErr};
 ghost use Rattle.pdb_base.specs.Refusal.{refusal_of};
 ghost use Rattle.pdb_base.specs.Answer.{Answers, Gives};
-ghost use Rattle.pdb_tpi.specs.Finder.{known_first, item_of};
+ghost use Rattle.pdb_tpi.specs.Finder.{known_when_new, item_of};
 ghost use Rattle.pdb_tpi.specs.Chain.{fields_of};
 ghost use Rattle.pdb_values.specs.TypeView.{type_value};
 ghost use Rattle.pdb_container.specs.Lookup.{IsShown, is_known};
@@ -44,7 +44,8 @@ impl<'t, I: ItemIndex> Lookup<'t, I> {
     /// Returns `OutOfMemory` if memory is refused.
     pub fn new(alloc: Global, table: &'t ItemInformation<I>) -> Result<Self>
         ensures { Answers (λ lookup. lookup) result
-            (Ok (record { table = table.now; known = known_first table.now; index = table.now.header.minimum_index })) }
+            (Ok (record { table = table.now; known = known_when_new table.now;
+            index = table.now.header.minimum_index })) }
     {
         Ok(Lookup {
             table,

@@ -6,7 +6,7 @@ ghost use Rattle.pdb_values.specs.Text.{text_bytes};
 ghost use Rattle.pdb_values.specs.IdValue.{id_name, id_value};
 ghost use Rattle.pdb_tpi.specs.Item.{bytes_of, index_of};
 ghost use Rattle.pdb_tpi.specs.Record.{kind_of};
-ghost use Rattle.pdb_container.specs.Reply.{Replies, entry, id_in, type_in};
+ghost use Rattle.pdb_container.specs.Reply.{Replies, item_record, id_in, type_in};
 
 use crate::lookup::Lookup;
 use crate::name::copied;
@@ -23,7 +23,8 @@ fn reply<I: ItemIndex>(
     name: Option<RawString<'_>>,
 ) -> Result<Reply>
     ensures { Replies result
-        (Ok (entry (I.number (index_of item.now)) (kind_of (bytes_of item.now)) (option_map text_bytes name.entry))) }
+        (Ok (item_record (I.number (index_of item.now)) (kind_of (bytes_of item.now))
+        (option_map text_bytes name.entry))) }
 {
     Ok(Reply::Record {
         index: item.index().into(),

@@ -6,7 +6,7 @@ use Rattle.std.proofs.Math.ListN.{drop_of_length-le}
 use Rattle.std.proofs.lemmas.Option.{slice_get_cases}
 use Rattle.pdb_base.proofs.lemmas.Collected.{ok_is}
 use Rattle.pdb_container.specs.Record.{type_of}
-use Rattle.pdb_container.specs.Steps.{Stand, walk, place_of, IsStep}
+use Rattle.pdb_container.specs.Steps.{Stand, walk, steps_taken, IsStep}
 use Rattle.pdb_container.specs.ItemTable.{Table}
 use Rattle.pdb_tpi.proofs.WalkLemmas.{nth_some}
 use Rattle.pdb_tpi.proofs.StepLemmas.{step_gives, step_some, step_none}
@@ -14,7 +14,7 @@ use Rattle.pdb_examples.specs.Uses.{has_name, indexes_named, types_in}
 
 -- the types of a name that an iterator has still to give
 abbrev pub still_named : List ℕ → Stand → List ℕ
-still_named name stand = indexes_named name stand.index (drop (place_of stand) (walk stand.table))
+still_named name stand = indexes_named name stand.index (drop (steps_taken stand) (walk stand.table))
 
 -- a new one has all of them to give
 pub all_named : (name : List ℕ) (table : Table) → types_in name table ≡ still_named name (record { table = table; index = table.header.minimum_index })
@@ -26,15 +26,15 @@ some_is x y e = cc
 -- the item of a step comes first, if it is named so, and then those that are left
 pub still_more : {X : Type 0} (seen : X → ℕ × List ℕ) (name : List ℕ) (old : Stand) (x : X) (new : Stand) → old.table.header.minimum_index ≤ old.index → IsStep seen old (Ok (Some x)) new
     → still_named name old ≡ cond (has_name name (type_of (seen x).0 (seen x).1)) ((seen x).0 ∷ still_named name new) (still_named name new)
-still_more {X} seen name old x new least step = elim ((slice_get_cases (walk old.table) (place_of old)).1) [
+still_more {X} seen name old x new least step = elim ((slice_get_cases (walk old.table) (steps_taken old)).1) [
   | inl here ↦
       let moved : Stand = record old { index = old.index + 1 } in
       let item : Option (ℕ × List ℕ) × Stand = (Some (old.index, here.0), moved) in
       let shown : Option (ℕ × List ℕ) × Stand = (Some (seen x), new) in
-      let is : item ≡ shown = ok_is item shown (sym (step_gives old here.0 (nth_some old.table (place_of old) here.0 here.2)) ∙ step.gives) in
+      let is : item ≡ shown = ok_is item shown (sym (step_gives old here.0 (nth_some old.table (steps_taken old) here.0 here.2)) ∙ step.gives) in
       let same : (old.index, here.0) ≡ seen x = some_is (old.index, here.0) (seen x) (ap (λ (p : Option (ℕ × List ℕ) × Stand). p.0) is) in
-      let next : suc (place_of old) ≡ old.index + 1 - old.table.header.minimum_index = omega arith in
-      rw (sym (ap (λ (p : Option (ℕ × List ℕ) × Stand). p.1) is), sym same, drop-cons (walk old.table) (place_of old) here.0 here.1, here.3, ← next) refl
+      let next : suc (steps_taken old) ≡ old.index + 1 - old.table.header.minimum_index = omega arith in
+      rw (sym (ap (λ (p : Option (ℕ × List ℕ) × Stand). p.1) is), sym same, drop-cons (walk old.table) (steps_taken old) here.0 here.1, here.3, ← next) refl
   | inr past ↦ let within = (step_some seen old x new step).0 in let behind = past.0 in absurd (omega arith)
 ]
 

@@ -19,8 +19,8 @@ pub record Frames : Type 0 where
 
 -- The table that two streams hold, each of which must consist of whole records. A stream
 -- that is absent holds no records.
-unfoldable pub table_of : Option (List ℕ) → Option (List ℕ) → Answer Frames
-table_of old new = do
+unfoldable pub frame_table_of : Option (List ℕ) → Option (List ℕ) → Answer Frames
+frame_table_of old new = do
   whole_old ← required (length (unwrap_or old []) % OLD_SIZE == 0) (invalid_stream_length (codes "FPO"))
   whole_new ← required (length (unwrap_or new []) % NEW_SIZE == 0) (invalid_stream_length (codes "FrameData"))
   Ok (record { old = old_frames (unwrap_or old []); new = new_frames (unwrap_or new []) })

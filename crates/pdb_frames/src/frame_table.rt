@@ -4,7 +4,7 @@ ghost use Rattle.std.specs.Prelude.{◌≡◌, ◌↔◌, [], IsTrue, unwrap_or}
 ghost use Rattle.pdb_base.specs.Answer.{Gives};
 ghost use Rattle.pdb_frames.specs.Stored.{old_frames, new_frames};
 ghost use Rattle.pdb_frames.specs.Merge.{by_heads, merge};
-ghost use Rattle.pdb_frames.specs.Table.{BeginsSomewhere, IsStep, StartsIncrease, merge_from, table_of};
+ghost use Rattle.pdb_frames.specs.Table.{BeginsSomewhere, IsStep, StartsIncrease, merge_from, frame_table_of};
 
 use crate::addr_range::AddrRange;
 use crate::frame_data::FrameData;
@@ -63,9 +63,9 @@ impl FrameTable {
     /// Fails with `InvalidStreamLength("FPO")` if the length of the old stream isn't a multiple of
     /// 16 bytes, and then with `InvalidStreamLength("FrameData")` if that of the new one isn't a
     /// multiple of 32.
-    #[tactic(auto, unfolding(crate::specs::Table::table_of))]
+    #[tactic(auto, unfolding(crate::specs::Table::frame_table_of))]
     pub fn parse(old: Option<Stream>, new: Option<Stream>) -> Result<FrameTable>
-        ensures { Gives (λ table. table) result (table_of old new) }
+        ensures { Gives (λ table. table) result (frame_table_of old new) }
     {
         if !bytes_of(&old).len().is_multiple_of(OldFrameData::SIZE) {
             return Err(Error::InvalidStreamLength("FPO"));

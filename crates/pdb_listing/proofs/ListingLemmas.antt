@@ -14,7 +14,7 @@ use Rattle.pdb_rows.specs.Written.{IsFront}
 use Rattle.pdb_rows.proofs.lemmas.Written.{front_more}
 use Rattle.pdb_tpi.proofs.StepLemmas.{step_err, step_gives, step_none, step_some}
 use Rattle.pdb_tpi.proofs.WalkLemmas.{nth_some}
-use Rattle.pdb_tpi.specs.Steps.{Stand, walk, walk_rest, place_of, IsStep}
+use Rattle.pdb_tpi.specs.Steps.{Stand, walk, walk_rest, steps_taken, IsStep}
 use Rattle.pdb_tpi.specs.Walk.{fault_of}
 use Rattle.pdb_tpi.specs.Table.{Table}
 
@@ -54,17 +54,17 @@ some_is x y e = cc
 
 -- the item that a step gives is the next of the walk
 step_item : {X : Type 0} (seen : X → ℕ × List ℕ) (old : Stand) (x : X) (new : Stand) → IsStep seen old (Ok (Some x)) new
-    → (place_of old < length (walk old.table)) × (get_or (walk old.table) (place_of old) (seen x).1 ≡ (seen x).1) × ((seen x).0 ≡ old.index)
-step_item {X} seen old x new step = elim ((slice_get_cases (walk old.table) (place_of old)).1) [
+    → (steps_taken old < length (walk old.table)) × (get_or (walk old.table) (steps_taken old) (seen x).1 ≡ (seen x).1) × ((seen x).0 ≡ old.index)
+step_item {X} seen old x new step = elim ((slice_get_cases (walk old.table) (steps_taken old)).1) [
   | inl here ↦
       let moved : Stand = record old { index = old.index + 1 } in
       let next : ℕ × List ℕ = (old.index, here.0) in
       let given : Option (ℕ × List ℕ) × Stand = (Some next, moved) in
       let taken : Option (ℕ × List ℕ) × Stand = (Some (seen x), new) in
-      let is : given ≡ taken = ok_is given taken (sym (step_gives old here.0 (nth_some old.table (place_of old) here.0 here.2)) ∙ step.gives) in
+      let is : given ≡ taken = ok_is given taken (sym (step_gives old here.0 (nth_some old.table (steps_taken old) here.0 here.2)) ∙ step.gives) in
       let pair : next ≡ seen x = some_is next (seen x) (ap (λ (p : Option (ℕ × List ℕ) × Stand). p.0) is) in
       let item : here.0 ≡ (seen x).1 = ap (λ (p : ℕ × List ℕ). p.1) pair in
-      (here.1, subst (λ (bytes : List ℕ). get_or (walk old.table) (place_of old) bytes ≡ bytes) item here.3, sym (ap (λ (p : ℕ × List ℕ). p.0) pair))
+      (here.1, subst (λ (bytes : List ℕ). get_or (walk old.table) (steps_taken old) bytes ≡ bytes) item here.3, sym (ap (λ (p : ℕ × List ℕ). p.0) pair))
   | inr past ↦ let within = (step_some seen old x new step).0 in let beyond = past.0 in absurd (omega arith)
 ]
 
@@ -75,7 +75,7 @@ more_here {X} seen line old new x out mid out' so step appends =
     let table = old.table in
     let items = walk table in
     let minimum = table.header.minimum_index in
-    let count = place_of old in
+    let count = steps_taken old in
     let given = step_item seen old x new step in
     let moved = step_some seen old x new step in
     let next : new.index ≡ old.index + 1 = ap (λ (s : Stand). s.index) moved.1 in
@@ -102,7 +102,7 @@ so_far_more {X} seen line table old new x out mid out' so step appends =
     subst (λ (t : Table). IsSoFar line t old out mid → IsSoFar line t new out out') so.same (λ here. more_here seen line old new x out mid out' here step appends) so
 
 -- where no item is left, the lines of all stand there
-pub so_far_whole : (line : Line) (table : Table) (stand : Stand) (out out' : Option (List ℕ)) → IsSoFar line table stand out out' → length (walk stand.table) ≤ place_of stand → Appends out out' (all_lines line table)
+pub so_far_whole : (line : Line) (table : Table) (stand : Stand) (out out' : Option (List ℕ)) → IsSoFar line table stand out out' → length (walk stand.table) ≤ steps_taken stand → Appends out out' (all_lines line table)
 so_far_whole line table stand out out' so past =
     let here = subst (λ (t : Table). length (walk t) ≤ stand.index - t.header.minimum_index) so.same past in
     subst (λ (items : List (List ℕ)). Appends out out' (lines_from line table.header.minimum_index items)) (take_all (stand.index - table.header.minimum_index) (walk table) here) so.lines
@@ -124,7 +124,7 @@ cut_here {X} seen line old new x out mid out' so step front =
     let table = old.table in
     let items = walk table in
     let minimum = table.header.minimum_index in
-    let count = place_of old in
+    let count = steps_taken old in
     let given = step_item seen old x new step in
     let least = so.least in
     let within : count < length items = given.0 in

@@ -6,7 +6,7 @@ use Rattle.pdb_msf.specs.Header.{Head}
 use Rattle.pdb_roles.specs.File.{file_address_map, said_by, stream_numbered}
 use Rattle.pdb_roles.specs.SectionHeaders.{section_headers_of}
 use Rattle.pdb_space.specs.Conversions.{Arrangement}
-use Rattle.pdb_space.specs.Omap.{Mapping, table_of}
+use Rattle.pdb_space.specs.Omap.{Mapping, omap_table_of}
 use Rattle.pdb_space.specs.declared.section_header.ImageSectionHeader.{ImageSectionHeader}
 use Rattle.pdb_mapping.specs.declared.given.MapStreams.{MapStreams}
 
@@ -16,7 +16,7 @@ sections_in file head number = stream_numbered file head number >>= said_by sect
 
 -- the OMAP table in the stream with this number, if a number is given
 unfoldable pub omap_in : List ℕ → Head → Option ℕ → Answer (Option (List Mapping))
-omap_in file head number = stream_numbered file head number >>= said_by table_of
+omap_in file head number = stream_numbered file head number >>= said_by omap_table_of
 
 -- the address map made from given streams
 unfoldable pub given_map : List ℕ → Head → MapStreams → Answer Arrangement

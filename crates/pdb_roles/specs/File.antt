@@ -57,7 +57,7 @@ sections_at file head index = stream_at file head index >>= said_by section_head
 
 -- the OMAP table in the stream that an index names, or None if it names none
 unfoldable pub omap_at : List ℕ → Head → StreamIndex → Answer (Option (List Mapping))
-omap_at file head index = stream_at file head index >>= said_by omap.table_of
+omap_at file head index = stream_at file head index >>= said_by omap.omap_table_of
 
 -- ---- several streams
 
@@ -89,7 +89,7 @@ file_frame_table file head = do
   roles ← file_roles file head
   old ← stream_at file head roles.fpo
   new ← stream_at file head roles.framedata
-  frames.table_of old new
+  frames.frame_table_of old new
 
 -- the number of the first stream with a name
 unfoldable pub file_number : List ℕ → Head → List ℕ → Answer ℕ

@@ -7,7 +7,7 @@ ghost use Rattle.std.specs.Prelude.{◌≡◌, unwrap_or, map};
 ghost use Rattle.std.specs.Option.{option_map};
 ghost use Rattle.pdb_base.specs.Answer.{Answers, AnswersUnless, Gives};
 ghost use Rattle.pdb_msf.specs.Source.{HasFailed, IsKept};
-ghost use Rattle.pdb_space.specs.Omap.{table_of};
+ghost use Rattle.pdb_space.specs.Omap.{omap_table_of};
 ghost use Rattle.pdb_roles.specs.SectionHeaders.{section_headers_of};
 ghost use Rattle.pdb_roles.specs.File.{file_address_map, file_frame_table, file_information, file_named_stream, file_number, file_roles, file_string_table, omap_at, rearranged, said_by, sections_at, stream_at};
 
@@ -102,7 +102,7 @@ fn sections_at<S: Source>(
 
 /// Parses the OMAP table in a stream, or returns None if there is no stream.
 fn omap_in(stream: Option<Stream>) -> Result<Option<OMAPTable>>
-    ensures { Gives (λ table. table) result (said_by table_of stream) }
+    ensures { Gives (λ table. table) result (said_by omap_table_of stream) }
 {
     match stream {
         Some(stream) => Ok(Some(OMAPTable::parse(stream)?)),

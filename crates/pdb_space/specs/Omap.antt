@@ -36,8 +36,8 @@ abbrev pub target_at : List Mapping → ℕ → ℕ
 target_at table place = slice_index (map (λ mapping. mapping.target) table) place
 
 -- the table in a stream, whose length must be a multiple of eight
-unfoldable pub table_of : List ℕ → Answer (List Mapping)
-table_of bytes = do
+unfoldable pub omap_table_of : List ℕ → Answer (List Mapping)
+omap_table_of bytes = do
   whole ← required (length bytes % 8 == 0) (invalid_stream_length (codes "OMAP"))
   Ok (mappings_of bytes)
 

@@ -4,7 +4,7 @@ ghost use Rattle.std.specs.Prelude.{◌≡◌, ◌↔◌, ◌%◌, ◌≤◌, le
 ghost use Rattle.pdb_base.specs.Answer.{Gives};
 ghost use Rattle.pdb_base.specs.Count.{calls_of, after_calls};
 ghost use Rattle.pdb_base.specs.Halving.{binary_digits};
-ghost use Rattle.pdb_space.specs.Omap.{IsSortedBySource, MovesSomehow, last_at_or_below, mappings_of, shift, table_of};
+ghost use Rattle.pdb_space.specs.Omap.{IsSortedBySource, MovesSomehow, last_at_or_below, mappings_of, shift, omap_table_of};
 ghost use Rattle.pdb_space.specs.Ranges.{IsNotEmpty, end_to_end, parts, pointwise};
 
 use crate::omap_record::OMAPRecord;
@@ -43,9 +43,9 @@ impl OMAPTable {
     ///
     /// # Errors
     /// Fails with `InvalidStreamLength("OMAP")` if the stream's length isn't a multiple of eight.
-    #[tactic(auto, unfolding(crate::specs::Omap::table_of))]
+    #[tactic(auto, unfolding(crate::specs::Omap::omap_table_of))]
     pub fn parse(stream: Stream) -> Result<Self>
-        ensures { Gives (λ table. table) result (table_of stream) }
+        ensures { Gives (λ table. table) result (omap_table_of stream) }
     {
         if stream.as_slice().len() % 8 != 0 {
             return Err(Error::InvalidStreamLength("OMAP"));

@@ -13,7 +13,7 @@ use Rattle.pdb_base.specs.declared.error.Error.{Error}
 use Rattle.pdb_base.specs.Refusal.{Refusal, refusal_of}
 use Rattle.pdb_base.proofs.lemmas.Collected.{ok_is, ok_is_no_err, err_is}
 use Rattle.pdb_tpi.specs.Record.{kind_of}
-use Rattle.pdb_tpi.specs.Steps.{Stand, IsStep, body, place_of, room, stopped, walk, walk_rest}
+use Rattle.pdb_tpi.specs.Steps.{Stand, IsStep, body, steps_taken, room, stopped, walk, walk_rest}
 use Rattle.pdb_tpi.specs.Table.{Table}
 use Rattle.pdb_tpi.specs.Walk.{behind, fault_of, first_item, items}
 use Rattle.pdb_tpi.proofs.StepLemmas.{step_err, step_gives, step_none, step_some, step_stops}
@@ -49,17 +49,17 @@ walk_few table =
 
 -- the items that an iterator still has to give
 unfoldable pub left : Stand → List (List ℕ)
-left stand = drop (place_of stand) (walk stand.table)
+left stand = drop (steps_taken stand) (walk stand.table)
 
 some_same : {A : Type 0} {x y : A} → Some x ≡ Some y → x ≡ y
 some_same e = cc
 
 -- the index that a step gives is the iterator's
 step_index : {X : Type 0} (seen : X → ℕ × List ℕ) (old : Stand) (x : X) (new : Stand) → IsStep seen old (Ok (Some x)) new → old.index ≡ (seen x).0
-step_index seen old x new step = elim ((slice_get_cases (walk old.table) (place_of old)).1) [
+step_index seen old x new step = elim ((slice_get_cases (walk old.table) (steps_taken old)).1) [
   | inl here ↦
       let moved : Stand = record old { index = old.index + 1 } in
-      let is : (Some (old.index, here.0), moved) ≡ (Some (seen x), new) = ok_is (Some (old.index, here.0), moved) (Some (seen x), new) (sym (step_gives old here.0 (nth_some old.table (place_of old) here.0 here.2)) ∙ step.gives) in
+      let is : (Some (old.index, here.0), moved) ≡ (Some (seen x), new) = ok_is (Some (old.index, here.0), moved) (Some (seen x), new) (sym (step_gives old here.0 (nth_some old.table (steps_taken old) here.0 here.2)) ∙ step.gives) in
       ap (λ (p : ℕ × List ℕ). p.0) (some_same (ap (λ (p : Option (ℕ × List ℕ) × Stand). p.0) is))
   | inr past ↦ absurd (omega (arith, (step_some seen old x new step).0, past.0))
 ]
@@ -67,21 +67,21 @@ step_index seen old x new step = elim ((slice_get_cases (walk old.table) (place_
 -- the item that a step gives is the first of those that are left
 pub left_first : {X : Type 0} (seen : X → ℕ × List ℕ) (old : Stand) (x : X) (new : Stand) → old.table.header.minimum_index ≤ old.index → IsStep seen old (Ok (Some x)) new → left old ≡ (seen x).1 ∷ left new
 unfolding left
-left_first seen old x new base step = elim ((slice_get_cases (walk old.table) (place_of old)).1) [
+left_first seen old x new base step = elim ((slice_get_cases (walk old.table) (steps_taken old)).1) [
   | inl here ↦
       let moved : Stand = record old { index = old.index + 1 } in
-      let is : (Some (old.index, here.0), moved) ≡ (Some (seen x), new) = ok_is (Some (old.index, here.0), moved) (Some (seen x), new) (sym (step_gives old here.0 (nth_some old.table (place_of old) here.0 here.2)) ∙ step.gives) in
+      let is : (Some (old.index, here.0), moved) ≡ (Some (seen x), new) = ok_is (Some (old.index, here.0), moved) (Some (seen x), new) (sym (step_gives old here.0 (nth_some old.table (steps_taken old) here.0 here.2)) ∙ step.gives) in
       let item : here.0 ≡ (seen x).1 = ap (λ (p : ℕ × List ℕ). p.1) (some_same (ap (λ (p : Option (ℕ × List ℕ) × Stand). p.0) is)) in
-      let at : get_or (walk old.table) (place_of old) [] ≡ here.0 = sym (some_same (sym here.2 ∙ slice_get-get_or (walk old.table) (place_of old) [] here.1)) in
-      let next : old.index + 1 - old.table.header.minimum_index ≡ suc (place_of old) = omega (arith, base) in
-      drop-cons (walk old.table) (place_of old) [] here.1
-      ∙ ap (λ (i : List ℕ). i ∷ drop (suc (place_of old)) (walk old.table)) (at ∙ item)
+      let at : get_or (walk old.table) (steps_taken old) [] ≡ here.0 = sym (some_same (sym here.2 ∙ slice_get-get_or (walk old.table) (steps_taken old) [] here.1)) in
+      let next : old.index + 1 - old.table.header.minimum_index ≡ suc (steps_taken old) = omega (arith, base) in
+      drop-cons (walk old.table) (steps_taken old) [] here.1
+      ∙ ap (λ (i : List ℕ). i ∷ drop (suc (steps_taken old)) (walk old.table)) (at ∙ item)
       ∙ ap (λ (n : ℕ). (seen x).1 ∷ drop n (walk old.table)) (sym next)
-      ∙ ap (λ (s : Stand). (seen x).1 ∷ drop (place_of s) (walk s.table)) (ap (λ (p : Option (ℕ × List ℕ) × Stand). p.1) is)
+      ∙ ap (λ (s : Stand). (seen x).1 ∷ drop (steps_taken s) (walk s.table)) (ap (λ (p : Option (ℕ × List ℕ) × Stand). p.1) is)
   | inr past ↦ absurd (omega (arith, (step_some seen old x new step).0, past.0))
 ]
 
-pub left_none : (stand : Stand) → length (walk stand.table) ≤ place_of stand → left stand ≡ []
+pub left_none : (stand : Stand) → length (walk stand.table) ≤ steps_taken stand → left stand ≡ []
 unfolding left
 left_none stand past = drop_of_length-le (walk stand.table) past
 
@@ -208,7 +208,7 @@ counting_more seen table old x new counts more records continued kind is_continu
 -- ---- the end
 
 -- all is counted where none is left
-pub counted_all : (table : Table) (stand : Stand) (counts : List ℕ) (records continued : ℕ) → IsCounting table stand counts records continued → length (walk stand.table) ≤ place_of stand
+pub counted_all : (table : Table) (stand : Stand) (counts : List ℕ) (records continued : ℕ) → IsCounting table stand counts records continued → length (walk stand.table) ≤ steps_taken stand
     → ((leaf : ℕ) → leaf < 0x10000 → slice_index_or counts leaf 0 ≡ count_of (walk table) leaf) × (records ≡ length (walk table)) × (continued ≡ continued_of table)
 counted_all table stand counts records continued counting past =
     let none = left_none stand past in (
@@ -224,7 +224,7 @@ stop_at stand (byte ∷ rest) fault e = ap (λ (f : Refusal). Some f) (err_is {A
 -- the fault of a step that is refused is that at which the walk stops
 pub stops_with : {X : Type 0} (seen : X → ℕ × List ℕ) (table : Table) (old new : Stand) (e : Error) → old.table ≡ table → IsStep seen old (Err e) new → stop_of (walk_rest table) ≡ Some (refusal_of e)
 stops_with seen table old new e same step =
-    let past = slice_get_past (walk old.table) (place_of old) (step_err seen old new e step).0 in
+    let past = slice_get_past (walk old.table) (steps_taken old) (step_err seen old new e step).0 in
     ap (λ (t : Table). stop_of (walk_rest t)) (sym same) ∙ stop_at old (walk_rest old.table) (refusal_of e) (sym (step_stops old past) ∙ step.gives)
 
 -- where a step gives nothing the walk does not stop

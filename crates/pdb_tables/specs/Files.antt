@@ -5,7 +5,7 @@ use Rattle.pdb_base.specs.Index.{stream_number}
 use Rattle.pdb_msf.specs.File.{stream_of}
 use Rattle.pdb_msf.specs.Header.{Head}
 use Rattle.pdb_space.specs.StringTable.{names_of}
-use Rattle.pdb_frames.specs.Table.{table_of}
+use Rattle.pdb_frames.specs.Table.{frame_table_of}
 use Rattle.pdb_roles.specs.File.{file_frame_table, file_roles, file_string_table, stream_numbered}
 use Rattle.pdb_roles.specs.declared.debug_header.DBIExtraStreams.{DBIExtraStreams}
 use Rattle.pdb_rows.specs.declared.form.Form.{Form}
@@ -70,4 +70,4 @@ file_frames form file head = listed_of (frames_listing form) (file_frame_table f
 -- the frames of two streams, each of which may be absent
 unfoldable pub frames_in : Form → List ℕ → Head → Option ℕ → Option ℕ → Listing
 frames_in form file head old new =
-    listed_of (frames_listing form) (stream_numbered file head old >>= λ o. stream_numbered file head new >>= λ n. table_of o n)
+    listed_of (frames_listing form) (stream_numbered file head old >>= λ o. stream_numbered file head new >>= λ n. frame_table_of o n)

@@ -6,7 +6,7 @@ use Rattle.std.specs.List.{flat_map}
 use Rattle.pdb_base.specs.Answer.{required}
 use Rattle.pdb_base.specs.Records.{spelled}
 use Rattle.pdb_base.specs.Refusal.{unexpected_eof}
-use Rattle.pdb_space.specs.Omap.{Mapping, table_of}
+use Rattle.pdb_space.specs.Omap.{Mapping, omap_table_of}
 use Rattle.pdb_space.specs.StringTable.{name_of}
 use Rattle.pdb_space.specs.SectionHeader.{section_header}
 use Rattle.pdb_space.specs.declared.section_header.ImageSectionHeader.{ImageSectionHeader}
@@ -51,7 +51,7 @@ omap_all form records = omap_lines form records ++ row_text form (order_shown (r
 
 -- the records of the OMAP table that a stream is
 abbrev pub omap_listing : Form → List ℕ → Listing
-omap_listing form stream = listed_of (λ records. whole (omap_all form records)) (table_of stream)
+omap_listing form stream = listed_of (λ records. whole (omap_all form records)) (omap_table_of stream)
 
 -- the lines of frames
 abbrev pub frame_lines : Form → List FrameData → List ℕ

@@ -5,7 +5,7 @@ use Rattle.std.proofs.lemmas.Option.{slice_get_within}
 use Rattle.pdb_base.specs.Count.{one_more, after_calls}
 use Rattle.pdb_base.proofs.lemmas.Count.{one_call}
 use Rattle.pdb_tpi.specs.Table.{Table}
-use Rattle.pdb_tpi.specs.Steps.{Stand, walk, walk_rest, nth_item, place_of, reads_one}
+use Rattle.pdb_tpi.specs.Steps.{Stand, walk, walk_rest, nth_item, steps_taken, reads_one}
 use Rattle.pdb_tpi.specs.Finder.{reads_between}
 use Rattle.pdb_tpi.proofs.StepLemmas.{nth_ok}
 
@@ -14,8 +14,8 @@ pub nth_within : (table : Table) (n : ℕ) (item : List ℕ) → nth_item table 
 nth_within table n item e = slice_get_within (walk table) n item (nth_ok table n item e)
 
 -- an item's length is read
-pub reads_item : (stand : Stand) (calls : ℕ) → place_of stand < length (walk stand.table) → reads_one stand calls ≡ one_more calls
-reads_item stand calls within = let here : ltb (place_of stand) (length (walk stand.table)) ≡ true = lt-ltb (place_of stand) (length (walk stand.table)) within in rw here refl
+pub reads_item : (stand : Stand) (calls : ℕ) → steps_taken stand < length (walk stand.table) → reads_one stand calls ≡ one_more calls
+reads_item stand calls within = let here : ltb (steps_taken stand) (length (walk stand.table)) ≡ true = lt-ltb (steps_taken stand) (length (walk stand.table)) within in rw here refl
 
 -- the lengths up to an item of the walk
 pub reads_found : (table : Table) (from steps : ℕ) → from + steps < length (walk table) → reads_between table from (from + steps) ≡ steps + 1
@@ -36,22 +36,22 @@ stops_by true calls done = one_call calls done
 stops_by false calls done = ap (λ (n : ℕ). after_calls n calls) (sym (add-zero done))
 
 -- the count after the last read of several: that of the item, or of where the walk stops
-pub last_count : (start now : Stand) (steps done calls : ℕ) → now.table ≡ start.table → place_of now ≡ place_of start + done → place_of now ≤ length (walk now.table) → done ≤ steps
-    → (place_of now < length (walk now.table) → done ≡ steps)
-    → reads_one now (after_calls done calls) ≡ after_calls (reads_between start.table (place_of start) (place_of start + steps)) calls
+pub last_count : (start now : Stand) (steps done calls : ℕ) → now.table ≡ start.table → steps_taken now ≡ steps_taken start + done → steps_taken now ≤ length (walk now.table) → done ≤ steps
+    → (steps_taken now < length (walk now.table) → done ≡ steps)
+    → reads_one now (after_calls done calls) ≡ after_calls (reads_between start.table (steps_taken start) (steps_taken start + steps)) calls
 last_count start now steps done calls table place reached le last =
     let same : length (walk now.table) ≡ length (walk start.table) = ap (λ (t : Table). length (walk t)) table in
-    elim (cases_lt (place_of now) (length (walk now.table))) [
+    elim (cases_lt (steps_taken now) (length (walk now.table))) [
       | inl within ↦
           let whole : done ≡ steps = last within in
           reads_item now (after_calls done calls) within
           ∙ one_call calls done
-          ∙ ap (λ (n : ℕ). after_calls n calls) (ap (λ (n : ℕ). n + 1) whole ∙ sym (reads_found start.table (place_of start) steps (omega (arith, same, whole, place, within))))
+          ∙ ap (λ (n : ℕ). after_calls n calls) (ap (λ (n : ℕ). n + 1) whole ∙ sym (reads_found start.table (steps_taken start) steps (omega (arith, same, whole, place, within))))
       | inr stops ↦
-          let here : ltb (place_of now) (length (walk now.table)) ≡ false = le-ltb (place_of now) (length (walk now.table)) stops in
+          let here : ltb (steps_taken now) (length (walk now.table)) ≡ false = le-ltb (steps_taken now) (length (walk now.table)) stops in
           let rests : length (walk_rest now.table) ≡ length (walk_rest start.table) = ap (λ (t : Table). length (walk_rest t)) table in
           ap (λ (b : Bool). cond (b || leb 2 (length (walk_rest now.table))) (one_more (after_calls done calls)) (after_calls done calls)) here
           ∙ ap (λ (n : ℕ). cond (leb 2 n) (one_more (after_calls done calls)) (after_calls done calls)) rests
           ∙ stops_by (leb 2 (length (walk_rest start.table))) calls done
-          ∙ ap (λ (n : ℕ). after_calls n calls) (sym (reads_stopped start.table (place_of start) steps done (omega (arith, same, place, stops, reached)) le))
+          ∙ ap (λ (n : ℕ). after_calls n calls) (sym (reads_stopped start.table (steps_taken start) steps done (omega (arith, same, place, stops, reached)) le))
     ]

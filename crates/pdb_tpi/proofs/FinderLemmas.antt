@@ -8,9 +8,9 @@ use Rattle.std.proofs.lemmas.List.Sums.{fold_more}
 use Rattle.pdb_base.specs.Refusal.{type_not_found, type_not_indexed}
 use Rattle.pdb_base.specs.Answer.{Answer}
 use Rattle.pdb_tpi.specs.Table.{Table, IsTable, count_of}
-use Rattle.pdb_tpi.specs.Steps.{Stand, walk, walk_rest, nth_item, place_of}
+use Rattle.pdb_tpi.specs.Steps.{Stand, walk, walk_rest, nth_item, steps_taken}
 use Rattle.pdb_tpi.specs.Place.{IsPlace, ArePlaces}
-use Rattle.pdb_tpi.specs.Finder.{first_of, block_of, is_counted, max_index_of, known_after, known_of, item_of, find_of, reads_between, reads_of, most_blocks}
+use Rattle.pdb_tpi.specs.Finder.{first_of, block_of, has_index, max_index_of, known_after, known_of, item_of, find_of, reads_between, reads_of, most_blocks}
 use Rattle.pdb_tpi.proofs.TableLemmas.{place_first}
 
 -- ---- the positions that are kept
@@ -74,11 +74,11 @@ places_first table capacity sound some room =
 
 -- ---- what a look-up answers
 
-find_as : (table : Table) (known i : ℕ) (answer : Answer (List ℕ)) → cond (is_counted table i && leb known (block_of table i)) (Err (type_not_indexed i (max_index_of table known))) (item_of table i) ≡ answer → find_of table known i ≡ answer
+find_as : (table : Table) (known i : ℕ) (answer : Answer (List ℕ)) → cond (has_index table i && leb known (block_of table i)) (Err (type_not_indexed i (max_index_of table known))) (item_of table i) ≡ answer → find_of table known i ≡ answer
 unfolding find_of
 find_as table known i answer e = e
 
-reads_as : (table : Table) (known i reads : ℕ) → cond (is_counted table i && ltb (block_of table i) known) (reads_between table (8 * block_of table i) (i - table.header.minimum_index)) 0 ≡ reads → reads_of table known i ≡ reads
+reads_as : (table : Table) (known i reads : ℕ) → cond (has_index table i && ltb (block_of table i) known) (reads_between table (8 * block_of table i) (i - table.header.minimum_index)) 0 ≡ reads → reads_of table known i ≡ reads
 unfolding reads_of
 reads_as table known i reads e = e
 
@@ -123,7 +123,7 @@ none_by false reads = refl
 pub reads_unknown : (table : Table) (known i : ℕ) → known ≤ block_of table i → reads_of table known i ≡ 0
 reads_unknown table known i unknown =
     let test : ltb (block_of table i) known ≡ false = le-ltb (block_of table i) known unknown in
-    reads_as table known i 0 (rw test (none_by (is_counted table i) (reads_between table (8 * block_of table i) (i - table.header.minimum_index))))
+    reads_as table known i 0 (rw test (none_by (has_index table i) (reads_between table (8 * block_of table i) (i - table.header.minimum_index))))
 
 pub find_known : (table : Table) (known i : ℕ) → table.header.minimum_index ≤ i → i < table.header.maximum_index → block_of table i < known → find_of table known i ≡ nth_item table (i - table.header.minimum_index)
 unfolding item_of
@@ -171,7 +171,7 @@ few_reads_by table known i true =
 -- a look-up reads eight lengths at most
 pub few_reads : (table : Table) (known i : ℕ) → reads_of table known i ≤ 8
 unfolding reads_of
-few_reads table known i = few_reads_by table known i (is_counted table i && ltb (block_of table i) known)
+few_reads table known i = few_reads_by table known i (has_index table i && ltb (block_of table i) known)
 
 -- the walk from the start of a block reaches the index
 steps_reach : (place : ℕ) (least first : ℕ) → first ≡ least → first + place / 8 * 8 - least + place % 8 ≡ place
@@ -182,17 +182,17 @@ starts_block place least first e = omega arith
 
 -- an iterator at the start of a known block finds the item
 pub found_by : (table : Table) (known i first : ℕ) (start : Stand) → first ≡ table.header.minimum_index → first ≤ i → i < table.header.maximum_index → (i - first) / 8 < known
-    → start ≡ record { table = table; index = first + (i - first) / 8 * 8 } → find_of table known i ≡ nth_item start.table (place_of start + (i - first) % 8)
+    → start ≡ record { table = table; index = first + (i - first) / 8 * 8 } → find_of table known i ≡ nth_item start.table (steps_taken start + (i - first) % 8)
 found_by table known i first start e least below known_block is =
     let place : i - first ≡ i - table.header.minimum_index = ap (λ (n : ℕ). i - n) e in
     let block : block_of table i < known = rw (← place) known_block in
     find_known table known i (omega arith) below block
     ∙ ap (nth_item table) (sym place ∙ sym (steps_reach (i - first) table.header.minimum_index first e))
-    ∙ ap (λ (s : Stand). nth_item s.table (place_of s + (i - first) % 8)) (sym is)
+    ∙ ap (λ (s : Stand). nth_item s.table (steps_taken s + (i - first) % 8)) (sym is)
 
 -- and reads as many lengths as it should
 pub counted_by : (table : Table) (known i first : ℕ) (start : Stand) → first ≡ table.header.minimum_index → first ≤ i → i < table.header.maximum_index → (i - first) / 8 < known
-    → start ≡ record { table = table; index = first + (i - first) / 8 * 8 } → reads_of table known i ≡ reads_between start.table (place_of start) (place_of start + (i - first) % 8)
+    → start ≡ record { table = table; index = first + (i - first) / 8 * 8 } → reads_of table known i ≡ reads_between start.table (steps_taken start) (steps_taken start + (i - first) % 8)
 counted_by table known i first start e least below known_block is =
     let place : i - first ≡ i - table.header.minimum_index = ap (λ (n : ℕ). i - n) e in
     let block : block_of table i < known = rw (← place) known_block in
@@ -200,7 +200,7 @@ counted_by table known i first start e least below known_block is =
     ∙ ap (λ (n : ℕ). reads_between table (8 * (n / 8)) n) (sym place)
     ∙ ap (λ (n : ℕ). reads_between table n (i - first)) (starts_block (i - first) table.header.minimum_index first e)
     ∙ ap (reads_between table (first + (i - first) / 8 * 8 - table.header.minimum_index)) (sym (steps_reach (i - first) table.header.minimum_index first e))
-    ∙ ap (λ (s : Stand). reads_between s.table (place_of s) (place_of s + (i - first) % 8)) (sym is)
+    ∙ ap (λ (s : Stand). reads_between s.table (steps_taken s) (steps_taken s + (i - first) % 8)) (sym is)
 
 -- ---- several iterators
 

@@ -14,7 +14,7 @@ use Rattle.pdb_base.proofs.lemmas.Collected.{ok_is_no_err}
 use Rattle.pdb_tpi.specs.Table.{Table}
 use Rattle.pdb_tpi.specs.Walk.{framed, IsItem, IsWalk, first_item, behind, items, rest}
 use Rattle.pdb_tpi.specs.Steps.{room, body, walk, walk_rest}
-use Rattle.pdb_tpi.specs.Finder.{is_counted, block_of, reads_of, reads_between}
+use Rattle.pdb_tpi.specs.Finder.{has_index, block_of, reads_of, reads_between}
 use Rattle.pdb_tpi.specs.Laws.{AreBytes, WalksOnce, HasFault, ReadsFew}
 use Rattle.pdb_tpi.proofs.FrontLemmas.{IsFront, front_item, item_front, short_front, cut_front, unkind_front}
 use Rattle.pdb_tpi.proofs.WalkLemmas.{items_more, rest_more, items_none, rest_none, items_full, rest_full, fault_is, fault_whole}
@@ -211,7 +211,7 @@ has_fault bytes = record {
 
 -- ---- look-ups
 
-found_reads : (table : Table) (known i : ℕ) → IsTrue (is_counted table i) → block_of table i < known → i - table.header.minimum_index < length (walk table) → reads_of table known i ≡ (i - table.header.minimum_index) % 8 + 1
+found_reads : (table : Table) (known i : ℕ) → IsTrue (has_index table i) → block_of table i < known → i - table.header.minimum_index < length (walk table) → reads_of table known i ≡ (i - table.header.minimum_index) % 8 + 1
 unfolding reads_of reads_between
 found_reads table known i counted known_block within =
     let place = i - table.header.minimum_index in

@@ -6,7 +6,7 @@ use Rattle.pdb_base.specs.declared.error.Error.{Error}
 use Rattle.pdb_base.specs.Refusal.{refusal_of}
 use Rattle.pdb_base.proofs.lemmas.Collected.{ok_is, ok_is_no_err}
 use Rattle.pdb_tpi.specs.Table.{Table}
-use Rattle.pdb_tpi.specs.Steps.{Stand, walk, walk_rest, place_of, stopped, IsStep}
+use Rattle.pdb_tpi.specs.Steps.{Stand, walk, walk_rest, steps_taken, stopped, IsStep}
 use Rattle.pdb_tpi.specs.StepLaws.{AreSteps, first_stand, IsAnswerAt}
 use Rattle.pdb_tpi.proofs.WalkLemmas.{nth_some}
 use Rattle.pdb_tpi.proofs.StepLemmas.{step_stops, step_gives, step_some, step_none, step_err}
@@ -20,7 +20,7 @@ record IsOneStep {X : Type 0} (seen : X → ℕ × List ℕ) (table : Table) (n 
   pub at_place : IsAnswerAt seen table n result
   pub goes_on : (next ≡ stand_at table (n + 1)) ⊎ ((length (walk table) ≤ n) × (next ≡ stand_at table n))
 
-place_there : (table : Table) (n : ℕ) → place_of (stand_at table n) ≡ n
+place_there : (table : Table) (n : ℕ) → steps_taken (stand_at table n) ≡ n
 place_there table n = omega arith
 
 one_step : {X : Type 0} (seen : X → ℕ × List ℕ) (table : Table) (n : ℕ) (result : Result (Option X) Error) (next : Stand) → IsStep seen (stand_at table n) result next → IsOneStep seen table n result next
@@ -30,9 +30,9 @@ one_step seen table n (Ok (Some x)) next step =
     let moves = step_some seen old x next step in
     elim ((slice_get_cases (walk table) n).1) [
       | inl here ↦
-          let get : slice_get (walk table) (place_of old) ≡ Some here.0 = rw there here.2 in
+          let get : slice_get (walk table) (steps_taken old) ≡ Some here.0 = rw there here.2 in
           let moved : Stand = record old { index = old.index + 1 } in
-          let is = ok_is (Some (old.index, here.0), moved) (Some (seen x), next) (sym (step_gives old here.0 (nth_some table (place_of old) here.0 get)) ∙ step.gives) in
+          let is = ok_is (Some (old.index, here.0), moved) (Some (seen x), next) (sym (step_gives old here.0 (nth_some table (steps_taken old) here.0 get)) ∙ step.gives) in
           let seen_is : Some (old.index, here.0) ≡ Some (seen x) = ap (λ (p : Option (ℕ × List ℕ) × Stand). p.0) is in
           let index_is : old.index + 1 ≡ table.header.minimum_index + (n + 1) = omega arith in
           record {
@@ -46,7 +46,7 @@ one_step seen table n (Ok None) next step =
     let there = place_there table n in
     let ended = step_none seen old next step in
     let past : length (walk table) ≤ n = let h = ended.0 in omega (arith, there) in
-    let none : slice_get (walk table) (place_of old) ≡ None = rw there (slice_get_past (walk table) n past) in
+    let none : slice_get (walk table) (steps_taken old) ≡ None = rw there (slice_get_past (walk table) n past) in
     let kept : (None, old) ≡ (None, next) = ok_is {A = Option (ℕ × List ℕ) × Stand} (None, old) (None, next) (sym (step_stops old none ∙ ap (stopped old) ended.1) ∙ step.gives) in
     record {
       at_place = inr (past, inl (ended.1, refl));
@@ -57,7 +57,7 @@ one_step seen table n (Err e) next step =
     let there = place_there table n in
     let refused = step_err seen old next e step in
     let past : length (walk table) ≤ n = let h = refused.0 in omega (arith, there) in
-    let none : slice_get (walk table) (place_of old) ≡ None = rw there (slice_get_past (walk table) n past) in
+    let none : slice_get (walk table) (steps_taken old) ≡ None = rw there (slice_get_past (walk table) n past) in
     let some : walk_rest table ≢ [] = λ empty. ok_is_no_err {A = Option (ℕ × List ℕ) × Stand} (None, old) (refusal_of e) (sym (step_stops old none ∙ ap (stopped old) empty) ∙ step.gives) in
     record {
       at_place = inr (past, inr (some, record { error = e; is = refl; same = sym refused.1 }));

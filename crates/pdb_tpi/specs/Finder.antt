@@ -8,7 +8,7 @@ use Rattle.pdb_tpi.specs.Table.{Table, count_of}
 use Rattle.pdb_tpi.specs.Steps.{walk, walk_rest, nth_item}
 
 -- a table, and how many of its blocks are known
-pub record Indexed : Type 0 where
+pub record FinderState : Type 0 where
   pub table : Table
   pub known : ℕ
 
@@ -21,8 +21,8 @@ abbrev pub block_of : Table → ℕ → ℕ
 block_of table i = (i - table.header.minimum_index) / 8
 
 -- the number of blocks that a new finder knows: the first one, if the header counts any index
-abbrev pub known_first : Table → ℕ
-known_first table = if count_of table == 0 then 0 else 1
+abbrev pub known_when_new : Table → ℕ
+known_when_new table = if count_of table == 0 then 0 else 1
 
 -- These indexes occur in a list of indexes in this order, next to each other or not.
 abbrev pub StandIn : List ℕ → List ℕ → Type 0
@@ -56,8 +56,8 @@ abbrev pub max_index_of : Table → ℕ → ℕ
 max_index_of table known = if known == 0 then 0 else min (first_of table known) table.header.maximum_index - 1
 
 -- whether the header counts an index
-abbrev pub is_counted : Table → ℕ → Bool
-is_counted table i = nat_le table.header.minimum_index i && nat_lt i table.header.maximum_index
+abbrev pub has_index : Table → ℕ → Bool
+has_index table i = nat_le table.header.minimum_index i && nat_lt i table.header.maximum_index
 
 -- The item of an index. An index below the minimum stands for a primitive type, which has no record: its
 -- item is the bytes ff ff. From the maximum on, there is no item.
@@ -73,7 +73,7 @@ item_of table i =
 -- the index and its block isn't known
 unfoldable pub find_of : Table → ℕ → ℕ → Answer (List ℕ)
 find_of table known i =
-    if is_counted table i && nat_le known (block_of table i)
+    if has_index table i && nat_le known (block_of table i)
     then Err (type_not_indexed i (max_index_of table known))
     else item_of table i
 
@@ -90,7 +90,7 @@ reads_between table from to =
 -- the index isn't counted or its block isn't known.
 unfoldable pub reads_of : Table → ℕ → ℕ → ℕ
 reads_of table known i =
-    if is_counted table i && nat_lt (block_of table i) known
+    if has_index table i && nat_lt (block_of table i) known
     then reads_between table (8 * block_of table i) (i - table.header.minimum_index)
     else 0
 

@@ -8,7 +8,7 @@ use Rattle.pdb_tpi.specs.Header.{header_fields}
 use Rattle.pdb_tpi.specs.Table.{Table}
 use Rattle.pdb_tpi.specs.Walk.{framed, IsItem, IsWalk, items, rest, fault_of}
 use Rattle.pdb_tpi.specs.Steps.{walk}
-use Rattle.pdb_tpi.specs.Finder.{is_counted, block_of, reads_of}
+use Rattle.pdb_tpi.specs.Finder.{has_index, block_of, reads_of}
 
 -- bytes are numbers below 256
 abbrev pub AreBytes : List ℕ → Type 0
@@ -59,4 +59,4 @@ pub record HasFault (bytes : List ℕ) : Type 0 where
 -- before it in its block, and its own.
 pub record ReadsFew (table : Table) (known i : ℕ) : Type 0 where
   pub few : reads_of table known i ≤ 8
-  pub found : IsTrue (is_counted table i) → block_of table i < known → i - table.header.minimum_index < length (walk table) → reads_of table known i ≡ (i - table.header.minimum_index) % 8 + 1
+  pub found : IsTrue (has_index table i) → block_of table i < known → i - table.header.minimum_index < length (walk table) → reads_of table known i ≡ (i - table.header.minimum_index) % 8 + 1

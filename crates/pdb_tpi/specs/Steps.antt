@@ -34,12 +34,12 @@ pub record Stand : Type 0 where
   pub index : ℕ
 
 -- the place in the walk of the item before which an iterator stands
-abbrev pub place_of : Stand → ℕ
-place_of stand = stand.index - stand.table.header.minimum_index
+abbrev pub steps_taken : Stand → ℕ
+steps_taken stand = stand.index - stand.table.header.minimum_index
 
 -- how many items an iterator has yet to return
 abbrev pub items_left : Stand → ℕ
-items_left stand = length (walk stand.table) - place_of stand
+items_left stand = length (walk stand.table) - steps_taken stand
 
 -- what a step returns behind the last item: None if no byte is left, and else the fault
 abbrev pub stopped : Stand → List ℕ → Answer (Option (ℕ × List ℕ) × Stand)
@@ -49,7 +49,7 @@ stopped stand (byte ∷ rest) = Err (fault_of (byte ∷ rest))
 -- what a step returns: the next item with its index, and where the iterator stands afterwards
 unfoldable pub step_of : Stand → Answer (Option (ℕ × List ℕ) × Stand)
 step_of stand =
-    option_map_or (λ item. Ok (Some (stand.index, item), record stand { index = stand.index + 1 })) (slice_get (walk stand.table) (place_of stand)) (stopped stand (walk_rest stand.table))
+    option_map_or (λ item. Ok (Some (stand.index, item), record stand { index = stand.index + 1 })) (slice_get (walk stand.table) (steps_taken stand)) (stopped stand (walk_rest stand.table))
 
 -- A step returns what `step_of` gives, if `seen` shows each item as its index and bytes, and stays in its
 -- table. A step that fails doesn't move the iterator, so the next one fails with the same refusal. A step
@@ -63,4 +63,4 @@ pub record IsStep {X : Type 0} (seen : X → ℕ × List ℕ) (old : Stand) (res
 -- the count of length words after the next step, which reads one if two bytes are left for it
 abbrev pub reads_one : Stand → ℕ → ℕ
 reads_one stand calls =
-    if nat_lt (place_of stand) (length (walk stand.table)) || nat_le 2 (length (walk_rest stand.table)) then one_more calls else calls
+    if nat_lt (steps_taken stand) (length (walk stand.table)) || nat_le 2 (length (walk_rest stand.table)) then one_more calls else calls

@@ -7,7 +7,7 @@ ghost use Rattle.pdb_tpi.specs.Item.{bytes_of, index_of};
 ghost use Rattle.pdb_tpi.specs.Steps.{Stand};
 ghost use Rattle.pdb_tpi.specs.Table.{count_of};
 ghost use Rattle.pdb_tpi.specs.Place.{ArePlaces};
-ghost use Rattle.pdb_tpi.specs.Finder.{Indexed, known_first, known_after, known_of, max_index_of, most_blocks, find_of, reads_of};
+ghost use Rattle.pdb_tpi.specs.Finder.{FinderState, known_when_new, known_after, known_of, max_index_of, most_blocks, find_of, reads_of};
 
 use crate::item::Item;
 use crate::item_information::ItemInformation;
@@ -34,10 +34,10 @@ pub struct ItemFinder<'t, I> {
 
 impl<'t, I> Model for ItemFinder<'t, I> {
     ghost use Rattle.std.specs.Prelude.{length, vec_capacity};
-    ghost use Rattle.pdb_tpi.specs.Finder.{Indexed};
+    ghost use Rattle.pdb_tpi.specs.Finder.{FinderState};
     ghost use Rattle.pdb_tpi.specs.Place.{ArePlaces};
 
-    ghost Value = { Indexed };
+    ghost Value = { FinderState };
 
     ghost view = { λ f. record { table = f.table.now; known = length f.positions.items } };
 
@@ -54,7 +54,7 @@ impl<I: ItemIndex> ItemInformation<I> {
     /// Returns `OutOfMemory` if memory is refused, which is never so if the header counts no index.
     pub fn finder(&self, alloc: Global) -> Result<ItemFinder<'_, I>>
         ensures finder { Answers (λ finder. finder) result
-            (Ok (record { table = self.now; known = known_first self.now })) }
+            (Ok (record { table = self.now; known = known_when_new self.now })) }
         ensures few { IfOk result (λ finder. finder.known ≤ most_blocks self.now) }
         ensures uncounted { count_of self.now ≡ 0 → IsOk result }
     {

@@ -5,7 +5,7 @@ ghost use Rattle.pdb_base.specs.Answer.{Gives};
 ghost use Rattle.pdb_base.specs.Count.{calls_of, one_more, after_calls};
 ghost use Rattle.pdb_tpi.specs.Item.{bytes_of, index_of};
 ghost use Rattle.pdb_tpi.specs.Walk.{first_item};
-ghost use Rattle.pdb_tpi.specs.Steps.{Stand, walk, place_of, nth_item, IsStep, reads_one};
+ghost use Rattle.pdb_tpi.specs.Steps.{Stand, walk, steps_taken, nth_item, IsStep, reads_one};
 ghost use Rattle.pdb_tpi.specs.Finder.{reads_between};
 ghost use Rattle.pdb_tpi.specs.Place.{IsPlace};
 
@@ -78,12 +78,12 @@ impl<'t, I: ItemIndex> ItemIter<'t, I> {
 
     /// Returns the next item, or the fault at which the walk stops before it.
     pub(crate) fn read(&mut self, count: &mut Count) -> Result<Item<'t, I>>
-        ensures item { Gives bytes_of result (nth_item self.old.table (place_of self.old)) }
+        ensures item { Gives bytes_of result (nth_item self.old.table (steps_taken self.old)) }
         ensures index { IfOk result (λ item. I.number (index_of item) ≡ self.old.index) }
         ensures moved { OnOk result (self.new ≡ record self.old { index = self.old.index + 1 }) }
         ensures kept { OnErr result (self.new ≡ self.old) }
         ensures reached { (self.old.table.header.minimum_index ≤ self.old.index) ×
-            (place_of self.old ≤ length (walk self.old.table)) }
+            (steps_taken self.old ≤ length (walk self.old.table)) }
         ensures counted { calls_of count.new ≡ reads_one self.old (calls_of count.old) }
     {
         let table = self.table;
@@ -102,11 +102,11 @@ impl<'t, I: ItemIndex> ItemIter<'t, I> {
     /// Returns the item that is `steps` items behind the next one, or the fault at which the walk
     /// stops before it. The iterator then stands behind that item.
     pub(crate) fn nth(&mut self, steps: u32, count: &mut Count) -> Result<Item<'t, I>>
-        ensures item { Gives bytes_of result (nth_item self.old.table (place_of self.old + steps)) }
+        ensures item { Gives bytes_of result (nth_item self.old.table (steps_taken self.old + steps)) }
         ensures index { IfOk result (λ item. I.number (index_of item) ≡ self.old.index + steps) }
         ensures moved { IfOk result (λ _. self.new ≡ record self.old { index = self.old.index + steps + 1 }) }
         ensures counted { calls_of count.new ≡
-            after_calls (reads_between self.old.table (place_of self.old) (place_of self.old + steps))
+            after_calls (reads_between self.old.table (steps_taken self.old) (steps_taken self.old + steps))
             (calls_of count.old) }
     {
         for _ in 0..steps {
@@ -117,7 +117,7 @@ impl<'t, I: ItemIndex> ItemIter<'t, I> {
 
     /// Returns the same item as `nth`, without counting lengths.
     pub(crate) fn skip(&mut self, steps: u32) -> Result<Item<'t, I>>
-        ensures item { Gives bytes_of result (nth_item self.old.table (place_of self.old + steps)) }
+        ensures item { Gives bytes_of result (nth_item self.old.table (steps_taken self.old + steps)) }
         ensures index { IfOk result (λ item. I.number (index_of item) ≡ self.old.index + steps) }
         ensures moved { IfOk result (λ _. self.new ≡ record self.old { index = self.old.index + steps + 1 }) }
     {

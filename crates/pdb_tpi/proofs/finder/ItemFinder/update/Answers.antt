@@ -1,6 +1,6 @@
 use Rattle.std.proofs.Common.{◌≡◌, length, sym, ap, ◌∙◌, arith}
 use Rattle.pdb_tpi.specs.declared.header.Header.{Header}
-use Rattle.pdb_tpi.specs.Finder.{Indexed, first_of}
+use Rattle.pdb_tpi.specs.Finder.{FinderState, first_of}
 use Rattle.pdb_tpi.specs.Place.{IsPlace}
 use Rattle.pdb_tpi.proofs.FinderLemmas.{room_for, places_push}
 use Rattle.pdb_tpi.proofs.finder.ItemFinder.update.Goals as goal
@@ -8,7 +8,7 @@ use Rattle.pdb_tpi.proofs.finder.ItemFinder.update.Goals as goal
 pub push_reserved-requires : goal.push_reserved-requires
 push_reserved-requires g c =
     let s = c.self.inside in
-    let table : c.args.iterator.now.table ≡ s.table.now = c.requires ∙ sym (ap (λ (i : Indexed). i.table) c.self.view_is) in
+    let table : c.args.iterator.now.table ≡ s.table.now = c.requires ∙ sym (ap (λ (i : FinderState). i.table) c.self.view_is) in
     let place : IsPlace s.table.now c.place-index.result.0 c.place-index.result.1 = rw (← table, c.place-index.ensures.index) c.place-index.ensures.place in
     let least = ap (λ (h : Header). h.minimum_index) c.header-header.ensures.header in
     let most = ap (λ (h : Header). h.maximum_index) c.header-header.ensures.header in
@@ -20,7 +20,7 @@ push_reserved-requires g c =
 pub invariant_of-self : goal.invariant_of-self
 invariant_of-self g c =
     let s = c.self.inside in
-    let table : c.args.iterator.now.table ≡ s.table.now = c.requires ∙ sym (ap (λ (i : Indexed). i.table) c.self.view_is) in
+    let table : c.args.iterator.now.table ≡ s.table.now = c.requires ∙ sym (ap (λ (i : FinderState). i.table) c.self.view_is) in
     let place : IsPlace s.table.now c.place-index.result.0 c.place-index.result.1 = rw (← table, c.place-index.ensures.index) c.place-index.ensures.place in
     let least = ap (λ (h : Header). h.minimum_index) c.header-header.ensures.header in
     let most = ap (λ (h : Header). h.maximum_index) c.header-header.ensures.header in
