@@ -44,8 +44,11 @@ impl<'t, I: ItemIndex> Lookup<'t, I> {
     /// Returns `OutOfMemory` if memory is refused.
     pub fn new(alloc: Global, table: &'t ItemInformation<I>) -> Result<Self>
         ensures { Answers (λ lookup. lookup) result
-            (Ok (record { table = table.now; known = known_when_new table.now;
-            index = table.now.header.minimum_index })) }
+            (Ok (record {
+              table = table.now;
+              known = known_when_new table.now;
+              index = table.now.header.minimum_index;
+            })) }
     {
         Ok(Lookup {
             table,
