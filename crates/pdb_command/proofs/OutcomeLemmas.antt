@@ -10,7 +10,7 @@ use Rattle.pdb_container.specs.Refusal.{refusal_of, out_of_memory}
 use Rattle.pdb_container.specs.Answer.{Answer, RefusesUnless}
 use Rattle.pdb_container.specs.Header.{Head, opened}
 use Rattle.pdb_container.specs.declared.query.Reply.TheVariants as replies
-use Rattle.pdb_container.specs.Reply.{Said, bytes, entry, fields, name, moved, IsReply, AreReplies, IsRun, reply_of}
+use Rattle.pdb_container.specs.Reply.{Said, bytes, item_record, fields, name, moved, IsReply, AreReplies, IsRun, reply_of}
 use Rattle.pdb_command.specs.declared.outcome.Outcome.{Outcome}
 use Rattle.pdb_command.specs.Printed.{IsPrinted, IsAnsweredBy, IsRefused, IsOutcomeOf, ShowsReply, answer_of}
 
@@ -53,7 +53,7 @@ answered_by said meant lines outcome is printed by =
 
 pub shown_outcome : (reply : Reply) (meant : Answer Said) (outcome : Outcome) → IsReply Never reply meant → ShowsReply reply outcome → IsOutcomeOf meant outcome ⊎ IsRefused out_of_memory outcome
 shown_outcome (replies.Bytes stream) meant outcome is shown = inl (answered_by (bytes stream.items) meant _ outcome is refl shown)
-shown_outcome (replies.Record index kind text) meant outcome is shown = inl (answered_by (entry index kind (option_map (λ copy. copy.items) text)) meant _ outcome is refl shown)
+shown_outcome (replies.Record index kind text) meant outcome is shown = inl (answered_by (item_record index kind (option_map (λ copy. copy.items) text)) meant _ outcome is refl shown)
 shown_outcome (replies.Fields names) meant outcome is shown = inl (answered_by (fields (map (λ name. option_map (λ copy. copy.items) name) names.items)) meant _ outcome is refl shown)
 shown_outcome (replies.Name text) meant outcome is shown = inl (answered_by (name text.items) meant _ outcome is refl shown)
 shown_outcome (replies.Ranges ranges) meant outcome (table, asked, is, moves) shown = inl (answered_by (moved table asked) meant _ outcome is (ranges.items, moves, refl) shown)

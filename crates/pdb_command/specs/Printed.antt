@@ -12,7 +12,7 @@ use Rattle.pdb_container.specs.ErrorText.{io_error_front, text_of}
 use Rattle.pdb_base.specs.Text.{lossy}
 use Rattle.pdb_container.specs.Answer.{Answer, ◌>>=◌}
 use Rattle.pdb_container.specs.Header.{opened}
-use Rattle.pdb_container.specs.Reply.{Said, bytes, entry, fields, name, moved, AreMoved, reply_of}
+use Rattle.pdb_container.specs.Reply.{Said, bytes, item_record, fields, name, moved, AreMoved, reply_of}
 use Rattle.pdb_vectors.specs.Example.{s1_bytes}
 use Rattle.pdb_command.specs.declared.outcome.Outcome.{Outcome}
 use Rattle.pdb_command.specs.Lines.{line, hex_lines, record_line, name_lines, range_lines, reply_lines}
@@ -23,7 +23,7 @@ use Rattle.pdb_command.specs.Words.{query_of}
 -- which the addresses are moved.
 abbrev pub IsPrinted : Said → List ℕ → Type 0
 IsPrinted (bytes stream) out = out ≡ hex_lines stream
-IsPrinted (entry index kind text) out = out ≡ record_line index kind text
+IsPrinted (item_record index kind text) out = out ≡ record_line index kind text
 IsPrinted (fields names) out = out ≡ name_lines names
 IsPrinted (name text) out = out ≡ line (lossy text)
 IsPrinted (moved table asked) out = (ranges : List (Range ℕ)) × AreMoved table asked ranges × (out ≡ range_lines ranges)
