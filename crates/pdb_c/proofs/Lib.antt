@@ -1,5 +1,6 @@
 mod FieldsLemmas
 mod HeldSteps
+mod NamesLemmas
 mod OffsetsLemmas
 mod PartsSteps
 mod PlacesLemmas

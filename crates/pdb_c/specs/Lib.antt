@@ -9,6 +9,7 @@ pub mod Ids
 pub mod Information
 pub mod Listing
 pub mod Lists
+pub mod Names
 pub mod Offsets
 pub mod Place
 pub mod Places

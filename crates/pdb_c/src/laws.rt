@@ -1,11 +1,14 @@
-//! What the definitions say in other words. The functions do nothing: each contract is a law.
+//! What the definitions say in other words. The functions do nothing, or call other laws: each contract is a law.
 
 ghost use Rattle.std.specs.Prelude.{◌≡◌, ℕ, List, Ok, Some};
 ghost use Rattle.pdb_base.specs.Refusal.{Refusal};
 ghost use Rattle.pdb_msf.specs.Layout.{Plan, plan_of, stream_by};
 ghost use Rattle.pdb_c.specs.declared.fault.Fault.{Fault};
 ghost use Rattle.pdb_c.specs.File.{stream_said};
+ghost use Rattle.pdb_c.specs.Names.{StandsAtItsPlace};
 ghost use Rattle.pdb_c.specs.Told.{IsTold, TellsBack};
+
+use pdb_space::laws::{names, string_tables};
 
 /// Refusals of the library and the faults that tell one correspond one to one.
 pub fn statuses()
@@ -19,3 +22,11 @@ pub fn kept_plans()
     ensures { (file : List ℕ) (plan : Plan) (number limit : ℕ) → plan_of file ≡ Ok plan
         → stream_by plan file number (Some limit) ≡ stream_said number limit file }
 {}
+
+/// The bytes of a string table's stream at the place of a name are the name.
+pub fn name_places()
+    ensures { (stream : List ℕ) (offset : ℕ) → StandsAtItsPlace stream offset }
+{
+    string_tables();
+    names();
+}

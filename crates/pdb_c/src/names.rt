@@ -5,16 +5,31 @@ ghost use Rattle.pdb_base.specs.Answer.{Answers};
 ghost use Rattle.pdb_space.specs.StringTable.{name_of, names_of};
 ghost use Rattle.pdb_c.specs.declared.content.Content.TheVariants.{Names};
 ghost use Rattle.pdb_c.specs.Copied.{copied, copied_of};
+ghost use Rattle.pdb_c.specs.Found.{answered, answered_of};
 ghost use Rattle.pdb_c.specs.Handle.{OpensStream, held_as, names_held};
+ghost use Rattle.pdb_c.specs.Names.{name_place};
 
 use crate::content::Content;
 use crate::copied::{copy_nothing, copy_out};
-use crate::fault::{ALREADY_OPEN, Fault, NOT_OPEN, TOO_LONG};
+use crate::fault::{ALREADY_OPEN, FINE, Fault, NOT_OPEN, TOO_LONG};
 use crate::handle::Handle;
 use pdb_base::Result;
 use pdb_msf::Stream;
 use pdb_space::{StringRef, StringTable};
 use std::alloc::Global;
+
+/// The number of bytes of a stream before the names.
+const NAMES_START: usize = 12;
+
+/// Where a name stands in the stream of its string table.
+#[repr(C)]
+#[derive(Clone, Copy)]
+pub struct NamePlace {
+    /// The number of bytes of the stream before the name.
+    pub offset: usize,
+    /// The number of bytes of the name, without its NUL.
+    pub length: usize,
+}
 
 /// Parses the string table in a stream, which is copied.
 fn names_in(alloc: Global, stream: &[u8]) -> Result<Content>
@@ -80,6 +95,49 @@ pub extern "C" fn pdb_names_get(
     let told = match &*content {
         Content::Names(table) => name_at(table, offset, room, length),
         _ => copy_nothing(Fault::status(NOT_OPEN), length),
+    };
+    names.put(content);
+    told.tell(fault)
+}
+
+/// Writes where the name at an offset of a table stands in the stream of the table.
+fn place_at(names: &StringTable, offset: u32, place: &mut NamePlace) -> Fault
+    ensures { record { fault = result; value = place.new } ≡
+        answered place.old (name_place names.now offset) }
+{
+    match names.get(StringRef(offset)) {
+        Ok(name) => {
+            *place = NamePlace {
+                offset: NAMES_START + offset as usize,
+                length: name.as_bytes().len(),
+            };
+            Fault::status(FINE)
+        }
+        Err(error) => Fault::of(&error),
+    }
+}
+
+/// Writes where the name at an offset stands in the stream that the table was opened with, and its
+/// length without its NUL. Nothing is copied.
+#[unsafe(no_mangle)]
+pub extern "C" fn pdb_names_place(
+    alloc: Global,
+    names: &mut Handle,
+    offset: u32,
+    place: &mut NamePlace,
+    fault: &mut Fault,
+) -> u32
+    ensures answer { record { fault = fault.new; value = place.new }
+        ≡ answered_of place.old (λ names. name_place names offset) (names_held names.old.held.content) }
+    ensures kept { names.new.held.content ≡ names.old.held.content }
+    ensures status { result ≡ fault.new.status }
+{
+    let Some(content) = names.take(alloc) else {
+        return Fault::status(NOT_OPEN).tell(fault);
+    };
+    let told = match &*content {
+        Content::Names(table) => place_at(table, offset, place),
+        _ => Fault::status(NOT_OPEN),
     };
     names.put(content);
     told.tell(fault)
