@@ -59,12 +59,11 @@ uint64_t border_find(const Bytes &stream, const Numbers &indexes, uint32_t turns
 
 uint64_t border_names(const Bytes &stream, const Numbers &offsets, uint32_t turns) {
   Opened names(pdb_names_open, stream);
-  std::vector<uint8_t> room(1 << 16);
-  size_t length = 0;
+  pdb_name place{};
   uint64_t sum = 0;
   for (uint32_t turn = 0; turn < turns; turn++)
     for (uint32_t offset : offsets)
-      if (pdb_names_get(&names.handle, offset, room.data(), room.size(), &length, &names.fault) == PDB_OK)
-        sum += 1 + length;
+      if (pdb_names_place(&names.handle, offset, &place, &names.fault) == PDB_OK)
+        sum += 1 + place.length;
   return sum;
 }

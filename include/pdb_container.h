@@ -170,6 +170,16 @@ uint32_t pdb_file_names(const uint8_t *file, size_t file_length, pdb_handle *nam
 /* Copies the name at an offset, without its NUL. */
 uint32_t pdb_names_get(pdb_handle *names, uint32_t offset, uint8_t *room, size_t room_length, size_t *length, pdb_fault *fault);
 
+/* Where a name is in the stream of its table: how many bytes of the stream are before it, and how many bytes it
+ * has without its NUL. */
+typedef struct pdb_name {
+    size_t offset;
+    size_t length;
+} pdb_name;
+
+/* Writes where the name at an offset is in the stream that the table was opened with. Nothing is copied. */
+uint32_t pdb_names_place(pdb_handle *names, uint32_t offset, pdb_name *place, pdb_fault *fault);
+
 /* Writes the offsets of all names, in their order. The first name is at offset 0, and each later one begins
  * right after the NUL of the name before it. */
 uint32_t pdb_names_offsets(pdb_handle *names, uint32_t *room, size_t room_length, size_t *length, pdb_fault *fault);

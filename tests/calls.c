@@ -174,8 +174,11 @@ static void ask_names(void) {
     allowed(pdb_names_offsets(&names, offsets, 0, &count, &fault), PDB_TOO_SMALL);
     allowed(pdb_names_offsets(&names, offsets, 64, &count, &fault), PDB_OK);
     for (size_t i = 0; i < count; i++) {
+        pdb_name place = {0};
         allowed(pdb_names_get(&names, offsets[i], text, ROOM, &length, &fault), PDB_OK);
         printf("name %" PRIu32 " %.*s\n", offsets[i], (int)length, (char *)text);
+        allowed(pdb_names_place(&names, offsets[i], &place, &fault), PDB_OK);
+        printf("place %" PRIu32 " %zu %zu\n", offsets[i], place.offset, place.length);
     }
     pdb_close(&names);
 }

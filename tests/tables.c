@@ -210,6 +210,9 @@ static void check_misuse(void) {
     size_t length = 7;
     EXPECT(had(pdb_table_open(stream, stream_length, &table, &fault)) == PDB_ALREADY_OPEN);
     EXPECT(pdb_names_get(&table, 0, unused, MOST, &length, &fault) == PDB_NOT_OPEN && !length);
+    pdb_name place = {7, 7};
+    EXPECT(pdb_names_place(&table, 0, &place, &fault) == PDB_NOT_OPEN && place.offset == 7);
+    EXPECT(pdb_names_place(&closed, 0, &place, &fault) == PDB_NOT_OPEN && place.length == 7);
     check_closed(&closed);
     pdb_close(&table);
     check_closed(&table);

@@ -105,16 +105,15 @@ fn place_at(names: &StringTable, offset: u32, place: &mut NamePlace) -> Fault
     ensures { record { fault = result; value = place.new } ≡
         answered place.old (name_place names.now offset) }
 {
-    match names.get(StringRef(offset)) {
-        Ok(name) => {
-            *place = NamePlace {
-                offset: NAMES_START + offset as usize,
-                length: name.as_bytes().len(),
-            };
-            Fault::status(FINE)
-        }
-        Err(error) => Fault::of(&error),
-    }
+    let name = match names.get(StringRef(offset)) {
+        Ok(name) => name,
+        Err(error) => return Fault::of(&error),
+    };
+    *place = NamePlace {
+        offset: NAMES_START + offset as usize,
+        length: name.as_bytes().len(),
+    };
+    Fault::status(FINE)
 }
 
 /// Writes where the name at an offset stands in the stream that the table was opened with, and its
