@@ -22,7 +22,7 @@ use Rattle.pdb_space.specs.Omap as omap
 use Rattle.pdb_base.specs.Refusal.{Refusal, refusal_of}
 use Rattle.pdb_container.specs.Lookup.{Walked}
 use Rattle.pdb_container.specs.Reply as reply
-use Rattle.pdb_container.specs.Reply.{Said, IsReply, AreReplies, reply_of, stream_asked, said_within, type_within, id_within, fields_within, name_within, moved_within}
+use Rattle.pdb_container.specs.Reply.{Said, IsReply, Replies, AreReplies, reply_of, stream_asked, said_within, type_within, id_within, fields_within, name_within, moved_within}
 use Rattle.pdb_container.specs.Asked.{Progress, query_at, is_answered, said_by, RepliesIf, IsAnsweredWith, AreRight, IsAnsweredOn, MeansTable, MeansStream, AsksTypes, AsksIds, AsksNames, AsksOmap, AnswersAt, IsAnsweredFrom, AnswersFrom}
 use Rattle.pdb_container.proofs.ReplyLemmas.{IsReply-weaker}
 
@@ -76,18 +76,29 @@ pair_is {A} {B} (a, b) (c, d) first second = ap (λ (x : A). (x, b)) first ∙ a
 
 -- ---- by a table
 
--- what is said where a reply is
-said_there : (reply : Reply) (said : Option (Answer Said)) → RepliesIf (Some reply) said → (meant : Answer Said) × (said ≡ Some meant) × IsReply ⊥ reply meant
-said_there reply None is = absurd is
-said_there reply (Some meant) is = (meant, refl, is)
+-- what is said where a call is made
+said_there : (result : Result Reply Error) (said : Option (Answer Said)) → RepliesIf (Some result) said → (meant : Answer Said) × (said ≡ Some meant) × Replies result meant
+said_there result None is = absurd is
+said_there result (Some meant) is = (meant, refl, is)
+
+-- the reply of a call, or its refusal
+abbrev pub replied : Result Reply Error → Reply
+replied (Ok reply) = reply
+replied (Err e) = replies.Refused e
+
+replied_is : (result : Result Reply Error) (meant : Answer Said) → Replies result meant → IsReply ⊥ (replied result) meant
+replied_is (Ok reply) meant is = is
+replied_is (Err e) meant (inl is) = inl is
+replied_is (Err e) meant (inr want) = inr (inl want)
 
 -- what a table says to a query at a place is a right reply
-pub offered : (number : ℕ) (opened : Opened) (at : ℕ) (query : Query) (reply : Reply) (old new : Progress) → query ≡ query_at old at → (stream_asked query).0 ≡ number → RepliesIf (Some reply) (said_by opened query)
-    → IsAnsweredWith at reply old new → IsAnsweredOn (MeansTable number opened) old new
-offered number opened at query reply old new is asks replies with =
-    let there = said_there reply (said_by opened query) replies in
+pub offered : (number : ℕ) (opened : Opened) (at : ℕ) (query : Query) (result : Result Reply Error) (reply : Reply) (old new : Progress) → query ≡ query_at old at → (stream_asked query).0 ≡ number → RepliesIf (Some result) (said_by opened query)
+    → replied result ≡ reply → IsAnsweredWith at reply old new → IsAnsweredOn (MeansTable number opened) old new
+offered number opened at query result reply old new is asks replies gives with =
+    let there = said_there result (said_by opened query) replies in
+    let right = subst (λ (r : Reply). IsReply ⊥ r there.0) gives (replied_is result there.0 there.2) in
     on_with (MeansTable number opened) at reply old new with
-    (λ meant means. subst (λ (q : Query). IsReply ⊥ reply (meant q)) is (subst (λ (said : Answer Said). IsReply ⊥ reply said) (sym (means query there.0 asks there.1)) there.2))
+    (λ meant means. subst (λ (q : Query). IsReply ⊥ reply (meant q)) is (subst (λ (said : Answer Said). IsReply ⊥ reply said) (sym (means query there.0 asks there.1)) right))
 
 -- a table as which the same stream is opened means the same
 pub on_same : (number : ℕ) (one other : Opened) (old new : Progress) → ((query : Query) → said_by other query ≡ said_by one query) → IsAnsweredOn (MeansTable number other) old new → IsAnsweredOn (MeansTable number one) old new

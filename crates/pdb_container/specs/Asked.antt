@@ -7,7 +7,7 @@ use Rattle.pdb_container.specs.declared.query.Query.TheVariants as queries
 use Rattle.pdb_container.specs.declared.query.Reply.{Reply}
 use Rattle.pdb_container.specs.declared.opened.Opened.{Opened}
 use Rattle.pdb_container.specs.declared.opened.Opened.TheVariants as tables
-use Rattle.pdb_container.specs.Reply.{Said, IsReply, moved, type_in, id_in, fields_in, name_in, stream_asked, said_within}
+use Rattle.pdb_container.specs.Reply.{Said, IsReply, Replies, moved, type_in, id_in, fields_in, name_in, stream_asked, said_within}
 
 -- What a stream that is opened as a table answers to a query, if the query asks such a table.
 abbrev pub said_by : Opened → Query → Option (Answer Said)
@@ -18,11 +18,11 @@ said_by (tables.Names names) (queries.Name stream offset) = Some (name_in offset
 said_by (tables.Omap omap) (queries.Ranges stream start end) = Some (Ok (moved omap (record { start = start; end = end })))
 said_by opened query = None
 
--- there is a reply if and only if there is an answer, and the reply gives that answer
-abbrev pub RepliesIf : Option Reply → Option (Answer Said) → Type 0
+-- a call is made if and only if there is an answer, and the call replies that answer
+abbrev pub RepliesIf : Option (Result Reply Error) → Option (Answer Said) → Type 0
 RepliesIf None None = ⊤
-RepliesIf (Some reply) (Some said) = IsReply ⊥ reply said
-RepliesIf reply said = ⊥
+RepliesIf (Some result) (Some said) = Replies result said
+RepliesIf result said = ⊥
 
 -- Queries, the replies to them, and for each query whether it is answered.
 pub record Progress : Type 0 where

@@ -73,7 +73,8 @@ impl<'t, I: ItemIndex> Lookup<'t, I> {
     /// # Errors
     /// Fails with the fault at which the walk stops before that block, or with `UnexpectedEof` if
     /// it ends before it.
-    fn learn(&mut self, index: I) -> Result<()>
+    #[inline(never)]
+    fn walk_to(&mut self, index: I) -> Result<()>
         ensures known { IfOk result (λ _. is_known self.new.table self.new.known (I.number index) ≡ true) }
         ensures stops { IfErr result (λ e. item_of self.old.table (I.number index) ≡ Err (refusal_of e)) }
         ensures table { self.new.table ≡ self.old.table }
@@ -85,6 +86,22 @@ impl<'t, I: ItemIndex> Lookup<'t, I> {
             }
         }
         Ok(())
+    }
+
+    /// Walks on until the finder knows the block of an index, if it does not know it yet.
+    ///
+    /// # Errors
+    /// Fails as `walk_to` does.
+    #[inline(always)]
+    fn learn(&mut self, index: I) -> Result<()>
+        ensures known { IfOk result (λ _. is_known self.new.table self.new.known (I.number index) ≡ true) }
+        ensures stops { IfErr result (λ e. item_of self.old.table (I.number index) ≡ Err (refusal_of e)) }
+        ensures table { self.new.table ≡ self.old.table }
+    {
+        if self.knows(index) {
+            return Ok(());
+        }
+        self.walk_to(index)
     }
 
     /// Returns the item of an index, wherever in the table it stands.

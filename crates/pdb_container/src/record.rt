@@ -51,6 +51,7 @@ fn name_of_id<'t>(id: &IdData<'t>) -> Option<RawString<'t>>
 /// # Errors
 /// Fails as the look-up does, then as parsing the record does, and with `OutOfMemory` if memory is
 /// refused.
+#[inline(never)]
 #[tactic(auto, unfolding(crate::specs::Reply::type_in))]
 pub fn type_record(
     alloc: Global,
@@ -71,6 +72,7 @@ pub fn type_record(
 /// # Errors
 /// Fails as the look-up does, then as parsing the record does, and with `OutOfMemory` if memory is
 /// refused.
+#[inline(never)]
 #[tactic(auto, unfolding(crate::specs::Reply::id_in))]
 pub fn id_record(alloc: Global, ids: &mut Lookup<'_, IdIndex>, index: IdIndex) -> Result<Reply>
     ensures said { Replies result (id_in index.0 ids.old.table) }

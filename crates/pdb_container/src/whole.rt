@@ -43,8 +43,10 @@ fn offer(alloc: Global, number: u32, opened: &mut Opened<'_>, at: usize, asked: 
     if asked.is_answered(at) || stream_asked(query).0 != number {
         return;
     }
-    if let Some(reply) = opened.reply(alloc, query) {
-        asked.answer(at, reply);
+    match opened.reply(alloc, query) {
+        Some(Ok(reply)) => asked.answer(at, reply),
+        Some(Err(error)) => asked.answer(at, Reply::Refused(error)),
+        None => {}
     }
 }
 

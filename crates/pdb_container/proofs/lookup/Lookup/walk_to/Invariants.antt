@@ -1,6 +1,6 @@
 use Rattle.std.proofs.Common.{◌≡◌}
 use Rattle.pdb_tpi.specs.Steps.{items_left}
-use Rattle.pdb_container.proofs.lookup.Lookup.learn.Given as goal
+use Rattle.pdb_container.proofs.lookup.Lookup.walk_to.Given as goal
 
 abbrev pub invariant-loop-index : goal.invariant-loop-index
 invariant-loop-index g l = l.self.table ≡ l.fn.self.table

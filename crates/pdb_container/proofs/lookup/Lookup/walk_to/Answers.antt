@@ -8,7 +8,7 @@ use Rattle.pdb_tpi.specs.Steps.{walk_rest}
 use Rattle.pdb_tpi.proofs.StepLemmas.{step_none, step_err}
 use Rattle.pdb_container.specs.Lookup.{Walked, is_known}
 use Rattle.pdb_container.proofs.LookupLemmas.{shown_more, ends_there, stays_shown, end_fault, missed}
-use Rattle.pdb_container.proofs.lookup.Lookup.learn.Goals as goal
+use Rattle.pdb_container.proofs.lookup.Lookup.walk_to.Goals as goal
 
 pub returns-in_err-next-clause-stops : goal.returns-in_err-next-clause-stops
 returns-in_err-next-clause-stops g c =
