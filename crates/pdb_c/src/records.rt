@@ -20,6 +20,7 @@ use std::alloc::Global;
 
 /// Parses the record of the type of an index. An index below 0x1000 is that of a primitive type,
 /// which needs no record.
+#[inline(always)]
 #[tactic(auto, unfolding(pdb_tpi::specs::Record::type_of))]
 pub fn type_in<'t>(alloc: Global, bytes: &'t [u8], index: u32) -> Result<TypeData<'t>>
     ensures { Answers type_value result (type_of index bytes.now) }
@@ -42,12 +43,13 @@ pub extern "C" fn pdb_type_row(
     ensures answer { IsAnswered (λ value. row_of value) (type_of index bytes.now) row.old fault.new row.new }
     ensures status { result ≡ fault.new.status }
 {
-    match type_in(alloc, bytes, index) {
+    let parsed = type_in(alloc, bytes, index);
+    match &parsed {
         Ok(value) => {
-            *row = Row::of_type(&value);
+            row.set_type(value);
             Fault::status(FINE).tell(fault)
         }
-        Err(error) => Fault::of(&error).tell(fault),
+        Err(error) => Fault::of(error).tell(fault),
     }
 }
 

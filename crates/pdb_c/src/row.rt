@@ -3,7 +3,7 @@
 ghost use Rattle.std.specs.Prelude.{◌≡◌, ◌+◌, ◌*◌, ◌≤◌};
 ghost use Rattle.pdb_values.specs.TypeView.{type_value};
 ghost use Rattle.pdb_c.specs.Frame.{flag};
-ghost use Rattle.pdb_c.specs.Row.{bit, class_kind, index_in, is_negative, magnitude, no_numbers, numbers_of, row, row_of, shape_of};
+ghost use Rattle.pdb_c.specs.Row.{bit, class_kind, index_in, is_negative, magnitude, no_numbers, row, row_of};
 
 use crate::frame::flag;
 use pdb_base::{TypeIndex, Variant};
@@ -130,174 +130,8 @@ fn magnitude(value: Variant) -> u64
     }
 }
 
-/// Returns the number of a type's shape.
-fn shape_of(value: &TypeData<'_>) -> u32
-    ensures { result ≡ shape_of (type_value value.now) }
-{
-    match value {
-        TypeData::Primitive(_) => 0,
-        TypeData::Class(_) => 1,
-        TypeData::Member(_) => 2,
-        TypeData::MemberFunction(_) => 3,
-        TypeData::OverloadedMethod(_) => 4,
-        TypeData::Method(_) => 5,
-        TypeData::StaticMember(_) => 6,
-        TypeData::Nested(_) => 7,
-        TypeData::BaseClass(_) => 8,
-        TypeData::VirtualBaseClass(_) => 9,
-        TypeData::VirtualFunctionTablePointer(_) => 10,
-        TypeData::Procedure(_) => 11,
-        TypeData::Pointer(_) => 12,
-        TypeData::Modifier(_) => 13,
-        TypeData::Enumeration(_) => 14,
-        TypeData::Enumerate(_) => 15,
-        TypeData::Array(_) => 16,
-        TypeData::Union(_) => 17,
-        TypeData::Bitfield(_) => 18,
-        TypeData::FieldList(_) => 19,
-        TypeData::ArgumentList(_) => 20,
-        TypeData::MethodList(_) => 21,
-        TypeData::VirtualTableShape(_) => 22,
-    }
-}
-
-/// Returns the numbers of a type.
-fn numbers_of(value: &TypeData<'_>) -> Numbers
-    ensures { result ≡ numbers_of (type_value value.now) }
-{
-    match value {
-        TypeData::Primitive(_) => NO_NUMBERS,
-        TypeData::Class(v) => Numbers {
-            kind: Some(class_kind(v.kind)),
-            properties: Some(v.properties.bits() as u32),
-            count: Some(v.count as u32),
-            second_index: index_in(v.derived_from),
-            third_index: index_in(v.vtable_shape),
-            list_index: index_in(v.fields),
-            number: Some(v.size),
-            ..NO_NUMBERS
-        },
-        TypeData::Member(v) => Numbers {
-            attributes: Some(v.attributes.bits() as u32),
-            type_index: Some(v.field_type.0),
-            number: Some(v.offset),
-            ..NO_NUMBERS
-        },
-        TypeData::MemberFunction(v) => Numbers {
-            attributes: Some(v.attributes.bits() as u32),
-            count: Some(v.parameter_count as u32),
-            type_index: Some(v.return_type.0),
-            second_index: Some(v.class_type.0),
-            third_index: index_in(v.this_pointer_type),
-            list_index: Some(v.argument_list.0),
-            extra: Some(v.this_adjustment),
-            ..NO_NUMBERS
-        },
-        TypeData::OverloadedMethod(v) => Numbers {
-            count: Some(v.count as u32),
-            list_index: Some(v.method_list.0),
-            ..NO_NUMBERS
-        },
-        TypeData::Method(v) => Numbers {
-            attributes: Some(v.attributes.bits() as u32),
-            type_index: Some(v.method_type.0),
-            extra: v.vtable_offset,
-            ..NO_NUMBERS
-        },
-        TypeData::StaticMember(v) => Numbers {
-            attributes: Some(v.attributes.bits() as u32),
-            type_index: Some(v.field_type.0),
-            ..NO_NUMBERS
-        },
-        TypeData::Nested(v) => Numbers {
-            attributes: Some(v.attributes.bits() as u32),
-            type_index: Some(v.nested_type.0),
-            ..NO_NUMBERS
-        },
-        TypeData::BaseClass(v) => Numbers {
-            kind: Some(class_kind(v.kind)),
-            attributes: Some(v.attributes.bits() as u32),
-            type_index: Some(v.base_class.0),
-            number: Some(v.offset as u64),
-            ..NO_NUMBERS
-        },
-        TypeData::VirtualBaseClass(v) => Numbers {
-            kind: Some(flag(v.direct)),
-            attributes: Some(v.attributes.bits() as u32),
-            type_index: Some(v.base_class.0),
-            second_index: Some(v.base_pointer.0),
-            number: Some(v.base_pointer_offset as u64),
-            extra: Some(v.virtual_base_offset),
-            ..NO_NUMBERS
-        },
-        TypeData::VirtualFunctionTablePointer(v) => Numbers {
-            type_index: Some(v.table.0),
-            ..NO_NUMBERS
-        },
-        TypeData::Procedure(v) => Numbers {
-            attributes: Some(v.attributes.bits() as u32),
-            count: Some(v.parameter_count as u32),
-            type_index: index_in(v.return_type),
-            list_index: Some(v.argument_list.0),
-            ..NO_NUMBERS
-        },
-        TypeData::Pointer(v) => Numbers {
-            attributes: Some(v.attributes.bits()),
-            type_index: Some(v.underlying_type.0),
-            second_index: index_in(v.containing_class),
-            ..NO_NUMBERS
-        },
-        TypeData::Modifier(v) => Numbers {
-            kind: Some(flag(v.constant) + 2 * flag(v.volatile) + 4 * flag(v.unaligned)),
-            type_index: Some(v.underlying_type.0),
-            ..NO_NUMBERS
-        },
-        TypeData::Enumeration(v) => Numbers {
-            properties: Some(v.properties.bits() as u32),
-            count: Some(v.count as u32),
-            type_index: Some(v.underlying_type.0),
-            list_index: Some(v.fields.0),
-            ..NO_NUMBERS
-        },
-        TypeData::Enumerate(v) => Numbers {
-            kind: Some(flag(is_negative(v.value))),
-            attributes: Some(v.attributes.bits() as u32),
-            number: Some(magnitude(v.value)),
-            ..NO_NUMBERS
-        },
-        TypeData::Array(v) => Numbers {
-            type_index: Some(v.element_type.0),
-            second_index: Some(v.indexing_type.0),
-            extra: v.stride,
-            ..NO_NUMBERS
-        },
-        TypeData::Union(v) => Numbers {
-            properties: Some(v.properties.bits() as u32),
-            count: Some(v.count as u32),
-            list_index: Some(v.fields.0),
-            number: Some(v.size),
-            ..NO_NUMBERS
-        },
-        TypeData::Bitfield(v) => Numbers {
-            count: Some(v.length as u32),
-            type_index: Some(v.underlying_type.0),
-            extra: Some(v.position as u32),
-            ..NO_NUMBERS
-        },
-        TypeData::FieldList(v) => Numbers {
-            list_index: index_in(v.continuation),
-            ..NO_NUMBERS
-        },
-        TypeData::ArgumentList(_) => NO_NUMBERS,
-        TypeData::MethodList(_) => NO_NUMBERS,
-        TypeData::VirtualTableShape(v) => Numbers {
-            count: Some(v.count as u32),
-            ..NO_NUMBERS
-        },
-    }
-}
-
 /// Returns the weight of a bit if its number is present, and 0 if not.
+#[inline(always)]
 fn bit(weight: u32, stands: bool) -> u32
     requires { weight ≤ 512 }
     ensures { result ≡ weight * flag stands }
@@ -306,6 +140,7 @@ fn bit(weight: u32, stands: bool) -> u32
 }
 
 /// Returns the bits of the numbers that are present.
+#[inline(always)]
 fn stands(numbers: &Numbers) -> u32
     ensures { result ≡ bit 1 numbers.now.kind + bit 2 numbers.now.attributes + bit 4 numbers.now.properties +
         bit 8 numbers.now.count + bit 16 numbers.now.type_index + bit 32 numbers.now.second_index +
@@ -326,6 +161,7 @@ fn stands(numbers: &Numbers) -> u32
 
 impl Row {
     /// Returns the row of a shape and its numbers.
+    #[inline(always)]
     #[tactic(auto, unfolding(crate::specs::Row::row))]
     pub fn of(shape: u32, numbers: &Numbers) -> Row
         ensures { result ≡ row shape numbers.now }
@@ -346,10 +182,208 @@ impl Row {
         }
     }
 
+    /// Writes the row of a type.
+    pub fn set_type(&mut self, value: &TypeData<'_>)
+        ensures { self.new ≡ row_of (type_value value.now) }
+    {
+        match value {
+            TypeData::Primitive(_) => *self = Row::of(0, &NO_NUMBERS),
+            TypeData::Class(v) => *self = Row::of(
+                1,
+                &Numbers {
+                    kind: Some(class_kind(v.kind)),
+                    properties: Some(v.properties.bits() as u32),
+                    count: Some(v.count as u32),
+                    second_index: index_in(v.derived_from),
+                    third_index: index_in(v.vtable_shape),
+                    list_index: index_in(v.fields),
+                    number: Some(v.size),
+                    ..NO_NUMBERS
+                },
+            ),
+            TypeData::Member(v) => *self = Row::of(
+                2,
+                &Numbers {
+                    attributes: Some(v.attributes.bits() as u32),
+                    type_index: Some(v.field_type.0),
+                    number: Some(v.offset),
+                    ..NO_NUMBERS
+                },
+            ),
+            TypeData::MemberFunction(v) => *self = Row::of(
+                3,
+                &Numbers {
+                    attributes: Some(v.attributes.bits() as u32),
+                    count: Some(v.parameter_count as u32),
+                    type_index: Some(v.return_type.0),
+                    second_index: Some(v.class_type.0),
+                    third_index: index_in(v.this_pointer_type),
+                    list_index: Some(v.argument_list.0),
+                    extra: Some(v.this_adjustment),
+                    ..NO_NUMBERS
+                },
+            ),
+            TypeData::OverloadedMethod(v) => *self = Row::of(
+                4,
+                &Numbers {
+                    count: Some(v.count as u32),
+                    list_index: Some(v.method_list.0),
+                    ..NO_NUMBERS
+                },
+            ),
+            TypeData::Method(v) => *self = Row::of(
+                5,
+                &Numbers {
+                    attributes: Some(v.attributes.bits() as u32),
+                    type_index: Some(v.method_type.0),
+                    extra: v.vtable_offset,
+                    ..NO_NUMBERS
+                },
+            ),
+            TypeData::StaticMember(v) => *self = Row::of(
+                6,
+                &Numbers {
+                    attributes: Some(v.attributes.bits() as u32),
+                    type_index: Some(v.field_type.0),
+                    ..NO_NUMBERS
+                },
+            ),
+            TypeData::Nested(v) => *self = Row::of(
+                7,
+                &Numbers {
+                    attributes: Some(v.attributes.bits() as u32),
+                    type_index: Some(v.nested_type.0),
+                    ..NO_NUMBERS
+                },
+            ),
+            TypeData::BaseClass(v) => *self = Row::of(
+                8,
+                &Numbers {
+                    kind: Some(class_kind(v.kind)),
+                    attributes: Some(v.attributes.bits() as u32),
+                    type_index: Some(v.base_class.0),
+                    number: Some(v.offset as u64),
+                    ..NO_NUMBERS
+                },
+            ),
+            TypeData::VirtualBaseClass(v) => *self = Row::of(
+                9,
+                &Numbers {
+                    kind: Some(flag(v.direct)),
+                    attributes: Some(v.attributes.bits() as u32),
+                    type_index: Some(v.base_class.0),
+                    second_index: Some(v.base_pointer.0),
+                    number: Some(v.base_pointer_offset as u64),
+                    extra: Some(v.virtual_base_offset),
+                    ..NO_NUMBERS
+                },
+            ),
+            TypeData::VirtualFunctionTablePointer(v) => *self = Row::of(
+                10,
+                &Numbers {
+                    type_index: Some(v.table.0),
+                    ..NO_NUMBERS
+                },
+            ),
+            TypeData::Procedure(v) => *self = Row::of(
+                11,
+                &Numbers {
+                    attributes: Some(v.attributes.bits() as u32),
+                    count: Some(v.parameter_count as u32),
+                    type_index: index_in(v.return_type),
+                    list_index: Some(v.argument_list.0),
+                    ..NO_NUMBERS
+                },
+            ),
+            TypeData::Pointer(v) => *self = Row::of(
+                12,
+                &Numbers {
+                    attributes: Some(v.attributes.bits()),
+                    type_index: Some(v.underlying_type.0),
+                    second_index: index_in(v.containing_class),
+                    ..NO_NUMBERS
+                },
+            ),
+            TypeData::Modifier(v) => *self = Row::of(
+                13,
+                &Numbers {
+                    kind: Some(flag(v.constant) + 2 * flag(v.volatile) + 4 * flag(v.unaligned)),
+                    type_index: Some(v.underlying_type.0),
+                    ..NO_NUMBERS
+                },
+            ),
+            TypeData::Enumeration(v) => *self = Row::of(
+                14,
+                &Numbers {
+                    properties: Some(v.properties.bits() as u32),
+                    count: Some(v.count as u32),
+                    type_index: Some(v.underlying_type.0),
+                    list_index: Some(v.fields.0),
+                    ..NO_NUMBERS
+                },
+            ),
+            TypeData::Enumerate(v) => *self = Row::of(
+                15,
+                &Numbers {
+                    kind: Some(flag(is_negative(v.value))),
+                    attributes: Some(v.attributes.bits() as u32),
+                    number: Some(magnitude(v.value)),
+                    ..NO_NUMBERS
+                },
+            ),
+            TypeData::Array(v) => *self = Row::of(
+                16,
+                &Numbers {
+                    type_index: Some(v.element_type.0),
+                    second_index: Some(v.indexing_type.0),
+                    extra: v.stride,
+                    ..NO_NUMBERS
+                },
+            ),
+            TypeData::Union(v) => *self = Row::of(
+                17,
+                &Numbers {
+                    properties: Some(v.properties.bits() as u32),
+                    count: Some(v.count as u32),
+                    list_index: Some(v.fields.0),
+                    number: Some(v.size),
+                    ..NO_NUMBERS
+                },
+            ),
+            TypeData::Bitfield(v) => *self = Row::of(
+                18,
+                &Numbers {
+                    count: Some(v.length as u32),
+                    type_index: Some(v.underlying_type.0),
+                    extra: Some(v.position as u32),
+                    ..NO_NUMBERS
+                },
+            ),
+            TypeData::FieldList(v) => *self = Row::of(
+                19,
+                &Numbers {
+                    list_index: index_in(v.continuation),
+                    ..NO_NUMBERS
+                },
+            ),
+            TypeData::ArgumentList(_) => *self = Row::of(20, &NO_NUMBERS),
+            TypeData::MethodList(_) => *self = Row::of(21, &NO_NUMBERS),
+            TypeData::VirtualTableShape(v) => *self = Row::of(
+                22,
+                &Numbers {
+                    count: Some(v.count as u32),
+                    ..NO_NUMBERS
+                },
+            ),
+        }
+    }
+
     /// Returns the row of a type.
     pub fn of_type(value: &TypeData<'_>) -> Row
         ensures { result ≡ row_of (type_value value.now) }
     {
-        Row::of(shape_of(value), &numbers_of(value))
+        let mut row = Row::of(0, &NO_NUMBERS);
+        row.set_type(value);
+        row
     }
 }

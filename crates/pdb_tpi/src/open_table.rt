@@ -160,6 +160,7 @@ impl<I: ItemIndex> OpenTable<I> {
 
     /// Returns the item at a place in the walk and where its record stands, or the fault at which
     /// the walk stops before it.
+    #[inline(always)]
     fn nth(&self, place: u32) -> Result<(Item<'_, I>, RecordPlace)>
         ensures item { Gives (λ found. bytes_of found.0) result (nth_item self.now.table place) }
         ensures index { IfOk result (λ found.
