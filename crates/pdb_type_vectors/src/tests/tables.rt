@@ -5,8 +5,8 @@ ghost use Rattle.std.specs.Prelude.{◌≡◌, ◌<◌, length, IfOk};
 use pdb_base::{Count, Error, FallibleIterator, IdIndex, TypeIndex, Variant};
 use pdb_msf::Stream;
 use pdb_tpi::{
-    Header, IdFinder, IdInformation, IdIter, ItemFinder, ItemInformation, ItemIter, Slice, Type,
-    TypeFinder, TypeInformation, TypeIter,
+    Header, IdFinder, IdInformation, IdIter, ItemFinder, ItemInformation, ItemIter, OpenTable,
+    RecordPlace, Slice, Type, TypeFinder, TypeInformation, TypeIter,
 };
 use pdb_values::TypeData;
 use pdb_vectors::item_table;
@@ -610,5 +610,42 @@ fn joined_fields(rt: HostRuntime) -> Result<(), Fail> {
     show_each(&table, &mut finder, 8)?;
     let fields = finder.fields(alloc, TypeIndex(0x1008))?;
     assert!(rt; are_a_and_b(fields.as_slice()), "in two blocks");
+    Ok(())
+}
+
+/// The offset and the length of a record that was found, or 0 and 0 if there is none.
+fn place_in(answer: pdb_base::Result<Option<RecordPlace>>) -> Result<(u32, u32), Fail> {
+    match answer? {
+        Some(place) => Ok((place.offset, place.length)),
+        None => Ok((0, 0)),
+    }
+}
+
+/// What three steps of a walk give, and one more after the walk is moved back to its start.
+fn steps_of(open: &mut OpenTable<TypeIndex>) -> Result<[(u32, u32); 4], Fail> {
+    let first = place_in(open.step())?;
+    let second = place_in(open.step())?;
+    let third = place_in(open.step())?;
+    open.rewind();
+    Ok([first, second, third, place_in(open.step())?])
+}
+
+#[test]
+fn open_tables(rt: HostRuntime) -> Result<(), Fail> {
+    let alloc = rt.alloc();
+    let mut open = OpenTable::new(alloc, table_of(alloc, 0x1000, 0x1002, TWO_LISTS)?)?;
+    assert_eq!(rt;
+        steps_of(&mut open)?,
+        [(58, 12), (72, 18), (0, 0), (58, 12)]
+    );
+    open.learn(alloc, 0x1001);
+    assert_eq!(rt; (open.index(), open.items().len()), (0x1001, 2));
+    assert_eq!(rt;
+        [place_in(open.find(0xfff))?, place_in(open.find(0x1001))?],
+        [(0, 0), (72, 18)]
+    );
+    assert!(rt; matches!(open.find(0x1002), Err(Error::TypeNotFound(0x1002))));
+    assert_eq!(rt; open.item(0x1001)?.len(), 18);
+    assert!(rt; are_a_and_b(&open.fields(alloc, TypeIndex(0x1001))?));
     Ok(())
 }
