@@ -47,8 +47,8 @@ fn write_row(parsed: &Result<TypeData<'_>>, row: &mut Row) -> Fault
 }
 
 /// Writes the numbers in the record of a type.
-#[unsafe(no_mangle)]
 #[tactic(auto, unfolding(pdb_tpi::specs::Record::type_of))]
+#[unsafe(no_mangle)]
 pub extern "C" fn pdb_type_row(
     alloc: Global,
     bytes: &[u8],
