@@ -2,7 +2,8 @@
 
 ghost use Rattle.std.specs.Prelude.{◌≡◌, map, Ok};
 ghost use Rattle.std.specs.Option.{option_map};
-ghost use Rattle.pdb_base.specs.Answer.{Answers};
+ghost use Rattle.pdb_base.specs.Answer.{Answer, Answers};
+ghost use Rattle.pdb_values.specs.TypeValue.{TypeValue};
 ghost use Rattle.pdb_values.specs.TypeView.{type_value};
 ghost use Rattle.pdb_tpi.specs.Record.{type_of};
 ghost use Rattle.pdb_c.specs.Copied.{CopiesOrLacks};
@@ -20,7 +21,6 @@ use std::alloc::Global;
 
 /// Parses the record of the type of an index. An index below 0x1000 is that of a primitive type,
 /// which needs no record.
-#[inline(always)]
 #[tactic(auto, unfolding(pdb_tpi::specs::Record::type_of))]
 pub fn type_in<'t>(alloc: Global, bytes: &'t [u8], index: u32) -> Result<TypeData<'t>>
     ensures { Answers type_value result (type_of index bytes.now) }
@@ -31,7 +31,23 @@ pub fn type_in<'t>(alloc: Global, bytes: &'t [u8], index: u32) -> Result<TypeDat
     parse_type_data(alloc, bytes)
 }
 
+/// Writes the row of a type that was parsed, or returns the fault of its error.
+#[inline(always)]
+fn write_row(parsed: &Result<TypeData<'_>>, row: &mut Row) -> Fault
+    ensures { (meant : Answer TypeValue) → Answers type_value parsed.now meant
+        → IsAnswered (λ value. row_of value) meant row.old result row.new }
+{
+    match parsed {
+        Ok(value) => {
+            row.set_type(value);
+            Fault::status(FINE)
+        }
+        Err(error) => Fault::of(error),
+    }
+}
+
 /// Writes the numbers in the record of a type.
+#[tactic(auto, unfolding(pdb_tpi::specs::Record::type_of))]
 #[unsafe(no_mangle)]
 pub extern "C" fn pdb_type_row(
     alloc: Global,
@@ -43,14 +59,10 @@ pub extern "C" fn pdb_type_row(
     ensures answer { IsAnswered (λ value. row_of value) (type_of index bytes.now) row.old fault.new row.new }
     ensures status { result ≡ fault.new.status }
 {
-    let parsed = type_in(alloc, bytes, index);
-    match &parsed {
-        Ok(value) => {
-            row.set_type(value);
-            Fault::status(FINE).tell(fault)
-        }
-        Err(error) => Fault::of(error).tell(fault),
+    if index < FIRST_RECORD {
+        return write_row(&type_data_for_primitive(TypeIndex(index)), row).tell(fault);
     }
+    write_row(&parse_type_data(alloc, bytes), row).tell(fault)
 }
 
 /// Copies the name in the record of a type.

@@ -1,13 +1,26 @@
 //! What a record says, as a row of numbers.
 
 ghost use Rattle.std.specs.Prelude.{◌≡◌, ◌+◌, ◌*◌, ◌≤◌};
+ghost use Rattle.pdb_values.specs.Array.{array_value};
+ghost use Rattle.pdb_values.specs.Class.{class_value};
+ghost use Rattle.pdb_values.specs.Enumeration.{enumerate_value, enumeration_value};
+ghost use Rattle.pdb_values.specs.Member.{member_value, nested_value, static_member_value};
+ghost use Rattle.pdb_values.specs.Method.{method_value, overloaded_method_value};
+ghost use Rattle.pdb_values.specs.TableShape.{table_shape_value};
+ghost use Rattle.pdb_values.specs.Union.{union_value};
+ghost use Rattle.pdb_values.specs.TypeValue.{array, base_class, bitfield, class, enumerate, enumeration, member, member_function, method, modifier, nested, overloaded_method, plain, pointer, procedure, static_member, union, virtual_base_class, virtual_function_table_pointer, virtual_table_shape};
 ghost use Rattle.pdb_values.specs.TypeView.{type_value};
 ghost use Rattle.pdb_c.specs.Frame.{flag};
 ghost use Rattle.pdb_c.specs.Row.{bit, class_kind, index_in, is_negative, magnitude, no_numbers, row, row_of};
 
 use crate::frame::flag;
 use pdb_base::{TypeIndex, Variant};
-use pdb_values::{ClassKind, TypeData};
+use pdb_values::{
+    ArrayType, BaseClassType, BitfieldType, ClassKind, ClassType, EnumerateType, EnumerationType,
+    MemberFunctionType, MemberType, MethodType, ModifierType, NestedType, OverloadedMethodType,
+    PointerType, ProcedureType, StaticMemberType, TypeData, UnionType, VirtualBaseClassType,
+    VirtualFunctionTablePointerType, VirtualTableShapeType,
+};
 
 /// The numbers in the record of a type: what it says besides names and lists. Each shape has some
 /// of them.
@@ -159,6 +172,317 @@ fn stands(numbers: &Numbers) -> u32
         + bit(512, numbers.number.is_some())
 }
 
+/// Returns the row of a class.
+#[inline(always)]
+fn class_row(v: &ClassType<'_>) -> Row
+    ensures { result ≡ row_of (plain (class (class_value v.now))) }
+{
+    Row::of(
+        1,
+        &Numbers {
+            kind: Some(class_kind(v.kind)),
+            properties: Some(v.properties.bits() as u32),
+            count: Some(v.count as u32),
+            second_index: index_in(v.derived_from),
+            third_index: index_in(v.vtable_shape),
+            list_index: index_in(v.fields),
+            number: Some(v.size),
+            ..NO_NUMBERS
+        },
+    )
+}
+
+/// Returns the row of a member.
+#[inline(always)]
+fn member_row(v: &MemberType<'_>) -> Row
+    ensures { result ≡ row_of (plain (member (member_value v.now))) }
+{
+    Row::of(
+        2,
+        &Numbers {
+            attributes: Some(v.attributes.bits() as u32),
+            type_index: Some(v.field_type.0),
+            number: Some(v.offset),
+            ..NO_NUMBERS
+        },
+    )
+}
+
+/// Returns the row of a method's type.
+#[inline(always)]
+fn member_function_row(v: &MemberFunctionType) -> Row
+    ensures { result ≡ row_of (plain (member_function v.now)) }
+{
+    Row::of(
+        3,
+        &Numbers {
+            attributes: Some(v.attributes.bits() as u32),
+            count: Some(v.parameter_count as u32),
+            type_index: Some(v.return_type.0),
+            second_index: Some(v.class_type.0),
+            third_index: index_in(v.this_pointer_type),
+            list_index: Some(v.argument_list.0),
+            extra: Some(v.this_adjustment),
+            ..NO_NUMBERS
+        },
+    )
+}
+
+/// Returns the row of the methods of one name.
+#[inline(always)]
+fn overloaded_method_row(v: &OverloadedMethodType<'_>) -> Row
+    ensures { result ≡ row_of (plain (overloaded_method (overloaded_method_value v.now))) }
+{
+    Row::of(
+        4,
+        &Numbers {
+            count: Some(v.count as u32),
+            list_index: Some(v.method_list.0),
+            ..NO_NUMBERS
+        },
+    )
+}
+
+/// Returns the row of a method.
+#[inline(always)]
+fn method_row(v: &MethodType<'_>) -> Row
+    ensures { result ≡ row_of (plain (method (method_value v.now))) }
+{
+    Row::of(
+        5,
+        &Numbers {
+            attributes: Some(v.attributes.bits() as u32),
+            type_index: Some(v.method_type.0),
+            extra: v.vtable_offset,
+            ..NO_NUMBERS
+        },
+    )
+}
+
+/// Returns the row of a static member.
+#[inline(always)]
+fn static_member_row(v: &StaticMemberType<'_>) -> Row
+    ensures { result ≡ row_of (plain (static_member (static_member_value v.now))) }
+{
+    Row::of(
+        6,
+        &Numbers {
+            attributes: Some(v.attributes.bits() as u32),
+            type_index: Some(v.field_type.0),
+            ..NO_NUMBERS
+        },
+    )
+}
+
+/// Returns the row of a nested type.
+#[inline(always)]
+fn nested_row(v: &NestedType<'_>) -> Row
+    ensures { result ≡ row_of (plain (nested (nested_value v.now))) }
+{
+    Row::of(
+        7,
+        &Numbers {
+            attributes: Some(v.attributes.bits() as u32),
+            type_index: Some(v.nested_type.0),
+            ..NO_NUMBERS
+        },
+    )
+}
+
+/// Returns the row of a base class.
+#[inline(always)]
+fn base_class_row(v: &BaseClassType) -> Row
+    ensures { result ≡ row_of (plain (base_class v.now)) }
+{
+    Row::of(
+        8,
+        &Numbers {
+            kind: Some(class_kind(v.kind)),
+            attributes: Some(v.attributes.bits() as u32),
+            type_index: Some(v.base_class.0),
+            number: Some(v.offset as u64),
+            ..NO_NUMBERS
+        },
+    )
+}
+
+/// Returns the row of a virtual base class.
+#[inline(always)]
+fn virtual_base_class_row(v: &VirtualBaseClassType) -> Row
+    ensures { result ≡ row_of (plain (virtual_base_class v.now)) }
+{
+    Row::of(
+        9,
+        &Numbers {
+            kind: Some(flag(v.direct)),
+            attributes: Some(v.attributes.bits() as u32),
+            type_index: Some(v.base_class.0),
+            second_index: Some(v.base_pointer.0),
+            number: Some(v.base_pointer_offset as u64),
+            extra: Some(v.virtual_base_offset),
+            ..NO_NUMBERS
+        },
+    )
+}
+
+/// Returns the row of a pointer to a table of virtual functions.
+#[inline(always)]
+fn virtual_function_table_pointer_row(v: &VirtualFunctionTablePointerType) -> Row
+    ensures { result ≡ row_of (plain (virtual_function_table_pointer v.now)) }
+{
+    Row::of(
+        10,
+        &Numbers {
+            type_index: Some(v.table.0),
+            ..NO_NUMBERS
+        },
+    )
+}
+
+/// Returns the row of a function's type.
+#[inline(always)]
+fn procedure_row(v: &ProcedureType) -> Row
+    ensures { result ≡ row_of (plain (procedure v.now)) }
+{
+    Row::of(
+        11,
+        &Numbers {
+            attributes: Some(v.attributes.bits() as u32),
+            count: Some(v.parameter_count as u32),
+            type_index: index_in(v.return_type),
+            list_index: Some(v.argument_list.0),
+            ..NO_NUMBERS
+        },
+    )
+}
+
+/// Returns the row of a pointer.
+#[inline(always)]
+fn pointer_row(v: &PointerType) -> Row
+    ensures { result ≡ row_of (plain (pointer v.now)) }
+{
+    Row::of(
+        12,
+        &Numbers {
+            attributes: Some(v.attributes.bits()),
+            type_index: Some(v.underlying_type.0),
+            second_index: index_in(v.containing_class),
+            ..NO_NUMBERS
+        },
+    )
+}
+
+/// Returns the row of a type with modifiers.
+#[inline(always)]
+fn modifier_row(v: &ModifierType) -> Row
+    ensures { result ≡ row_of (plain (modifier v.now)) }
+{
+    Row::of(
+        13,
+        &Numbers {
+            kind: Some(flag(v.constant) + 2 * flag(v.volatile) + 4 * flag(v.unaligned)),
+            type_index: Some(v.underlying_type.0),
+            ..NO_NUMBERS
+        },
+    )
+}
+
+/// Returns the row of an enumeration.
+#[inline(always)]
+fn enumeration_row(v: &EnumerationType<'_>) -> Row
+    ensures { result ≡ row_of (plain (enumeration (enumeration_value v.now))) }
+{
+    Row::of(
+        14,
+        &Numbers {
+            properties: Some(v.properties.bits() as u32),
+            count: Some(v.count as u32),
+            type_index: Some(v.underlying_type.0),
+            list_index: Some(v.fields.0),
+            ..NO_NUMBERS
+        },
+    )
+}
+
+/// Returns the row of a value of an enumeration.
+#[inline(always)]
+fn enumerate_row(v: &EnumerateType<'_>) -> Row
+    ensures { result ≡ row_of (plain (enumerate (enumerate_value v.now))) }
+{
+    Row::of(
+        15,
+        &Numbers {
+            kind: Some(flag(is_negative(v.value))),
+            attributes: Some(v.attributes.bits() as u32),
+            number: Some(magnitude(v.value)),
+            ..NO_NUMBERS
+        },
+    )
+}
+
+/// Returns the row of an array.
+#[inline(always)]
+fn array_row(v: &ArrayType) -> Row
+    ensures { result ≡ row_of (array (array_value v.now)) }
+{
+    Row::of(
+        16,
+        &Numbers {
+            type_index: Some(v.element_type.0),
+            second_index: Some(v.indexing_type.0),
+            extra: v.stride,
+            ..NO_NUMBERS
+        },
+    )
+}
+
+/// Returns the row of a union.
+#[inline(always)]
+fn union_row(v: &UnionType<'_>) -> Row
+    ensures { result ≡ row_of (plain (union (union_value v.now))) }
+{
+    Row::of(
+        17,
+        &Numbers {
+            properties: Some(v.properties.bits() as u32),
+            count: Some(v.count as u32),
+            list_index: Some(v.fields.0),
+            number: Some(v.size),
+            ..NO_NUMBERS
+        },
+    )
+}
+
+/// Returns the row of a bit field.
+#[inline(always)]
+fn bitfield_row(v: &BitfieldType) -> Row
+    ensures { result ≡ row_of (plain (bitfield v.now)) }
+{
+    Row::of(
+        18,
+        &Numbers {
+            count: Some(v.length as u32),
+            type_index: Some(v.underlying_type.0),
+            extra: Some(v.position as u32),
+            ..NO_NUMBERS
+        },
+    )
+}
+
+/// Returns the row of the shape of a table of virtual functions.
+#[inline(always)]
+fn virtual_table_shape_row(v: &VirtualTableShapeType<'_>) -> Row
+    ensures { result ≡ row_of (plain (virtual_table_shape (table_shape_value v.now))) }
+{
+    Row::of(
+        22,
+        &Numbers {
+            count: Some(v.count as u32),
+            ..NO_NUMBERS
+        },
+    )
+}
+
 impl Row {
     /// Returns the row of a shape and its numbers.
     #[inline(always)]
@@ -188,177 +512,26 @@ impl Row {
     {
         match value {
             TypeData::Primitive(_) => *self = Row::of(0, &NO_NUMBERS),
-            TypeData::Class(v) => *self = Row::of(
-                1,
-                &Numbers {
-                    kind: Some(class_kind(v.kind)),
-                    properties: Some(v.properties.bits() as u32),
-                    count: Some(v.count as u32),
-                    second_index: index_in(v.derived_from),
-                    third_index: index_in(v.vtable_shape),
-                    list_index: index_in(v.fields),
-                    number: Some(v.size),
-                    ..NO_NUMBERS
-                },
+            TypeData::Class(v) => *self = class_row(v),
+            TypeData::Member(v) => *self = member_row(v),
+            TypeData::MemberFunction(v) => *self = member_function_row(v),
+            TypeData::OverloadedMethod(v) => *self = overloaded_method_row(v),
+            TypeData::Method(v) => *self = method_row(v),
+            TypeData::StaticMember(v) => *self = static_member_row(v),
+            TypeData::Nested(v) => *self = nested_row(v),
+            TypeData::BaseClass(v) => *self = base_class_row(v),
+            TypeData::VirtualBaseClass(v) => *self = virtual_base_class_row(v),
+            TypeData::VirtualFunctionTablePointer(v) => *self = virtual_function_table_pointer_row(
+                v,
             ),
-            TypeData::Member(v) => *self = Row::of(
-                2,
-                &Numbers {
-                    attributes: Some(v.attributes.bits() as u32),
-                    type_index: Some(v.field_type.0),
-                    number: Some(v.offset),
-                    ..NO_NUMBERS
-                },
-            ),
-            TypeData::MemberFunction(v) => *self = Row::of(
-                3,
-                &Numbers {
-                    attributes: Some(v.attributes.bits() as u32),
-                    count: Some(v.parameter_count as u32),
-                    type_index: Some(v.return_type.0),
-                    second_index: Some(v.class_type.0),
-                    third_index: index_in(v.this_pointer_type),
-                    list_index: Some(v.argument_list.0),
-                    extra: Some(v.this_adjustment),
-                    ..NO_NUMBERS
-                },
-            ),
-            TypeData::OverloadedMethod(v) => *self = Row::of(
-                4,
-                &Numbers {
-                    count: Some(v.count as u32),
-                    list_index: Some(v.method_list.0),
-                    ..NO_NUMBERS
-                },
-            ),
-            TypeData::Method(v) => *self = Row::of(
-                5,
-                &Numbers {
-                    attributes: Some(v.attributes.bits() as u32),
-                    type_index: Some(v.method_type.0),
-                    extra: v.vtable_offset,
-                    ..NO_NUMBERS
-                },
-            ),
-            TypeData::StaticMember(v) => *self = Row::of(
-                6,
-                &Numbers {
-                    attributes: Some(v.attributes.bits() as u32),
-                    type_index: Some(v.field_type.0),
-                    ..NO_NUMBERS
-                },
-            ),
-            TypeData::Nested(v) => *self = Row::of(
-                7,
-                &Numbers {
-                    attributes: Some(v.attributes.bits() as u32),
-                    type_index: Some(v.nested_type.0),
-                    ..NO_NUMBERS
-                },
-            ),
-            TypeData::BaseClass(v) => *self = Row::of(
-                8,
-                &Numbers {
-                    kind: Some(class_kind(v.kind)),
-                    attributes: Some(v.attributes.bits() as u32),
-                    type_index: Some(v.base_class.0),
-                    number: Some(v.offset as u64),
-                    ..NO_NUMBERS
-                },
-            ),
-            TypeData::VirtualBaseClass(v) => *self = Row::of(
-                9,
-                &Numbers {
-                    kind: Some(flag(v.direct)),
-                    attributes: Some(v.attributes.bits() as u32),
-                    type_index: Some(v.base_class.0),
-                    second_index: Some(v.base_pointer.0),
-                    number: Some(v.base_pointer_offset as u64),
-                    extra: Some(v.virtual_base_offset),
-                    ..NO_NUMBERS
-                },
-            ),
-            TypeData::VirtualFunctionTablePointer(v) => *self = Row::of(
-                10,
-                &Numbers {
-                    type_index: Some(v.table.0),
-                    ..NO_NUMBERS
-                },
-            ),
-            TypeData::Procedure(v) => *self = Row::of(
-                11,
-                &Numbers {
-                    attributes: Some(v.attributes.bits() as u32),
-                    count: Some(v.parameter_count as u32),
-                    type_index: index_in(v.return_type),
-                    list_index: Some(v.argument_list.0),
-                    ..NO_NUMBERS
-                },
-            ),
-            TypeData::Pointer(v) => *self = Row::of(
-                12,
-                &Numbers {
-                    attributes: Some(v.attributes.bits()),
-                    type_index: Some(v.underlying_type.0),
-                    second_index: index_in(v.containing_class),
-                    ..NO_NUMBERS
-                },
-            ),
-            TypeData::Modifier(v) => *self = Row::of(
-                13,
-                &Numbers {
-                    kind: Some(flag(v.constant) + 2 * flag(v.volatile) + 4 * flag(v.unaligned)),
-                    type_index: Some(v.underlying_type.0),
-                    ..NO_NUMBERS
-                },
-            ),
-            TypeData::Enumeration(v) => *self = Row::of(
-                14,
-                &Numbers {
-                    properties: Some(v.properties.bits() as u32),
-                    count: Some(v.count as u32),
-                    type_index: Some(v.underlying_type.0),
-                    list_index: Some(v.fields.0),
-                    ..NO_NUMBERS
-                },
-            ),
-            TypeData::Enumerate(v) => *self = Row::of(
-                15,
-                &Numbers {
-                    kind: Some(flag(is_negative(v.value))),
-                    attributes: Some(v.attributes.bits() as u32),
-                    number: Some(magnitude(v.value)),
-                    ..NO_NUMBERS
-                },
-            ),
-            TypeData::Array(v) => *self = Row::of(
-                16,
-                &Numbers {
-                    type_index: Some(v.element_type.0),
-                    second_index: Some(v.indexing_type.0),
-                    extra: v.stride,
-                    ..NO_NUMBERS
-                },
-            ),
-            TypeData::Union(v) => *self = Row::of(
-                17,
-                &Numbers {
-                    properties: Some(v.properties.bits() as u32),
-                    count: Some(v.count as u32),
-                    list_index: Some(v.fields.0),
-                    number: Some(v.size),
-                    ..NO_NUMBERS
-                },
-            ),
-            TypeData::Bitfield(v) => *self = Row::of(
-                18,
-                &Numbers {
-                    count: Some(v.length as u32),
-                    type_index: Some(v.underlying_type.0),
-                    extra: Some(v.position as u32),
-                    ..NO_NUMBERS
-                },
-            ),
+            TypeData::Procedure(v) => *self = procedure_row(v),
+            TypeData::Pointer(v) => *self = pointer_row(v),
+            TypeData::Modifier(v) => *self = modifier_row(v),
+            TypeData::Enumeration(v) => *self = enumeration_row(v),
+            TypeData::Enumerate(v) => *self = enumerate_row(v),
+            TypeData::Array(v) => *self = array_row(v),
+            TypeData::Union(v) => *self = union_row(v),
+            TypeData::Bitfield(v) => *self = bitfield_row(v),
             TypeData::FieldList(v) => *self = Row::of(
                 19,
                 &Numbers {
@@ -368,13 +541,7 @@ impl Row {
             ),
             TypeData::ArgumentList(_) => *self = Row::of(20, &NO_NUMBERS),
             TypeData::MethodList(_) => *self = Row::of(21, &NO_NUMBERS),
-            TypeData::VirtualTableShape(v) => *self = Row::of(
-                22,
-                &Numbers {
-                    count: Some(v.count as u32),
-                    ..NO_NUMBERS
-                },
-            ),
+            TypeData::VirtualTableShape(v) => *self = virtual_table_shape_row(v),
         }
     }
 
