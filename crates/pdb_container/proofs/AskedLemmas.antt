@@ -22,8 +22,8 @@ use Rattle.pdb_space.specs.Omap as omap
 use Rattle.pdb_base.specs.Refusal.{Refusal, refusal_of}
 use Rattle.pdb_container.specs.Lookup.{Walked}
 use Rattle.pdb_container.specs.Reply as reply
-use Rattle.pdb_container.specs.Reply.{Said, IsReply, Replies, AreReplies, reply_of, stream_asked, said_within, type_within, id_within, fields_within, name_within, moved_within}
-use Rattle.pdb_container.specs.Asked.{Progress, query_at, is_answered, said_by, RepliesIf, IsAnsweredWith, AreRight, IsAnsweredOn, MeansTable, MeansStream, AsksTypes, AsksIds, AsksNames, AsksOmap, AnswersAt, IsAnsweredFrom, AnswersFrom}
+use Rattle.pdb_container.specs.Reply.{Said, IsReply, AreReplies, reply_of, stream_asked, said_within, type_within, id_within, fields_within, name_within, moved_within}
+use Rattle.pdb_container.specs.Asked.{Progress, query_at, is_answered, said_by, IsAnsweredIf, IsAnsweredWith, AreRight, IsAnsweredOn, MeansTable, MeansStream, AsksTypes, AsksIds, AsksNames, AsksOmap, AnswersAt, IsAnsweredFrom, AnswersFrom}
 use Rattle.pdb_container.proofs.ReplyLemmas.{IsReply-weaker}
 
 below_other : (a b : ℕ) → a < b + 1 → a ≢ b → a < b
@@ -76,29 +76,26 @@ pair_is {A} {B} (a, b) (c, d) first second = ap (λ (x : A). (x, b)) first ∙ a
 
 -- ---- by a table
 
--- what is said where a call is made
-said_there : (result : Result Reply Error) (said : Option (Answer Said)) → RepliesIf (Some result) said → (meant : Answer Said) × (said ≡ Some meant) × Replies result meant
-said_there result None is = absurd is
-said_there result (Some meant) is = (meant, refl, is)
-
--- the reply of a call, or its refusal
-abbrev pub replied : Result Reply Error → Reply
-replied (Ok reply) = reply
-replied (Err e) = replies.Refused e
-
-replied_is : (result : Result Reply Error) (meant : Answer Said) → Replies result meant → IsReply ⊥ (replied result) meant
-replied_is (Ok reply) meant is = is
-replied_is (Err e) meant (inl is) = inl is
-replied_is (Err e) meant (inr want) = inr (inl want)
+offered_if : (number : ℕ) (opened : Opened) (at : ℕ) (query : Query) (said : Option (Answer Said)) (old new : Progress) → said ≡ said_by opened query → query ≡ query_at old at → (stream_asked query).0 ≡ number
+    → IsAnsweredIf at said old new → IsAnsweredOn (MeansTable number opened) old new
+offered_if number opened at query None old new says is asks answers = subst (λ (p : Progress). IsAnsweredOn (MeansTable number opened) old p) (sym answers) (on_itself (MeansTable number opened) old)
+offered_if number opened at query (Some said) old new says is asks answers =
+    let reply = answers.0 in
+    on_with (MeansTable number opened) at reply old new answers.2
+    (λ meant means. subst (λ (q : Query). IsReply ⊥ reply (meant q)) is (subst (λ (meant_so : Answer Said). IsReply ⊥ reply meant_so) (sym (means query said asks (sym says))) answers.1))
 
 -- what a table says to a query at a place is a right reply
-pub offered : (number : ℕ) (opened : Opened) (at : ℕ) (query : Query) (result : Result Reply Error) (reply : Reply) (old new : Progress) → query ≡ query_at old at → (stream_asked query).0 ≡ number → RepliesIf (Some result) (said_by opened query)
-    → replied result ≡ reply → IsAnsweredWith at reply old new → IsAnsweredOn (MeansTable number opened) old new
-offered number opened at query result reply old new is asks replies gives with =
-    let there = said_there result (said_by opened query) replies in
-    let right = subst (λ (r : Reply). IsReply ⊥ r there.0) gives (replied_is result there.0 there.2) in
-    on_with (MeansTable number opened) at reply old new with
-    (λ meant means. subst (λ (q : Query). IsReply ⊥ reply (meant q)) is (subst (λ (said : Answer Said). IsReply ⊥ reply said) (sym (means query there.0 asks there.1)) right))
+pub offered : (number : ℕ) (opened : Opened) (at : ℕ) (query : Query) (old new : Progress) → query ≡ query_at old at → (stream_asked query).0 ≡ number → IsAnsweredIf at (said_by opened query) old new → IsAnsweredOn (MeansTable number opened) old new
+offered number opened at query old new is asks answers = offered_if number opened at query (said_by opened query) old new refl is asks answers
+
+answered_some : (at : ℕ) (said : Option (Answer Said)) (old new : Progress) → IsAnsweredIf at said old new → IsSome said → is_answered new at ≡ true
+answered_some at None old new answers some = absurd cc
+answered_some at (Some said) old new answers some = answers.2.here
+
+-- and where it says something, the query is answered
+pub answered_there : (opened : Opened) (at : ℕ) (query other : Query) (old new : Progress) → query ≡ other → IsAnsweredIf at (said_by opened query) old new → IsSome (said_by opened other) → is_answered new at ≡ true
+answered_there opened at query other old new is answers some =
+    answered_some at (said_by opened query) old new answers (subst (λ (q : Query). IsSome (said_by opened q)) (sym is) some)
 
 -- a table as which the same stream is opened means the same
 pub on_same : (number : ℕ) (one other : Opened) (old new : Progress) → ((query : Query) → said_by other query ≡ said_by one query) → IsAnsweredOn (MeansTable number other) old new → IsAnsweredOn (MeansTable number one) old new

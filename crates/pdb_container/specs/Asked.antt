@@ -7,7 +7,7 @@ use Rattle.pdb_container.specs.declared.query.Query.TheVariants as queries
 use Rattle.pdb_container.specs.declared.query.Reply.{Reply}
 use Rattle.pdb_container.specs.declared.opened.Opened.{Opened}
 use Rattle.pdb_container.specs.declared.opened.Opened.TheVariants as tables
-use Rattle.pdb_container.specs.Reply.{Said, IsReply, Replies, moved, type_in, id_in, fields_in, name_in, stream_asked, said_within}
+use Rattle.pdb_container.specs.Reply.{Said, IsReply, moved, type_in, id_in, fields_in, name_in, stream_asked, said_within}
 
 -- What a stream that is opened as a table answers to a query, if the query asks such a table.
 abbrev pub said_by : Opened → Query → Option (Answer Said)
@@ -17,12 +17,6 @@ said_by (tables.Ids ids) (queries.IdRecord stream index) = Some (id_in index ids
 said_by (tables.Names names) (queries.Name stream offset) = Some (name_in offset names)
 said_by (tables.Omap omap) (queries.Ranges stream start end) = Some (Ok (moved omap (record { start = start; end = end })))
 said_by opened query = None
-
--- a call is made if and only if there is an answer, and the call replies that answer
-abbrev pub RepliesIf : Option (Result Reply Error) → Option (Answer Said) → Type 0
-RepliesIf None None = ⊤
-RepliesIf (Some result) (Some said) = Replies result said
-RepliesIf result said = ⊥
 
 -- Queries, the replies to them, and for each query whether it is answered.
 pub record Progress : Type 0 where
@@ -49,6 +43,16 @@ pub record IsAnsweredWith (at : ℕ) (reply : Reply) (old new : Progress) : Type
   pub here : is_answered new at ≡ true
   pub reply_is : (d : Reply) → get_or new.replies at d ≡ reply
   pub others : (i : ℕ) (d : Reply) → i ≢ at → (is_answered new i ≡ is_answered old i) × (get_or new.replies i d ≡ get_or old.replies i d)
+
+-- The query at an index is answered with a reply that gives this answer, and nothing else changes.
+abbrev pub IsAnsweredRightly : ℕ → Answer Said → Progress → Progress → Type 0
+IsAnsweredRightly at said old new = (reply : Reply) × IsReply ⊥ reply said × IsAnsweredWith at reply old new
+
+-- If there is an answer, the query at an index is answered with a reply that gives it. Otherwise nothing
+-- changes.
+abbrev pub IsAnsweredIf : ℕ → Option (Answer Said) → Progress → Progress → Type 0
+IsAnsweredIf at None old new = new ≡ old
+IsAnsweredIf at (Some said) old new = IsAnsweredRightly at said old new
 
 -- The reply to each query that is answered gives the answer that is meant. If the source is not sound,
 -- the reply may be a refusal for a fault of the source instead.

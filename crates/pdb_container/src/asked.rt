@@ -80,6 +80,7 @@ impl<'q> Asked<'q> {
     }
 
     /// Answers the query at a position with a reply.
+    #[inline(always)]
     pub fn answer(&mut self, at: usize, reply: Reply)
         requires { at < length self.old.queries }
         ensures { IsAnsweredWith at reply self.old self.new }

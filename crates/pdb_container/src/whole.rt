@@ -43,11 +43,7 @@ fn offer(alloc: Global, number: u32, opened: &mut Opened<'_>, at: usize, asked: 
     if asked.is_answered(at) || stream_asked(query).0 != number {
         return;
     }
-    match opened.reply(alloc, query) {
-        Some(Ok(reply)) => asked.answer(at, reply),
-        Some(Err(error)) => asked.answer(at, Reply::Refused(error)),
-        None => {}
-    }
+    opened.answer(alloc, query, at, asked);
 }
 
 /// Answers the query at the position `from` and all later ones, as far as they ask for something in
