@@ -70,7 +70,7 @@ pub fn describe_type(
     types: &mut Lookup<'_, TypeIndex>,
     index: TypeIndex,
 ) -> Result<Described>
-    ensures said { Answers (λ d. entry index.0 d.kind (option_map (λ copy. copy.items) d.name)) result
+    ensures said { Answers (λ d. item_record index.0 d.kind (option_map (λ copy. copy.items) d.name)) result
         (type_in index.0 types.old.table) }
     ensures table { types.new.table ≡ types.old.table }
 {
