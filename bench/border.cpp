@@ -59,11 +59,13 @@ uint64_t border_find(const Bytes &stream, const Numbers &indexes, uint32_t turns
 
 uint64_t border_names(const Bytes &stream, const Numbers &offsets, uint32_t turns) {
   Opened names(pdb_names_open, stream);
-  pdb_name place{};
+  std::vector<pdb_name> places(offsets.size());
+  size_t count = 0;
   uint64_t sum = 0;
-  for (uint32_t turn = 0; turn < turns; turn++)
-    for (uint32_t offset : offsets)
-      if (pdb_names_place(&names.handle, offset, &place, &names.fault) == PDB_OK)
-        sum += 1 + place.length;
+  for (uint32_t turn = 0; turn < turns; turn++) {
+    pdb_names_places(&names.handle, offsets.data(), offsets.size(), places.data(), places.size(), &count, &names.fault);
+    for (size_t at = 0; at < count; at++)
+      sum += 1 + places[at].length;
+  }
   return sum;
 }

@@ -180,6 +180,10 @@ typedef struct pdb_name {
 /* Writes where the name at an offset is in the stream that the table was opened with. Nothing is copied. */
 uint32_t pdb_names_place(pdb_handle *names, uint32_t offset, pdb_name *place, pdb_fault *fault);
 
+/* Writes the same for many offsets, in their order. If no name is found at one of them, nothing is written, and the
+ * fault is that of the first such offset. */
+uint32_t pdb_names_places(pdb_handle *names, const uint32_t *offsets, size_t offsets_length, pdb_name *room, size_t room_length, size_t *length, pdb_fault *fault);
+
 /* Writes the offsets of all names, in their order. The first name is at offset 0, and each later one begins
  * right after the NUL of the name before it. */
 uint32_t pdb_names_offsets(pdb_handle *names, uint32_t *room, size_t room_length, size_t *length, pdb_fault *fault);

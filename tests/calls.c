@@ -180,6 +180,14 @@ static void ask_names(void) {
         allowed(pdb_names_place(&names, offsets[i], &place, &fault), PDB_OK);
         printf("place %" PRIu32 " %zu %zu\n", offsets[i], place.offset, place.length);
     }
+    pdb_name places[64];
+    allowed(pdb_names_places(&names, offsets, count, places, count - 1, &length, &fault), PDB_TOO_SMALL);
+    allowed(pdb_names_places(&names, offsets, count, places, 64, &length, &fault), PDB_OK);
+    for (size_t i = 0; i < length; i++) printf("places %" PRIu32 " %zu %zu\n", offsets[i], places[i].offset, places[i].length);
+    offsets[count - 1] = UINT32_MAX;
+    places[0].length = 7;
+    allowed(pdb_names_places(&names, offsets, count, places, 64, &length, &fault), PDB_UNEXPECTED_EOF);
+    printf("places %zu %zu\n", length, places[0].length);
     pdb_close(&names);
 }
 

@@ -1,9 +1,10 @@
 -- Where a name stands in the stream of its table.
-use Rattle.std.proofs.Common.{◌≡◌, ℕ, ◌+◌, List, ◌∷◌, ◌++◌, length, take, drop, sym, ap, ◌∙◌, Ok, arith}
-use Rattle.std.proofs.Math.Seq.{drop-append_seam, take-append_seam}
-use Rattle.std.proofs.lemmas.List.{append_assoc, drop-drop, take-append-drop}
-use Rattle.pdb_base.specs.Answer.{◌>>=◌}
-use Rattle.pdb_base.proofs.lemmas.Collected.{ok_is, bind_ok}
+use Rattle.std.proofs.Common.{◌≡◌, ℕ, suc, ◌+◌, ◌<◌, List, [], ◌∷◌, ◌++◌, length, get_or, map, take, drop, refl, sym, ap, ◌∙◌, Ok, Err, arith}
+use Rattle.std.proofs.Math.Seq.{drop-append_seam, split_at, take-append_seam, take-suc}
+use Rattle.std.proofs.lemmas.List.{append_assoc, drop-drop, map-append, take-append-drop}
+use Rattle.pdb_base.specs.Answer.{Answer, ◌>>=◌, collected}
+use Rattle.pdb_base.specs.Refusal.{Refusal}
+use Rattle.pdb_base.proofs.lemmas.Collected.{ok_is, bind_ok, collected-append_err, collected-append_ok}
 use Rattle.pdb_space.specs.StringTable.{name_of, names_of}
 use Rattle.pdb_space.specs.StringTableLaws.{FindsName, FindsNames, HoldsNames, IsNameAt}
 use Rattle.pdb_c.specs.declared.names.NamePlace.{NamePlace}
@@ -37,3 +38,24 @@ stands finds_names finds_name stream offset names place held placed =
     let front : take (length name) (drop (12 + offset) stream) ≡ name =
     ap (take (length name)) at ∙ take-append_seam name ((0 ∷ here.behind) ++ drop (length names) (drop 12 stream)) in
     found.1 ∙ ap (λ (bytes : List ℕ). Ok bytes) (sym front ∙ ap (λ (p : NamePlace). take p.length (drop p.offset stream)) is)
+
+-- one more answer is collected
+pub collected_next : {A B : Type 0} (f : A → Answer B) (xs : List A) (i : ℕ) (d : A) (ys : List B) (y : B) → i < length xs
+    → collected (map f (take i xs)) ≡ Ok ys → f (get_or xs i d) ≡ Ok y → collected (map f (take (i + 1) xs)) ≡ Ok (ys ++ y ∷ [])
+collected_next {A} {B} f xs i d ys y within so_far here =
+    let one : collected (f (get_or xs i d) ∷ []) ≡ Ok (y ∷ []) = rw here refl in
+    let follows : i + 1 ≡ suc i = omega arith in
+    let next : take (i + 1) xs ≡ take i xs ++ get_or xs i d ∷ [] = ap (λ (n : ℕ). take n xs) follows ∙ take-suc xs i d within in
+    ap (λ (zs : List A). collected (map f zs)) next
+    ∙ ap (λ (zs : List (Answer B)). collected zs) (map-append f (take i xs) (get_or xs i d ∷ []))
+    ∙ collected-append_ok (map f (take i xs)) (f (get_or xs i d) ∷ []) ys (y ∷ []) so_far one
+
+-- the first refusal is that of all
+pub collected_refused : {A B : Type 0} (f : A → Answer B) (xs : List A) (i : ℕ) (d : A) (ys : List B) (e : Refusal) → i < length xs
+    → collected (map f (take i xs)) ≡ Ok ys → f (get_or xs i d) ≡ Err e → collected (map f xs) ≡ Err e
+collected_refused {A} {B} f xs i d ys e within so_far here =
+    let rest = drop (suc i) xs in
+    let one : collected (f (get_or xs i d) ∷ map f rest) ≡ Err e = rw here refl in
+    ap (λ (zs : List A). collected (map f zs)) (split_at xs i d within)
+    ∙ ap (λ (zs : List (Answer B)). collected zs) (map-append f (take i xs) (get_or xs i d ∷ rest))
+    ∙ collected-append_err (map f (take i xs)) (f (get_or xs i d) ∷ map f rest) ys e so_far one

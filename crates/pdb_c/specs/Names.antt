@@ -1,12 +1,16 @@
 -- Where names stand in the stream of a string table.
-use Rattle.std.specs.Prelude.{◌≡◌, ℕ, ◌+◌, List, length, take, drop, Ok}
-use Rattle.pdb_base.specs.Answer.{Answer, ◌>>=◌}
+use Rattle.std.specs.Prelude.{◌≡◌, ℕ, ◌+◌, List, length, map, take, drop, Ok}
+use Rattle.pdb_base.specs.Answer.{Answer, ◌>>=◌, collected}
 use Rattle.pdb_space.specs.StringTable.{name_of, names_of}
 use Rattle.pdb_c.specs.declared.names.NamePlace.{NamePlace}
 
 -- the place of the name at an offset: it stands that far behind the header's 12 bytes
 abbrev pub name_place : List ℕ → ℕ → Answer NamePlace
 name_place names offset = name_of names offset >>= λ name. Ok (record { offset = 12 + offset; length = length name })
+
+-- the places of the names at some offsets, in their order, or the refusal of the first one that is refused
+abbrev pub name_places : List ℕ → List ℕ → Answer (List NamePlace)
+name_places names offsets = collected (map (name_place names) offsets)
 
 -- The bytes of a stream at the place of a name are the name.
 abbrev pub StandsAtItsPlace : List ℕ → ℕ → Type 0

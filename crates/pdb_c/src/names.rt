@@ -1,17 +1,18 @@
 //! String tables.
 
 ghost use Rattle.std.specs.Prelude.{◌≡◌, ◌<◌, length, None};
-ghost use Rattle.pdb_base.specs.Answer.{Answers};
+ghost use Rattle.pdb_base.specs.Answer.{Answers, Gives};
 ghost use Rattle.pdb_space.specs.StringTable.{name_of, names_of};
 ghost use Rattle.pdb_c.specs.declared.content.Content.TheVariants.{Names};
-ghost use Rattle.pdb_c.specs.Copied.{copied, copied_of};
-ghost use Rattle.pdb_c.specs.Found.{answered, answered_of};
+ghost use Rattle.pdb_c.specs.Copied.{CopiesOrLacks, copied, copied_of};
+ghost use Rattle.pdb_c.specs.Found.{answered_of};
 ghost use Rattle.pdb_c.specs.Handle.{OpensStream, held_as, names_held};
-ghost use Rattle.pdb_c.specs.Names.{name_place};
+ghost use Rattle.pdb_c.specs.Names.{name_place, name_places};
 
 use crate::content::Content;
 use crate::copied::{copy_nothing, copy_out};
-use crate::fault::{ALREADY_OPEN, FINE, Fault, NOT_OPEN, TOO_LONG};
+use crate::fault::{ALREADY_OPEN, Fault, NOT_OPEN, TOO_LONG};
+use crate::found::tell_answered;
 use crate::handle::Handle;
 use pdb_base::Result;
 use pdb_msf::Stream;
@@ -100,20 +101,51 @@ pub extern "C" fn pdb_names_get(
     told.tell(fault)
 }
 
-/// Writes where the name at an offset of a table stands in the stream of the table.
-fn place_at(names: &StringTable, offset: u32, place: &mut NamePlace) -> Fault
-    ensures { record { fault = result; value = place.new } ≡
-        answered place.old (name_place names.now offset) }
+/// Returns where the name at an offset of a table stands in the stream of the table.
+///
+/// # Errors
+/// Fails as `StringTable::get` does.
+#[inline(always)]
+fn place_in(names: &StringTable, offset: u32) -> Result<NamePlace>
+    ensures { Gives (λ place. place) result (name_place names.now offset) }
 {
-    let name = match names.get(StringRef(offset)) {
-        Ok(name) => name,
-        Err(error) => return Fault::of(&error),
-    };
-    *place = NamePlace {
+    let name = names.get(StringRef(offset))?;
+    Ok(NamePlace {
         offset: NAMES_START + offset as usize,
         length: name.as_bytes().len(),
-    };
-    Fault::status(FINE)
+    })
+}
+
+/// Returns where the names at some offsets of a table stand in the stream of the table.
+///
+/// # Errors
+/// Fails as `StringTable::get` does for the first offset for which it fails, and with `OutOfMemory`
+/// if memory is refused.
+fn places_in(alloc: Global, names: &StringTable, offsets: &[u32]) -> Result<Vec<NamePlace>>
+    ensures { Answers (λ places. places.items) result (name_places names.now offsets.now) }
+{
+    let mut places = Vec::with_capacity(alloc, offsets.len())?;
+    for offset in offsets {
+        places.push(place_in(names, *offset)?)?;
+    }
+    Ok(places)
+}
+
+/// Writes where the names at some offsets of a table stand to the caller's array.
+fn write_places(
+    alloc: Global,
+    names: &StringTable,
+    offsets: &[u32],
+    room: &mut [NamePlace],
+    length: &mut usize,
+) -> Fault
+    ensures { CopiesOrLacks (record { fault = result; length = length.new; room = room.new }) room.old
+        (copied room.old (name_places names.now offsets.now)) }
+{
+    match places_in(alloc, names, offsets) {
+        Ok(places) => copy_out(&places, room, length),
+        Err(error) => copy_nothing(Fault::of(&error), length),
+    }
 }
 
 /// Writes where the name at an offset stands in the stream that the table was opened with, and its
@@ -135,8 +167,35 @@ pub extern "C" fn pdb_names_place(
         return Fault::status(NOT_OPEN).tell(fault);
     };
     let told = match &*content {
-        Content::Names(table) => place_at(table, offset, place),
+        Content::Names(table) => tell_answered(place_in(table, offset), place),
         _ => Fault::status(NOT_OPEN),
+    };
+    names.put(content);
+    told.tell(fault)
+}
+
+/// Writes where the names at some offsets stand in the stream that the table was opened with, in
+/// the order of the offsets. If there is no name at one of them, nothing is written.
+#[unsafe(no_mangle)]
+pub extern "C" fn pdb_names_places(
+    alloc: Global,
+    names: &mut Handle,
+    offsets: &[u32],
+    room: &mut [NamePlace],
+    length: &mut usize,
+    fault: &mut Fault,
+) -> u32
+    ensures answer { CopiesOrLacks (record { fault = fault.new; length = length.new; room = room.new }) room.old
+        (copied_of room.old (λ names. name_places names offsets.now) (names_held names.old.held.content)) }
+    ensures kept { names.new.held.content ≡ names.old.held.content }
+    ensures status { result ≡ fault.new.status }
+{
+    let Some(content) = names.take(alloc) else {
+        return copy_nothing(Fault::status(NOT_OPEN), length).tell(fault);
+    };
+    let told = match &*content {
+        Content::Names(table) => write_places(alloc, table, offsets, room, length),
+        _ => copy_nothing(Fault::status(NOT_OPEN), length),
     };
     names.put(content);
     told.tell(fault)
