@@ -1,6 +1,9 @@
 #include "border.h"
 #include "pdb_container.h"
 
+#include <algorithm>
+#include <iterator>
+
 namespace {
 
 // What a call opens, closed where it goes out of scope.
@@ -59,13 +62,15 @@ uint64_t border_find(const Bytes &stream, const Numbers &indexes, uint32_t turns
 
 uint64_t border_names(const Bytes &stream, const Numbers &offsets, uint32_t turns) {
   Opened names(pdb_names_open, stream);
-  std::vector<pdb_name> places(offsets.size());
+  pdb_name places[256];
   size_t count = 0;
   uint64_t sum = 0;
-  for (uint32_t turn = 0; turn < turns; turn++) {
-    pdb_names_places(&names.handle, offsets.data(), offsets.size(), places.data(), places.size(), &count, &names.fault);
-    for (size_t at = 0; at < count; at++)
-      sum += 1 + places[at].length;
-  }
+  for (uint32_t turn = 0; turn < turns; turn++)
+    for (size_t from = 0; from < offsets.size(); from += std::size(places)) {
+      size_t asked = std::min(std::size(places), offsets.size() - from);
+      pdb_names_places(&names.handle, &offsets[from], asked, places, asked, &count, &names.fault);
+      for (size_t at = 0; at < count; at++)
+        sum += 1 + places[at].length;
+    }
   return sum;
 }
