@@ -7,10 +7,10 @@ ghost use Rattle.pdb_base.specs.Place.{left, StaysWithin, aligned, cut};
 ghost use Rattle.pdb_base.specs.Reading.{front_at, lowest_first, number_at, signed_at, peeked, text_at, pascal_text_at};
 
 use crate::error::{Error, Result};
+use crate::nul::first_nul;
 use crate::parse::{Le, Parse};
 use crate::raw_string::RawString;
 use byteorder::{ByteOrder, LittleEndian};
-use memchr::memchr;
 use std::marker::Model;
 
 /// A slice of bytes and a position in it, from which fields are read one after another.
@@ -307,12 +307,12 @@ impl<'b> ParseBuffer<'b> {
         ensures place { StaysWithin self.old self.new }
         ensures err { OnErr result (self.new ≡ self.old) }
     {
-        let rest = self.rest();
-        let Some(len) = memchr(0, rest) else {
+        let Some(len) = first_nul(self.slice, self.pos) else {
             return Err(Error::UnexpectedEof);
         };
+        let text = RawString::from(&self.rest()[..len]);
         self.pos += len + 1;
-        Ok(RawString::from(&rest[..len]))
+        Ok(text)
     }
 
     /// Reads the text behind a `u8` that gives its length in bytes.

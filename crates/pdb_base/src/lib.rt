@@ -10,6 +10,7 @@ mod fallible_iterator;
 mod index;
 mod item_index;
 pub mod laws;
+mod nul;
 mod numeric;
 pub mod numeric_leaf;
 mod parse;

@@ -269,6 +269,39 @@ fn strings(rt: HostRuntime) {
     assert!(rt; ends(buffer.parse_u8_pascal_string()) && buffer.pos() == 14);
 }
 
+/// Whether `len` letters among the `left` bytes behind `before` NULs are read as a text, if a NUL
+/// ends them. The bytes behind the letters are NULs.
+fn ends_at_nul(alloc: Global, before: usize, left: usize, len: usize) -> Result<bool, Fail> {
+    let mut bytes = Vec::from_elem(alloc, 0, before)?;
+    for place in 0..left {
+        bytes.push(if place < len { b'a' } else { 0 })?;
+    }
+    let mut buffer = ParseBuffer::from(bytes.as_slice());
+    buffer.seek(before);
+    let answer = buffer.parse_cstring();
+    if left <= len {
+        return Ok(ends(answer) && buffer.len() == left);
+    }
+    let is_text = matches!(answer, Ok(text) if text.len() == len && !text.as_bytes().contains(&0));
+    Ok(is_text && buffer.len() == left - len - 1)
+}
+
+#[test]
+fn ends_of_strings(rt: HostRuntime) -> Result<(), Fail> {
+    let alloc = rt.alloc();
+    for before in [0, 3, 20] {
+        for left in [1, 15, 16, 17, 40, 41] {
+            for len in [0, 7, 15, 16, 17, 31, 40, 41] {
+                assert!(rt;
+                    ends_at_nul(alloc, before, left, len)?,
+                    "{len} letters among {left} bytes behind {before}"
+                );
+            }
+        }
+    }
+    Ok(())
+}
+
 /// Whether a text is this one, owned where what is no UTF-8 in it is replaced, and else borrowed.
 fn is_lossy(alloc: Global, raw: RawString<'_>, want: &str, is_owned: bool) -> bool {
     match raw.to_string(alloc) {
