@@ -59,7 +59,7 @@ right_with sound meant at reply old new with is are i d answered = elim (cases_e
       rw (here, with.reply_is d, ap (λ (qs : List Query). get_or qs at (queries.Stream 0 None)) with.queries) is
   | inr other ↦
       let same = with.others i d other in
-      rw (same.1, ap (λ (qs : List Query). get_or qs i (queries.Stream 0 None)) with.queries) (are i d (sym same.0 ∙ answered))
+      rw (same.1 (sym same.0 ∙ answered), ap (λ (qs : List Query). get_or qs i (queries.Stream 0 None)) with.queries) (are i d (sym same.0 ∙ answered))
 ]
 
 -- a reply that no source was read for

@@ -1,5 +1,5 @@
 -- Queries that are answered in any order, and streams that are opened as tables to answer more than one.
-use Rattle.std.specs.Prelude.{◌≡◌, ◌≢◌, ℕ, Bool, true, false, IsTrue, List, get_or, Option, Some, None, Result, Ok, Err, ⊤}
+use Rattle.std.specs.Prelude.{◌≡◌, ◌≢◌, ◌<◌, ◌≤◌, ℕ, length, Bool, true, false, IsTrue, List, get_or, Option, Some, None, Result, Ok, Err, ⊤}
 use Rattle.pdb_base.specs.Answer.{Answer, RefusesUnless}
 use Rattle.pdb_base.specs.declared.error.Error.{Error}
 use Rattle.pdb_container.specs.declared.query.Query.{Query}
@@ -18,7 +18,8 @@ said_by (tables.Names names) (queries.Name stream offset) = Some (name_in offset
 said_by (tables.Omap omap) (queries.Ranges stream start end) = Some (Ok (moved omap (record { start = start; end = end })))
 said_by opened query = None
 
--- Queries, the replies to them, and for each query whether it is answered.
+-- Queries, the replies to them, and for each query whether it is answered. Behind the last query that is
+-- answered there need be no reply, and the reply to a query that is not answered yet says nothing.
 pub record Progress : Type 0 where
   pub queries : List Query
   pub replies : List Reply
@@ -37,14 +38,27 @@ pub record IsUnanswered (asks : List Query) (asked : Progress) : Type 0 where
   pub queries : asked.queries ≡ asks
   pub none : (i : ℕ) → is_answered asked i ≡ false
 
--- The query at an index is answered with this reply, and nothing else changes.
+-- a reply stands at the index of each query that is answered
+abbrev pub AreHeld : List Bool → List Reply → Type 0
+AreHeld answered replies = (i : ℕ) → get_or answered i false ≡ true → i < length replies
+
+-- A reply is put at an index of a list of replies, which is made no longer than that takes. All others stay.
+pub record IsPut (at : ℕ) (reply : Reply) (old new : List Reply) : Type 0 where
+  pub here : (d : Reply) → get_or new at d ≡ reply
+  pub others : (i : ℕ) (d : Reply) → i ≢ at → i < length old → get_or new i d ≡ get_or old i d
+  pub reached : at < length new
+  pub kept : length old ≤ length new
+  pub few : (n : ℕ) → at < n → length old ≤ n → length new ≤ n
+
+-- The query at an index is answered with this reply. Which others are answered, and their replies, stay.
 pub record IsAnsweredWith (at : ℕ) (reply : Reply) (old new : Progress) : Type 0 where
   pub queries : new.queries ≡ old.queries
   pub here : is_answered new at ≡ true
   pub reply_is : (d : Reply) → get_or new.replies at d ≡ reply
-  pub others : (i : ℕ) (d : Reply) → i ≢ at → (is_answered new i ≡ is_answered old i) × (get_or new.replies i d ≡ get_or old.replies i d)
+  pub others : (i : ℕ) (d : Reply) → i ≢ at → (is_answered new i ≡ is_answered old i) × (is_answered old i ≡ true → get_or new.replies i d ≡ get_or old.replies i d)
 
--- The query at an index is answered with a reply that gives this answer, and nothing else changes.
+-- The query at an index is answered with a reply that gives this answer. Which others are answered, and their
+-- replies, stay.
 abbrev pub IsAnsweredRightly : ℕ → Answer Said → Progress → Progress → Type 0
 IsAnsweredRightly at said old new = (reply : Reply) × IsReply ⊥ reply said × IsAnsweredWith at reply old new
 

@@ -1,8 +1,8 @@
 //! Streams that are opened as tables, and their replies to queries.
 
-ghost use Rattle.std.specs.Prelude.{◌≡◌, ◌<◌, length};
+ghost use Rattle.std.specs.Prelude.{◌≡◌, ◌<◌, length, Ok};
 ghost use Rattle.pdb_base.specs.Answer.{Answer};
-ghost use Rattle.pdb_container.specs.Reply.{Said, Replies};
+ghost use Rattle.pdb_container.specs.Reply.{Said, Replies, fields_in, id_in, moved, name_in};
 ghost use Rattle.pdb_container.specs.declared.query.Query.{Query};
 ghost use Rattle.pdb_container.specs.Asked.{said_by, IsAnsweredIf, IsAnsweredRightly};
 
@@ -16,6 +16,7 @@ use crate::record::{answer_type, id_record};
 use pdb_base::{IdIndex, Result, TypeIndex};
 use pdb_space::{OMAPTable, StringRef, StringTable};
 use std::alloc::Global;
+use std::ops::Range;
 
 /// What a stream is opened as.
 #[derive(Drop)]
@@ -41,8 +42,67 @@ fn answer_by(replied: Result<Reply>, at: usize, asked: &mut Asked<'_>)
 {
     match replied {
         Ok(reply) => asked.answer(at, reply),
-        Err(error) => asked.answer(at, Reply::Refused(error)),
+        Err(error) => asked.refuse(at, error),
     }
+}
+
+// Each of these stands apart from the loop over all queries, which otherwise sets aside room for the
+// replies of all kinds in each of its turns.
+
+/// Answers the query at a position with the fields of a list of a table of types.
+#[inline(never)]
+fn answer_fields(
+    alloc: Global,
+    types: &mut Lookup<'_, TypeIndex>,
+    index: u32,
+    at: usize,
+    asked: &mut Asked<'_>,
+)
+    requires { at < length asked.old.queries }
+    ensures rightly { IsAnsweredRightly at (fields_in index types.old.table) asked.old asked.new }
+    ensures table { types.new.table ≡ types.old.table }
+{
+    answer_by(fields(alloc, types, TypeIndex(index)), at, asked);
+}
+
+/// Answers the query at a position with the id of an index in a table.
+#[inline(never)]
+fn answer_id(
+    alloc: Global,
+    ids: &mut Lookup<'_, IdIndex>,
+    index: u32,
+    at: usize,
+    asked: &mut Asked<'_>,
+)
+    requires { at < length asked.old.queries }
+    ensures rightly { IsAnsweredRightly at (id_in index ids.old.table) asked.old asked.new }
+    ensures table { ids.new.table ≡ ids.old.table }
+{
+    answer_by(id_record(alloc, ids, IdIndex(index)), at, asked);
+}
+
+/// Answers the query at a position with the name at an offset in a string table.
+#[inline(never)]
+fn answer_name(alloc: Global, names: &StringTable, offset: u32, at: usize, asked: &mut Asked<'_>)
+    requires { at < length asked.old.queries }
+    ensures { IsAnsweredRightly at (name_in offset names.now) asked.old asked.new }
+{
+    answer_by(name(alloc, names, StringRef(offset)), at, asked);
+}
+
+/// Answers the query at a position with where an OMAP table moves the addresses of a range.
+#[inline(never)]
+fn answer_ranges(
+    alloc: Global,
+    table: &OMAPTable,
+    addresses: Range<u32>,
+    at: usize,
+    asked: &mut Asked<'_>,
+)
+    requires { at < length asked.old.queries }
+    ensures { IsAnsweredRightly at (Ok (moved table.now addresses)) asked.old asked.new }
+{
+    answer_by(ranges(alloc, table, addresses), at, asked);
 }
 
 impl Opened<'_> {
@@ -58,16 +118,16 @@ impl Opened<'_> {
                 answer_type(alloc, types, index, at, asked)
             }
             (Opened::Types(types), Query::Fields { index, .. }) => {
-                answer_by(fields(alloc, types, TypeIndex(index)), at, asked)
+                answer_fields(alloc, types, index, at, asked)
             }
             (Opened::Ids(ids), Query::IdRecord { index, .. }) => {
-                answer_by(id_record(alloc, ids, IdIndex(index)), at, asked)
+                answer_id(alloc, ids, index, at, asked)
             }
             (Opened::Names(names), Query::Name { offset, .. }) => {
-                answer_by(name(alloc, names, StringRef(offset)), at, asked)
+                answer_name(alloc, names, offset, at, asked)
             }
             (Opened::Omap(table), Query::Ranges { start, end, .. }) => {
-                answer_by(ranges(alloc, table, start..end), at, asked)
+                answer_ranges(alloc, table, start..end, at, asked)
             }
             _ => {}
         }

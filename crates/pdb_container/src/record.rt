@@ -97,7 +97,7 @@ pub fn answer_type(
 {
     match describe_type(alloc, types, TypeIndex(index)) {
         Ok(Described { kind, name }) => asked.answer(at, Reply::Record { index, kind, name }),
-        Err(error) => asked.answer(at, Reply::Refused(error)),
+        Err(error) => asked.refuse(at, error),
     }
 }
 

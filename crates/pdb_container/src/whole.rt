@@ -167,7 +167,7 @@ fn answer<S: Source>(alloc: Global, file: &mut BigMSF<S>, at: usize, asked: &mut
     ensures head { file.new.head ≡ file.old.head }
 {
     if let Err(error) = attempt(alloc, file, at, asked) {
-        asked.answer(at, Reply::Refused(error));
+        asked.refuse(at, error);
     }
 }
 
