@@ -117,6 +117,7 @@ impl StringTable {
     ///
     /// # Errors
     /// Fails with `UnexpectedEof` if there is no NUL among the names at or after the offset.
+    #[inline(always)]
     #[tactic(auto, unfolding(crate::specs::StringTable::name_of), using(std::proofs::lemmas::List::drop_min))]
     pub fn get(&self, offset: StringRef) -> Result<RawString<'_>>
         ensures { Gives (λ name. name.0.now) result (name_of self.now offset) }
