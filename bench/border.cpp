@@ -66,11 +66,13 @@ uint64_t border_names(const Bytes &stream, const Numbers &offsets, uint32_t turn
   size_t count = 0;
   uint64_t sum = 0;
   for (uint32_t turn = 0; turn < turns; turn++)
-    for (size_t from = 0; from < offsets.size(); from += std::size(places)) {
+    for (size_t from = 0; from < offsets.size();) {
       size_t asked = std::min(std::size(places), offsets.size() - from);
-      pdb_names_places(&names.handle, &offsets[from], asked, places, asked, &count, &names.fault);
+      uint32_t status = pdb_names_places(&names.handle, &offsets[from], asked, places, asked, &count, &names.fault);
       for (size_t at = 0; at < count; at++)
         sum += 1 + places[at].length;
+      // An offset without a name is passed by.
+      from += count + (status != PDB_OK);
     }
   return sum;
 }

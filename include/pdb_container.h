@@ -18,7 +18,8 @@
  * If an array has no room for the answer, the status is PDB_TOO_SMALL, nothing is written to the array, and the
  * length is set to the number of items of the answer. Otherwise the answer is written to the front of the
  * array, and the items after it are left unchanged. If a call is refused, arrays and structures are left
- * unchanged, except `fault` and the structure that pdb_table_next describes, and lengths are set to 0.
+ * unchanged, except `fault` and the structure that pdb_table_next describes, and lengths are set to 0. Only
+ * pdb_names_places differs: what it writes for the offsets before the one that is refused stays.
  */
 #ifndef PDB_CONTAINER_H
 #define PDB_CONTAINER_H
@@ -180,8 +181,10 @@ typedef struct pdb_name {
 /* Writes where the name at an offset is in the stream that the table was opened with. Nothing is copied. */
 uint32_t pdb_names_place(pdb_handle *names, uint32_t offset, pdb_name *place, pdb_fault *fault);
 
-/* Writes the same for many offsets, in their order. If no name is found at one of them, nothing is written, and the
- * fault is that of the first such offset. */
+/* Writes the same for many offsets, in their order, up to the first at which no name is found; the fault is then that
+ * of this offset. The length is set to the number of places that are written, in this case too. If the array has fewer
+ * places than there are offsets, the status is PDB_TOO_SMALL, nothing is written, and the length is set to the number
+ * of offsets. */
 uint32_t pdb_names_places(pdb_handle *names, const uint32_t *offsets, size_t offsets_length, pdb_name *room, size_t room_length, size_t *length, pdb_fault *fault);
 
 /* Writes the offsets of all names, in their order. The first name is at offset 0, and each later one begins

@@ -166,6 +166,27 @@ static void ask_frames(void) {
     pdb_close(&frames);
 }
 
+// Places of many names, into an array with a 7 in each length beforehand.
+static void places_of(pdb_handle *names, const uint32_t *offsets, size_t count, size_t room_length, uint32_t also) {
+    pdb_name places[64];
+    for (size_t i = 0; i < 64; i++) places[i] = (pdb_name){0, 7};
+    printf("places %" PRIu32, allowed(pdb_names_places(names, offsets, count, places, room_length, &length, &fault), also));
+    printf(" %zu", length);
+    for (size_t i = 0; i <= count; i++) printf(" %zu+%zu", places[i].offset, places[i].length);
+    printf("\n");
+}
+
+// The offsets are those of all names.
+static void ask_places(pdb_handle *names, uint32_t *offsets, size_t count) {
+    places_of(names, offsets, count, count - 1, PDB_TOO_SMALL);
+    places_of(names, offsets, count, count, PDB_OK);
+    for (size_t refused = count; refused-- > 0;) {
+        offsets[refused] = UINT32_MAX;
+        places_of(names, offsets, count, 64, PDB_UNEXPECTED_EOF);
+    }
+    places_of(names, offsets, 0, 0, PDB_OK);
+}
+
 static void ask_names(void) {
     pdb_handle names = {0};
     uint32_t offsets[64];
@@ -180,14 +201,7 @@ static void ask_names(void) {
         allowed(pdb_names_place(&names, offsets[i], &place, &fault), PDB_OK);
         printf("place %" PRIu32 " %zu %zu\n", offsets[i], place.offset, place.length);
     }
-    pdb_name places[64];
-    allowed(pdb_names_places(&names, offsets, count, places, count - 1, &length, &fault), PDB_TOO_SMALL);
-    allowed(pdb_names_places(&names, offsets, count, places, 64, &length, &fault), PDB_OK);
-    for (size_t i = 0; i < length; i++) printf("places %" PRIu32 " %zu %zu\n", offsets[i], places[i].offset, places[i].length);
-    offsets[count - 1] = UINT32_MAX;
-    places[0].length = 7;
-    allowed(pdb_names_places(&names, offsets, count, places, 64, &length, &fault), PDB_UNEXPECTED_EOF);
-    printf("places %zu %zu\n", length, places[0].length);
+    ask_places(&names, offsets, count);
     pdb_close(&names);
 }
 

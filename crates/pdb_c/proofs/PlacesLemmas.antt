@@ -2,14 +2,12 @@
 use Rattle.std.proofs.Common.{◌≡◌, ℕ, zero, suc, ◌+◌, ◌-◌, ◌<◌, ◌≤◌, List, [], ◌∷◌, ◌++◌, length, slice_index, refl, sym, ap, subst, ◌∙◌, arith, None, Ok, Err}
 use Rattle.pdb_base.specs.declared.error.Error.{Error}
 use Rattle.pdb_base.specs.Refusal.{refusal_of}
-use Rattle.pdb_base.specs.Answer.{Answer}
 use Rattle.pdb_tpi.specs.Table.{Table}
 use Rattle.pdb_tpi.specs.Steps.{Stand, walk, walk_rest, steps_taken, IsStep, step_of, stopped}
 use Rattle.pdb_tpi.specs.Place.{IsPlace}
 use Rattle.std.proofs.lemmas.Option.{slice_get_past}
 use Rattle.pdb_tpi.proofs.StepLemmas.{step_none, step_err, step_stops}
-use Rattle.pdb_c.specs.declared.fault.Fault.{Fault}
-use Rattle.pdb_c.specs.Fault.{fine, fault_of}
+use Rattle.pdb_c.specs.Fault.{fine, fault_of, fault_of_answer}
 use Rattle.pdb_c.specs.Places.{ArePositions, AreAllPositions, stop_fault}
 
 -- a walk has come behind the items of these positions
@@ -48,23 +46,18 @@ walked_all table stand positions position walked place past =
     let past' : length (walk table) ≤ stand.index - table.header.minimum_index = subst (λ (t : Table). length (walk t) ≤ stand.index - t.header.minimum_index) walked.same past in
     record { are = walked.are; all = omega (arith, reached, past', walked.index) }
 
--- what tells how a step ended
-abbrev told : {X : Type 0} → Answer X → Fault
-told (Ok x) = fine
-told (Err refusal) = fault_of refusal
-
-told_stopped : (stand : Stand) (rest : List ℕ) → told (stopped stand rest) ≡ stop_fault rest
+told_stopped : (stand : Stand) (rest : List ℕ) → fault_of_answer (stopped stand rest) ≡ stop_fault rest
 told_stopped stand [] = refl
 told_stopped stand (byte ∷ rest) = refl
 
 -- where a step behind all items tells how the walk stops
-told_end : (stand : Stand) → length (walk stand.table) ≤ steps_taken stand → told (step_of stand) ≡ stop_fault (walk_rest stand.table)
-told_end stand past = ap told (step_stops stand (slice_get_past (walk stand.table) (steps_taken stand) past)) ∙ told_stopped stand (walk_rest stand.table)
+told_end : (stand : Stand) → length (walk stand.table) ≤ steps_taken stand → fault_of_answer (step_of stand) ≡ stop_fault (walk_rest stand.table)
+told_end stand past = ap fault_of_answer (step_stops stand (slice_get_past (walk stand.table) (steps_taken stand) past)) ∙ told_stopped stand (walk_rest stand.table)
 
 pub stop_none : {X : Type 0} (seen : X → ℕ × List ℕ) (table : Table) (stand next : Stand) (positions : List ℕ) → IsWalkedTo table stand positions → IsStep seen stand (Ok None) next → stop_fault (walk_rest table) ≡ fine
 stop_none seen table stand next positions walked step =
-    subst (λ (t : Table). stop_fault (walk_rest t) ≡ fine) walked.same (sym (told_end stand (step_none seen stand next step).0) ∙ ap told step.gives)
+    subst (λ (t : Table). stop_fault (walk_rest t) ≡ fine) walked.same (sym (told_end stand (step_none seen stand next step).0) ∙ ap fault_of_answer step.gives)
 
 pub stop_err : {X : Type 0} (seen : X → ℕ × List ℕ) (table : Table) (stand next : Stand) (e : Error) (positions : List ℕ) → IsWalkedTo table stand positions → IsStep seen stand (Err e) next → stop_fault (walk_rest table) ≡ fault_of (refusal_of e)
 stop_err seen table stand next e positions walked step =
-    subst (λ (t : Table). stop_fault (walk_rest t) ≡ fault_of (refusal_of e)) walked.same (sym (told_end stand (step_err seen stand next e step).0) ∙ ap told step.gives)
+    subst (λ (t : Table). stop_fault (walk_rest t) ≡ fault_of (refusal_of e)) walked.same (sym (told_end stand (step_err seen stand next e step).0) ∙ ap fault_of_answer step.gives)

@@ -5,7 +5,8 @@ ghost use Rattle.pdb_base.specs.Refusal.{Refusal};
 ghost use Rattle.pdb_msf.specs.Layout.{Plan, plan_of, stream_by};
 ghost use Rattle.pdb_c.specs.declared.fault.Fault.{Fault};
 ghost use Rattle.pdb_c.specs.File.{stream_said};
-ghost use Rattle.pdb_c.specs.Names.{StandsAtItsPlace};
+ghost use Rattle.pdb_c.specs.Names.{StandsAtItsPlace, WritesNamedFront};
+ghost use Rattle.pdb_c.specs.declared.names.NamePlace.{NamePlace};
 ghost use Rattle.pdb_c.specs.Told.{IsTold, TellsBack};
 
 use pdb_space::laws::{names, string_tables};
@@ -30,3 +31,9 @@ pub fn name_places()
     string_tables();
     names();
 }
+
+/// The places that one call writes are those of the names at all offsets, or of those at the offsets
+/// before the first one without a name.
+pub fn names_fronts()
+    ensures { (names : List ℕ) (room : List NamePlace) (offsets : List ℕ) → WritesNamedFront names room offsets }
+{}

@@ -1,17 +1,18 @@
 //! String tables.
 
-ghost use Rattle.std.specs.Prelude.{◌≡◌, ◌<◌, length, None};
+ghost use Rattle.std.specs.Prelude.{◌≡◌, ◌<◌, length, None, IfSome, IfNone};
 ghost use Rattle.pdb_base.specs.Answer.{Answers, Gives};
 ghost use Rattle.pdb_space.specs.StringTable.{name_of, names_of};
 ghost use Rattle.pdb_c.specs.declared.content.Content.TheVariants.{Names};
-ghost use Rattle.pdb_c.specs.Copied.{CopiesOrLacks, copied, copied_of};
+ghost use Rattle.pdb_c.specs.Copied.{copied, copied_of, untouched};
+ghost use Rattle.pdb_c.specs.Fault.{not_open};
 ghost use Rattle.pdb_c.specs.Found.{answered_of};
 ghost use Rattle.pdb_c.specs.Handle.{OpensStream, held_as, names_held};
-ghost use Rattle.pdb_c.specs.Names.{name_place, name_places};
+ghost use Rattle.pdb_c.specs.Names.{name_place, places_copied};
 
 use crate::content::Content;
 use crate::copied::{copy_nothing, copy_out};
-use crate::fault::{ALREADY_OPEN, Fault, NOT_OPEN, TOO_LONG};
+use crate::fault::{ALREADY_OPEN, FINE, Fault, NOT_OPEN, TOO_LONG, TOO_SMALL};
 use crate::found::tell_answered;
 use crate::handle::Handle;
 use pdb_base::Result;
@@ -116,36 +117,34 @@ fn place_in(names: &StringTable, offset: u32) -> Result<NamePlace>
     })
 }
 
-/// Returns where the names at some offsets of a table stand in the stream of the table.
-///
-/// # Errors
-/// Fails as `StringTable::get` does for the first offset for which it fails, and with `OutOfMemory`
-/// if memory is refused.
-fn places_in(alloc: Global, names: &StringTable, offsets: &[u32]) -> Result<Vec<NamePlace>>
-    ensures { Answers (λ places. places.items) result (name_places names.now offsets.now) }
-{
-    let mut places = Vec::with_capacity(alloc, offsets.len())?;
-    for offset in offsets {
-        places.push(place_in(names, *offset)?)?;
-    }
-    Ok(places)
-}
-
-/// Writes where the names at some offsets of a table stand to the caller's array.
+/// Writes where the names at some offsets of a table stand to the front of the caller's array, in
+/// the order of the offsets, up to the first offset that is refused, and sets `length` to the number
+/// of places that are written. If the array has fewer places than there are offsets, nothing is
+/// written, and `length` is set to the number of offsets.
 fn write_places(
-    alloc: Global,
     names: &StringTable,
     offsets: &[u32],
     room: &mut [NamePlace],
     length: &mut usize,
 ) -> Fault
-    ensures { CopiesOrLacks (record { fault = result; length = length.new; room = room.new }) room.old
-        (copied room.old (name_places names.now offsets.now)) }
+    ensures { record { fault = result; length = length.new; room = room.new } ≡
+        places_copied room.old names.now offsets.now }
 {
-    match places_in(alloc, names, offsets) {
-        Ok(places) => copy_out(&places, room, length),
-        Err(error) => copy_nothing(Fault::of(&error), length),
+    if room.len() < offsets.len() {
+        *length = offsets.len();
+        return Fault::status(TOO_SMALL);
     }
+    for (index, offset) in offsets.iter().enumerate() {
+        match place_in(names, *offset) {
+            Ok(place) => room[index] = place,
+            Err(error) => {
+                *length = index;
+                return Fault::of(&error);
+            }
+        }
+    }
+    *length = offsets.len();
+    Fault::status(FINE)
 }
 
 /// Writes where the name at an offset stands in the stream that the table was opened with, and its
@@ -175,7 +174,8 @@ pub extern "C" fn pdb_names_place(
 }
 
 /// Writes where the names at some offsets stand in the stream that the table was opened with, in
-/// the order of the offsets. If there is no name at one of them, nothing is written.
+/// the order of the offsets, up to the first offset that is refused. `length` is set to the number
+/// of places that are written, and the fault is that of the refusal.
 #[unsafe(no_mangle)]
 pub extern "C" fn pdb_names_places(
     alloc: Global,
@@ -185,8 +185,10 @@ pub extern "C" fn pdb_names_places(
     length: &mut usize,
     fault: &mut Fault,
 ) -> u32
-    ensures answer { CopiesOrLacks (record { fault = fault.new; length = length.new; room = room.new }) room.old
-        (copied_of room.old (λ names. name_places names offsets.now) (names_held names.old.held.content)) }
+    ensures answer { IfSome (names_held names.old.held.content) (λ names.
+        record { fault = fault.new; length = length.new; room = room.new } ≡ places_copied room.old names offsets.now) }
+    ensures closed { IfNone (names_held names.old.held.content)
+        (record { fault = fault.new; length = length.new; room = room.new } ≡ untouched not_open room.old) }
     ensures kept { names.new.held.content ≡ names.old.held.content }
     ensures status { result ≡ fault.new.status }
 {
@@ -194,7 +196,7 @@ pub extern "C" fn pdb_names_places(
         return copy_nothing(Fault::status(NOT_OPEN), length).tell(fault);
     };
     let told = match &*content {
-        Content::Names(table) => write_places(alloc, table, offsets, room, length),
+        Content::Names(table) => write_places(table, offsets, room, length),
         _ => copy_nothing(Fault::status(NOT_OPEN), length),
     };
     names.put(content);
