@@ -10,8 +10,9 @@ use std::simd::prelude::*;
 /// Returns how many bytes stand between `from` and the first NUL from there on.
 ///
 /// As many bytes are compared at once as the slice has, up to 64: most texts end among them, so
-/// that no loop's end has to be guessed.
-#[inline(always)]
+/// that no loop's end has to be guessed. The function is large, and its callers stay small enough
+/// to be inlined if it is called.
+#[inline(never)]
 pub(crate) fn first_nul(bytes: &[u8], from: usize) -> Option<usize>
     requires { from ≤ length bytes.now }
     ensures { IsFirstByte (is_byte 0) (drop from bytes.now) result }
