@@ -54,9 +54,13 @@ field_at bytes = do
   nothing ← padding_at entry.1
   Ok (entry.0, nothing.1)
 
+-- reads the entries of a field list, which go on to the end of the bytes
+abbrev pub field_list_at : List ℕ → Answer (TypeValue × List ℕ)
+field_list_at bytes = to_end field_at bytes >>= λ entries. Ok (field_list_of entries.0, entries.1)
+
 -- reads what stands behind the leaf of a record
 abbrev pub record_of : Bool → ℕ → List ℕ → Answer (TypeValue × List ℕ)
-record_of true number bytes = to_end field_at bytes >>= λ entries. Ok (field_list_of entries.0, entries.1)
+record_of true number bytes = field_list_at bytes
 record_of false number bytes = behind_leaf number bytes
 
 -- reads a type record

@@ -15,7 +15,6 @@ pub mod Arrays
 pub mod Leaves
 pub mod Records
 pub mod Fields
-pub mod Entries
 pub mod Grammar
 pub mod Memory
 pub mod Short

@@ -4,7 +4,6 @@ pub(crate) mod array;
 pub(crate) mod class;
 pub(crate) mod counted;
 pub(crate) mod derived;
-pub(crate) mod entry;
 pub(crate) mod enumeration;
 pub(crate) mod fields;
 pub(crate) mod function;

@@ -7,14 +7,12 @@ ghost use Rattle.pdb_base.specs.Place.{left};
 ghost use Rattle.pdb_records.specs.Row.{row};
 ghost use Rattle.pdb_values.specs.TypeView.{fields_value, type_value};
 ghost use Rattle.pdb_values.specs.TypeValue as values;
-ghost use Rattle.pdb_records.specs.Fields.{entry_of, field_at, continuation_leaf};
-ghost use Rattle.pdb_records.specs.Entries.{entry_value, gathered};
+ghost use Rattle.pdb_records.specs.Fields.{field_list_at};
 ghost use Rattle.pdb_records.specs.Rows.{continuation_row};
-ghost use Rattle.pdb_records.specs.Memory.{HoldsItemBehind, RecordHoldsItem, HoldsField};
+ghost use Rattle.pdb_records.specs.Memory.{HoldsField};
 
 use crate::constants::LF_INDEX;
 use crate::parse::array::skip_padding;
-use crate::parse::entry::FieldEntry;
 use crate::parse::record::parse_behind_leaf;
 use crate::parse::shape::parse_type_index;
 use pdb_base::{ParseBuffer, Result, TypeIndex};
@@ -30,43 +28,6 @@ fn parse_continuation(buffer: &mut ParseBuffer<'_>) -> Result<TypeIndex>
 {
     buffer.parse_u16()?;
     parse_type_index(buffer)
-}
-
-/// Reads what stands behind the leaf of an entry.
-#[inline(always)]
-fn parse_behind_entry<'t>(
-    alloc: Global,
-    buffer: &mut ParseBuffer<'t>,
-    number: u16,
-) -> Result<FieldEntry<'t>>
-    ensures read { Answers (λ e. (entry_value e, left buffer.new)) result
-        (entry_of (number == continuation_leaf) number (left buffer.old)) }
-    ensures want { LacksOnlyIf result (HoldsItemBehind number (left buffer.old)) }
-{
-    if number == LF_INDEX {
-        return Ok(FieldEntry::Continues(parse_continuation(buffer)?));
-    }
-    match parse_behind_leaf(alloc, buffer, number) {
-        Ok(data) => Ok(FieldEntry::Field(data)),
-        Err(error) => Err(error),
-    }
-}
-
-/// Reads an entry and the padding behind it.
-#[inline(always)]
-#[tactic(auto, unfolding(crate::specs::Fields::field_at))]
-fn parse_field<'t>(alloc: Global, buffer: &mut ParseBuffer<'t>) -> Result<FieldEntry<'t>>
-    ensures read { Answers (λ e. (entry_value e, left buffer.new)) result (field_at (left buffer.old)) }
-    ensures want { LacksOnlyIf result (RecordHoldsItem (left buffer.old)) }
-{
-    let number = buffer.parse_u16()?;
-    match parse_behind_entry(alloc, buffer, number) {
-        Ok(entry) => {
-            skip_padding(buffer)?;
-            Ok(entry)
-        }
-        Err(error) => Err(error),
-    }
 }
 
 /// Returns a list of these fields, with the index of the list that continues it, if there is one.
@@ -85,15 +46,23 @@ pub(crate) fn parse_field_list<'t>(
     alloc: Global,
     buffer: &mut ParseBuffer<'t>,
 ) -> Result<TypeData<'t>>
-    ensures read { Answers (λ t. (type_value t, left buffer.new)) result (gathered (left buffer.old)) }
+    ensures read { Answers (λ t. (type_value t, left buffer.new)) result (field_list_at (left buffer.old)) }
     ensures want { LacksOnlyIf result (HoldsField (left buffer.old)) }
 {
     let mut fields = Vec::new(alloc);
     let mut continuation = None;
     'entries: while !buffer.is_empty() {
-        match parse_field(alloc, buffer) {
-            Ok(FieldEntry::Field(field)) => fields.push(field)?,
-            Ok(FieldEntry::Continues(index)) => continuation = Some(index),
+        let number = buffer.parse_u16()?;
+        if number == LF_INDEX {
+            continuation = Some(parse_continuation(buffer)?);
+            skip_padding(buffer)?;
+            continue;
+        }
+        match parse_behind_leaf(alloc, buffer, number) {
+            Ok(field) => {
+                skip_padding(buffer)?;
+                fields.push(field)?;
+            }
             Err(error) => return Err(error),
         }
     }

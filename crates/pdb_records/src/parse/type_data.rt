@@ -23,7 +23,7 @@ use std::alloc::Global;
 
 /// Reads the type record at the front of a buffer.
 #[inline(always)]
-#[tactic(auto, unfolding(crate::specs::Fields::record_at, crate::specs::Entries::gathered))]
+#[tactic(auto, unfolding(crate::specs::Fields::record_at))]
 fn parse_record<'t>(alloc: Global, buffer: &mut ParseBuffer<'t>) -> Result<TypeData<'t>>
     ensures read { Answers (λ t. (type_value t, left buffer.new)) result (record_at (left buffer.old)) }
     ensures want { LacksOnlyIf result (NeedsMemory (left buffer.old)) }
