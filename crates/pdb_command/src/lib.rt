@@ -9,13 +9,11 @@ mod lines;
 mod outcome;
 mod process;
 mod refusal;
-#[cfg(test)]
-mod tests;
 mod words;
 
 pub use arguments::{texts_of, words_of};
 pub use channels::{Ended, serve, tell};
-pub use input::read_all;
+pub use input::{read_all, read_within};
 pub use lines::reply_lines;
 pub use outcome::{Outcome, act, usage};
 pub use process::{Errors, program};

@@ -7,8 +7,6 @@ mod frames;
 mod names;
 mod sources;
 mod streams;
-#[cfg(test)]
-mod tests;
 mod types;
 
 pub use addresses::{map_of, there_and_back};

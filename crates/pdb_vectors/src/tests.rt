@@ -86,6 +86,33 @@ fn answers_front(alloc: Global, limit: Option<usize>, len: usize) -> pdb_base::R
     answers_twice(alloc, &[], 1, limit, front)
 }
 
+/// Bytes of S1 that are set to others, the stream and the limit that are asked for, and what is answered.
+const ASKED: &[(&[(usize, u8)], u32, Option<usize>, &[u8])] = &[
+    (&[], 0, None, b""),
+    (&[], 1, Some(0), b""),
+    (&[], 2, None, STREAM_2_ABSENT),
+    (&[], 3, None, b"hello"),
+    (&[], 4, None, STREAM_4_ABSENT),
+    (&[(PAGE_OF_1, 6)], 1, None, &[b'a'; 600]),
+    (&[(PAGE_OF_3, 8)], 3, None, SOURCE_ENDS),
+    (&[(PAGE_OF_3, 8)], 3, Some(0), b""),
+    (&[(PAGE_OF_3, 9)], 3, None, OUT_OF_RANGE),
+    (&[(PAGE_OF_3, 9)], 3, Some(0), OUT_OF_RANGE),
+    (&[(DIRECTORY_SIZE, 0)], 0, None, b"UnexpectedEof"),
+    (&[(DIRECTORY_SIZE, 0)], 1, Some(1), b"UnexpectedEof"),
+    // The directory ends behind the size of stream 1, of stream 2, and so on.
+    (&[(DIRECTORY_SIZE, 12)], 2, None, b"UnexpectedEof"),
+    (&[(DIRECTORY_SIZE, 12)], 0, None, b"UnexpectedEof"),
+    (&[(DIRECTORY_SIZE, 16)], 2, None, STREAM_2_ABSENT),
+    (&[(DIRECTORY_SIZE, 16)], 0, None, b"UnexpectedEof"),
+    (&[(DIRECTORY_SIZE, 24)], 0, None, b""),
+    (&[(DIRECTORY_SIZE, 24)], 1, None, b"UnexpectedEof"),
+    (&[(DIRECTORY_SIZE, 24)], 3, None, b"UnexpectedEof"),
+    (&[(DIRECTORY_SIZE, 28)], 3, None, b"UnexpectedEof"),
+    (&[(DIRECTORY_SIZE, 19)], 0, None, b"UnexpectedEof"),
+    (&[(DIRECTORY_SIZE, 19)], 4, None, STREAM_4_ABSENT),
+];
+
 #[test]
 fn streams(rt: HostRuntime) -> Result<(), Fail> {
     let alloc = rt.alloc();
@@ -103,34 +130,9 @@ fn streams(rt: HostRuntime) -> Result<(), Fail> {
         "stream 1, whose page numbers are the last"
     );
 
-    let rows: [(&[(usize, u8)], u32, Option<usize>, &[u8]); 22] = [
-        (&[], 0, None, b""),
-        (&[], 1, Some(0), b""),
-        (&[], 2, None, STREAM_2_ABSENT),
-        (&[], 3, None, b"hello"),
-        (&[], 4, None, STREAM_4_ABSENT),
-        (&[(PAGE_OF_1, 6)], 1, None, &[b'a'; 600]),
-        (&[(PAGE_OF_3, 8)], 3, None, SOURCE_ENDS),
-        (&[(PAGE_OF_3, 8)], 3, Some(0), b""),
-        (&[(PAGE_OF_3, 9)], 3, None, OUT_OF_RANGE),
-        (&[(PAGE_OF_3, 9)], 3, Some(0), OUT_OF_RANGE),
-        (&[(DIRECTORY_SIZE, 0)], 0, None, b"UnexpectedEof"),
-        (&[(DIRECTORY_SIZE, 0)], 1, Some(1), b"UnexpectedEof"),
-        // The directory ends behind the size of stream 1, of stream 2, and so on.
-        (&[(DIRECTORY_SIZE, 12)], 2, None, b"UnexpectedEof"),
-        (&[(DIRECTORY_SIZE, 12)], 0, None, b"UnexpectedEof"),
-        (&[(DIRECTORY_SIZE, 16)], 2, None, STREAM_2_ABSENT),
-        (&[(DIRECTORY_SIZE, 16)], 0, None, b"UnexpectedEof"),
-        (&[(DIRECTORY_SIZE, 24)], 0, None, b""),
-        (&[(DIRECTORY_SIZE, 24)], 1, None, b"UnexpectedEof"),
-        (&[(DIRECTORY_SIZE, 24)], 3, None, b"UnexpectedEof"),
-        (&[(DIRECTORY_SIZE, 28)], 3, None, b"UnexpectedEof"),
-        (&[(DIRECTORY_SIZE, 19)], 0, None, b"UnexpectedEof"),
-        (&[(DIRECTORY_SIZE, 19)], 4, None, STREAM_4_ABSENT),
-    ];
-    for (edits, number, limit, want) in rows {
+    for (edits, number, limit, want) in ASKED {
         assert!(rt;
-            answers_twice(alloc, edits, number, limit, want)?,
+            answers_twice(alloc, edits, *number, *limit, want)?,
             "stream {number}, limit {limit:?}"
         );
     }
@@ -140,24 +142,27 @@ fn streams(rt: HostRuntime) -> Result<(), Fail> {
 /// The edits by which S1 claims 0xffffffff streams.
 const CLAIMED: [(usize, u8); 4] = [(1024, 0xff), (1025, 0xff), (1026, 0xff), (1027, 0xff)];
 
+const STREAM_LAST_ABSENT: &[u8] = b"The requested stream (4294967295) is not stored in this file";
+
+/// Streams of that file, in the order in which they are asked for, and what is answered.
+const OF_THE_CLAIMED: &[(u32, &[u8])] = &[
+    (0, b"UnexpectedEof"),
+    (2, STREAM_2_ABSENT),
+    (7, b"UnexpectedEof"),
+    (u32::MAX, STREAM_LAST_ABSENT),
+    (7, b"UnexpectedEof"),
+    (u32::MAX, STREAM_LAST_ABSENT),
+    (2, STREAM_2_ABSENT),
+    (0, b"UnexpectedEof"),
+];
+
 #[test]
 fn claimed_streams(rt: HostRuntime) -> Result<(), Fail> {
     let alloc = rt.alloc();
-    let last = b"The requested stream (4294967295) is not stored in this file".as_slice();
-    let rows: [(u32, &[u8]); 8] = [
-        (0, b"UnexpectedEof"),
-        (2, STREAM_2_ABSENT),
-        (7, b"UnexpectedEof"),
-        (u32::MAX, last),
-        (7, b"UnexpectedEof"),
-        (u32::MAX, last),
-        (2, STREAM_2_ABSENT),
-        (0, b"UnexpectedEof"),
-    ];
     let mut file = open_msf(alloc, edited(alloc, &CLAIMED)?)?;
-    for (number, want) in rows {
+    for (number, want) in OF_THE_CLAIMED {
         assert!(rt;
-            answers(alloc, file.get(alloc, number, None), want),
+            answers(alloc, file.get(alloc, *number, None), want),
             "stream {number}"
         );
     }
@@ -172,25 +177,27 @@ fn opens(alloc: Global, file: Vec<u8>, want: &str) -> bool {
     }
 }
 
+/// What is opened: S1 with some bytes set to others, and with which text that fails, if it does.
+const OPENED: &[(&str, &[(usize, u8)], &str)] = &[
+    ("S1", &[], ""),
+    ("no directory", &[(DIRECTORY_SIZE, 0)], ""),
+    ("other magic", &[(0, b'm')], "UnrecognizedFileFormat"),
+    (
+        "page size 768",
+        &[(33, 3)],
+        "The MSF header specifies an invalid page size (768 bytes)",
+    ),
+    (
+        "location page 9",
+        &[(52, 9)],
+        "MSF referred to page number (9) out of range",
+    ),
+];
+
 #[test]
 fn openings(rt: HostRuntime) -> Result<(), Fail> {
     let alloc = rt.alloc();
-    let rows: [(&str, &[(usize, u8)], &str); 5] = [
-        ("S1", &[], ""),
-        ("no directory", &[(DIRECTORY_SIZE, 0)], ""),
-        ("other magic", &[(0, b'm')], "UnrecognizedFileFormat"),
-        (
-            "page size 768",
-            &[(33, 3)],
-            "The MSF header specifies an invalid page size (768 bytes)",
-        ),
-        (
-            "location page 9",
-            &[(52, 9)],
-            "MSF referred to page number (9) out of range",
-        ),
-    ];
-    for (name, edits, want) in rows {
+    for (name, edits, want) in OPENED {
         assert!(rt; opens(alloc, edited(alloc, edits)?, want), "{name}");
     }
     Ok(())

@@ -2,14 +2,14 @@
 
 mod file;
 
-use crate::{
-    class_fields, finder_of, frames_at, map_of, name_at, stream_and_views, stream_sizes,
-    there_and_back, types_named,
-};
 use file::built;
 use pdb_container::{
     FrameType, Msf, PdbInternalRva, PdbInternalSectionOffset, Rva, StringRef, TypeData, TypeIndex,
     TypeInformation, open_msf,
+};
+use pdb_examples::{
+    class_fields, finder_of, frames_at, map_of, name_at, stream_and_views, stream_sizes,
+    there_and_back, types_named,
 };
 use std::test::Fail;
 

@@ -1,18 +1,14 @@
 //! What the program prints of S1, row by row.
 
-mod channels;
-mod processes;
-mod runs;
-
-use crate::act;
 use pdb_base::Result;
+use pdb_command::act;
 use pdb_vectors::{item_table, s1, s1_with};
 use std::alloc::Global;
 
-const USAGE: &str =
+pub const USAGE: &str =
     "usage: pdbq stream N [LIMIT] | type S I | id S I | name S O | ranges S A B | fields S I\n";
 
-const ABSENT_2: &str = "The requested stream (2) is not stored in this file\n";
+pub const ABSENT_2: &str = "The requested stream (2) is not stored in this file\n";
 
 const ABSENT_4: &str = "The requested stream (4) is not stored in this file\n";
 

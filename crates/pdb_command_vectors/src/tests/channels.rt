@@ -1,8 +1,7 @@
 //! Channels: inputs that are slow, interrupted, refused or endless, and outputs that are slow or refused.
 
-use crate::input::{read_all, read_within};
-use crate::serve;
 use pdb_base::Error;
+use pdb_command::{read_all, read_within, serve};
 use pdb_vectors::s1;
 use std::alloc::Global;
 use std::io;
