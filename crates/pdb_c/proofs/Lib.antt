@@ -4,4 +4,5 @@ mod NamesLemmas
 mod OffsetsLemmas
 mod PartsSteps
 mod PlacesLemmas
+mod RecordsLemmas
 mod StatusLaws

@@ -3,10 +3,12 @@
 ghost use Rattle.std.specs.Prelude.{◌≡◌, map, Ok};
 ghost use Rattle.std.specs.Option.{option_map};
 ghost use Rattle.pdb_base.specs.Answer.{Answer, Answers};
+ghost use Rattle.pdb_base.specs.Refusal.{unexpected_eof};
 ghost use Rattle.pdb_values.specs.TypeValue.{TypeValue};
 ghost use Rattle.pdb_values.specs.TypeView.{type_value};
 ghost use Rattle.pdb_tpi.specs.Record.{type_of};
 ghost use Rattle.pdb_c.specs.Copied.{CopiesOrLacks};
+ghost use Rattle.pdb_c.specs.Fault.{fault_of};
 ghost use Rattle.pdb_c.specs.Records.{arguments_in, arguments_of, if_copied, type_name};
 ghost use Rattle.pdb_c.specs.Roles.{IsAnswered};
 ghost use Rattle.pdb_c.specs.Row.{row_of};
@@ -18,6 +20,9 @@ use pdb_base::{Error, Result, TypeIndex};
 use pdb_records::parse_type_data;
 use pdb_values::{FIRST_RECORD, TypeData, type_data_for_primitive};
 use std::alloc::Global;
+
+/// The number of bytes of a record's leaf.
+const LEAF_LEN: usize = 2;
 
 /// Parses the record of the type of an index. An index below 0x1000 is that of a primitive type,
 /// which needs no record.
@@ -46,8 +51,17 @@ fn write_row(parsed: &Result<TypeData<'_>>, row: &mut Row) -> Fault
     }
 }
 
+/// Returns the fault of a record that ends before its leaf does.
+#[cold]
+#[inline(never)]
+fn no_leaf() -> Fault
+    ensures { result ≡ fault_of unexpected_eof }
+{
+    Fault::of(&Error::UnexpectedEof)
+}
+
 /// Writes the numbers in the record of a type.
-#[tactic(auto, unfolding(pdb_tpi::specs::Record::type_of))]
+#[tactic(auto, using(crate::proofs::RecordsLemmas::no_leaf), unfolding(pdb_tpi::specs::Record::type_of))]
 #[unsafe(no_mangle)]
 pub extern "C" fn pdb_type_row(
     alloc: Global,
@@ -61,6 +75,11 @@ pub extern "C" fn pdb_type_row(
 {
     if index < FIRST_RECORD {
         return write_row(&type_data_for_primitive(TypeIndex(index)), row).tell(fault);
+    }
+    // The parser tests this too. Known before, it leaves the parser one way out, which spares two
+    // copies of what was parsed.
+    if bytes.len() < LEAF_LEN {
+        return no_leaf().tell(fault);
     }
     write_row(&parse_type_data(alloc, bytes), row).tell(fault)
 }

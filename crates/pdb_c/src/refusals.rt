@@ -55,7 +55,18 @@ impl Fault {
     }
 
     /// Returns the fault that stands for an error: its status, and the numbers that go with it.
+    #[inline(always)]
     pub fn of(error: &Error) -> Fault
+        ensures { result ≡ fault_of (refusal_of error.now) }
+    {
+        // Inlined, this gives the fault of an error a place of its own, and a caller that succeeds
+        // keeps its fault in registers.
+        Fault::refused(error)
+    }
+
+    /// Returns the fault that stands for an error.
+    #[inline(never)]
+    fn refused(error: &Error) -> Fault
         ensures { result ≡ fault_of (refusal_of error.now) }
     {
         match error {
