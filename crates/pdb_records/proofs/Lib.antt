@@ -12,7 +12,7 @@ pub mod ListLemmas
 pub mod KnownLaws
 pub mod GrammarLaws
 pub mod FieldLemmas
-pub mod WholeLemmas
+pub mod lemmas
 pub mod CountedLemmas
 pub mod IdLaws
 pub mod IdLemmas

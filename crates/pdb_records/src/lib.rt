@@ -8,5 +8,7 @@ pub mod laws;
 mod leaf;
 mod parse;
 
+pub use parse::fields::parse_field_list;
 pub use parse::id_data::parse_id_data;
+pub use parse::record::parse_behind_leaf;
 pub use parse::type_data::parse_type_data;

@@ -1,5 +1,6 @@
 -- A primitive type is no list: its index says it, or is refused by name.
-use Rattle.std.proofs.Common.{◌≡◌, ◌≢◌, ℕ, Bool, true, false, List, refl, sym, ◌∙◌, subst, Result, Ok, Err, IfOk}
+use Rattle.std.proofs.Common.{◌≡◌, ◌≢◌, ◌≤◌, ltb, ℕ, Bool, true, false, List, refl, sym, ◌∙◌, subst, Result, Ok, Err, IfOk}
+use Rattle.std.proofs.lemmas.Bool.{le-ltb}
 use Rattle.std.specs.Prelude.{nat_lt, if◌then◌else◌}
 use Rattle.pdb_base.specs.declared.error.Error.{Error}
 use Rattle.pdb_base.specs.Refusal.{Refusal, out_of_memory, type_not_found, type_not_indexed}
@@ -66,3 +67,8 @@ type_refusals_by false index item a b is = read_refusals a b (record_at item) (�
 pub type_refusals : (index : ℕ) (item : List ℕ) (a b : ℕ) → type_of index item ≢ Err (type_not_indexed a b)
 unfolding type_of
 type_refusals index item = type_refusals_by (nat_lt index first_record) index item
+
+-- an item that is no primitive type is read as a record
+pub reads_record : (index : ℕ) (bytes : List ℕ) → first_record ≤ index → type_record bytes ≡ type_of index bytes
+unfolding type_of
+reads_record index bytes above = let test : ltb index first_record ≡ false = le-ltb index first_record above in rw test refl

@@ -16,8 +16,9 @@ ghost use Rattle.pdb_tpi.specs.Item.{bytes_of, index_of};
 ghost use Rattle.pdb_tpi.specs.Record.{type_of};
 
 use crate::item::Item;
-use pdb_base::{Result, TypeIndex};
-use pdb_records::parse_type_data;
+use pdb_base::{ParseBuffer, Result, TypeIndex};
+use pdb_records::constants::LF_FIELDLIST;
+use pdb_records::{parse_behind_leaf, parse_field_list};
 use pdb_values::{FIRST_RECORD, TypeData, type_data_for_primitive};
 use std::alloc::Global;
 
@@ -60,6 +61,12 @@ impl<'t> Item<'t, TypeIndex> {
         if index.0 < FIRST_RECORD {
             return type_data_for_primitive(index);
         }
-        parse_type_data(alloc, self.bytes)
+        // As `parse_type_data` does, but with no function in between whose result would be copied.
+        let mut buffer = ParseBuffer::from(self.bytes);
+        let kind = buffer.parse_u16()?;
+        if kind == LF_FIELDLIST {
+            return parse_field_list(alloc, &mut buffer);
+        }
+        parse_behind_leaf(alloc, &mut buffer, kind)
     }
 }

@@ -42,10 +42,7 @@ fn field_list<'t>(fields: Vec<TypeData<'t>>, continuation: Option<TypeIndex>) ->
 
 /// Reads entries to the end of the bytes, and returns them as a list of fields.
 #[inline(never)]
-pub(crate) fn parse_field_list<'t>(
-    alloc: Global,
-    buffer: &mut ParseBuffer<'t>,
-) -> Result<TypeData<'t>>
+pub fn parse_field_list<'t>(alloc: Global, buffer: &mut ParseBuffer<'t>) -> Result<TypeData<'t>>
     ensures read { Answers (λ t. (type_value t, left buffer.new)) result (field_list_at (left buffer.old)) }
     ensures want { LacksOnlyIf result (HoldsField (left buffer.old)) }
 {

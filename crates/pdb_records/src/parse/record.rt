@@ -48,7 +48,7 @@ fn parse_leaf<'t>(
 /// and otherwise fails as reading the record does.
 #[inline(never)]
 #[tactic(auto, unfolding(crate::specs::Records::behind_leaf))]
-pub(crate) fn parse_behind_leaf<'t>(
+pub fn parse_behind_leaf<'t>(
     alloc: Global,
     buffer: &mut ParseBuffer<'t>,
     number: u16,

@@ -1,12 +1,7 @@
 use Rattle.pdb_base.specs.Place.{left}
 use Rattle.pdb_base.specs.Memory.{LacksOnlyIf}
 use Rattle.pdb_records.specs.Memory.{NeedsMemory}
-use Rattle.pdb_values.specs.TypeView.{type_value}
-use Rattle.pdb_records.specs.Fields.{record_at}
-use Rattle.pdb_records.specs.Grammar.{IsRecord, NoRecord}
-use Rattle.pdb_records.proofs.GrammarLaws.{record_agrees}
-use Rattle.pdb_records.proofs.AssignedLemmas.{says_assigned, shows_assigned, refuses_assigned}
-use Rattle.pdb_records.proofs.WholeLemmas.{says_type, says_cut, says_short}
+use Rattle.pdb_records.proofs.lemmas.Whole.{says_type, says_record, shows_record, refuses_record, says_cut, says_short}
 use Rattle.pdb_records.proofs.parse.type_data.parse_type_data.Goals as goal
 
 pub returns-clause-read : goal.returns-clause-read
@@ -14,15 +9,15 @@ returns-clause-read c = says_type c.args.bytes.now (left c.parse_record.new.buff
 
 pub returns-clause-answers : goal.returns-clause-answers
 returns-clause-answers c =
-    says_assigned type_value record_at IsRecord NoRecord record_agrees c.args.bytes.now (left c.parse_record.new.buffer) c.parse_record.result (rw c.from-buffer.ensures at c.parse_record.ensures.read)
+    says_record c.args.bytes.now (left c.parse_record.new.buffer) c.parse_record.result (rw c.from-buffer.ensures at c.parse_record.ensures.read)
 
 pub returns-clause-answered : goal.returns-clause-answered
 returns-clause-answered c =
-    shows_assigned type_value record_at IsRecord NoRecord record_agrees c.args.bytes.now (left c.parse_record.new.buffer) c.parse_record.result (rw c.from-buffer.ensures at c.parse_record.ensures.read)
+    shows_record c.args.bytes.now (left c.parse_record.new.buffer) c.parse_record.result (rw c.from-buffer.ensures at c.parse_record.ensures.read)
 
 pub returns-clause-refused : goal.returns-clause-refused
 returns-clause-refused c =
-    refuses_assigned type_value record_at IsRecord NoRecord record_agrees c.args.bytes.now (left c.parse_record.new.buffer) c.parse_record.result (rw c.from-buffer.ensures at c.parse_record.ensures.read)
+    refuses_record c.args.bytes.now (left c.parse_record.new.buffer) c.parse_record.result (rw c.from-buffer.ensures at c.parse_record.ensures.read)
 
 pub returns-clause-want : goal.returns-clause-want
 returns-clause-want c =
