@@ -33,13 +33,16 @@ uint64_t border_walk(const Bytes &stream, uint32_t turns) {
 
 uint64_t border_rows(const Bytes &stream, uint32_t turns) {
   Opened table(pdb_table_open, stream);
-  pdb_record record{};
-  pdb_row row{};
+  pdb_type types[64];
+  size_t count = 0;
   uint64_t sum = 0;
   for (uint32_t turn = 0; turn < turns; turn++) {
     pdb_table_rewind(&table.handle, &table.fault);
-    while (pdb_table_next(&table.handle, &record, &table.fault) == PDB_OK)
-      sum += pdb_type_row(&stream[record.offset], record.length, record.index, &row, &table.fault) == PDB_OK;
+    do {
+      pdb_table_next_types(&table.handle, types, std::size(types), &count, &table.fault);
+      for (size_t at = 0; at < count; at++)
+        sum += types[at].fault.status == PDB_OK;
+    } while (count == std::size(types));
   }
   return sum;
 }

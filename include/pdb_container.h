@@ -19,7 +19,8 @@
  * length is set to the number of items of the answer. Otherwise the answer is written to the front of the
  * array, and the items after it are left unchanged. If a call is refused, arrays and structures are left
  * unchanged, except `fault` and the structure that pdb_table_next describes, and lengths are set to 0. Only
- * pdb_names_places differs: what it writes for the offsets before the one that is refused stays.
+ * pdb_names_places and pdb_table_next_types differ: what they write for the offsets or the records before the one
+ * that is refused stays.
  */
 #ifndef PDB_CONTAINER_H
 #define PDB_CONTAINER_H
@@ -447,6 +448,19 @@ typedef struct pdb_row {
 /* Writes the numbers in the record of the type of an index, given the record's bytes. An index below 0x1000 is
  * that of a primitive type, whatever the bytes are. */
 uint32_t pdb_type_row(const uint8_t *record, size_t record_length, uint32_t index, pdb_row *row, pdb_fault *fault);
+
+/* A record of a table of types, and what it says. */
+typedef struct pdb_type {
+    pdb_record place; /* its index, and where it stands in the stream of the table */
+    pdb_fault fault;  /* PDB_OK, or why the record is refused */
+    pdb_row row;      /* the numbers in the record, or zeros if it is refused */
+} pdb_type;
+
+/* Writes the next records of the walk along a table of types, in order: what pdb_table_next and then pdb_type_row
+ * write for each. It writes as many as the array has room for, or as are left before the walk stops, and sets
+ * `count` to their number. The status is PDB_OK if the array is full; if not, it is PDB_NOWHERE after the last record,
+ * and the refusal if the walk stops before. A record that is refused does not stop the walk. */
+uint32_t pdb_table_next_types(pdb_handle *table, pdb_type *types, size_t types_length, size_t *count, pdb_fault *fault);
 
 /* Copies the name of a type. The status is PDB_NOWHERE if it has none. */
 uint32_t pdb_type_name(const uint8_t *record, size_t record_length, uint32_t index, uint8_t *room, size_t room_length, size_t *length, pdb_fault *fault);

@@ -4,11 +4,12 @@
 //                Where memory is refused, it says so on standard error and gives 1; where a call answers wrongly,
 //                it tells the line of this file and gives 2.
 #include <pdb_container.h>
+#include <stddef.h>
 #include <stdio.h>
 #include <stdlib.h>
 #include <string.h>
 
-enum { MOST = 0xffff, LIST = 0x1203 };
+enum { MOST = 0xffff, LIST = 0x1203, ROW_SIZE = offsetof(pdb_row, extra) + sizeof(uint32_t) };
 
 static uint8_t *stream, unused[MOST], *names, *joined_names;
 static size_t stream_length, count;
@@ -107,6 +108,39 @@ static void check_walk(size_t most) {
     EXPECT(pdb_table_rewind(&table, &fault) == PDB_OK);
 }
 
+// The walk with rows gives the same, in runs of any length, and for each record the row or the fault of its bytes.
+static void check_types(size_t room, pdb_type *types) {
+    pdb_fault fault;
+    size_t got = room;
+    for (size_t n = 0; got == room; n += got) {
+        memset(types, 0xa5, (room + 1) * sizeof *types);
+        uint32_t status = had(pdb_table_next_types(&table, types, room, &got, &fault));
+        EXPECT(got == (count - n < room ? count - n : room) && status == fault.status);
+        for (size_t i = 0; i < got; i++) {
+            pdb_record place = {facts.first_index + (uint32_t)(n + i), positions[n + i] + 2, (uint32_t)length_at(n + i)};
+            pdb_row row = {0};
+            pdb_fault refused;
+            had(pdb_type_row(stream + place.offset, place.length, place.index, &row, &refused));
+            if (types[i].fault.status == PDB_OUT_OF_MEMORY) lacks();
+            EXPECT(!memcmp(&types[i].place, &place, sizeof place) && same_fault(types[i].fault, refused));
+            EXPECT(!memcmp(&types[i].row, &row, ROW_SIZE));
+        }
+        for (size_t i = 0; i < sizeof *types; i++) EXPECT(((uint8_t *)(types + got))[i] == 0xa5);
+        pdb_fault stop = facts.stop.status ? facts.stop : (pdb_fault){PDB_NOWHERE, 0, 0};
+        EXPECT(same_fault(fault, got == room ? (pdb_fault){PDB_OK, 0, 0} : stop));
+    }
+    EXPECT(pdb_table_rewind(&table, &fault) == PDB_OK);
+}
+
+static void check_all_types(void) {
+    static const size_t rooms[] = {1, 3, 64};
+    pdb_type types[65];
+    pdb_fault fault;
+    size_t got = 7;
+    EXPECT(pdb_table_next_types(&table, types, 0, &got, &fault) == PDB_OK && !got);
+    for (size_t i = 0; i < sizeof rooms / sizeof *rooms; i++) check_types(rooms[i], types);
+}
+
 static void check_find(uint32_t index) {
     pdb_fault fault, wanted = {PDB_OK, 0, 0};
     pdb_record record = {7, 7, 7};
@@ -201,6 +235,9 @@ static void check_closed(pdb_handle *closed) {
     EXPECT(pdb_table_find(closed, 0x1000, &record, &fault) == PDB_NOT_OPEN && record.index == 7);
     EXPECT(pdb_table_next(closed, &record, &fault) == PDB_NOT_OPEN && record.index == 7 && record.length == 7);
     EXPECT(pdb_table_rewind(closed, &fault) == PDB_NOT_OPEN);
+    pdb_type type = {.place = {7, 7, 7}};
+    EXPECT(pdb_table_next_types(closed, &type, 1, &length, &fault) == PDB_NOT_OPEN && !length && type.place.length == 7);
+    length = 7;
     EXPECT(pdb_fields(closed, 0x1000, none, 1, &length, unused, MOST, &size, &fault) == PDB_NOT_OPEN && !length && !size);
 }
 
@@ -227,6 +264,7 @@ int main(int words, char **word) {
         check_walk(count / 2);
         if (count) check_finds();
         check_walk(count);
+        check_all_types();
         for (size_t n = 0; n < count; n++) listed += check_fields(facts.first_index + (uint32_t)n);
         check_misuse();
     }

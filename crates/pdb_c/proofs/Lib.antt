@@ -6,3 +6,4 @@ mod PartsSteps
 mod PlacesLemmas
 mod RecordsLemmas
 mod StatusLaws
+mod WalkedLemmas

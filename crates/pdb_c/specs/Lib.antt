@@ -21,3 +21,4 @@ pub mod Sections
 pub mod TableCalls
 pub mod Tables
 pub mod Told
+pub mod Walked

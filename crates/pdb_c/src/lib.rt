@@ -35,3 +35,4 @@ mod streams;
 mod tables;
 mod text;
 mod told;
+mod walked;

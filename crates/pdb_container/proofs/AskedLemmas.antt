@@ -1,6 +1,6 @@
 -- Queries that are answered in any order: one after another, by a table, by a stream, by a file.
 use Rattle.std.proofs.Common.{◌≡◌, ◌≢◌, ◌⊎◌, inl, inr, ℕ, ◌+◌, ◌<◌, Bool, true, List, get_or, refl, sym, ap, ◌∙◌, subst, arith, Option, Some, None, Result, Ok, Err}
-use Rattle.std.specs.Prelude.{IsTrue, IsSome}
+use Rattle.std.specs.Prelude.{IsTrue, IsSome, IfSome}
 use Rattle.std.proofs.lemmas.Bool.{cases_eq, cases_lt}
 use Rattle.pdb_base.specs.declared.error.Error.{Error}
 use Rattle.pdb_base.specs.declared.error.Error.TheVariants as errors
@@ -15,6 +15,9 @@ use Rattle.std.specs.Global.{Vec}
 use Rattle.pdb_base.proofs.lemmas.Collected.{ok}
 use Rattle.pdb_container.specs.declared.opened.Opened.{Opened}
 use Rattle.pdb_container.specs.declared.opened.Opened.TheVariants as tables
+use Rattle.pdb_base.specs.declared.index.TypeIndex.{TypeIndex}
+use Rattle.pdb_tpi.specs.declared.item.Item.{Item}
+use Rattle.pdb_tpi.specs.Item.{bytes_of, index_of}
 use Rattle.pdb_tpi.specs.Table.{table_of}
 use Rattle.pdb_space.specs.StringTable.{names_of}
 use Rattle.pdb_space.specs.Omap.{Mapping}
@@ -23,7 +26,7 @@ use Rattle.pdb_base.specs.Refusal.{Refusal, refusal_of}
 use Rattle.pdb_container.specs.Lookup.{Walked}
 use Rattle.pdb_container.specs.Reply as reply
 use Rattle.pdb_container.specs.Reply.{Said, IsReply, AreReplies, reply_of, stream_asked, said_within, type_within, id_within, fields_within, name_within, moved_within}
-use Rattle.pdb_container.specs.Asked.{Progress, query_at, is_answered, said_by, IsAnsweredIf, IsAnsweredWith, AreRight, IsAnsweredOn, MeansTable, MeansStream, AsksTypes, AsksIds, AsksNames, AsksOmap, AnswersAt, IsAnsweredFrom, AnswersFrom}
+use Rattle.pdb_container.specs.Asked.{Progress, query_at, is_answered, said_by, IsAhead, IsAnsweredIf, IsAnsweredRightly, IsAnsweredWith, AreRight, IsAnsweredOn, MeansTable, MeansStream, AsksTypes, AsksIds, AsksNames, AsksOmap, AnswersAt, IsAnsweredFrom, AnswersFrom}
 use Rattle.pdb_container.proofs.ReplyLemmas.{IsReply-weaker}
 
 below_other : (a b : ℕ) → a < b + 1 → a ≢ b → a < b
@@ -104,6 +107,24 @@ on_same number one other old new same on = record {
   stays = on.stays;
   right = λ sound meant m are. on.right sound meant (λ query said asks is. m query said asks (sym (same query) ∙ is)) are;
 }
+
+-- ---- looked up ahead
+
+-- the same of a table as which the same stream is opened
+pub ahead_by : (number : ℕ) (one other : Opened) (query asked : Query) (item : Option (Item TypeIndex)) → ((query : Query) → said_by other query ≡ said_by one query) → query ≡ asked → IsAhead number one query item → IsAhead number other asked item
+ahead_by number one other query asked None same is ahead = tt
+ahead_by number one other query asked (Some item) same is ahead = (ap (λ (q : Query). (stream_asked q).0) (sym is) ∙ ahead.0, ap (λ (q : Query). said_by other q) (sym is) ∙ same query ∙ ahead.1)
+
+pub ahead_found : (number : ℕ) (opened : Opened) (query asked : Query) (item : Option (Item TypeIndex)) → query ≡ asked → (stream_asked query).0 ≡ number
+    → IfSome item (λ item. said_by opened query ≡ Some (reply.type_said (index_of item).0 (bytes_of item))) → IsAhead number opened asked item
+ahead_found number opened query asked None is asks found = tt
+ahead_found number opened query asked (Some item) is asks found = subst (λ (q : Query). IsAhead number opened q (Some item)) is (asks, found)
+
+-- a reply with an item that was looked up ahead is right
+pub ahead_answered : (number : ℕ) (opened : Opened) (at : ℕ) (query : Query) (item : Item TypeIndex) (old new : Progress) → query ≡ query_at old at → IsAhead number opened query (Some item)
+    → IsAnsweredRightly at (reply.type_said (index_of item).0 (bytes_of item)) old new → IsAnsweredOn (MeansTable number opened) old new
+ahead_answered number opened at query item old new is ahead rightly =
+    offered number opened at query old new is ahead.0 (subst (λ (said : Option (Answer Said)). IsAnsweredIf at said old new) (sym ahead.1) rightly)
 
 nothing_said : {A : Type 0} (x : A) → None ≡ Some x → ⊥
 nothing_said x is = cc

@@ -7,7 +7,10 @@ use Rattle.pdb_container.specs.declared.query.Query.TheVariants as queries
 use Rattle.pdb_container.specs.declared.query.Reply.{Reply}
 use Rattle.pdb_container.specs.declared.opened.Opened.{Opened}
 use Rattle.pdb_container.specs.declared.opened.Opened.TheVariants as tables
-use Rattle.pdb_container.specs.Reply.{Said, IsReply, moved, type_in, id_in, fields_in, name_in, stream_asked, said_within}
+use Rattle.pdb_base.specs.declared.index.TypeIndex.{TypeIndex}
+use Rattle.pdb_tpi.specs.declared.item.Item.{Item}
+use Rattle.pdb_tpi.specs.Item.{bytes_of, index_of}
+use Rattle.pdb_container.specs.Reply.{Said, IsReply, moved, type_in, type_said, id_in, fields_in, name_in, stream_asked, said_within}
 
 -- What a stream that is opened as a table answers to a query, if the query asks such a table.
 abbrev pub said_by : Opened → Query → Option (Answer Said)
@@ -17,6 +20,12 @@ said_by (tables.Ids ids) (queries.IdRecord stream index) = Some (id_in index ids
 said_by (tables.Names names) (queries.Name stream offset) = Some (name_in offset names)
 said_by (tables.Omap omap) (queries.Ranges stream start end) = Some (Ok (moved omap (record { start = start; end = end })))
 said_by opened query = None
+
+-- What was looked up for a query: the item of the type that it asks for, in the table that the stream `number`
+-- is opened as. If nothing was, that says nothing.
+abbrev pub IsAhead : ℕ → Opened → Query → Option (Item TypeIndex) → Type 0
+IsAhead number opened query None = ⊤
+IsAhead number opened query (Some item) = ((stream_asked query).0 ≡ number) × (said_by opened query ≡ Some (type_said (index_of item).0 (bytes_of item)))
 
 -- Queries, the replies to them, and for each query whether it is answered. Behind the last query that is
 -- answered there need be no reply, and the reply to a query that is not answered yet says nothing.

@@ -34,13 +34,15 @@ pub data Said : Type 0 where
 
 -- ---- the answers that are meant
 
--- the type of an index in a table: the index, kind and name of its item, which is looked up in the whole
--- walk
-unfoldable pub type_in : ℕ → Table → Answer Said
-type_in index table = do
-  item ← item_of table index
+-- the index, kind and name of an item that holds the type of an index
+abbrev pub type_said : ℕ → List ℕ → Answer Said
+type_said index item = do
   value ← type_of index item
   Ok (item_record index (kind_of item) (types.name_of value))
+
+-- the type of an index in a table, whose item is looked up in the whole walk
+unfoldable pub type_in : ℕ → Table → Answer Said
+type_in index table = item_of table index >>= type_said index
 
 -- the id of an index in a table
 unfoldable pub id_in : ℕ → Table → Answer Said

@@ -1,8 +1,9 @@
 //! Streams that are opened as tables, and their replies to queries.
 
-ghost use Rattle.std.specs.Prelude.{◌≡◌, ◌<◌, length, Ok};
+ghost use Rattle.std.specs.Prelude.{◌≡◌, ◌<◌, length, Some, Ok, IfSome};
 ghost use Rattle.pdb_base.specs.Answer.{Answer};
-ghost use Rattle.pdb_container.specs.Reply.{Said, Replies, fields_in, id_in, moved, name_in};
+ghost use Rattle.pdb_tpi.specs.Item.{bytes_of, index_of};
+ghost use Rattle.pdb_container.specs.Reply.{Said, Replies, fields_in, id_in, moved, name_in, type_said};
 ghost use Rattle.pdb_container.specs.declared.query.Query.{Query};
 ghost use Rattle.pdb_container.specs.Asked.{said_by, IsAnsweredIf, IsAnsweredRightly};
 
@@ -15,6 +16,7 @@ use crate::ranges::ranges;
 use crate::record::{answer_type, id_record};
 use pdb_base::{IdIndex, Result, TypeIndex};
 use pdb_space::{OMAPTable, StringRef, StringTable};
+use pdb_tpi::Type;
 use std::alloc::Global;
 use std::ops::Range;
 
@@ -105,7 +107,24 @@ fn answer_ranges(
     answer_by(ranges(alloc, table, addresses), at, asked);
 }
 
-impl Opened<'_> {
+impl<'t> Opened<'t> {
+    /// Looks up the item of the type that a query asks for, if it asks for one in a table of types.
+    /// None says nothing of the answer.
+    #[inline(always)]
+    #[tactic(auto, unfolding(crate::specs::Reply::type_in))]
+    pub fn look_ahead(&mut self, query: Query) -> Option<Type<'t>>
+        ensures item { IfSome result (λ item.
+            said_by self.old query ≡ Some (type_said (index_of item).0 (bytes_of item))) }
+        ensures kept { (query : Query) → said_by self.new query ≡ said_by self.old query }
+    {
+        match (self, query) {
+            (Opened::Types(types), Query::TypeRecord { index, .. }) => {
+                types.item(TypeIndex(index)).ok()
+            }
+            _ => None,
+        }
+    }
+
     /// Answers the query at a position, if it asks for something in such a table.
     #[inline(always)]
     pub fn answer(&mut self, alloc: Global, query: Query, at: usize, asked: &mut Asked<'_>)

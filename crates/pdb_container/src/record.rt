@@ -8,14 +8,14 @@ ghost use Rattle.pdb_values.specs.Text.{text_bytes};
 ghost use Rattle.pdb_values.specs.IdValue.{id_name, id_value};
 ghost use Rattle.pdb_tpi.specs.Item.{bytes_of, index_of};
 ghost use Rattle.pdb_tpi.specs.Record.{kind_of};
-ghost use Rattle.pdb_container.specs.Reply.{Replies, item_record, id_in, type_in};
+ghost use Rattle.pdb_container.specs.Reply.{Replies, item_record, id_in, type_in, type_said};
 
 use crate::asked::Asked;
 use crate::lookup::Lookup;
 use crate::name::copied;
 use crate::query::Reply;
 use pdb_base::{IdIndex, ItemIndex, RawString, Result, TypeIndex};
-use pdb_tpi::Item;
+use pdb_tpi::{Item, Type};
 use pdb_values::IdData;
 use std::alloc::Global;
 
@@ -50,31 +50,23 @@ fn name_of_id<'t>(id: &IdData<'t>) -> Option<RawString<'t>>
 
 /// The kind and the name of a record.
 #[derive(Drop)]
-pub struct Described {
+struct Described {
     /// The kind: the first two bytes of the record, the lowest first.
-    pub kind: u16,
+    kind: u16,
 
     /// The bytes of the name, if it has one.
-    pub name: Option<Vec<u8>>,
+    name: Option<Vec<u8>>,
 }
 
-/// Looks up a type of a table by its index, and returns its kind and its name, if it has one.
+/// Returns the kind and the name of a type that was looked up, if it has one.
 ///
 /// # Errors
-/// Fails as the look-up does, then as parsing the record does, and with `OutOfMemory` if memory is
-/// refused.
+/// Fails as parsing the record does, and with `OutOfMemory` if memory is refused.
 #[inline(never)]
-#[tactic(auto, unfolding(crate::specs::Reply::type_in))]
-pub fn describe_type(
-    alloc: Global,
-    types: &mut Lookup<'_, TypeIndex>,
-    index: TypeIndex,
-) -> Result<Described>
-    ensures said { Answers (λ d. item_record index.0 d.kind (option_map (λ copy. copy.items) d.name)) result
-        (type_in index.0 types.old.table) }
-    ensures table { types.new.table ≡ types.old.table }
+fn describe(alloc: Global, item: &Type<'_>) -> Result<Described>
+    ensures { Answers (λ d. item_record (index_of item.now).0 d.kind (option_map (λ copy. copy.items) d.name)) result
+        (type_said (index_of item.now).0 (bytes_of item.now)) }
 {
-    let item = types.item(index)?;
     let value = item.parse(alloc)?;
     Ok(Described {
         kind: item.raw_kind(),
@@ -82,8 +74,24 @@ pub fn describe_type(
     })
 }
 
-/// Answers the query at a position with the type of an index in a table.
+/// Answers the query at a position with a type that was looked up.
 #[inline(always)]
+pub fn answer_found(alloc: Global, item: &Type<'_>, at: usize, asked: &mut Asked<'_>)
+    requires { at < length asked.old.queries }
+    ensures { IsAnsweredRightly at (type_said (index_of item.now).0 (bytes_of item.now)) asked.old asked.new }
+{
+    match describe(alloc, item) {
+        Ok(Described { kind, name }) => {
+            let index = item.index().0;
+            asked.answer(at, Reply::Record { index, kind, name })
+        }
+        Err(error) => asked.refuse(at, error),
+    }
+}
+
+/// Answers the query at a position with the type of an index in a table.
+#[inline(never)]
+#[tactic(auto, unfolding(crate::specs::Reply::type_in))]
 pub fn answer_type(
     alloc: Global,
     types: &mut Lookup<'_, TypeIndex>,
@@ -95,8 +103,8 @@ pub fn answer_type(
     ensures rightly { IsAnsweredRightly at (type_in index types.old.table) asked.old asked.new }
     ensures table { types.new.table ≡ types.old.table }
 {
-    match describe_type(alloc, types, TypeIndex(index)) {
-        Ok(Described { kind, name }) => asked.answer(at, Reply::Record { index, kind, name }),
+    match types.item(TypeIndex(index)) {
+        Ok(item) => answer_found(alloc, &item, at, asked),
         Err(error) => asked.refuse(at, error),
     }
 }

@@ -3,16 +3,17 @@
 ghost use Rattle.std.specs.Prelude.{◌≡◌, ◌<◌, ◌≤◌, IsTrue, IsSome, IfOk, IfErr, OnErr, length, true};
 ghost use Rattle.pdb_msf.specs.Source.{HasFailed, IsKept};
 ghost use Rattle.pdb_container.specs.Reply.{AreReplies, IsRun, reply_of, stream_asked};
-ghost use Rattle.pdb_container.specs.Asked.{AnswersAt, AnswersFrom, AsksIds, AsksNames, AsksOmap, AsksTypes, IsAnsweredFrom, IsAnsweredOn, MeansTable, is_answered, query_at, said_by};
+ghost use Rattle.pdb_container.specs.Asked.{AnswersAt, AnswersFrom, AsksIds, AsksNames, AsksOmap, AsksTypes, IsAhead, IsAnsweredFrom, IsAnsweredOn, MeansTable, is_answered, query_at, said_by};
 
 use crate::asked::Asked;
 use crate::lookup::Lookup;
 use crate::opened::Opened;
 use crate::query::{Query, Reply};
+use crate::record::answer_found;
 use pdb_base::{Error, Result};
 use pdb_msf::{BigMSF, Msf, Source, Stream, open_msf};
 use pdb_space::{OMAPTable, StringTable};
-use pdb_tpi::{IdInformation, TypeInformation};
+use pdb_tpi::{IdInformation, Type, TypeInformation};
 use std::alloc::Global;
 
 /// Returns the number of the stream that a query asks for, and how many of its bytes it asks for at
@@ -46,16 +47,66 @@ fn offer(alloc: Global, number: u32, opened: &mut Opened<'_>, at: usize, asked: 
     opened.answer(alloc, query, at, asked);
 }
 
+/// Looks up the type that the query at a position asks for, if there is such a query, and it is not
+/// answered yet and asks for a type in the table that the stream `number` is opened as.
+fn look_ahead<'t>(
+    number: u32,
+    opened: &mut Opened<'t>,
+    at: usize,
+    asked: &Asked<'_>,
+) -> Option<Type<'t>>
+    ensures ahead { IsAhead number opened.old (query_at asked.now at) result }
+    ensures kept { (query : Query) → said_by opened.new query ≡ said_by opened.old query }
+{
+    if at >= asked.len() || asked.is_answered(at) {
+        return None;
+    }
+    let query = asked.query(at);
+    if stream_asked(query).0 != number {
+        return None;
+    }
+    opened.look_ahead(query)
+}
+
+/// Answers the query at a position with the type that was looked up for it, or as `offer` does if
+/// none was.
+fn answer_ahead(
+    alloc: Global,
+    number: u32,
+    opened: &mut Opened<'_>,
+    ahead: Option<Type<'_>>,
+    at: usize,
+    asked: &mut Asked<'_>,
+)
+    requires within { at < length asked.old.queries }
+    requires ahead { IsAhead number opened.old (query_at asked.old at) ahead }
+    ensures on { IsAnsweredOn (MeansTable number opened.old) asked.old asked.new }
+    ensures answered { (stream_asked (query_at asked.old at)).0 ≡ number →
+        IsSome (said_by opened.old (query_at asked.old at)) → is_answered asked.new at ≡ true }
+    ensures kept { (query : Query) → said_by opened.new query ≡ said_by opened.old query }
+{
+    match ahead {
+        Some(item) => answer_found(alloc, &item, at, asked),
+        None => offer(alloc, number, opened, at, asked),
+    }
+}
+
 /// Answers the query at the position `from` and all later ones, as far as they ask for something in
 /// the table that the stream `number` is opened as.
+///
+/// A type is looked up while the one before it is parsed: in a large table, its record is fetched
+/// from memory meanwhile.
 fn share(alloc: Global, number: u32, opened: &mut Opened<'_>, from: usize, asked: &mut Asked<'_>)
     requires { from < length asked.old.queries }
     ensures on { IsAnsweredOn (MeansTable number opened.old) asked.old asked.new }
     ensures answered { (stream_asked (query_at asked.old from)).0 ≡ number →
         IsSome (said_by opened.old (query_at asked.old from)) → is_answered asked.new from ≡ true }
 {
+    let mut next = look_ahead(number, opened, from, asked);
     for at in from..asked.len() {
-        offer(alloc, number, opened, at, asked);
+        let ahead = next;
+        next = look_ahead(number, opened, at + 1, asked);
+        answer_ahead(alloc, number, opened, ahead, at, asked);
     }
 }
 

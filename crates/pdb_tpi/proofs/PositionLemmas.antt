@@ -1,7 +1,7 @@
 -- Where the items of a walk begin.
-use Rattle.std.proofs.Common.{◌≡◌, ℕ, zero, suc, ◌+◌, ◌-◌, ◌≤◌, ◌<◌, List, length, take, drop, get_or, refl, sym, ap, subst, ◌∙◌, arith, Ok, Err, Option, Some, None, inl, inr}
-use Rattle.std.specs.List.{sum_by}
-use Rattle.std.proofs.lemmas.List.{length-drop}
+use Rattle.std.proofs.Common.{◌≡◌, ℕ, zero, suc, ◌+◌, ◌-◌, ◌≤◌, ◌<◌, List, [], ◌∷◌, length, take, drop, get_or, refl, sym, ap, subst, ◌∙◌, arith, Ok, Err, Option, Some, None, inl, inr}
+use Rattle.std.specs.List.{slice_get, sum_by}
+use Rattle.std.proofs.lemmas.List.{drop-drop, length-drop}
 use Rattle.std.proofs.lemmas.List.Sums.{sum_by-cons, sum_by_more, sum_by-take-drop}
 use Rattle.std.proofs.lemmas.Option.{slice_get_cases}
 use Rattle.std.specs.Option.{option_map}
@@ -12,10 +12,10 @@ use Rattle.pdb_tpi.specs.Table.{Table}
 use Rattle.pdb_tpi.specs.Walk.{first_item, behind, items, rest, fault_of}
 use Rattle.pdb_tpi.specs.Steps.{Stand, IsStep, steps_taken, step_of, room, body, walk, walk_rest, nth_item}
 use Rattle.pdb_tpi.specs.Place.{IsPlace}
-use Rattle.pdb_tpi.specs.OpenTable.{size_of, position_of, record_at, step_located}
+use Rattle.pdb_tpi.specs.OpenTable.{bytes_at, size_of, position_of, record_at, step_located}
 use Rattle.pdb_tpi.proofs.FrontLemmas.{front_item}
 use Rattle.pdb_tpi.proofs.WalkLemmas.{items_more, rest_more, items_none, rest_none, items_full, rest_full, nth_some, nth_none}
-use Rattle.pdb_tpi.proofs.StepLemmas.{step_some, step_item}
+use Rattle.pdb_tpi.proofs.StepLemmas.{nth_ok, step_some, step_item}
 
 -- items from the front of bytes on, and what is left behind them, take all of the bytes
 sized_from : (limit : ℕ) (bytes : List ℕ) (answer : Answer (List ℕ)) → first_item bytes ≡ answer → ((further : List ℕ) → sum_by size_of (items limit further) + length (rest limit further) ≡ length further)
@@ -57,6 +57,39 @@ record_ends table n item e = elim ((slice_get_cases (walk table) n).1) [
       omega (arith, sum_by_more size_of (walk table) n here.0 here.1, size)
   | inr past ↦ absurd (ok_is_no_err item (fault_of (walk_rest table)) (sym e ∙ nth_none table n past.1))
 ]
+
+no_item_there : (all : List (List ℕ)) (item : List ℕ) (n : ℕ) → all ≡ [] → slice_get all n ≡ Some item → ⊥
+no_item_there [] item n none is = cc
+no_item_there (first ∷ all) item n none is = cc
+
+-- an item begins behind those before it
+item_begins_by : (limit n : ℕ) (bytes item : List ℕ) (answer : Answer (List ℕ)) → first_item bytes ≡ answer
+    → ((m : ℕ) (further : List ℕ) → slice_get (items limit further) m ≡ Some item → first_item (drop (sum_by size_of (take m (items limit further))) further) ≡ Ok item)
+    → slice_get (items (suc limit) bytes) n ≡ Some item → first_item (drop (sum_by size_of (take n (items (suc limit) bytes))) bytes) ≡ Ok item
+item_begins_by limit n bytes item (Err fault) e further is = absurd (no_item_there (items (suc limit) bytes) item n (items_none (suc limit) bytes fault e) is)
+item_begins_by limit zero bytes item (Ok first) e further is =
+    let same : first ≡ item = cc (rw (items_more limit bytes first e) at is) in
+    e ∙ ap (λ (i : List ℕ). ok i) same
+item_begins_by limit (suc n) bytes item (Ok first) e further is =
+    let there : slice_get (items limit (behind first bytes)) n ≡ Some item = rw (items_more limit bytes first e) at is in
+    let rest : ℕ = sum_by size_of (take n (items limit (behind first bytes))) in
+    let size : sum_by size_of (take (suc n) (items (suc limit) bytes)) ≡ size_of first + rest = rw (items_more limit bytes first e) (sum_by-cons size_of first (take n (items limit (behind first bytes)))) in
+    let begins : first_item (drop rest (drop (size_of first) bytes)) ≡ Ok item = further n (behind first bytes) there in
+    ap (λ (s : ℕ). first_item (drop s bytes)) size ∙ ap first_item (sym (drop-drop rest (size_of first) bytes)) ∙ begins
+
+item_begins : (limit n : ℕ) (bytes item : List ℕ) → slice_get (items limit bytes) n ≡ Some item → first_item (drop (sum_by size_of (take n (items limit bytes))) bytes) ≡ Ok item
+item_begins zero n bytes item is = absurd (no_item_there (items zero bytes) item n (items_full bytes) is)
+item_begins (suc limit) n bytes item is = item_begins_by limit n bytes item (first_item bytes) refl (λ m further there. item_begins limit m further item there) is
+
+-- the bytes at the place of a record are the record
+pub record_stands : (table : Table) (n : ℕ) (item : List ℕ) → nth_item table n ≡ Ok item → bytes_at table (record_at table n item) ≡ item
+unfolding position_of walk
+record_stands table n item e =
+    let size : ℕ = sum_by size_of (take n (items (room table) (body table))) in
+    let front = front_item (drop size (body table)) item (item_begins (room table) n (body table) item (nth_ok table n item e)) in
+    let there : drop (table.header.header_size + size + 2) table.bytes ≡ drop 2 (drop size (body table)) =
+    sym (ap (drop 2) (drop-drop size table.header.header_size table.bytes) ∙ drop-drop 2 (table.header.header_size + size) table.bytes) in
+    ap (take (length item)) there ∙ sym front.is
 
 -- An iterator that stands behind an item tells where its record stands.
 pub record_placed : (table : Table) (n index end : ℕ) (item : List ℕ) → IsPlace table index end → index ≡ table.header.minimum_index + n + 1 → nth_item table n ≡ Ok item

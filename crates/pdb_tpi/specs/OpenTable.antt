@@ -1,5 +1,5 @@
 -- Where the records of a table stand in its stream, and what a table that stays open keeps.
-use Rattle.std.specs.Prelude.{◌≡◌, ℕ, ◌+◌, ◌-◌, nat_lt, if◌then◌else◌, List, length, take, slice_index, vec_capacity, Option, Some, None, Ok}
+use Rattle.std.specs.Prelude.{◌≡◌, ℕ, ◌+◌, ◌-◌, nat_lt, if◌then◌else◌, List, length, take, drop, slice_index, vec_capacity, Option, Some, None, Ok}
 use Rattle.std.specs.List.{sum_by}
 use Rattle.std.specs.Option.{option_map}
 use Rattle.pdb_base.specs.Answer.{Answer, ◌>>=◌}
@@ -20,6 +20,10 @@ position_of table n = table.header.header_size + sum_by size_of (take n (walk ta
 -- the place of the record of item `n` of the walk: behind the item's length
 abbrev pub record_at : Table → ℕ → List ℕ → RecordPlace
 record_at table n item = record { offset = position_of table n + 2; length = length item }
+
+-- the bytes of a table at a place, as many of them as there are
+abbrev pub bytes_at : Table → RecordPlace → List ℕ
+bytes_at table place = take place.length (drop place.offset table.bytes)
 
 -- The place of the record of an index. An index below the minimum stands for a primitive type, which has
 -- no record, and so no place.

@@ -1,6 +1,6 @@
 //! A table of items.
 
-ghost use Rattle.std.specs.Prelude.{◌≡◌, ◌≤◌, ◌↔◌, length, drop, IsTrue};
+ghost use Rattle.std.specs.Prelude.{◌≡◌, ◌≤◌, ◌↔◌, length, take, drop, IsTrue};
 ghost use Rattle.pdb_base.specs.Answer.{Gives};
 ghost use Rattle.pdb_tpi.specs.Table.{table_of, count_of, IsTable};
 ghost use Rattle.pdb_tpi.specs.Finder.{most_blocks};
@@ -105,5 +105,15 @@ impl<I: ItemIndex> ItemInformation<I> {
         ensures { result.now ≡ drop position self.now.bytes }
     {
         &self.stream.as_slice()[position..]
+    }
+
+    /// Returns the bytes at an offset in the stream, as many of them as there are.
+    #[tactic(auto, using(std::proofs::lemmas::List::drop_min, std::proofs::lemmas::List::take_min))]
+    pub(crate) fn bytes_at(&self, offset: usize, len: usize) -> &[u8]
+        ensures { result.now ≡ take len (drop offset self.now.bytes) }
+    {
+        let bytes = self.stream.as_slice();
+        let from = &bytes[offset.min(bytes.len())..];
+        &from[..len.min(from.len())]
     }
 }

@@ -1,10 +1,11 @@
 //! What the definitions that contracts cite say in other words. The functions do nothing: each
 //! contract is a law.
 
-ghost use Rattle.std.specs.Prelude.{◌≡◌, ℕ, ◌+◌, ◌*◌, ◌≤◌, List, length};
+ghost use Rattle.std.specs.Prelude.{◌≡◌, ℕ, ◌+◌, ◌*◌, ◌≤◌, List, length, Ok};
 ghost use Rattle.pdb_tpi.specs.Table.{Table};
 ghost use Rattle.pdb_tpi.specs.Walk.{IsWalk, items, rest};
-ghost use Rattle.pdb_tpi.specs.Steps.{room, body, walk, walk_rest};
+ghost use Rattle.pdb_tpi.specs.OpenTable.{bytes_at, record_at};
+ghost use Rattle.pdb_tpi.specs.Steps.{room, body, nth_item, walk, walk_rest};
 ghost use Rattle.pdb_tpi.specs.Finder.{IsKnown, known_of};
 ghost use Rattle.pdb_tpi.specs.Chain.{LookUp, IsChainAnswer};
 ghost use Rattle.pdb_tpi.specs.Laws.{AreBytes, StandAtOffsets, WalksOnce, HasFault, ReadsFew};
@@ -32,6 +33,13 @@ pub fn walk()
 #[tactic(auto, using(crate::proofs::LawLemmas::has_fault))]
 pub fn faults()
     ensures { (bytes : List ℕ) → HasFault bytes }
+{}
+
+/// The bytes of a table at the place of a record are the record.
+#[tactic(auto, using(crate::proofs::PositionLemmas::record_stands))]
+pub fn record_places()
+    ensures { (table : Table) (n : ℕ) (item : List ℕ) → nth_item table n ≡ Ok item →
+        bytes_at table (record_at table n item) ≡ item }
 {}
 
 /// After iterators were shown to a finder, it knows the greatest number of blocks that were shown

@@ -4,7 +4,7 @@ ghost use Rattle.std.specs.Prelude.{◌≡◌, ◌+◌, ◌-◌, ◌≤◌, ◌<
 ghost use Rattle.pdb_base.specs.Answer.{Answers, Gives};
 ghost use Rattle.pdb_tpi.specs.Finder.{first_of, item_of};
 ghost use Rattle.pdb_tpi.specs.Item.{bytes_of, index_of};
-ghost use Rattle.pdb_tpi.specs.OpenTable.{located, record_at, step_located};
+ghost use Rattle.pdb_tpi.specs.OpenTable.{bytes_at, located, record_at, step_located};
 ghost use Rattle.pdb_tpi.specs.Place.{ArePlaces, IsPlace};
 ghost use Rattle.pdb_tpi.specs.StepLaws.{first_stand};
 ghost use Rattle.pdb_tpi.specs.Steps.{nth_item};
@@ -240,6 +240,15 @@ impl<I: ItemIndex> OpenTable<I> {
             Some(item) => return Ok(Some(record_before(end, item.len()))),
             None => return Ok(None),
         }
+    }
+
+    /// Returns the bytes of the stream at a place, such as that of a record, as many of them as
+    /// there are.
+    pub fn bytes_at(&self, place: RecordPlace) -> &[u8]
+        ensures { result.now ≡ bytes_at self.now.table place }
+    {
+        self.items
+            .bytes_at(place.offset as usize, place.length as usize)
     }
 
     /// Moves the walk back to before the first item.

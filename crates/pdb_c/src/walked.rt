@@ -1,0 +1,111 @@
+//! Walks along tables of types, with the rows of their records.
+
+ghost use Rattle.std.specs.Prelude.{◌≡◌};
+ghost use Rattle.pdb_tpi.specs.OpenTable.{bytes_at};
+ghost use Rattle.pdb_tpi.specs.Record.{type_of};
+ghost use Rattle.pdb_c.specs.Row.{no_numbers, row};
+ghost use Rattle.pdb_c.specs.Walked.{IsTypeRow, WritesNext, WritesNextOf};
+
+use crate::content::Content;
+use crate::copied::copy_nothing;
+use crate::fault::{FINE, Fault, NOT_OPEN, NOWHERE};
+use crate::handle::Handle;
+use crate::located::Located;
+use crate::records::type_in;
+use crate::row::{NO_NUMBERS, Row};
+use pdb_base::TypeIndex;
+use pdb_tpi::{OpenTable, RecordPlace};
+use std::alloc::Global;
+
+/// A record of a table of types, and what it says.
+#[repr(C)]
+#[derive(Clone, Copy)]
+pub struct TypeRow {
+    /// Where the record stands in the stream of the table.
+    pub place: Located,
+    /// How parsing the record ended.
+    pub fault: Fault,
+    /// The numbers in the record, or zeros if parsing it was refused.
+    pub row: Row,
+}
+
+/// Parses the record at a place of a table, which is that of the type of an index, and writes what
+/// it says.
+#[inline(always)]
+fn write_type(
+    alloc: Global,
+    kept: &OpenTable<TypeIndex>,
+    index: u32,
+    place: RecordPlace,
+    told: &mut TypeRow,
+)
+    ensures { IsTypeRow index place (type_of index (bytes_at kept.now.table place)) told.new }
+{
+    told.place = Located::at(index, place);
+    match type_in(alloc, kept.bytes_at(place), index) {
+        Ok(value) => {
+            told.fault = Fault::status(FINE);
+            told.row.set_type(&value);
+        }
+        Err(error) => {
+            told.fault = Fault::of(&error);
+            told.row = Row::of(0, &NO_NUMBERS);
+        }
+    }
+}
+
+/// Writes the next records of a walk to the front of the caller's array, as many as it has room for
+/// or as are left before the walk stops, and sets `count` to their number.
+fn write_next(
+    alloc: Global,
+    kept: &mut OpenTable<TypeIndex>,
+    rows: &mut [TypeRow],
+    count: &mut usize,
+) -> Fault
+    ensures { WritesNext rows.old kept.old
+        (record { fault = result; length = count.new; room = rows.new }) kept.new }
+{
+    for at in 0..rows.len() {
+        let index = kept.index().min(0xffff_ffff) as u32;
+        match kept.step() {
+            Ok(Some(place)) => write_type(alloc, kept, index, place, &mut rows[at]),
+            Ok(None) => {
+                *count = at;
+                return Fault::status(NOWHERE);
+            }
+            Err(error) => {
+                *count = at;
+                return Fault::of(&error);
+            }
+        }
+    }
+    *count = rows.len();
+    Fault::status(FINE)
+}
+
+/// Writes the next records of the walk along a table of types, each with its place and its row, to
+/// the front of the caller's array: as many as it has room for, or as are left before the walk ends
+/// or is refused. `count` is set to their number. A record that can't be parsed has a fault of its
+/// own, and the walk goes on behind it.
+#[unsafe(no_mangle)]
+pub extern "C" fn pdb_table_next_types(
+    alloc: Global,
+    table: &mut Handle,
+    rows: &mut [TypeRow],
+    count: &mut usize,
+    fault: &mut Fault,
+) -> u32
+    ensures answer { WritesNextOf rows.old table.old.held.content
+        (record { fault = fault.new; length = count.new; room = rows.new }) table.new.held.content }
+    ensures status { result ≡ fault.new.status }
+{
+    let Some(mut content) = table.take(alloc) else {
+        return copy_nothing(Fault::status(NOT_OPEN), count).tell(fault);
+    };
+    let told = match &mut *content {
+        Content::Table(kept) => write_next(alloc, kept, rows, count),
+        _ => copy_nothing(Fault::status(NOT_OPEN), count),
+    };
+    table.put(content);
+    told.tell(fault)
+}
