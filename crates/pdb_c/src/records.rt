@@ -22,7 +22,7 @@ use pdb_values::{FIRST_RECORD, TypeData, type_data_for_primitive};
 use std::alloc::Global;
 
 /// The number of bytes of a record's leaf.
-const LEAF_LEN: usize = 2;
+pub const LEAF_LEN: usize = 2;
 
 /// Parses the record of the type of an index. An index below 0x1000 is that of a primitive type,
 /// which needs no record.
