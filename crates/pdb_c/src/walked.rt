@@ -49,12 +49,7 @@ fn write_refused(index: u32, place: RecordPlace, error: &Error, told: &mut TypeR
 
 /// Writes a record that was parsed, or the fault of its error.
 #[inline(always)]
-fn write_parsed(
-    index: u32,
-    place: RecordPlace,
-    parsed: &Result<TypeData<'_>>,
-    told: &mut TypeRow,
-)
+fn write_parsed(index: u32, place: RecordPlace, parsed: &Result<TypeData<'_>>, told: &mut TypeRow)
     ensures { (meant : Answer TypeValue) → Answers type_value parsed.now meant → IsTypeRow index place meant told.new }
 {
     match parsed {
@@ -74,7 +69,12 @@ fn write_primitive(index: u32, place: RecordPlace, told: &mut TypeRow)
     requires { index < first_record }
     ensures { IsTypeRow index place (primitive_of index) told.new }
 {
-    write_parsed(index, place, &type_data_for_primitive(TypeIndex(index)), told);
+    write_parsed(
+        index,
+        place,
+        &type_data_for_primitive(TypeIndex(index)),
+        told,
+    );
 }
 
 /// Parses the record at a place of a table, which is that of the type of an index, and writes what
