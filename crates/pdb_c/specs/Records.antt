@@ -1,17 +1,23 @@
 -- The contents of a type record, as a caller sees them: its row, its name and its lists.
-use Rattle.std.specs.Prelude.{◌≡◌, ◌⊎◌, ℕ, ◌||◌, nat_lt, if◌then◌else◌, is_some, unwrap_or, List, [], ◌++◌, length, drop, map, Option, Some, None, Ok, Err}
+use Rattle.std.specs.Prelude.{◌≡◌, ◌⊎◌, ℕ, ◌||◌, nat_lt, if◌then◌else◌, is_some, unwrap_or, List, [], ◌++◌, length, drop, map, Option, Some, None, Result, Ok, Err, MatchResult}
 use Rattle.std.specs.List.{flat_map}
 use Rattle.std.specs.Option.{option_map}
 use Rattle.pdb_base.specs.Answer.{Answer, ◌>>=◌}
-use Rattle.pdb_base.specs.Refusal.{out_of_memory}
+use Rattle.pdb_base.specs.declared.error.Error.{Error}
+use Rattle.pdb_base.specs.Refusal.{out_of_memory, refusal_of}
 use Rattle.pdb_values.specs.TypeValue.{TypeValue, argument_list, field_list, name_of, values_in}
 use Rattle.pdb_tpi.specs.Record.{type_of}
 use Rattle.pdb_c.specs.declared.fault.Fault.{Fault}
 use Rattle.pdb_c.specs.declared.fields.FieldRow.{FieldRow}
+use Rattle.pdb_c.specs.declared.row.Row.{Row}
 use Rattle.pdb_c.specs.Copied.{Copied, untouched, written}
 use Rattle.pdb_c.specs.Fault.{fine, fault_of, nowhere, too_small}
 use Rattle.pdb_c.specs.Frame.{flag}
 use Rattle.pdb_c.specs.Row.{row_of}
+
+-- A row is written as what was read is shown; or the fault is that of the error, and the row stays as it was.
+abbrev pub IsWritten : {A : Type 0} → (A → Row) → Result A Error → Row → Fault → Row → Type 0
+IsWritten shown read old fault new = MatchResult read (λ x. (fault ≡ fine) × (new ≡ shown x)) (λ e. (fault ≡ fault_of (refusal_of e)) × (new ≡ old))
 
 -- what is written of a list that may be absent
 abbrev pub if_copied : {A : Type 0} → List A → Answer (Option (List A)) → Copied A

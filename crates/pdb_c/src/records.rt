@@ -1,28 +1,25 @@
 //! What the record of a type says.
 
-ghost use Rattle.std.specs.Prelude.{◌≡◌, map, Ok};
+ghost use Rattle.std.specs.Prelude.{◌≡◌, map, [], Ok};
 ghost use Rattle.std.specs.Option.{option_map};
 ghost use Rattle.pdb_base.specs.Answer.{Answer, Answers};
-ghost use Rattle.pdb_base.specs.Refusal.{unexpected_eof};
-ghost use Rattle.pdb_values.specs.TypeValue.{TypeValue};
+ghost use Rattle.pdb_records.specs.Fields.{type_record};
+ghost use Rattle.pdb_values.specs.TypeValue.{TypeValue, argument_list, field_list, no_field};
 ghost use Rattle.pdb_values.specs.TypeView.{type_value};
 ghost use Rattle.pdb_tpi.specs.Record.{type_of};
 ghost use Rattle.pdb_c.specs.Copied.{CopiesOrLacks};
-ghost use Rattle.pdb_c.specs.Fault.{fault_of};
-ghost use Rattle.pdb_c.specs.Records.{arguments_in, arguments_of, if_copied, type_name};
+ghost use Rattle.pdb_c.specs.Records.{IsWritten, arguments_in, arguments_of, if_copied, type_name};
 ghost use Rattle.pdb_c.specs.Roles.{IsAnswered};
 ghost use Rattle.pdb_c.specs.Row.{row_of};
 
 use crate::copied::{copy_nothing, copy_out};
 use crate::fault::{FINE, Fault, NOWHERE};
-use crate::row::Row;
-use pdb_base::{Error, Result, TypeIndex};
-use pdb_records::parse_type_data;
+use crate::row::{Row, argument_list_row, field_list_row};
+use pdb_base::{ParseBuffer, Result, TypeIndex};
+use pdb_records::constants::{LF_ARGLIST, LF_FIELDLIST};
+use pdb_records::{parse_behind_leaf, parse_type_data, skip_arguments, skip_field_list};
 use pdb_values::{FIRST_RECORD, TypeData, type_data_for_primitive};
 use std::alloc::Global;
-
-/// The number of bytes of a record's leaf.
-pub const LEAF_LEN: usize = 2;
 
 /// Parses the record of the type of an index. An index below 0x1000 is that of a primitive type,
 /// which needs no record.
@@ -51,17 +48,70 @@ fn write_row(parsed: &Result<TypeData<'_>>, row: &mut Row) -> Fault
     }
 }
 
-/// Returns the fault of a record that ends before its leaf does.
-#[cold]
-#[inline(never)]
-fn no_leaf() -> Fault
-    ensures { result ≡ fault_of unexpected_eof }
+/// Writes the row of a list of fields, of which only the continuation was read, or returns the
+/// fault of its error.
+#[inline(always)]
+fn write_field_list(read: &Result<Option<TypeIndex>>, row: &mut Row) -> Fault
+    ensures { IsWritten (λ continuation. row_of (field_list no_field continuation)) read.now row.old result row.new }
 {
-    Fault::of(&Error::UnexpectedEof)
+    match read {
+        Ok(continuation) => {
+            *row = field_list_row(*continuation);
+            Fault::status(FINE)
+        }
+        Err(error) => Fault::of(error),
+    }
+}
+
+/// Writes the row of a list of arguments that was skipped, or returns the fault of its error.
+#[inline(always)]
+fn write_argument_list(skipped: &Result<()>, row: &mut Row) -> Fault
+    ensures { IsWritten (λ nothing. row_of (argument_list [])) skipped.now row.old result row.new }
+{
+    match skipped {
+        Ok(_) => {
+            *row = argument_list_row();
+            Fault::status(FINE)
+        }
+        Err(error) => Fault::of(error),
+    }
+}
+
+/// Writes the numbers in a record, or returns the fault of its error. No field and no argument of a
+/// list is kept, since its row says nothing of them.
+#[inline(always)]
+fn write_record(alloc: Global, bytes: &[u8], row: &mut Row) -> Fault
+    ensures { IsAnswered (λ value. row_of value) (type_record bytes.now) row.old result row.new }
+{
+    let mut buffer = ParseBuffer::from(bytes);
+    let kind = match buffer.parse_u16() {
+        Ok(kind) => kind,
+        Err(error) => return Fault::of(&error),
+    };
+    if kind == LF_FIELDLIST {
+        return write_field_list(&skip_field_list(alloc, &mut buffer), row);
+    }
+    if kind == LF_ARGLIST {
+        return write_argument_list(&skip_arguments(&mut buffer), row);
+    }
+    // What a function in between returned would be copied.
+    write_row(&parse_behind_leaf(alloc, &mut buffer, kind), row)
+}
+
+/// Writes the numbers in the record of a type, or returns the fault of its error. An index below
+/// 0x1000 is that of a primitive type, which needs no record.
+#[inline(always)]
+#[tactic(auto, unfolding(pdb_tpi::specs::Record::type_of))]
+pub fn write_type_row(alloc: Global, bytes: &[u8], index: u32, row: &mut Row) -> Fault
+    ensures { IsAnswered (λ value. row_of value) (type_of index bytes.now) row.old result row.new }
+{
+    if index < FIRST_RECORD {
+        return write_row(&type_data_for_primitive(TypeIndex(index)), row);
+    }
+    write_record(alloc, bytes, row)
 }
 
 /// Writes the numbers in the record of a type.
-#[tactic(auto, using(crate::proofs::RecordsLemmas::no_leaf), unfolding(pdb_tpi::specs::Record::type_of))]
 #[unsafe(no_mangle)]
 pub extern "C" fn pdb_type_row(
     alloc: Global,
@@ -73,15 +123,7 @@ pub extern "C" fn pdb_type_row(
     ensures answer { IsAnswered (λ value. row_of value) (type_of index bytes.now) row.old fault.new row.new }
     ensures status { result ≡ fault.new.status }
 {
-    if index < FIRST_RECORD {
-        return write_row(&type_data_for_primitive(TypeIndex(index)), row).tell(fault);
-    }
-    // The parser tests this too. Known before, it leaves the parser one way out, which spares two
-    // copies of what was parsed.
-    if bytes.len() < LEAF_LEN {
-        return no_leaf().tell(fault);
-    }
-    write_row(&parse_type_data(alloc, bytes), row).tell(fault)
+    write_type_row(alloc, bytes, index, row).tell(fault)
 }
 
 /// Copies the name in the record of a type.

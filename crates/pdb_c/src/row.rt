@@ -1,6 +1,6 @@
 //! What a record says, as a row of numbers.
 
-ghost use Rattle.std.specs.Prelude.{◌≡◌, ◌+◌, ◌*◌, ◌≤◌};
+ghost use Rattle.std.specs.Prelude.{◌≡◌, ◌+◌, ◌*◌, ◌≤◌, []};
 ghost use Rattle.pdb_values.specs.Array.{array_value};
 ghost use Rattle.pdb_values.specs.Class.{class_value};
 ghost use Rattle.pdb_values.specs.Enumeration.{enumerate_value, enumeration_value};
@@ -8,7 +8,7 @@ ghost use Rattle.pdb_values.specs.Member.{member_value, nested_value, static_mem
 ghost use Rattle.pdb_values.specs.Method.{method_value, overloaded_method_value};
 ghost use Rattle.pdb_values.specs.TableShape.{table_shape_value};
 ghost use Rattle.pdb_values.specs.Union.{union_value};
-ghost use Rattle.pdb_values.specs.TypeValue.{array, base_class, bitfield, class, enumerate, enumeration, member, member_function, method, modifier, nested, overloaded_method, plain, pointer, procedure, static_member, union, virtual_base_class, virtual_function_table_pointer, virtual_table_shape};
+ghost use Rattle.pdb_values.specs.TypeValue.{argument_list, array, base_class, bitfield, class, enumerate, enumeration, field_list, member, member_function, method, modifier, nested, no_field, overloaded_method, plain, pointer, procedure, static_member, union, virtual_base_class, virtual_function_table_pointer, virtual_table_shape};
 ghost use Rattle.pdb_values.specs.TypeView.{type_value};
 ghost use Rattle.pdb_c.specs.Frame.{flag};
 ghost use Rattle.pdb_c.specs.Row.{bit, class_kind, index_in, is_negative, magnitude, no_numbers, row, row_of};
@@ -483,6 +483,28 @@ fn virtual_table_shape_row(v: &VirtualTableShapeType<'_>) -> Row
     )
 }
 
+/// Returns the row of a list of fields, from its continuation.
+#[inline(always)]
+pub fn field_list_row(continuation: Option<TypeIndex>) -> Row
+    ensures { result ≡ row_of (field_list no_field continuation) }
+{
+    Row::of(
+        19,
+        &Numbers {
+            list_index: index_in(continuation),
+            ..NO_NUMBERS
+        },
+    )
+}
+
+/// Returns the row of a list of arguments, which has no numbers.
+#[inline(always)]
+pub fn argument_list_row() -> Row
+    ensures { result ≡ row_of (argument_list []) }
+{
+    Row::of(20, &NO_NUMBERS)
+}
+
 impl Row {
     /// Returns the row of a shape and its numbers.
     #[inline(always)]
@@ -532,14 +554,8 @@ impl Row {
             TypeData::Array(v) => *self = array_row(v),
             TypeData::Union(v) => *self = union_row(v),
             TypeData::Bitfield(v) => *self = bitfield_row(v),
-            TypeData::FieldList(v) => *self = Row::of(
-                19,
-                &Numbers {
-                    list_index: index_in(v.continuation),
-                    ..NO_NUMBERS
-                },
-            ),
-            TypeData::ArgumentList(_) => *self = Row::of(20, &NO_NUMBERS),
+            TypeData::FieldList(v) => *self = field_list_row(v.continuation),
+            TypeData::ArgumentList(_) => *self = argument_list_row(),
             TypeData::MethodList(_) => *self = Row::of(21, &NO_NUMBERS),
             TypeData::VirtualTableShape(v) => *self = virtual_table_shape_row(v),
         }

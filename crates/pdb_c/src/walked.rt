@@ -1,27 +1,19 @@
 //! Walks along tables of types, with the rows of their records.
 
-ghost use Rattle.std.specs.Prelude.{◌≡◌, ◌<◌, Err};
-ghost use Rattle.pdb_base.specs.Answer.{Answer, Answers};
-ghost use Rattle.pdb_base.specs.Refusal.{refusal_of};
-ghost use Rattle.pdb_values.specs.Primitive.{first_record};
-ghost use Rattle.pdb_values.specs.TypeValue.{TypeValue};
-ghost use Rattle.pdb_values.specs.TypeView.{primitive_of, type_value};
+ghost use Rattle.std.specs.Prelude.{◌≡◌};
 ghost use Rattle.pdb_tpi.specs.OpenTable.{bytes_at};
 ghost use Rattle.pdb_tpi.specs.Record.{type_of};
-ghost use Rattle.pdb_c.specs.Row.{no_numbers, row};
-ghost use Rattle.pdb_c.specs.Walked.{IsTypeRow, WritesNext, WritesNextOf, type_row};
+ghost use Rattle.pdb_c.specs.Walked.{IsTypeRow, WritesNext, WritesNextOf};
 
 use crate::content::Content;
 use crate::copied::copy_nothing;
 use crate::fault::{FINE, Fault, NOT_OPEN, NOWHERE};
 use crate::handle::Handle;
 use crate::located::Located;
-use crate::records::LEAF_LEN;
+use crate::records::write_type_row;
 use crate::row::{NO_NUMBERS, Row};
-use pdb_base::{Error, Result, TypeIndex};
-use pdb_records::parse_type_data;
+use pdb_base::TypeIndex;
 use pdb_tpi::{OpenTable, RecordPlace};
-use pdb_values::{FIRST_RECORD, TypeData, type_data_for_primitive};
 use std::alloc::Global;
 
 /// A record of a table of types, and what it says.
@@ -36,51 +28,9 @@ pub struct TypeRow {
     pub row: Row,
 }
 
-/// Writes the fault of a record that is refused, and a row of zeros.
-#[cold]
-#[inline(never)]
-fn write_refused(index: u32, place: RecordPlace, error: &Error, told: &mut TypeRow)
-    ensures { told.new ≡ type_row index place (Err (refusal_of error.now)) }
-{
-    told.place = Located::at(index, place);
-    told.fault = Fault::of(error);
-    told.row = Row::of(0, &NO_NUMBERS);
-}
-
-/// Writes a record that was parsed, or the fault of its error.
-#[inline(always)]
-fn write_parsed(index: u32, place: RecordPlace, parsed: &Result<TypeData<'_>>, told: &mut TypeRow)
-    ensures { (meant : Answer TypeValue) → Answers type_value parsed.now meant → IsTypeRow index place meant told.new }
-{
-    match parsed {
-        Ok(value) => {
-            told.place = Located::at(index, place);
-            told.fault = Fault::status(FINE);
-            told.row.set_type(value);
-        }
-        Err(error) => write_refused(index, place, error, told),
-    }
-}
-
-/// Writes the type of an index for which no record is parsed: a primitive type.
-#[cold]
-#[inline(never)]
-fn write_primitive(index: u32, place: RecordPlace, told: &mut TypeRow)
-    requires { index < first_record }
-    ensures { IsTypeRow index place (primitive_of index) told.new }
-{
-    write_parsed(
-        index,
-        place,
-        &type_data_for_primitive(TypeIndex(index)),
-        told,
-    );
-}
-
 /// Parses the record at a place of a table, which is that of the type of an index, and writes what
-/// it says.
+/// it says, or the fault of its error and a row of zeros.
 #[inline(always)]
-#[tactic(auto, using(crate::proofs::RecordsLemmas::no_leaf), unfolding(pdb_tpi::specs::Record::type_of))]
 fn write_type(
     alloc: Global,
     kept: &OpenTable<TypeIndex>,
@@ -90,15 +40,11 @@ fn write_type(
 )
     ensures { IsTypeRow index place (type_of index (bytes_at kept.now.table place)) told.new }
 {
-    let bytes = kept.bytes_at(place);
-    if index < FIRST_RECORD {
-        return write_primitive(index, place, told);
+    told.place = Located::at(index, place);
+    told.fault = write_type_row(alloc, kept.bytes_at(place), index, &mut told.row);
+    if told.fault.status != FINE {
+        told.row = Row::of(0, &NO_NUMBERS);
     }
-    // As in `pdb_type_row`, this leaves the parser one way out.
-    if bytes.len() < LEAF_LEN {
-        return write_refused(index, place, &Error::UnexpectedEof, told);
-    }
-    write_parsed(index, place, &parse_type_data(alloc, bytes), told);
 }
 
 /// Writes the next records of a walk to the front of the caller's array, as many as it has room for

@@ -1,5 +1,5 @@
 -- Queries that are answered in any order: one after another, by a table, by a stream, by a file.
-use Rattle.std.proofs.Common.{◌≡◌, ◌≢◌, ◌⊎◌, inl, inr, ℕ, ◌+◌, ◌<◌, Bool, true, List, get_or, refl, sym, ap, ◌∙◌, subst, arith, Option, Some, None, Result, Ok, Err}
+use Rattle.std.proofs.Common.{◌≡◌, ◌≢◌, ◌⊎◌, inl, inr, ℕ, ◌+◌, ◌<◌, ◌≤◌, Bool, true, List, get_or, refl, sym, ap, ◌∙◌, subst, arith, Option, Some, None, Result, Ok, Err}
 use Rattle.std.specs.Prelude.{IsTrue, IsSome, IfSome}
 use Rattle.std.proofs.lemmas.Bool.{cases_eq, cases_lt}
 use Rattle.pdb_base.specs.declared.error.Error.{Error}
@@ -109,11 +109,6 @@ on_same number one other old new same on = record {
 }
 
 -- ---- looked up ahead
-
--- the same of a table as which the same stream is opened
-pub ahead_by : (number : ℕ) (one other : Opened) (query asked : Query) (item : Option (Item TypeIndex)) → ((query : Query) → said_by other query ≡ said_by one query) → query ≡ asked → IsAhead number one query item → IsAhead number other asked item
-ahead_by number one other query asked None same is ahead = tt
-ahead_by number one other query asked (Some item) same is ahead = (ap (λ (q : Query). (stream_asked q).0) (sym is) ∙ ahead.0, ap (λ (q : Query). said_by other q) (sym is) ∙ same query ∙ ahead.1)
 
 pub ahead_found : (number : ℕ) (opened : Opened) (query asked : Query) (item : Option (Item TypeIndex)) → query ≡ asked → (stream_asked query).0 ≡ number
     → IfSome item (λ item. said_by opened query ≡ Some (reply.type_said (index_of item).0 (bytes_of item))) → IsAhead number opened asked item
@@ -227,17 +222,17 @@ omap_refuse bytes e is other asks = absurd asks
 abbrev pub IsReached : ℕ → Opened → Progress → ℕ → ℕ → Progress → Type 0
 IsReached number opened start from at now = from < at → (stream_asked (query_at start from)).0 ≡ number → IsSome (said_by opened (query_at start from)) → is_answered now from ≡ true
 
--- one place more
-pub reached_more : (number : ℕ) (one other : Opened) (start old new : Progress) (from at : ℕ) → IsAnsweredOn (MeansTable number one) start old → ((query : Query) → said_by other query ≡ said_by one query)
+-- a place further, or several
+pub reached_on : (number : ℕ) (one other : Opened) (start old new : Progress) (from at next : ℕ) → from ≤ at → IsAnsweredOn (MeansTable number one) start old → ((query : Query) → said_by other query ≡ said_by one query)
     → IsReached number one start from at old → ((stream_asked (query_at old at)).0 ≡ number → IsSome (said_by other (query_at old at)) → is_answered new at ≡ true)
-    → ((i : ℕ) → is_answered old i ≡ true → is_answered new i ≡ true) → IsReached number one start from (at + 1) new
-reached_more number one other start old new from at on same so_far here stays reached asks there = elim (cases_eq from at) [
+    → ((i : ℕ) → is_answered old i ≡ true → is_answered new i ≡ true) → IsReached number one start from next new
+reached_on number one other start old new from at next least on same so_far here stays reached asks there = elim (cases_eq from at) [
   | inl last ↦
       let query : query_at old at ≡ query_at start from = rw (on.queries, last) refl in
       let answered = here (ap (λ (q : Query). (stream_asked q).0) query ∙ asks) (subst (λ (said : Option (Answer Said)). IsSome said) (sym (same (query_at old at) ∙ ap (λ (q : Query). said_by one q) query)) there) in
       subst (λ (n : ℕ). is_answered new n ≡ true) (sym last) answered
   | inr before ↦
-      let below : from < at = below_other from at reached before in
+      let below : from < at = below_other from at (omega (arith, least)) before in
       stays from (so_far below asks there)
 ]
 

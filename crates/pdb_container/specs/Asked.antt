@@ -1,5 +1,5 @@
 -- Queries that are answered in any order, and streams that are opened as tables to answer more than one.
-use Rattle.std.specs.Prelude.{◌≡◌, ◌≢◌, ◌<◌, ◌≤◌, ℕ, length, Bool, true, false, IsTrue, List, get_or, Option, Some, None, Result, Ok, Err, ⊤}
+use Rattle.std.specs.Prelude.{◌≡◌, ◌≢◌, ◌<◌, ◌≤◌, ◌+◌, ℕ, length, Bool, true, false, IsTrue, List, get_or, Option, Some, None, Result, Ok, Err, ⊤}
 use Rattle.pdb_base.specs.Answer.{Answer, RefusesUnless}
 use Rattle.pdb_base.specs.declared.error.Error.{Error}
 use Rattle.pdb_container.specs.declared.query.Query.{Query}
@@ -37,6 +37,10 @@ pub record Progress : Type 0 where
 -- the query at an index
 abbrev pub query_at : Progress → ℕ → Query
 query_at asked i = get_or asked.queries i (queries.Stream 0 None)
+
+-- What was looked up for the queries from an index on, one after another.
+abbrev pub AreAhead : ℕ → Opened → Progress → ℕ → List (Option (Item TypeIndex)) → Type 0
+AreAhead number opened asked from items = (i : ℕ) → IsAhead number opened (query_at asked (from + i)) (get_or items i None)
 
 -- whether the query at an index is answered
 abbrev pub is_answered : Progress → ℕ → Bool

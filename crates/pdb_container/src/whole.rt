@@ -3,7 +3,7 @@
 ghost use Rattle.std.specs.Prelude.{◌≡◌, ◌<◌, ◌≤◌, IsTrue, IsSome, IfOk, IfErr, OnErr, length, true};
 ghost use Rattle.pdb_msf.specs.Source.{HasFailed, IsKept};
 ghost use Rattle.pdb_container.specs.Reply.{AreReplies, IsRun, reply_of, stream_asked};
-ghost use Rattle.pdb_container.specs.Asked.{AnswersAt, AnswersFrom, AsksIds, AsksNames, AsksOmap, AsksTypes, IsAhead, IsAnsweredFrom, IsAnsweredOn, MeansTable, is_answered, query_at, said_by};
+ghost use Rattle.pdb_container.specs.Asked.{AnswersAt, AnswersFrom, AreAhead, AsksIds, AsksNames, AsksOmap, AsksTypes, IsAhead, IsAnsweredFrom, IsAnsweredOn, MeansTable, is_answered, query_at, said_by};
 
 use crate::asked::Asked;
 use crate::lookup::Lookup;
@@ -91,22 +91,64 @@ fn answer_ahead(
     }
 }
 
+/// How many queries are looked ahead at a time.
+const AHEAD: usize = 8;
+
+/// Looks up the types that the next queries ask for, as `look_ahead` does.
+///
+/// No look-up waits for another, so that a processor has several of them under way: each waits for
+/// memory, if the table is large.
+fn look_all_ahead<'t>(
+    number: u32,
+    opened: &mut Opened<'t>,
+    from: usize,
+    asked: &Asked<'_>,
+) -> [Option<Type<'t>>; AHEAD]
+    requires { from < length asked.now.queries }
+    ensures ahead { AreAhead number opened.old asked.now from result }
+    ensures kept { (query : Query) → said_by opened.new query ≡ said_by opened.old query }
+{
+    let mut ahead = [None; AHEAD];
+    for place in 0..AHEAD.min(asked.len() - from) {
+        ahead[place] = look_ahead(number, opened, from + place, asked);
+    }
+    ahead
+}
+
+/// Answers the next queries, with the types that were looked up for them.
+fn answer_all_ahead(
+    alloc: Global,
+    number: u32,
+    opened: &mut Opened<'_>,
+    ahead: &[Option<Type<'_>>; AHEAD],
+    from: usize,
+    asked: &mut Asked<'_>,
+)
+    requires within { from < length asked.old.queries }
+    requires ahead { AreAhead number opened.old asked.old from ahead.now }
+    ensures on { IsAnsweredOn (MeansTable number opened.old) asked.old asked.new }
+    ensures answered { (stream_asked (query_at asked.old from)).0 ≡ number →
+        IsSome (said_by opened.old (query_at asked.old from)) → is_answered asked.new from ≡ true }
+    ensures kept { (query : Query) → said_by opened.new query ≡ said_by opened.old query }
+{
+    for place in 0..AHEAD.min(asked.len() - from) {
+        answer_ahead(alloc, number, opened, ahead[place], from + place, asked);
+    }
+}
+
 /// Answers the query at the position `from` and all later ones, as far as they ask for something in
 /// the table that the stream `number` is opened as.
-///
-/// A type is looked up while the one before it is parsed: in a large table, its record is fetched
-/// from memory meanwhile.
 fn share(alloc: Global, number: u32, opened: &mut Opened<'_>, from: usize, asked: &mut Asked<'_>)
     requires { from < length asked.old.queries }
     ensures on { IsAnsweredOn (MeansTable number opened.old) asked.old asked.new }
     ensures answered { (stream_asked (query_at asked.old from)).0 ≡ number →
         IsSome (said_by opened.old (query_at asked.old from)) → is_answered asked.new from ≡ true }
 {
-    let mut next = look_ahead(number, opened, from, asked);
-    for at in from..asked.len() {
-        let ahead = next;
-        next = look_ahead(number, opened, at + 1, asked);
-        answer_ahead(alloc, number, opened, ahead, at, asked);
+    let mut at = from;
+    while at < asked.len() {
+        let ahead = look_all_ahead(number, opened, at, asked);
+        answer_all_ahead(alloc, number, opened, &ahead, at, asked);
+        at += AHEAD.min(asked.len() - at);
     }
 }
 

@@ -1,6 +1,6 @@
 //! Where the bytes of a file come from.
 
-ghost use Rattle.std.specs.Prelude.{◌≡◌, ℕ, List, length, map, true, IsTrue, IfOk, IfErr, IsErrAnd, None, slice_index};
+ghost use Rattle.std.specs.Prelude.{◌≡◌, ◌++◌, ℕ, List, length, map, true, IsTrue, IfOk, IfErr, IsErrAnd, None, slice_index};
 ghost use Rattle.std.specs.IoError.{error_kind};
 ghost use Rattle.pdb_msf.specs.Source.{State, IsKept, IsLastFault, in_memory, HasFailed, Shows, bytes_at, positions, slice_positions};
 ghost use Rattle.std.specs.List.{list_all};
@@ -167,9 +167,26 @@ fn copied(
 {
     let mut bytes = Vec::with_capacity(alloc, size)?;
     for slice in slices {
-        bytes.extend_from_slice(part(file, *slice))?;
+        append(&mut bytes, part(file, *slice))?;
     }
     Ok(bytes)
+}
+
+// How many bytes are copied at a time: as many as a page of memory has.
+const PIECE_SIZE: usize = 4096;
+
+// Appends bytes, piece by piece. Fresh memory is cleared page by page as it is first written, and a
+// small piece is written while the page is still in the cache.
+fn append(bytes: &mut Vec<u8>, added: &[u8]) -> Result<(), AllocError>
+    ensures { IfOk result (λ _. bytes.new.items ≡ bytes.old.items ++ added.now) }
+{
+    let mut left = added;
+    while !left.is_empty() {
+        let (piece, behind) = left.split_at(left.len().min(PIECE_SIZE));
+        bytes.extend_from_slice(piece)?;
+        left = behind;
+    }
+    Ok(())
 }
 
 // The bytes that one slice names.

@@ -1,6 +1,7 @@
 -- Lists of indexes behind their count, of types and of ids alike.
 use Rattle.std.specs.Prelude.{IsOkAnd}
-use Rattle.std.proofs.Common.{◌≡◌, ◌≢◌, inl, inr, ℕ, ◌*◌, ◌<◌, ◌≤◌, List, [], ◌∷◌, length, sym, ap, ◌∙◌, arith, length-append, Ok, Err}
+use Rattle.std.proofs.lemmas.Bool.{cases_lt}
+use Rattle.std.proofs.Common.{◌≡◌, ◌≢◌, inl, inr, ℕ, ◌*◌, ◌<◌, ◌≤◌, List, [], ◌∷◌, length, take, drop, sym, ap, ◌∙◌, arith, length-append, Ok, Err}
 use Rattle.pdb_base.specs.declared.error.Error.{Error}
 use Rattle.pdb_base.specs.declared.error.Error.TheVariants.{OutOfMemory}
 use Rattle.pdb_base.specs.declared.index.IdIndex.{IdIndex}
@@ -8,10 +9,11 @@ use Rattle.pdb_base.specs.declared.index.TypeIndex.{TypeIndex}
 use Rattle.pdb_base.specs.Refusal.{Refusal, refusal_of, unexpected_eof, out_of_memory}
 use Rattle.pdb_base.specs.Answer.{Answer, ◌>>=◌}
 use Rattle.pdb_base.specs.Memory.{HasItem}
-use Rattle.pdb_base.specs.Reading.{number_at}
+use Rattle.pdb_base.specs.Reading.{front_at, number_at}
 use Rattle.pdb_base.specs.Repeated.{SpellsEach, repeated}
 use Rattle.pdb_base.specs.Spelling.{SpellsNumber, Begins}
-use Rattle.pdb_base.proofs.lemmas.Collected.{ok}
+use Rattle.pdb_base.proofs.lemmas.Collected.{err, err_is, ok, ok_is, ok_is_no_err}
+use Rattle.pdb_base.proofs.lemmas.Reading.{front_cut, front_whole}
 use Rattle.pdb_base.proofs.lemmas.Spelling.{numbers}
 use Rattle.pdb_records.specs.Agreement.{Agrees}
 use Rattle.pdb_records.specs.Row.{Row, Assigns, Stops, row}
@@ -19,7 +21,8 @@ use Rattle.pdb_records.specs.Shape.{SpellsIndex, SpellsTimes, as_id, as_type, in
 use Rattle.pdb_records.proofs.Agreeing.{answer_cases, bind_at, bind_no}
 use Rattle.pdb_records.proofs.RowLaws.{rows}
 use Rattle.pdb_records.proofs.ShapeLaws.{number_ends}
-use Rattle.pdb_records.proofs.StepLemmas.{indexes_short}
+use Rattle.pdb_records.specs.Records.{arguments_end}
+use Rattle.pdb_records.proofs.StepLemmas.{indexes_end, indexes_short}
 use Rattle.pdb_records.proofs.TakesLemmas.{begins_length}
 use Rattle.pdb_records.specs.declared.parse.counted.CountWidth.{CountWidth}
 use Rattle.pdb_records.specs.declared.parse.counted.CountWidth.TheVariants.{Bits16, Bits32}
@@ -108,3 +111,31 @@ number_is_no_want width bytes cause is want =
     two_refusals (sym lacks ∙ ends) where
       two_refusals : out_of_memory ≡ unexpected_eof → ⊥
       two_refusals same = cc
+
+-- ---- a list of arguments that is skipped
+
+skipped : (bytes : List ℕ) (count : ℕ) (rest : List ℕ) (answer : Answer (List TypeIndex × List ℕ)) → number_at 4 bytes ≡ Ok (count, rest) → repeated (index_at as_type) count rest ≡ answer
+    → arguments_end bytes ≡ (answer >>= λ list. ok list.1)
+skipped bytes count rest answer is all = ap (λ (a : Answer (List TypeIndex × List ℕ)). a >>= λ list. ok list.1) (counted_is Bits32 as_type bytes count rest answer is all)
+
+-- its count is cut short
+pub cut_count : (bytes : List ℕ) (e : Refusal) → number_at 4 bytes ≡ Err e → arguments_end bytes ≡ Err e
+cut_count bytes e is = bind_no (counted_at Bits32 as_type bytes) (λ list. ok list.1) e (counted_cut Bits32 as_type bytes e is)
+
+-- or its indexes are
+pub cut_arguments : (bytes : List ℕ) (count : ℕ) (rest : List ℕ) (e : Refusal) → number_at 4 bytes ≡ Ok (count, rest) → front_at (4 * count) rest ≡ Err e → arguments_end bytes ≡ Err e
+cut_arguments bytes count rest e is cut = elim (cases_lt (length rest) (4 * count)) [
+  | inl short ↦
+      let same : unexpected_eof ≡ e = err_is {A = List ℕ × List ℕ} unexpected_eof e (sym (front_cut (4 * count) rest short) ∙ cut) in
+      skipped bytes count rest (Err unexpected_eof) is (indexes_short as_type count rest short) ∙ ap (λ (d : Refusal). err {A = List ℕ} d) same
+  | inr fits ↦ absurd (ok_is_no_err (take (4 * count) rest, drop (4 * count) rest) e (sym (front_whole (4 * count) rest fits) ∙ cut))
+]
+
+pub skipped_arguments : (bytes : List ℕ) (count : ℕ) (rest front end : List ℕ) → number_at 4 bytes ≡ Ok (count, rest) → front_at (4 * count) rest ≡ Ok (front, end) → arguments_end bytes ≡ Ok end
+skipped_arguments bytes count rest front end is read = elim (cases_lt (length rest) (4 * count)) [
+  | inl short ↦ absurd (ok_is_no_err (front, end) unexpected_eof (sym read ∙ front_cut (4 * count) rest short))
+  | inr fits ↦
+      let list = indexes_end as_type count rest fits in
+      let same : (take (4 * count) rest, drop (4 * count) rest) ≡ (front, end) = ok_is (take (4 * count) rest, drop (4 * count) rest) (front, end) (sym (front_whole (4 * count) rest fits) ∙ read) in
+      skipped bytes count rest (Ok (list.0, drop (4 * count) rest)) is list.1 ∙ ap (λ (p : List ℕ × List ℕ). ok p.1) same
+]

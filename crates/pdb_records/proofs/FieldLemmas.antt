@@ -18,7 +18,7 @@ use Rattle.pdb_records.specs.Row.{row}
 use Rattle.pdb_records.specs.Rows.{continuation_row}
 use Rattle.pdb_records.specs.Padding.{padding_at}
 use Rattle.pdb_records.specs.Records.{behind_leaf}
-use Rattle.pdb_records.specs.Fields.{Entry, field, continues, fields_among, continuation_of, field_list_of, entry_of, field_at, field_list_at, continuation_leaf}
+use Rattle.pdb_records.specs.Fields.{Entry, field, continues, fields_among, continuation_of, field_list_of, entry_of, field_at, field_list_at, continuation_in, list_continuation_at, continuation_leaf}
 use Rattle.pdb_records.specs.Grammar.{IsEntry, NoEntry}
 use Rattle.pdb_records.proofs.GrammarLaws.{field_agrees, field_takes}
 
@@ -146,3 +146,12 @@ pub says_as_much : (entries : List Entry) (xs : List TypeData) (continuation : O
 says_as_much entries xs continuation t left same goes says =
     ap (λ (v : TypeValue). ok {A = TypeValue × List ℕ} (v, left))
     (ap (λ (v : Fields). values.field_list v (continuation_of entries)) same ∙ ap (λ (o : Option TypeIndex). values.field_list (fields_value xs) o) goes ∙ sym says)
+
+-- the same for the list's continuation alone
+pub skip_all : (bytes : List ℕ) (entries : List Entry) (left : List ℕ) → to_end field_at bytes ≡ behind entries (to_end field_at left) → left ≡ [] → list_continuation_at bytes ≡ Ok (continuation_of entries, left)
+skip_all bytes entries left all none =
+    bind_at (field_list_at bytes) (λ list. ok (continuation_in list.0, list.1)) (field_list_of entries, left) (field_list_all bytes entries left all none)
+
+pub skip_stops : (bytes : List ℕ) (entries : List Entry) (left : List ℕ) (e : Refusal) → to_end field_at bytes ≡ behind entries (to_end field_at left) → left ≢ [] → field_at left ≡ Err e → list_continuation_at bytes ≡ Err e
+skip_stops bytes entries left e all some refused =
+    bind_no (field_list_at bytes) (λ list. ok (continuation_in list.0, list.1)) e (field_list_stops bytes entries left e all some refused)

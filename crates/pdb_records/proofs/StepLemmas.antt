@@ -1,7 +1,7 @@
 -- One step of a list: what a loop keeps while it reads.
 use Rattle.std.proofs.Common.{◌≡◌, ◌≢◌, inl, inr, ℕ, zero, suc, ◌+◌, ◌-◌, ◌*◌, ◌<◌, ◌≤◌, List, [], ◌∷◌, ◌++◌, length, take, drop, refl, sym, ap, ◌∙◌, arith, append_assoc, Ok, Err}
 use Rattle.std.proofs.lemmas.Bool.{cases_lt}
-use Rattle.std.proofs.lemmas.List.{append-nil, length-drop}
+use Rattle.std.proofs.lemmas.List.{append-nil, drop-drop, length-drop}
 use Rattle.pdb_base.specs.Endian.{little_number}
 use Rattle.pdb_base.specs.Refusal.{Refusal, unexpected_eof}
 use Rattle.pdb_base.specs.Answer.{Answer, ◌>>=◌}
@@ -119,6 +119,20 @@ indexes_whole {A} said (suc count) bytes fits =
     let one = index_whole said bytes (omega (arith, fits)) in
     let more = indexes_whole said count one.1 (omega (arith, fits, one.3)) in
     ((one.0 ∷ more.0.0, more.0.1), one_more said count bytes one.0 one.1 more.0 one.2 more.1)
+
+-- and they end behind four bytes each
+pub indexes_end : {A : Type 0} (said : ℕ → A) (count : ℕ) (bytes : List ℕ) → 4 * count ≤ length bytes → (xs : List A) × (repeated (index_at said) count bytes ≡ Ok (xs, drop (4 * count) bytes))
+unfolding index_whole
+indexes_end {A} said zero bytes fits = ([], refl)
+indexes_end {A} said (suc count) bytes fits =
+    let one = index_whole said bytes (omega (arith, fits)) in
+    let more = indexes_end said count (drop 4 bytes) (omega (arith, fits, length-drop 4 bytes)) in
+    let first : index_at said bytes ≡ Ok (said (little_number 4 (take 4 bytes)), drop 4 bytes) = one.2 in
+    let behind : drop (4 * count) (drop 4 bytes) ≡ drop (4 * suc count) bytes = drop-drop (4 * count) 4 bytes ∙ ap (λ (n : ℕ). drop n bytes) (omega arith) in (
+      said (little_number 4 (take 4 bytes)) ∷ more.0,
+      one_more said count bytes (said (little_number 4 (take 4 bytes))) (drop 4 bytes) (more.0, drop (4 * count) (drop 4 bytes)) first more.1
+          ∙ ap (λ (end : List ℕ). ok (said (little_number 4 (take 4 bytes)) ∷ more.0, end)) behind,
+    )
 
 -- of more than none there is a first one
 pub indexes_item : {A : Type 0} (said : ℕ → A) (count : ℕ) (bytes : List ℕ) → 4 * count ≤ length bytes → 0 < count

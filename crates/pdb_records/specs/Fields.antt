@@ -58,6 +58,15 @@ field_at bytes = do
 abbrev pub field_list_at : List ℕ → Answer (TypeValue × List ℕ)
 field_list_at bytes = to_end field_at bytes >>= λ entries. Ok (field_list_of entries.0, entries.1)
 
+-- the index of the list in which a list of fields continues, if there is one; no other record has one
+abbrev pub continuation_in : TypeValue → Option TypeIndex
+continuation_in (values.field_list fields continuation) = continuation
+continuation_in value = None
+
+-- reads a list of fields for the index of the list in which it continues
+abbrev pub list_continuation_at : List ℕ → Answer (Option TypeIndex × List ℕ)
+list_continuation_at bytes = field_list_at bytes >>= λ list. Ok (continuation_in list.0, list.1)
+
 -- reads what stands behind the leaf of a record
 abbrev pub record_of : Bool → ℕ → List ℕ → Answer (TypeValue × List ℕ)
 record_of true number bytes = field_list_at bytes

@@ -26,6 +26,10 @@ data_at number ArgumentList bytes = counted_at Bits32 as_type bytes >>= λ list.
 data_at number MethodList bytes = to_end (row listed_method_row) bytes >>= λ list. Ok (values.method_list list.0, list.1)
 data_at number (Array strided) bytes = array_at strided bytes >>= λ array. Ok (values.array array.0, array.1)
 
+-- reads a list of arguments, for the bytes that are left behind it
+abbrev pub arguments_end : List ℕ → Answer (List ℕ)
+arguments_end bytes = counted_at Bits32 as_type bytes >>= λ list. Ok list.1
+
 -- reads the record behind a leaf; a leaf that has none is refused with its number
 unfoldable pub behind_leaf : ℕ → List ℕ → Answer (TypeValue × List ℕ)
 behind_leaf number bytes = known_at number (data_at number) (leaf_of number) bytes

@@ -15,5 +15,6 @@ pub(crate) mod member;
 pub(crate) mod plain;
 pub(crate) mod record;
 pub(crate) mod shape;
+pub(crate) mod skip;
 pub(crate) mod table_shape;
 pub(crate) mod type_data;

@@ -23,7 +23,7 @@ use std::alloc::Global;
 /// are, stand before it.
 #[inline(always)]
 #[tactic(auto, unfolding(crate::specs::Row::row, crate::specs::Rows::continuation_row))]
-fn parse_continuation(buffer: &mut ParseBuffer<'_>) -> Result<TypeIndex>
+pub(crate) fn parse_continuation(buffer: &mut ParseBuffer<'_>) -> Result<TypeIndex>
     ensures { Gives (λ index. (index, left buffer.new)) result (row continuation_row (left buffer.old)) }
 {
     buffer.parse_u16()?;

@@ -1,0 +1,59 @@
+//! Lists, of which no item is kept.
+
+ghost use Rattle.pdb_base.specs.Answer.{Answers, Gives};
+ghost use Rattle.pdb_base.specs.Memory.{LacksOnlyIf};
+ghost use Rattle.pdb_base.specs.Place.{left};
+ghost use Rattle.pdb_records.specs.Fields.{list_continuation_at};
+ghost use Rattle.pdb_records.specs.Memory.{HoldsField};
+ghost use Rattle.pdb_records.specs.Records.{arguments_end};
+
+use crate::constants::LF_INDEX;
+use crate::parse::array::skip_padding;
+use crate::parse::fields::parse_continuation;
+use crate::parse::record::parse_behind_leaf;
+use pdb_base::{ParseBuffer, Result, TypeIndex};
+use std::alloc::Global;
+
+/// Reads entries to the end of the bytes and keeps none of them. Returns the index of the list that
+/// continues theirs, if there is one.
+///
+/// # Errors
+/// Fails as `parse_field_list` does. Memory is taken only while a field that is itself a list is
+/// read.
+#[inline(never)]
+pub fn skip_field_list(alloc: Global, buffer: &mut ParseBuffer<'_>) -> Result<Option<TypeIndex>>
+    ensures read { Answers (λ next. (next, left buffer.new)) result (list_continuation_at (left buffer.old)) }
+    ensures want { LacksOnlyIf result (HoldsField (left buffer.old)) }
+{
+    let mut continuation = None;
+    'entries: while !buffer.is_empty() {
+        let number = buffer.parse_u16()?;
+        if number == LF_INDEX {
+            continuation = Some(parse_continuation(buffer)?);
+            skip_padding(buffer)?;
+            continue;
+        }
+        match parse_behind_leaf(alloc, buffer, number) {
+            Ok(field) => {
+                drop(field);
+                skip_padding(buffer)?;
+            }
+            Err(error) => return Err(error),
+        }
+    }
+    Ok(continuation)
+}
+
+/// Skips a count and as many indexes of types behind it, which is what stands behind LF_ARGLIST.
+///
+/// # Errors
+/// Fails with `UnexpectedEof` if the bytes end before the count does or don't hold as many indexes
+/// as it says.
+#[inline(always)]
+pub fn skip_arguments(buffer: &mut ParseBuffer<'_>) -> Result<()>
+    ensures { Gives (λ nothing. left buffer.new) result (arguments_end (left buffer.old)) }
+{
+    let count = buffer.parse_u32()? as usize;
+    buffer.take(4 * count)?;
+    Ok(())
+}
