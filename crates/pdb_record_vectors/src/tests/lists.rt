@@ -1,9 +1,9 @@
 //! Records with a list: arrays, arguments, methods and fields.
 
 use super::read::{ends_soon, is_value_copied, said, said_with, text_of};
-use pdb_base::{Result, TypeIndex};
+use pdb_base::{ParseBuffer, Result, TypeIndex};
 use pdb_flags::FieldAttributes;
-use pdb_records::parse_type_data;
+use pdb_records::{parse_type_data, skip_arguments, skip_field_list};
 use pdb_values::{ArgumentList, ArrayType, MethodList, MethodListEntry, TypeData};
 use std::alloc::Global;
 use std::test::Fail;
@@ -211,12 +211,24 @@ const ARGUMENTS: &[ArgumentsRow] = &[
     ),
 ];
 
+/// How many bytes are left of a record of a list of arguments, once they are skipped.
+fn left_behind(record: &[u8]) -> Result<usize> {
+    let mut buffer = ParseBuffer::from(record);
+    buffer.parse_u16()?;
+    skip_arguments(&mut buffer)?;
+    Ok(buffer.len())
+}
+
 #[test]
 fn argument_records(rt: HostRuntime) -> std::result::Result<(), Fail> {
     let alloc = rt.alloc();
     for (record, types) in ARGUMENTS {
         judge(alloc, record, &arguments(alloc, types)?)?;
     }
+    assert_eq!(rt;
+        left_behind(b"\x01\x12\x02\x00\x00\x00\x74\x00\x00\x00\x75\x00\x00\x00\x41")?,
+        1
+    );
     Ok(())
 }
 
@@ -328,12 +340,20 @@ fn field_list_text(alloc: Global, fields: &str, continuation: Option<TypeIndex>)
     )?)
 }
 
+/// Which list continues the one in a record.
+fn continuation_of(alloc: Global, record: &[u8]) -> Result<Option<TypeIndex>> {
+    let mut buffer = ParseBuffer::from(record);
+    buffer.parse_u16()?;
+    skip_field_list(alloc, &mut buffer)
+}
+
 #[test]
 fn field_records(rt: HostRuntime) -> std::result::Result<(), Fail> {
     let alloc = rt.alloc();
     for (record, fields, continuation) in FIELD_LISTS {
         let want = field_list_text(alloc, fields, *continuation)?;
         judge_text(alloc, record, want.as_str())?;
+        assert_eq!(rt; continuation_of(alloc, record)?, *continuation);
     }
     Ok(())
 }
