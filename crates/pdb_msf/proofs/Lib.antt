@@ -1,4 +1,5 @@
 pub mod PositionLemmas
+pub mod JoinLemmas
 pub mod SliceLemmas
 pub mod RunLemmas
 pub mod WordLemmas

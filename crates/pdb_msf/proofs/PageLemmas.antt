@@ -16,6 +16,7 @@ use Rattle.pdb_msf.specs.Header.{is_page_size}
 use Rattle.pdb_msf.specs.PageList.{page_positions}
 use Rattle.pdb_msf.specs.Source.{bytes_at, found}
 use Rattle.pdb_msf.specs.Pages.{pages, position_of}
+use Rattle.pdb_msf.specs.Directory.{absent}
 use Rattle.pdb_base.proofs.lemmas.Collected.{ok_is}
 
 -- the positions of all bytes of these pages
@@ -82,6 +83,20 @@ pages_few page_size bytes large small =
 
 pub page_size_bounds : (size : ℕ) → IsTrue (is_page_size size) → (256 ≤ size) × (size ≤ 0x800000)
 page_size_bounds size good = (grind (arith, nat_tests), grind (arith, nat_tests))
+
+-- the pages of a stream hold what is read of it
+pub stream_held : (page_size size count read : ℕ) → IsTrue (is_page_size page_size) → count ≡ pages page_size size → read ≤ size → read ≤ count * page_size
+stream_held page_size size count read sized whole cut =
+    let bounds = page_size_bounds page_size sized in
+    let reach = pages_reach page_size size (omega arith) in
+    rw whole (omega (arith, reach, cut))
+
+-- and are few
+pub stream_few : (page_size size count : ℕ) → IsTrue (is_page_size page_size) → count ≡ pages page_size size → size < absent → count ≤ 2 ^ 40
+stream_few page_size size count sized whole there =
+    let bounds = page_size_bounds page_size sized in
+    let few = pages_few page_size size (omega arith) (omega (arith, there)) in
+    omega (arith, whole, few)
 
 -- no more pages than bytes
 pub pages_le : (page_size bytes : ℕ) → 0 < page_size → pages page_size bytes ≤ bytes

@@ -1,5 +1,6 @@
 pub mod Source
 pub mod Within
+pub mod InPlace
 pub mod Pages
 pub mod PageList
 pub mod Runs

@@ -3,6 +3,7 @@
 
 mod directory;
 mod header;
+mod in_place;
 pub mod laws;
 mod layout;
 mod magic;

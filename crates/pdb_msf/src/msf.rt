@@ -187,6 +187,43 @@ impl<S: Source> Msf<S> for BigMSF<S> {
     }
 }
 
+impl BigMSF<Vec<u8>> {
+    /// Returns the bytes of a stream as `get` does, and gives the file up.
+    ///
+    /// If the stream's pages stand in the file in increasing order, as most programs write them, its
+    /// bytes are moved together in the file's own memory, and no memory is asked for to hold them.
+    ///
+    /// # Errors
+    /// Fails as `get` does.
+    #[tactic(auto, unfolding(crate::specs::File::stream_of))]
+    pub fn into_stream(
+        mut self,
+        alloc: Global,
+        stream_number: u32,
+        limit: Option<usize>,
+    ) -> Result<Stream>
+        ensures answer { Answers (λ stream. stream) result
+            (stream_of self.source.items self.head stream_number limit) }
+        ensures exact { IsTrue self.located → RefusesExactly result
+            (placed self.source.items self.head stream_number) }
+    {
+        self.locate(alloc)?;
+        let BigMSF {
+            source,
+            header,
+            directory,
+        } = self;
+        let Some(directory) = directory else {
+            unreachable!();
+        };
+        let geometry = header.geometry;
+        let entry = directory.entry(alloc, geometry, stream_number)?;
+        let size = limited(entry.size, limit);
+        let bytes = source.into_scattered(alloc, geometry.page_size, &entry.pages, size)?;
+        Ok(Stream::new(bytes.into_bytes()))
+    }
+}
+
 /// Returns a size cut to the limit, if there is one.
 pub(crate) fn limited(size: u32, limit: Option<usize>) -> usize
     ensures size { result ≡ limited size limit }

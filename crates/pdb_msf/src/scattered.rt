@@ -7,6 +7,7 @@ ghost use Rattle.pdb_msf.specs.Source.{HasFailed, IsKept, KeepsKind, bytes_at, f
 ghost use Rattle.pdb_msf.specs.Pages.{position_of, scatter};
 ghost use Rattle.pdb_msf.specs.Asked.{Asks};
 
+use crate::in_place::{can_be_joined, joined};
 use crate::page_list::PageList;
 use crate::source::{ReadView, Source, SourceSlice};
 use pdb_base::{Error, Result};
@@ -28,6 +29,18 @@ pub fn view<S: Source>(source: &mut S, alloc: Global, slices: &[SourceSlice]) ->
             _ => Err(Error::IoError(error)),
         },
     }
+}
+
+/// Views slices of a file in memory, and gives the file up: where they can be joined in place, the
+/// view keeps the file's own memory.
+#[tactic(auto, using(crate::proofs::JoinLemmas::can_found))]
+fn into_view(alloc: Global, mut file: Vec<u8>, slices: &[SourceSlice]) -> Result<ReadView>
+    ensures { Answers (λ v. v) result (found (bytes_at file.items (positions slices.now))) }
+{
+    if can_be_joined(file.len(), slices) {
+        return Ok(ReadView::new(joined(file, slices)));
+    }
+    view(&mut file, alloc, slices)
 }
 
 /// Returns the positions of the first `size` bytes of these pages.
@@ -101,5 +114,28 @@ impl<S: Source> CountedSource<S> {
         let list = page_list(alloc, page_size, numbers, size)?;
         self.asked = self.asked.saturating_add(list.len() as u64);
         view(&mut self.source, alloc, list.source_slices())
+    }
+}
+
+impl CountedSource<Vec<u8>> {
+    /// Reads the first `size` bytes of what is scattered over these pages, as `read_scattered` does,
+    /// and gives the file up.
+    #[tactic(auto, unfolding(crate::specs::Pages::scatter), using(crate::proofs::PageLemmas::length_found))]
+    pub fn into_scattered(
+        self,
+        alloc: Global,
+        page_size: u32,
+        numbers: &[u32],
+        size: usize,
+    ) -> Result<ReadView>
+        requires size { (0 < page_size) × (page_size ≤ 0x800000) }
+        requires reached { size ≤ length numbers.now * page_size }
+        requires few { length numbers.now ≤ 2 ^ 40 }
+        ensures bytes { Answers (λ v. v) result (found (scatter self.source.items page_size numbers.now size)) }
+        ensures len { IfOk result (λ v. length v ≡ size) }
+    {
+        let list = page_list(alloc, page_size, numbers, size)?;
+        let CountedSource { source, .. } = self;
+        into_view(alloc, source, list.source_slices())
     }
 }

@@ -1,32 +1,21 @@
 use Rattle.std.proofs.Common.{◌≡◌, length, ap, sym, ◌∙◌, arith}
 use Rattle.pdb_base.proofs.lemmas.Refused.{passed_on}
-use Rattle.pdb_msf.specs.Pages.{pages}
 use Rattle.std.proofs.Common.{List, ℕ}
 use Rattle.pdb_msf.specs.Directory.{entry_view}
 use Rattle.pdb_msf.specs.Header.{header_view}
 use Rattle.pdb_msf.specs.File.{IsKeptOf}
-use Rattle.pdb_msf.proofs.PageLemmas.{page_size_bounds, pages_reach, pages_few}
+use Rattle.pdb_msf.proofs.PageLemmas.{stream_held, stream_few}
 use Rattle.pdb_msf.proofs.KindLemmas.{tells_entry}
 use Rattle.pdb_msf.proofs.AskedLemmas.{asks_stopped, asks_refused, wanted_is}
 use Rattle.pdb_msf.proofs.msf.BigMSFMsf.get.Goals as goal
 
 pub read_scattered-requires-clause-reached : goal.read_scattered-requires-clause-reached
 read_scattered-requires-clause-reached g c =
-    let page_size = c.self.inside.header.geometry.page_size in
-    let entry = c.in_ok-entry.entry in
-    let size = page_size_bounds page_size c.self.invariant.read.sized in
-    let reach = pages_reach page_size entry.size (omega arith) in
-    let whole : length c.deref.result.now ≡ pages page_size entry.size = ap length c.deref.ensures.value ∙ c.in_ok-entry.ensures.whole.pages in
-    rw whole (omega (arith, reach, c.limited-size.ensures.cut))
+    stream_held _ _ _ _ c.self.invariant.read.sized (ap length c.deref.ensures.value ∙ c.in_ok-entry.ensures.whole.pages) c.limited-size.ensures.cut
 
 pub read_scattered-requires-clause-few : goal.read_scattered-requires-clause-few
 read_scattered-requires-clause-few g c =
-    let page_size = c.self.inside.header.geometry.page_size in
-    let entry = c.in_ok-entry.entry in
-    let size = page_size_bounds page_size c.self.invariant.read.sized in
-    let few = pages_few page_size entry.size (omega arith) (omega (arith, c.in_ok-entry.ensures.whole.size)) in
-    let whole : length c.deref.result.now ≡ pages page_size entry.size = ap length c.deref.ensures.value ∙ c.in_ok-entry.ensures.whole.pages in
-    omega arith
+    stream_few _ _ _ c.self.invariant.read.sized (ap length c.deref.ensures.value ∙ c.in_ok-entry.ensures.whole.pages) c.in_ok-entry.ensures.whole.size
 
 pub returns-in_err-entry-clause-kind : goal.returns-in_err-entry-clause-kind
 returns-in_err-entry-clause-kind g c =
