@@ -10,9 +10,8 @@ use Rattle.std.specs.declared.io.ErrorKind.{ErrorKind}
 use Rattle.pdb_container.specs.Refusal.{Refusal, refusal_of, io_error, out_of_memory}
 use Rattle.pdb_container.specs.ErrorText.{io_error_front, text_of}
 use Rattle.pdb_base.specs.Text.{lossy}
-use Rattle.pdb_container.specs.Answer.{Answer, ◌>>=◌}
-use Rattle.pdb_container.specs.Header.{opened}
-use Rattle.pdb_container.specs.Reply.{Said, bytes, item_record, fields, name, moved, AreMoved, reply_of}
+use Rattle.pdb_container.specs.Answer.{Answer}
+use Rattle.pdb_container.specs.Reply.{Said, bytes, item_record, fields, name, moved, AreMoved, answer_of}
 use Rattle.pdb_vectors.specs.Example.{s1_bytes}
 use Rattle.pdb_command.specs.declared.outcome.Outcome.{Outcome}
 use Rattle.pdb_command.specs.Lines.{line, hex_lines, record_line, name_lines, range_lines, reply_lines}
@@ -77,10 +76,6 @@ pub record IsUsage (outcome : Outcome) : Type 0 where
 abbrev pub IsOutcomeOf : Answer Said → Outcome → Type 0
 IsOutcomeOf (Ok said) outcome = IsAnswered said outcome
 IsOutcomeOf (Err refusal) outcome = IsRefused refusal outcome
-
--- the answer of a file to a query
-unfoldable pub answer_of : List ℕ → Query → Answer Said
-answer_of file query = opened file >>= λ head. reply_of file head query
 
 -- the query that the words form, and the file that it asks; without words, these are stream 1 and the
 -- file S1

@@ -2,12 +2,13 @@
 
 ghost use Rattle.std.specs.Prelude.{◌≡◌, ◌⊎◌, map, IfOk, IfErr};
 ghost use Rattle.pdb_container.specs.Refusal.{refusal_of, out_of_memory};
-ghost use Rattle.pdb_command.specs.Printed.{IsAnsweredBy, IsRefused, IsUsage, IsOutcomeOf, ShowsReply, answer_of, asked, Shows};
+ghost use Rattle.pdb_container.specs.Reply.{answer_of};
+ghost use Rattle.pdb_command.specs.Printed.{IsAnsweredBy, IsRefused, IsUsage, IsOutcomeOf, ShowsReply, asked, Shows};
 
 use crate::lines::reply_lines;
 use crate::refusal::error_line;
 use crate::words;
-use pdb_container::{Error, Query, Reply, Result, run};
+use pdb_container::{Error, Query, Reply, Result, ask};
 use pdb_vectors::s1;
 use std::alloc::Global;
 
@@ -81,13 +82,7 @@ fn answer(alloc: Global, file: Vec<u8>, query: Query) -> Result<Outcome>
     ensures ok { IfOk result (λ o. IsOutcomeOf (answer_of file.items query) o ⊎ IsRefused out_of_memory o) }
     ensures want { IfErr result (λ e. e ≡ Error.OutOfMemory) }
 {
-    match run(alloc, file, &[query]) {
-        Ok(mut replies) => match replies.pop() {
-            Some(reply) => shown(alloc, &reply),
-            None => unreachable!(),
-        },
-        Err(error) => refused(alloc, &error),
-    }
+    shown(alloc, &ask(alloc, file, query))
 }
 
 /// Does what the program does, apart from input and output: parses the words as a query, asks the

@@ -108,6 +108,10 @@ said_within (queries.Fields number index) stream = fields_within index stream
 abbrev pub reply_of : List ℕ → Head → Query → Answer Said
 reply_of file head query = stream_of file head (stream_asked query).0 (stream_asked query).1 >>= said_within query
 
+-- the answer of a file to a query; the first fault is that of its header
+unfoldable pub answer_of : List ℕ → Query → Answer Said
+answer_of file query = opened file >>= λ head. reply_of file head query
+
 -- ---- the replies
 
 -- These ranges are where a table moves the addresses of a range. If the table's sources never decrease,

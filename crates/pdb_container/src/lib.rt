@@ -138,4 +138,5 @@ pub use pdb_values::VirtualTableShapeType;
 pub use pdb_values::type_data_for_primitive;
 pub use query::Query;
 pub use query::Reply;
+pub use whole::ask;
 pub use whole::run;

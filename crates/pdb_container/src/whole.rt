@@ -2,7 +2,7 @@
 
 ghost use Rattle.std.specs.Prelude.{◌≡◌, ◌<◌, ◌≤◌, IsTrue, IsSome, IfOk, IfErr, OnErr, length, true};
 ghost use Rattle.pdb_msf.specs.Source.{HasFailed, IsKept};
-ghost use Rattle.pdb_container.specs.Reply.{AreReplies, IsRun, reply_of, stream_asked};
+ghost use Rattle.pdb_container.specs.Reply.{AreReplies, IsReply, IsRun, Replies, answer_of, reply_of, stream_asked};
 ghost use Rattle.pdb_container.specs.Asked.{AnswersAt, AnswersFrom, AreAhead, AsksIds, AsksNames, AsksOmap, AsksTypes, IsAhead, IsAnsweredFrom, IsAnsweredOn, MeansTable, is_answered, query_at, said_by};
 
 use crate::asked::Asked;
@@ -298,4 +298,51 @@ pub fn run<S: Source + Drop>(alloc: Global, source: S, queries: &[Query]) -> Res
 {
     let mut file = open_msf(alloc, source)?;
     ask_all(alloc, &mut file, queries)
+}
+
+/// Answers the query at a position from a file that is given up, as `attempt` does.
+fn attempt_last(
+    alloc: Global,
+    file: BigMSF<Vec<u8>>,
+    at: usize,
+    asked: &mut Asked<'_>,
+) -> Result<()>
+    requires { at < length asked.old.queries }
+    ensures { AnswersFrom ⊥ (reply_of file.source.items file.head) at asked.old result asked.new }
+{
+    let (number, limit) = stream_asked(asked.query(at));
+    let stream = file.into_stream(alloc, number, limit)?;
+    answer_by(alloc, stream, at, asked)
+}
+
+/// Opens a file, and returns its reply to one query.
+///
+/// # Errors
+/// Fails as `open_msf` does, as the stream and the table in it are refused, or with `OutOfMemory` if
+/// memory is refused.
+fn reply_to(alloc: Global, file: Vec<u8>, query: Query) -> Result<Reply>
+    ensures { Replies result (answer_of file.items query) }
+{
+    let file = open_msf(alloc, file)?;
+    let queries = [query];
+    let mut asked = Asked::new(alloc, &queries)?;
+    attempt_last(alloc, file, 0, &mut asked)?;
+    match asked.into_replies().pop() {
+        Some(reply) => Ok(reply),
+        None => unreachable!(),
+    }
+}
+
+/// Opens a file, and returns its reply to one query, as `run` does to several. If the file is not
+/// opened, that is the reply too.
+///
+/// The file is given up: the stream that is read takes no memory of its own if its pages stand in
+/// the file in increasing order.
+pub fn ask(alloc: Global, file: Vec<u8>, query: Query) -> Reply
+    ensures { IsReply ⊥ result (answer_of file.items query) }
+{
+    match reply_to(alloc, file, query) {
+        Ok(reply) => reply,
+        Err(error) => Reply::Refused(error),
+    }
 }

@@ -1,6 +1,7 @@
 -- Why nothing was listed.
 use Rattle.std.proofs.Common.{◌≡◌, [], ◌⊎◌, inl, inr, None, Ok, Err, ap}
 use Rattle.pdb_base.specs.declared.error.Error.{Error}
+use Rattle.pdb_base.specs.declared.error.Error.TheVariants.{OutOfMemory}
 use Rattle.pdb_base.specs.Answer.{Answer, RefusesUnless}
 use Rattle.pdb_base.specs.Refusal.{Refusal, refusal_of}
 use Rattle.pdb_base.proofs.lemmas.Collected.{err, err_is, ok_is_no_err}
@@ -18,3 +19,8 @@ told_or_cut {A} (Err fault) e refuses = elim (refused_listed (λ (value : A). wh
   | inl told ↦ inl (ap (λ (f : Refusal). err {A = A} f) (err_is {A = Unit {0}} fault (refusal_of e) told.0))
   | inr cut ↦ inr cut.0
 ]
+
+-- the same where no channel was used
+pub told_or_want : {A : Type 0} (meant : Answer A) (e : Error) → (meant ≡ Err (refusal_of e)) ⊎ (e ≡ OutOfMemory) → (meant ≡ Err (refusal_of e)) ⊎ IsCut e
+told_or_want meant e (inl told) = inl told
+told_or_want meant e (inr want) = told_or_cut {failed = ⊥} meant e (inr (inl want))

@@ -4,7 +4,7 @@ ghost use Rattle.std.specs.Prelude.{◌≡◌, unwrap_or};
 ghost use Rattle.pdb_dump.specs.Listed.{AreIds, AreTypes, Does, DoesIn, IsListedIn};
 
 use crate::words::Command;
-use pdb_container::{BigMSF, Msf, Result, open_msf};
+use pdb_container::{BigMSF, Result, open_msf};
 use pdb_listing::{id_at, ids, type_at, types};
 use pdb_mapping::list_map;
 use pdb_rows::Form;
@@ -22,16 +22,16 @@ const ID_STREAM: u32 = 4;
 /// Lists the types of the table in a stream, or only the one of an index.
 fn list_types<W: Write>(
     alloc: Global,
-    file: &mut BigMSF<Vec<u8>>,
+    file: BigMSF<Vec<u8>>,
     number: u32,
     index: Option<u32>,
     form: Form,
     out: &mut W,
 ) -> Result<()>
-    ensures { IsListedIn (AreTypes form index) file.old.source.items file.old.head number
+    ensures { IsListedIn (AreTypes form index) file.source.items file.head number
         (W.contents out.old) (W.contents out.new) result }
 {
-    match file.get(alloc, number, None) {
+    match file.into_stream(alloc, number, None) {
         Ok(stream) => match index {
             Some(index) => type_at(alloc, stream, index, form, out),
             None => types(alloc, stream, form, out),
@@ -43,16 +43,16 @@ fn list_types<W: Write>(
 /// Lists the ids of the table in a stream, or only the one of an index.
 fn list_ids<W: Write>(
     alloc: Global,
-    file: &mut BigMSF<Vec<u8>>,
+    file: BigMSF<Vec<u8>>,
     number: u32,
     index: Option<u32>,
     form: Form,
     out: &mut W,
 ) -> Result<()>
-    ensures { IsListedIn (AreIds form index) file.old.source.items file.old.head number
+    ensures { IsListedIn (AreIds form index) file.source.items file.head number
         (W.contents out.old) (W.contents out.new) result }
 {
-    match file.get(alloc, number, None) {
+    match file.into_stream(alloc, number, None) {
         Ok(stream) => match index {
             Some(index) => id_at(alloc, stream, index, form, out),
             None => ids(alloc, stream, form, out),
@@ -75,11 +75,11 @@ fn list_opened<W: Write>(
         Command::Summary => list_summary(alloc, &mut file, form, out),
         Command::Types { stream, index } => {
             let number = stream.unwrap_or(TYPE_STREAM);
-            list_types(alloc, &mut file, number, index, form, out)
+            list_types(alloc, file, number, index, form, out)
         }
         Command::Ids { stream, index } => {
             let number = stream.unwrap_or(ID_STREAM);
-            list_ids(alloc, &mut file, number, index, form, out)
+            list_ids(alloc, file, number, index, form, out)
         }
         Command::Names { stream } => list_names(alloc, file, stream, form, out),
         Command::Sections { stream } => list_sections(alloc, file, stream, form, out),

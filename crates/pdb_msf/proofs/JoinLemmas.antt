@@ -79,12 +79,12 @@ join_more old slices i front middle new d within before moved ahead fits =
     record {
       len = long;
       front_is = ap (λ (n : ℕ). n + slice.size) before.front_is
-      ∙ sym (ap length more ∙ length-append (positions (take i slices)) (slice_positions slice) ∙ ap (λ (n : ℕ). length (positions (take i slices)) + n) (length-range_with_len slice.offset slice.size));
+          ∙ sym (ap length more ∙ length-append (positions (take i slices)) (slice_positions slice) ∙ ap (λ (n : ℕ). length (positions (take i slices)) + n) (length-range_with_len slice.offset slice.size));
       placed = take-add front slice.size new
-      ∙ ap (λ (xs : List ℕ). xs ++ take slice.size (drop front new)) (first ∙ before.placed)
-      ∙ ap (λ (xs : List ℕ). map (slice_index old) (positions (take i slices)) ++ xs) last
-      ∙ sym (map-append (slice_index old) (positions (take i slices)) (slice_positions slice))
-      ∙ ap (map (slice_index old)) (sym more);
+          ∙ ap (λ (xs : List ℕ). xs ++ take slice.size (drop front new)) (first ∙ before.placed)
+          ∙ ap (λ (xs : List ℕ). map (slice_index old) (positions (take i slices)) ++ xs) last
+          ∙ sym (map-append (slice_index old) (positions (take i slices)) (slice_positions slice))
+          ∙ ap (map (slice_index old)) (sym more);
       behind = λ k le. moved.behind k le ∙ before.behind k (omega arith);
     }
 

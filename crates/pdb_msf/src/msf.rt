@@ -217,10 +217,10 @@ impl BigMSF<Vec<u8>> {
             unreachable!();
         };
         let geometry = header.geometry;
-        let entry = directory.entry(alloc, geometry, stream_number)?;
-        let size = limited(entry.size, limit);
-        let bytes = source.into_scattered(alloc, geometry.page_size, &entry.pages, size)?;
-        Ok(Stream::new(bytes.into_bytes()))
+        let stream = directory.entry(alloc, geometry, stream_number)?;
+        let taken = limited(stream.size, limit);
+        let view = source.into_scattered(alloc, geometry.page_size, &stream.pages, taken)?;
+        Ok(Stream::new(view.into_bytes()))
     }
 }
 

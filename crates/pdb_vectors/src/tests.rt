@@ -65,7 +65,8 @@ const PAGE_OF_1: usize = 1048;
 
 const DIRECTORY_SIZE: usize = 44;
 
-/// Returns whether an edited S1 answers with `want` for a stream, and does so again.
+/// Returns whether an edited S1 answers with `want` for a stream, does so again, and does so when it
+/// is given up for the stream.
 fn answers_twice(
     alloc: Global,
     edits: &[(usize, u8)],
@@ -76,7 +77,8 @@ fn answers_twice(
     let mut file = open_msf(alloc, edited(alloc, edits)?)?;
     let once = answers(alloc, file.get(alloc, number, limit), want);
     let again = answers(alloc, file.get(alloc, number, limit), want);
-    Ok(once && again)
+    let last = answers(alloc, file.into_stream(alloc, number, limit), want);
+    Ok(once && again && last)
 }
 
 /// Returns whether S1 answers with the first `len` bytes of stream 1, and does so again.

@@ -1,7 +1,7 @@
-//! Runs: a file, and all that is asked of it. What each other query is replied stands in the
+//! Runs: a file, and all that is asked of it, at once or one query at a time. What each other query is replied stands in the
 //! printed rows.
 
-use pdb_container::{Query, Reply, run};
+use pdb_container::{Query, Reply, ask, run};
 use pdb_vectors::s1;
 use std::alloc::Global;
 use std::test::Fail;
@@ -36,6 +36,10 @@ fn runs(rt: HostRuntime) -> Result<(), Fail> {
     assert!(rt; replies.len() == queries.len());
     for (reply, want) in replies.iter().zip(wanted) {
         assert!(rt; says(alloc, reply, want), "{want}");
+    }
+    for (query, want) in queries.iter().zip(wanted) {
+        let reply = ask(alloc, s1(alloc)?, *query);
+        assert!(rt; says(alloc, &reply, want), "{want}");
     }
     Ok(())
 }

@@ -1,5 +1,4 @@
 use Rattle.std.proofs.Common.{◌+◌, ◌∙◌, arith}
-use Rattle.pdb_container.specs.declared.query.Query.{Query}
 use Rattle.pdb_container.proofs.AskedLemmas.{on_then, on_same, reached_on}
 use Rattle.pdb_container.proofs.whole.answer_all_ahead.Goals as goal
 

@@ -1,5 +1,5 @@
 -- What was looked up so far; nothing, for the queries behind.
-use Rattle.std.proofs.Common.{◌≡◌, length}
+use Rattle.std.proofs.Common.{◌≡◌}
 use Rattle.pdb_container.specs.declared.query.Query.{Query}
 use Rattle.pdb_container.specs.Asked.{AreAhead, said_by}
 use Rattle.pdb_container.proofs.whole.look_all_ahead.Given as goal

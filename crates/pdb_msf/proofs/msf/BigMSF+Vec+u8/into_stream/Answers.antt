@@ -4,8 +4,8 @@ use Rattle.pdb_msf.proofs.msf.BigMSF+Vec+u8.into_stream.Goals as goal
 
 pub into_scattered-requires-clause-reached : goal.into_scattered-requires-clause-reached
 into_scattered-requires-clause-reached c =
-    stream_held _ _ _ _ c.self.invariant.read.sized (ap length c.deref.ensures.value ∙ c.in_ok-entry.ensures.whole.pages) c.limited-size.ensures.cut
+    stream_held _ _ _ _ c.self.invariant.read.sized (ap length c.deref.ensures.value ∙ c.in_ok-stream.ensures.whole.pages) c.limited-taken.ensures.cut
 
 pub into_scattered-requires-clause-few : goal.into_scattered-requires-clause-few
 into_scattered-requires-clause-few c =
-    stream_few _ _ _ c.self.invariant.read.sized (ap length c.deref.ensures.value ∙ c.in_ok-entry.ensures.whole.pages) c.in_ok-entry.ensures.whole.size
+    stream_few _ _ _ c.self.invariant.read.sized (ap length c.deref.ensures.value ∙ c.in_ok-stream.ensures.whole.pages) c.in_ok-stream.ensures.whole.size
