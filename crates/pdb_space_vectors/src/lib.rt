@@ -1,4 +1,4 @@
-//! The worked rows of addresses, translation, names and frames, as tests.
+//! The worked rows of addresses, translation, names, frames, and the roles of streams, as tests.
 #![tactic(auto)]
 
 #[cfg(test)]

@@ -2,6 +2,7 @@
 
 mod addresses;
 mod frames;
+mod roles;
 mod searching;
 mod strings;
 mod translation;

@@ -1,9 +1,9 @@
-//! The worked rows, a file a topic.
+//! The worked rows of the roles and the names of streams, a file a topic.
 
+mod debug_header;
 mod files;
 mod headers;
 mod names;
-mod roles;
 
 use pdb_base::StreamIndex;
 use pdb_msf::Stream;
