@@ -333,8 +333,8 @@ fn reply_to(alloc: Global, file: Vec<u8>, query: Query) -> Result<Reply>
     }
 }
 
-/// Opens a file, and returns its reply to one query, as `run` does to several. If the file is not
-/// opened, that is the reply too.
+/// Opens a file, and returns its reply to one query, as `run` does to several. If the file can't be
+/// opened, the reply is that refusal.
 ///
 /// The file is given up: the stream that is read takes no memory of its own if its pages stand in
 /// the file in increasing order.

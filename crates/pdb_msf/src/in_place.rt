@@ -25,14 +25,16 @@ pub fn can_be_joined(len: usize, slices: &[SourceSlice]) -> bool
     true
 }
 
-/// Joins the bytes that the slices name at the front of the file, and cuts off what is behind them.
-/// No memory is asked for.
+/// Joins the bytes that the slices name at the front of the file, cuts off what is behind them, and
+/// gives back the memory in which that stood. If the system refuses the smaller block, the bytes stay
+/// in the larger one.
 pub fn joined(mut file: Vec<u8>, slices: &[SourceSlice]) -> Vec<u8>
     requires { IsTrue (can_be_joined (length file.items) 0 slices.now) }
     ensures { result.items ≡ map (slice_index file.items) (positions slices.now) }
 {
     let size = join(&mut file, slices);
     file.truncate(size);
+    file.shrink_to_fit();
     file
 }
 
