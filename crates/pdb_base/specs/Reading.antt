@@ -30,6 +30,10 @@ signed_at width bytes_wide bytes = do
   number ← number_at bytes_wide bytes
   Ok (cast_signed width number.0, number.1)
 
+-- the little-endian u32 at an offset
+abbrev pub word_at : ℕ → List ℕ → ℕ
+word_at offset bytes = little_number 4 (take 4 (drop offset bytes))
+
 -- the number at the front of bytes, without the bytes that follow it
 unfoldable pub peeked : ℕ → List ℕ → Answer ℕ
 peeked width bytes = do

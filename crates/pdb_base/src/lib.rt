@@ -1,5 +1,5 @@
-//! The base of a program database's reader: errors, a buffer to parse from, numbers, text and
-//! indexes.
+//! The base of a program database's reader: errors, the bytes of a stream, a buffer to parse from,
+//! numbers, text and indexes.
 #![tactic(auto)]
 
 mod buffer;
@@ -16,6 +16,7 @@ pub mod numeric_leaf;
 mod parse;
 mod parse_index;
 mod raw_string;
+mod stream;
 mod variant;
 
 pub use buffer::ParseBuffer;
@@ -26,4 +27,5 @@ pub use index::{FileIndex, IdIndex, Local, Register, StreamIndex, SymbolIndex, T
 pub use item_index::ItemIndex;
 pub use parse::{Le, Parse};
 pub use raw_string::RawString;
+pub use stream::Stream;
 pub use variant::Variant;

@@ -6,8 +6,7 @@ ghost use Rattle.pdb_c.specs.Copied.{CopiesOrLacks, copied, written};
 ghost use Rattle.pdb_c.specs.Records.{fielded};
 
 use crate::fault::{FINE, Fault, TOO_SMALL};
-use pdb_base::Result;
-use pdb_msf::Stream;
+use pdb_base::{Result, Stream};
 
 /// Copies items to the front of a caller's array and sets `length` to their number. If the array
 /// has no room for all of them, none is copied.

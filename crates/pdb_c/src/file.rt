@@ -11,8 +11,8 @@ use crate::content::Content;
 use crate::copied::copy_stream;
 use crate::fault::{ALREADY_OPEN, Fault};
 use crate::handle::Handle;
-use pdb_base::Result;
-use pdb_msf::{BigMSF, Stream, open_msf};
+use pdb_base::{Result, Stream};
+use pdb_msf::{BigMSF, open_msf};
 use pdb_roles::{address_map, frame_table, named_stream, string_table};
 use std::alloc::Global;
 

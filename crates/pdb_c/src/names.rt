@@ -15,8 +15,7 @@ use crate::copied::{copy_nothing, copy_out};
 use crate::fault::{ALREADY_OPEN, FINE, Fault, NOT_OPEN, TOO_LONG, TOO_SMALL};
 use crate::found::tell_answered;
 use crate::handle::Handle;
-use pdb_base::Result;
-use pdb_msf::Stream;
+use pdb_base::{Result, Stream};
 use pdb_space::{StringRef, StringTable};
 use std::alloc::Global;
 

@@ -12,8 +12,7 @@ use crate::content::Content;
 use crate::fault::{ALREADY_OPEN, Fault, NOT_OPEN, TOO_LONG};
 use crate::found::tell_found;
 use crate::handle::Handle;
-use pdb_base::Result;
-use pdb_msf::Stream;
+use pdb_base::{Result, Stream};
 use pdb_space::OMAPTable;
 use std::alloc::Global;
 

@@ -12,8 +12,7 @@ ghost use Rattle.pdb_c.specs.Tables.{fields_in_table, located_told, stepped, tab
 use crate::fault::{FINE, Fault, NOWHERE};
 use crate::fields::{Listing, listing_found};
 use crate::located::Located;
-use pdb_base::{Result, TypeIndex};
-use pdb_msf::Stream;
+use pdb_base::{Result, Stream, TypeIndex};
 use pdb_tpi::{OpenTable, TypeInformation};
 use std::alloc::Global;
 

@@ -9,8 +9,7 @@ ghost use Rattle.pdb_c.specs.Places.{AreAllPositions, IsLeft, Places, stop_fault
 
 use crate::copied::{copy_nothing, copy_out};
 use crate::fault::{FINE, Fault, TOO_LONG};
-use pdb_base::{Error, FallibleIterator, Result, TypeIndex};
-use pdb_msf::Stream;
+use pdb_base::{Error, FallibleIterator, Result, Stream, TypeIndex};
 use pdb_tpi::TypeInformation;
 use std::alloc::Global;
 

@@ -8,8 +8,7 @@ ghost use Rattle.pdb_c.specs.Sections.{section_of, sections_in};
 
 use crate::copied::{copy_nothing, copy_out};
 use crate::fault::{Fault, TOO_LONG};
-use pdb_base::Result;
-use pdb_msf::Stream;
+use pdb_base::{Result, Stream};
 use pdb_roles::section_headers::section_headers;
 use pdb_space::ImageSectionHeader;
 use std::alloc::Global;

@@ -17,8 +17,7 @@ use crate::found::tell_found;
 use crate::handle::Handle;
 use crate::located::Located;
 use crate::open_table::{counted, find_record, listed_fields, next_record, opened};
-use pdb_base::Result;
-use pdb_msf::Stream;
+use pdb_base::{Result, Stream};
 use std::alloc::Global;
 
 /// Opens the table in a stream, which is copied.

@@ -12,8 +12,7 @@ use crate::frame_record::{FrameRecord, first};
 use crate::new_frame_data::NewFrameData;
 use crate::old_frame_data::OldFrameData;
 use crate::search::starting_at;
-use pdb_base::{Error, FallibleIterator, Result};
-use pdb_msf::Stream;
+use pdb_base::{Error, FallibleIterator, Result, Stream};
 use pdb_space::PdbInternalRva;
 use std::marker::Model;
 

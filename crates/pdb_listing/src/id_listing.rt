@@ -4,9 +4,8 @@ ghost use Rattle.pdb_listing.specs.Lines.{id_at, id_line, id_shown};
 ghost use Rattle.pdb_listing.specs.Listed.{IsListed, IsShown, IsWalked};
 
 use crate::line::push_id;
-use pdb_base::{FallibleIterator, IdIndex, Result};
+use pdb_base::{FallibleIterator, IdIndex, Result, Stream};
 use pdb_container::look_up;
-use pdb_msf::Stream;
 use pdb_rows::{Form, id_row, push_fields, write_bytes};
 use pdb_tpi::IdInformation;
 use std::alloc::Global;

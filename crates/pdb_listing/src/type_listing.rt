@@ -5,9 +5,8 @@ ghost use Rattle.pdb_listing.specs.Listed.{IsListed, IsShown, IsWalked};
 
 use crate::line::push_type;
 use crate::members::push_members;
-use pdb_base::{FallibleIterator, Result, TypeIndex};
+use pdb_base::{FallibleIterator, Result, Stream, TypeIndex};
 use pdb_container::look_up;
-use pdb_msf::Stream;
 use pdb_rows::{Form, push_fields, type_row, write_bytes};
 use pdb_tpi::TypeInformation;
 use std::alloc::Global;

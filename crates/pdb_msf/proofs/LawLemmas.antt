@@ -10,7 +10,7 @@ use Rattle.std.proofs.lemmas.Option.{slice_get-get_or, slice_get_within, get_or_
 use Rattle.std.specs.List.{list_all, range_with_len, slice_get}
 use Rattle.pdb_base.specs.Refusal.{Refusal, page_reference_out_of_range}
 use Rattle.pdb_base.specs.Answer.{Answer, collected}
-use Rattle.pdb_base.specs.Reading.{number_at}
+use Rattle.pdb_base.specs.Reading.{number_at, word_at}
 use Rattle.pdb_base.proofs.lemmas.Reading.{front_whole, number_whole}
 use Rattle.pdb_base.proofs.lemmas.Collected.{ok, err, ok_is, err_is, ok_is_no_err, bind_ok, collects_all, collected_more, collected_stops}
 use Rattle.pdb_msf.specs.Source.{bytes_at, found}
@@ -18,7 +18,7 @@ use Rattle.pdb_msf.specs.Pages.{pages, position_of, scatter, words, present, jud
 use Rattle.pdb_msf.specs.Header.{Head, fields_of}
 use Rattle.pdb_msf.specs.Directory.{entry_of, directory_of}
 use Rattle.pdb_msf.specs.File.{stream_of}
-use Rattle.pdb_msf.specs.Laws.{IsLeast, Scatters, word_at, StandAtOffsets, AreGood, FirstFault, CutsOnly}
+use Rattle.pdb_msf.specs.Laws.{IsLeast, Scatters, StandAtOffsets, AreGood, FirstFault, CutsOnly}
 use Rattle.pdb_msf.proofs.PageLemmas.{pages_reach, pages_tight}
 
 -- ---- pages

@@ -1,9 +1,9 @@
 -- The definitions of pages, headers and streams, stated in other words.
+use Rattle.pdb_base.specs.Reading.{word_at}
 use Rattle.std.specs.Prelude.{◌≡◌, ◌≢◌, ◌⊎◌, ℕ, ◌+◌, ◌*◌, ◌<◌, ◌≤◌, List, length, take, drop, slice_index, slice_get, Option, Some, None, Result, Ok, Err}
 use Rattle.std.specs.List.{sum_by}
 use Rattle.pdb_base.specs.declared.error.Error.{Error}
 use Rattle.pdb_base.specs.declared.error.Error.TheVariants.{OutOfMemory}
-use Rattle.pdb_base.specs.Endian.{little_number}
 use Rattle.pdb_base.specs.Refusal.{Refusal, refusal_of}
 use Rattle.pdb_base.specs.Answer.{AnswersUnless, IsOtherFault}
 use Rattle.pdb_msf.specs.Source.{State, IsKept, HasFailed}
@@ -28,10 +28,6 @@ pub record Scatters (file : List ℕ) (page_size : ℕ) (numbers : List ℕ) (si
   pub found : (bytes : List ℕ) → scatter file page_size numbers size ≡ Some bytes → IsScattered file page_size numbers size bytes
   pub only : (bytes : List ℕ) → IsScattered file page_size numbers size bytes → scatter file page_size numbers size ≡ Some bytes
   pub missing : scatter file page_size numbers size ≡ None → (i : ℕ) × (i < size) × (length file ≤ position_of page_size numbers i)
-
--- the little-endian u32 at an offset
-abbrev pub word_at : ℕ → List ℕ → ℕ
-word_at offset bytes = little_number 4 (take 4 (drop offset bytes))
 
 -- If there are 52 bytes or more, the fields of a header stand at fixed offsets, and
 -- the list of pages follows them.

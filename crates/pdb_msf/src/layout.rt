@@ -11,8 +11,7 @@ use crate::header::{Header, read_header};
 use crate::msf::{OPENING_SIZE, limited, view_front};
 use crate::scattered::CountedSource;
 use crate::source::SourceView;
-use crate::stream::Stream;
-use pdb_base::{ParseBuffer, Result};
+use pdb_base::{ParseBuffer, Result, Stream};
 use std::alloc::Global;
 use std::marker::Model;
 

@@ -11,11 +11,9 @@ mod msf;
 mod page_list;
 mod scattered;
 mod source;
-mod stream;
 
 pub use layout::Layout;
 pub use magic::{big, small};
 pub use msf::{BigMSF, Msf, open_msf};
 pub use page_list::PageList;
 pub use source::{ReadView, Source, SourceSlice, SourceView};
-pub use stream::Stream;

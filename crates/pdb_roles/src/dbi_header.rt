@@ -5,8 +5,7 @@ ghost use Rattle.pdb_base.specs.Answer.{Gives};
 ghost use Rattle.pdb_roles.specs.DbiHeader.{dbi_header, dbi_header_of};
 
 use crate::fields::{u16_in, u32_in};
-use pdb_base::{Error, ParseBuffer, Result, StreamIndex};
-use pdb_msf::Stream;
+use pdb_base::{Error, ParseBuffer, Result, Stream, StreamIndex};
 
 /// The signature at the front of every header except those of the oldest format.
 const SIGNATURE: u32 = 0xffff_ffff;

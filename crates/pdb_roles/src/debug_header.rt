@@ -6,8 +6,7 @@ ghost use Rattle.pdb_roles.specs.DebugHeader.{debug_header_of, extra_streams, ex
 
 use crate::dbi_header::{DBIHeader, HEADER_SIZE};
 use crate::fields::u16_in;
-use pdb_base::{Error, ParseBuffer, Result, StreamIndex};
-use pdb_msf::Stream;
+use pdb_base::{Error, ParseBuffer, Result, Stream, StreamIndex};
 
 /// The size in bytes of the stream numbers that have a role.
 const ROLES_SIZE: usize = 22;

@@ -14,9 +14,9 @@ ghost use Rattle.pdb_roles.specs.File.{file_address_map, file_frame_table, file_
 use crate::debug_header::DBIExtraStreams;
 use crate::information::PDBInformation;
 use crate::section_headers::section_headers;
-use pdb_base::{Result, StreamIndex};
+use pdb_base::{Result, Stream, StreamIndex};
 use pdb_frames::FrameTable;
-use pdb_msf::{BigMSF, Msf, Source, Stream};
+use pdb_msf::{BigMSF, Msf, Source};
 use pdb_space::{AddressMap, ImageSectionHeader, OMAPTable, StringTable};
 use std::alloc::Global;
 

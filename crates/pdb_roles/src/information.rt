@@ -5,8 +5,7 @@ ghost use Rattle.pdb_base.specs.Answer.{Gives};
 ghost use Rattle.pdb_roles.specs.Information.{information_of};
 
 use crate::fields::u32_in;
-use pdb_base::{Error, Result};
-use pdb_msf::Stream;
+use pdb_base::{Error, Result, Stream};
 
 /// The offset of the names in bytes.
 const NAMES_OFFSET: usize = 32;

@@ -4,8 +4,7 @@ ghost use Rattle.std.specs.Prelude.{◌≡◌, ◌↔◌};
 ghost use Rattle.pdb_base.specs.Answer.{Answers};
 ghost use Rattle.pdb_roles.specs.SectionHeaders.{section_headers_of};
 
-use pdb_base::{Error, Result};
-use pdb_msf::Stream;
+use pdb_base::{Error, Result, Stream};
 use pdb_space::ImageSectionHeader;
 use std::alloc::Global;
 

@@ -5,10 +5,9 @@ use Rattle.std.proofs.lemmas.Bool.Decides.{nat_tests}
 use Rattle.std.proofs.lemmas.List.{length-drop, length-take-le, drop-drop}
 use Rattle.pdb_base.specs.Refusal.{Refusal, unexpected_eof, unimplemented_feature}
 use Rattle.pdb_base.specs.Answer.{◌>>=◌, required}
-use Rattle.pdb_base.specs.Reading.{front_at, number_at}
+use Rattle.pdb_base.specs.Reading.{front_at, number_at, word_at}
 use Rattle.pdb_base.proofs.lemmas.Collected.{ok, ok_is, ok_is_no_err, bind_ok}
 use Rattle.pdb_base.proofs.lemmas.Reading.{front_whole, front_cut, number_whole, number_cut}
-use Rattle.pdb_msf.specs.Laws.{word_at}
 use Rattle.pdb_space.specs.declared.string_table.Header.{Header}
 use Rattle.pdb_space.specs.StringTable.{signature, is_known_version, header_at, names_of}
 use Rattle.pdb_space.specs.StringTableLaws.{HoldsNames, FindsNames, RefusesByFirstFault}

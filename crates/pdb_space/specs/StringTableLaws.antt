@@ -1,8 +1,8 @@
 -- The definitions of `StringTable`, stated in other words.
+use Rattle.pdb_base.specs.Reading.{word_at}
 use Rattle.std.specs.Prelude.{◌≡◌, ◌≢◌, ◌⊎◌, ℕ, ◌+◌, ◌<◌, ◌≤◌, List, ◌∷◌, ◌++◌, length, take, drop, slice_get, Some, Ok, Err, codes}
 use Rattle.std.specs.List.{AllByRecursion}
 use Rattle.pdb_base.specs.Refusal.{Refusal, unexpected_eof, unimplemented_feature}
-use Rattle.pdb_msf.specs.Laws.{word_at}
 use Rattle.pdb_space.specs.StringTable.{signature, name_of, names_of}
 
 -- The stream holds a string table with these names: it begins with the u32 signature, a u32 version that is

@@ -11,8 +11,7 @@ use crate::omap_record::OMAPRecord;
 use crate::omap_records::{OMAPRecords, RECORD_SIZE, target_at};
 use crate::range_iter::RangeIter;
 use crate::search::search;
-use pdb_base::{Count, Error, Result};
-use pdb_msf::Stream;
+use pdb_base::{Count, Error, Result, Stream};
 use std::marker::Model;
 use std::ops::Range;
 

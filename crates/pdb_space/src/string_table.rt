@@ -6,8 +6,7 @@ ghost use Rattle.pdb_base.specs.Place.{left};
 ghost use Rattle.pdb_space.specs.StringTable.{header_at, is_known_version, name_of, names_of};
 
 use crate::string_ref::StringRef;
-use pdb_base::{Error, ParseBuffer, RawString, Result};
-use pdb_msf::Stream;
+use pdb_base::{Error, ParseBuffer, RawString, Result, Stream};
 use std::marker::Model;
 
 /// The signature at the front of every string table.

@@ -3,6 +3,5 @@
 mod addresses;
 mod frames;
 mod roles;
-mod searching;
 mod strings;
 mod translation;

@@ -12,8 +12,8 @@ ghost use Rattle.pdb_summary.specs.Streams.{pages_held, size_line, stream_line, 
 
 use crate::refused::{Part, write_refused};
 use crate::roles::{name_of, role_of};
-use pdb_base::{Error, RawString, Result};
-use pdb_msf::{BigMSF, Msf, Stream};
+use pdb_base::{Error, RawString, Result, Stream};
+use pdb_msf::{BigMSF, Msf};
 use pdb_roles::{DBIExtraStreams, StreamName};
 use pdb_rows::{Form, Row, Value, field, optional_text, optional_word, write_row};
 use std::alloc::Global;

@@ -6,8 +6,7 @@ ghost use Rattle.pdb_rows.specs.Written.{Writes};
 ghost use Rattle.pdb_tables.specs.Listing.{IsListed};
 ghost use Rattle.pdb_tables.specs.Tables.{omap_all, omap_lines, omap_listing, order_shown, rises};
 
-use pdb_base::{Error, Result};
-use pdb_msf::Stream;
+use pdb_base::{Error, Result, Stream};
 use pdb_rows::{Form, Row, Value, field, omap_row, write_row};
 use pdb_space::OMAPTable;
 use std::alloc::Global;

@@ -4,8 +4,7 @@ ghost use Rattle.std.specs.Prelude.{◌≡◌};
 ghost use Rattle.pdb_tables.specs.Listing.{IsListed};
 ghost use Rattle.pdb_tables.specs.Tables.{sections_listing};
 
-use pdb_base::{Error, Result};
-use pdb_msf::Stream;
+use pdb_base::{Error, Result, Stream};
 use pdb_rows::{Form, section_row, write_row};
 use pdb_space::ImageSectionHeader;
 use std::alloc::Global;

@@ -6,8 +6,8 @@ ghost use Rattle.pdb_msf.specs.Source.{HasFailed, IsKept};
 ghost use Rattle.pdb_roles.specs.File.{stream_numbered};
 ghost use Rattle.pdb_tables.specs.Files.{section_number};
 
-use pdb_base::Result;
-use pdb_msf::{BigMSF, Msf, Source, Stream};
+use pdb_base::{Result, Stream};
+use pdb_msf::{BigMSF, Msf, Source};
 use pdb_roles::extra_streams;
 use std::alloc::Global;
 

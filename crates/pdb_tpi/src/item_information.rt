@@ -7,8 +7,7 @@ ghost use Rattle.pdb_tpi.specs.Finder.{most_blocks};
 
 use crate::header::{Header, read_header};
 use crate::item_iter::ItemIter;
-use pdb_base::{ItemIndex, Result};
-use pdb_msf::Stream;
+use pdb_base::{ItemIndex, Result, Stream};
 use std::marker::{Model, PhantomData};
 
 /// A table of items, such as types or ids: a stream that begins with a header, with the items

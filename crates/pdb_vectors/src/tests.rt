@@ -6,8 +6,8 @@ mod pages;
 mod values;
 
 use super::*;
-use pdb_base::Error;
-use pdb_msf::{Msf, Stream, open_msf};
+use pdb_base::{Error, Stream};
+use pdb_msf::{Msf, open_msf};
 use std::alloc::Global;
 use std::io::ErrorKind;
 use std::test::Fail;
@@ -81,11 +81,16 @@ fn answers_twice(
     Ok(once && again && last)
 }
 
-/// Returns whether S1 answers with the first `len` bytes of stream 1, and does so again.
-fn answers_front(alloc: Global, limit: Option<usize>, len: usize) -> pdb_base::Result<bool> {
+/// Returns whether an edited S1 answers with the first `len` bytes of stream 1, each time.
+fn answers_front(
+    alloc: Global,
+    edits: &[(usize, u8)],
+    limit: Option<usize>,
+    len: usize,
+) -> pdb_base::Result<bool> {
     let whole = stream_1(alloc)?;
     let front = &whole.as_slice()[..len.min(whole.len())];
-    answers_twice(alloc, &[], 1, limit, front)
+    answers_twice(alloc, edits, 1, limit, front)
 }
 
 /// Bytes of S1 that are set to others, the stream and the limit that are asked for, and what is answered.
@@ -115,23 +120,25 @@ const ASKED: &[(&[(usize, u8)], u32, Option<usize>, &[u8])] = &[
     (&[(DIRECTORY_SIZE, 19)], 4, None, STREAM_4_ABSENT),
 ];
 
+/// Limits, and how many bytes of stream 1 are answered.
+const FRONTS: &[(Option<usize>, usize)] = &[(None, 600), (Some(513), 513), (Some(601), 600)];
+
+#[test]
+fn fronts(rt: HostRuntime) -> Result<(), Fail> {
+    for (limit, len) in FRONTS {
+        assert!(rt;
+            answers_front(rt.alloc(), &[], *limit, *len)?,
+            "limit {limit:?}"
+        );
+    }
+    // The directory ends behind the page numbers of stream 1.
+    assert!(rt; answers_front(rt.alloc(), &[(DIRECTORY_SIZE, 28)], None, 600)?);
+    Ok(())
+}
+
 #[test]
 fn streams(rt: HostRuntime) -> Result<(), Fail> {
     let alloc = rt.alloc();
-    for (limit, len) in [(None, 600), (Some(513), 513), (Some(601), 600)] {
-        assert!(rt;
-            answers_front(alloc, limit, len)?,
-            "{len} bytes of stream 1"
-        );
-    }
-
-    // The directory ends behind the page numbers of stream 1.
-    let whole = stream_1(alloc)?;
-    assert!(rt;
-        answers_twice(alloc, &[(DIRECTORY_SIZE, 28)], 1, None, &whole)?,
-        "stream 1, whose page numbers are the last"
-    );
-
     for (edits, number, limit, want) in ASKED {
         assert!(rt;
             answers_twice(alloc, edits, *number, *limit, want)?,
@@ -228,34 +235,49 @@ fn other_formats(rt: HostRuntime) -> Result<(), Fail> {
     Ok(())
 }
 
+/// Returns whether an error's text is `want`.
+fn says(alloc: Global, error: Error, want: &str) -> bool {
+    shows(alloc, &error, want)
+}
+
 #[test]
 fn texts(rt: HostRuntime) {
     let alloc = rt.alloc();
-    let source = io::Error::new(ErrorKind::Other, "the disk is gone");
-    let rows = [
-        (
-            Error::IoError(source),
-            "IO error while reading PDB: the disk is gone",
-        ),
-        (
+    let gone = io::Error::new(ErrorKind::Other, "the disk is gone");
+    assert!(rt;
+        says(
+            alloc,
+            Error::IoError(gone),
+            "IO error while reading PDB: the disk is gone"
+        )
+    );
+    assert!(rt;
+        says(
+            alloc,
             Error::UnexpectedNumericPrefix(0x8005),
-            "Variable-length numeric parsing encountered an unexpected prefix (0x8005)",
-        ),
-        (
+            "Variable-length numeric parsing encountered an unexpected prefix (0x8005)"
+        )
+    );
+    assert!(rt;
+        says(
+            alloc,
             Error::UnimplementedTypeKind(0x000a),
-            "Support for types of kind 0x000a is not implemented",
-        ),
-        (
+            "Support for types of kind 0x000a is not implemented"
+        )
+    );
+    assert!(rt;
+        says(
+            alloc,
             Error::InvalidFileChecksumOffset(0xa),
-            "Invalid source file checksum offset 0xa",
-        ),
-        (
+            "Invalid source file checksum offset 0xa"
+        )
+    );
+    assert!(rt;
+        says(
+            alloc,
             Error::TypeNotIndexed(7, 5),
-            "Type 7 not indexed (index covers 5)",
-        ),
-        (Error::OutOfMemory, "OutOfMemory"),
-    ];
-    for (error, want) in rows {
-        assert!(rt; shows(alloc, &error, want), "{want}");
-    }
+            "Type 7 not indexed (index covers 5)"
+        )
+    );
+    assert!(rt; says(alloc, Error::OutOfMemory, "OutOfMemory"));
 }

@@ -4,10 +4,10 @@
 ghost use Rattle.pdb_msf.specs.Source.{in_memory};
 
 use super::rows::{Row, edited, list_of, rows};
-use pdb_base::{Error, FallibleIterator, IdIndex, Result, TypeIndex, Variant};
+use pdb_base::{Error, FallibleIterator, IdIndex, Result, Stream, TypeIndex, Variant};
 use pdb_command::{Outcome, act, read_all};
 use pdb_container::{Query, Reply, run};
-use pdb_msf::{BigMSF, Msf, ReadView, Source, SourceSlice, Stream, open_msf};
+use pdb_msf::{BigMSF, Msf, ReadView, Source, SourceSlice, open_msf};
 use pdb_tpi::{IdInformation, TypeFinder, TypeInformation};
 use pdb_values::{FieldList, IdData, PointerType, TypeData};
 use pdb_vectors::{item_table, s1, s1_with};

@@ -1,7 +1,7 @@
 //! Worked rows on streams of S1, for readers that are refused something.
 
-use pdb_base::{Error, Result};
-use pdb_msf::{PageList, Stream};
+use pdb_base::{Error, Result, Stream};
+use pdb_msf::PageList;
 use pdb_vectors::s1;
 use std::alloc::Global;
 use std::io::ErrorKind;

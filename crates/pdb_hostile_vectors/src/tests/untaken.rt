@@ -5,7 +5,7 @@ ghost use Rattle.std.specs.Prelude.{◌≡◌};
 
 use super::rows::{edited, list_of};
 use pdb_base::{
-    Count, Error, FallibleIterator, IdIndex, ParseBuffer, RawString, Result, StreamIndex,
+    Count, Error, FallibleIterator, IdIndex, ParseBuffer, RawString, Result, Stream, StreamIndex,
     TypeIndex, Variant,
 };
 use pdb_container::{
@@ -13,7 +13,7 @@ use pdb_container::{
     OMAPTable, PdbInternalRva, Rva, SectionOffset, StringRef, StringTable, TypeData, TypeFinder,
     TypeInformation, TypeProperties, type_data_for_primitive,
 };
-use pdb_msf::{BigMSF, Msf, PageList, ReadView, SourceView, Stream, open_msf};
+use pdb_msf::{BigMSF, Msf, PageList, ReadView, SourceView, open_msf};
 use std::alloc::Global;
 use std::test::Fail;
 

@@ -38,6 +38,6 @@ fn class(rt: HostRuntime) -> Result<(), Fail> {
     push_row(Form::Text, &row, &mut out)?;
     push_row(Form::Json, &row, &mut out)?;
     push_fields(Form::Text, &row, &mut out)?;
-    assert_eq!(rt; out.as_slice(), STRUCTURE.as_bytes());
+    assert!(rt; out.as_slice() == STRUCTURE.as_bytes());
     Ok(())
 }

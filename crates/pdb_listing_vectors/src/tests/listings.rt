@@ -1,7 +1,7 @@
 //! Tables as lines, and records in full. Each expected text is written from the definitions.
 
+use pdb_base::Stream;
 use pdb_listing::{id_at, ids, type_at, types};
-use pdb_msf::Stream;
 use pdb_rows::Form;
 use pdb_vectors::item_table;
 use std::alloc::Global;
@@ -187,22 +187,22 @@ fn shown_id(alloc: Global, form: Form, index: u32) -> Result<Vec<u8>, Fail> {
 #[test]
 fn lines(rt: HostRuntime) -> Result<(), Fail> {
     let all = type_lines(rt.alloc(), Form::Text, &TYPES)?;
-    assert_eq!(rt; all.as_slice(), TYPE_LINES.as_bytes());
+    assert!(rt; all.as_slice() == TYPE_LINES.as_bytes());
     let all = id_lines(rt.alloc(), Form::Json, &IDS)?;
-    assert_eq!(rt; all.as_slice(), ID_OBJECTS.as_bytes());
+    assert!(rt; all.as_slice() == ID_OBJECTS.as_bytes());
     Ok(())
 }
 
 #[test]
 fn records(rt: HostRuntime) -> Result<(), Fail> {
     let all = shown_type(rt.alloc(), Form::Text, 0x1000)?;
-    assert_eq!(rt; all.as_slice(), STRUCTURE.as_bytes());
+    assert!(rt; all.as_slice() == STRUCTURE.as_bytes());
     let all = shown_type(rt.alloc(), Form::Text, 0x100a)?;
-    assert_eq!(rt; all.as_slice(), METHODS.as_bytes());
+    assert!(rt; all.as_slice() == METHODS.as_bytes());
     let all = shown_type(rt.alloc(), Form::Text, 0x674)?;
-    assert_eq!(rt; all.as_slice(), PRIMITIVE.as_bytes());
+    assert!(rt; all.as_slice() == PRIMITIVE.as_bytes());
     let all = shown_id(rt.alloc(), Form::Text, 0x1004)?;
-    assert_eq!(rt; all.as_slice(), TEXT.as_bytes());
+    assert!(rt; all.as_slice() == TEXT.as_bytes());
     Ok(())
 }
 
@@ -213,15 +213,15 @@ fn faults(rt: HostRuntime) -> Result<(), Fail> {
     let mut out = Vec::new(rt.alloc());
     let stream = stream_of(rt.alloc(), &[&[1, 0x10, 0, 0x10, 0, 0, 3, 0], &[7]])?;
     let stopped = types(rt.alloc(), stream, Form::Text, &mut out);
-    assert_eq!(rt;
-        out.as_slice(),
-        b"0x1000 LF_MODIFIER underlying_type=0x1000 modifiers=[constant,volatile]\n".as_slice()
+    assert!(rt;
+        out.as_slice()
+            == b"0x1000 LF_MODIFIER underlying_type=0x1000 modifiers=[constant,volatile]\n".as_slice()
     );
     assert!(rt; matches!(stopped, Err(pdb_base::Error::TypeTooShort)));
     let mut out = Vec::new(rt.alloc());
     let stream = stream_of(rt.alloc(), &TYPES)?;
     let stopped = type_at(rt.alloc(), stream, 0x1001, Form::Json, &mut out);
-    assert_eq!(rt; out.as_slice(), UNION.as_bytes());
+    assert!(rt; out.as_slice() == UNION.as_bytes());
     assert!(rt; stopped.is_err());
     Ok(())
 }

@@ -49,12 +49,12 @@ fn tables(rt: HostRuntime) -> Result<(), Fail> {
         characteristics: SectionCharacteristics::new(0x6050_0020),
     };
     let both = lines(rt.alloc(), &section_row(rt.alloc(), 1, &header)?)?;
-    assert_eq!(rt; both.as_slice(), SECTION.as_bytes());
+    assert!(rt; both.as_slice() == SECTION.as_bytes());
     let both = lines(
         rt.alloc(),
         &omap_row(rt.alloc(), OMAPRecord::new(0x1000, 0x2000))?,
     )?;
-    assert_eq!(rt; both.as_slice(), OMAP.as_bytes());
+    assert!(rt; both.as_slice() == OMAP.as_bytes());
     let frame = FrameData {
         ty: FrameType::FrameData,
         code_start: PdbInternalRva(0x1000),
@@ -71,8 +71,8 @@ fn tables(rt: HostRuntime) -> Result<(), Fail> {
         program: Some(StringRef(32)),
     };
     let both = lines(rt.alloc(), &frame_row(rt.alloc(), &frame)?)?;
-    assert_eq!(rt; both.as_slice(), FRAME.as_bytes());
-    assert_eq!(rt; leaf_name(0x151d).is_some(), true);
-    assert_eq!(rt; leaf_name(0x0017).is_none(), true);
+    assert!(rt; both.as_slice() == FRAME.as_bytes());
+    assert!(rt; leaf_name(0x151d).is_some());
+    assert!(rt; leaf_name(0x0017).is_none());
     Ok(())
 }

@@ -28,7 +28,7 @@ fn types_by_index(rt: HostRuntime) -> Result<(), Fail> {
     let alloc = rt.alloc();
     for (index, want) in ROWS {
         let text = said_at(alloc, b"\x05\x12\x75\x00\x00\x00\x03\x02", *index)?;
-        assert_eq!(rt; text.as_str(), *want, "{index:x}");
+        assert!(rt; text.as_str() == *want, "{index:x}");
     }
     let primitive = type_data_for_primitive(TypeIndex(0x674))?;
     assert!(rt; is_value_copied(alloc, &primitive)?);

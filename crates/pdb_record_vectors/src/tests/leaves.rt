@@ -34,17 +34,13 @@ fn is_refused_id(alloc: Global, number: u16) -> bool {
 #[test]
 fn leaves(rt: HostRuntime) {
     let alloc = rt.alloc();
-    assert_eq!(rt;
-        [LF_VTSHAPE, LF_LABEL, LF_VFTABLE],
-        [0x000a, 0x000e, 0x151d]
-    );
+    assert!(rt; [LF_VTSHAPE, LF_LABEL, LF_VFTABLE] == [0x000a, 0x000e, 0x151d]);
     for number in 0..=0xffffu16 {
         let is_leaf = TYPE_LEAVES.contains(&number);
-        assert_eq!(rt; is_refused_type(alloc, number), !is_leaf, "{number:x}");
+        assert!(rt; is_refused_type(alloc, number) == !is_leaf, "{number:x}");
         let is_leaf = ID_LEAVES.contains(&number);
-        assert_eq!(rt;
-            is_refused_id(alloc, number),
-            !is_leaf,
+        assert!(rt;
+            is_refused_id(alloc, number) == !is_leaf,
             "{number:x}, as an id"
         );
     }

@@ -68,7 +68,7 @@ fn judge_text(alloc: Global, record: &[u8], want: &str) -> std::result::Result<(
     if is_copied && whole.as_str() == want {
         Ok(())
     } else {
-        Err(format!(in alloc; "{want}, {whole}, {is_copied}")?.into())
+        Err(Fail::new(format_args!("{want}, {whole}, {is_copied}")))
     }
 }
 
@@ -84,7 +84,7 @@ fn judge(
     if is_read {
         Ok(())
     } else {
-        Err(format!(in alloc; "{want}, of another value")?.into())
+        Err(Fail::new(format_args!("{want}, of another value")))
     }
 }
 
@@ -225,10 +225,7 @@ fn argument_records(rt: HostRuntime) -> std::result::Result<(), Fail> {
     for (record, types) in ARGUMENTS {
         judge(alloc, record, &arguments(alloc, types)?)?;
     }
-    assert_eq!(rt;
-        left_behind(b"\x01\x12\x02\x00\x00\x00\x74\x00\x00\x00\x75\x00\x00\x00\x41")?,
-        1
-    );
+    assert!(rt; left_behind(b"\x01\x12\x02\x00\x00\x00\x74\x00\x00\x00\x75\x00\x00\x00\x41")? == 1);
     Ok(())
 }
 
@@ -353,7 +350,7 @@ fn field_records(rt: HostRuntime) -> std::result::Result<(), Fail> {
     for (record, fields, continuation) in FIELD_LISTS {
         let want = field_list_text(alloc, fields, *continuation)?;
         judge_text(alloc, record, want.as_str())?;
-        assert_eq!(rt; continuation_of(alloc, record)?, *continuation);
+        assert!(rt; continuation_of(alloc, record)? == *continuation);
     }
     Ok(())
 }

@@ -1,7 +1,6 @@
 //! Records, as the one item of a table.
 
-use pdb_base::{Error, TypeIndex};
-use pdb_msf::Stream;
+use pdb_base::{Error, Stream, TypeIndex};
 use pdb_records::parse_type_data;
 use pdb_tpi::{Type, TypeInformation};
 use pdb_values::TypeData;

@@ -237,7 +237,7 @@ fn refused_types(rt: HostRuntime) -> Result<(), Fail> {
     let alloc = rt.alloc();
     for (name, record, want) in REFUSED {
         let text = said(alloc, record)?;
-        assert_eq!(rt; text.as_str(), *want, "{name}");
+        assert!(rt; text.as_str() == *want, "{name}");
     }
     Ok(())
 }

@@ -107,22 +107,19 @@ fn distances(rt: HostRuntime) {
 fn operators(rt: HostRuntime) {
     let mut address = Rva::from(0x40) + 1;
     address += 1;
-    assert_eq!(rt; (u32::from(address), address - Rva(0x30)), (0x42, 0x12));
+    assert!(rt; (u32::from(address), address - Rva(0x30)) == (0x42, 0x12));
     assert!(rt; Rva(1) < Rva(2) && Rva::default() == Rva(0));
 
     let mut address = PdbInternalRva::from(LAST - 2) + 1;
     address += 1;
-    assert_eq!(rt;
-        (u32::from(address), address - PdbInternalRva(1)),
-        (LAST, LAST - 1)
-    );
+    assert!(rt; (u32::from(address), address - PdbInternalRva(1)) == (LAST, LAST - 1));
     assert!(rt; PdbInternalRva(2) > PdbInternalRva::default());
 }
 
 #[test]
 fn string_refs(rt: HostRuntime) {
     let place = StringRef::from(0x42);
-    assert_eq!(rt; (u32::from(place), place), (0x42, StringRef(0x42)));
+    assert!(rt; (u32::from(place), place) == (0x42, StringRef(0x42)));
     assert!(rt; StringRef(0x41) < place && StringRef(0x1000) > place);
 }
 
@@ -143,7 +140,7 @@ fn texts(rt: HostRuntime) -> Result<(), Fail> {
     let (shown, written) = address_texts(rt.alloc(), Rva(0x42))?;
     assert!(rt; shown.as_str() == "0x42" && written.as_str() == "Rva(0x42)");
     let shown = PdbInternalRva(LAST).to_string(rt.alloc())?;
-    assert_eq!(rt; shown.as_str(), "0xffffffff");
+    assert!(rt; shown.as_str() == "0xffffffff");
     Ok(())
 }
 
@@ -185,12 +182,12 @@ fn place_sums(rt: HostRuntime) {
     }
     let mut place = SectionOffset::new(2, 5) + 1;
     place += 1;
-    assert_eq!(rt;
-        place,
-        SectionOffset {
-            offset: 7,
-            section: 2
-        }
+    assert!(rt;
+        place
+            == SectionOffset {
+                offset: 7,
+                section: 2
+            }
     );
 }
 
@@ -219,12 +216,12 @@ fn internal_place_sums(rt: HostRuntime) {
     }
     let mut place = PdbInternalSectionOffset::new(2, 5) + 1;
     place += 1;
-    assert_eq!(rt;
-        place,
-        PdbInternalSectionOffset {
-            offset: 7,
-            section: 2
-        }
+    assert!(rt;
+        place
+            == PdbInternalSectionOffset {
+                offset: 7,
+                section: 2
+            }
     );
 }
 

@@ -1,10 +1,9 @@
 //! Frames of both formats.
 
-use pdb_base::{Error, FallibleIterator, Le, Parse};
+use pdb_base::{Error, FallibleIterator, Le, Parse, Stream};
 use pdb_frames::{
     AddrRange, FrameData, FrameDataIter, FrameTable, FrameType, NewFrameData, OldFrameData,
 };
-use pdb_msf::Stream;
 use pdb_space::{PdbInternalRva, StringRef};
 use std::alloc::Global;
 use std::test::Fail;
@@ -184,7 +183,7 @@ const LENGTHS: &[(Option<usize>, Option<usize>, &str)] = &[
 fn lengths(rt: HostRuntime) -> Result<(), Fail> {
     for (old, new, want) in LENGTHS {
         let text = refused(rt.alloc(), *old, *new)?;
-        assert_eq!(rt; text.as_str(), *want);
+        assert!(rt; text.as_str() == *want);
     }
     Ok(())
 }
@@ -201,7 +200,7 @@ fn old_records(rt: HostRuntime) -> Result<(), Fail> {
     let (frame, len) = OldFrameData::parse_from(OLD_BYTES, Le)?;
     let place = (len, frame.start(), frame.size());
     let sizes = (frame.prolog_size(), frame.saved_regs_size());
-    assert_eq!(rt; (place, sizes), ((16, 0x1000, 0x20), (5, 2)));
+    assert!(rt; (place, sizes) == ((16, 0x1000, 0x20), (5, 2)));
     let marks = [frame.has_seh(), frame.uses_base_pointer()];
     assert!(rt; marks == [true, true] && frame.frame_type() == FrameType::TSS);
     let want = FrameData {
@@ -219,14 +218,14 @@ fn old_records(rt: HostRuntime) -> Result<(), Fail> {
         uses_base_pointer: true,
         program: None,
     };
-    assert_eq!(rt; FrameData::from(&frame), want);
+    assert!(rt; FrameData::from(&frame) == want);
     Ok(())
 }
 
 #[test]
 fn new_records(rt: HostRuntime) -> Result<(), Fail> {
     let (frame, len) = NewFrameData::parse_from(NEW_BYTES, Le)?;
-    assert_eq!(rt; len, 32);
+    assert!(rt; len == 32);
     assert!(rt; frame.contains(0xffff_ffff) && frame.contains(0xffff_fff0));
     assert!(rt; !frame.contains(0xffff_ffef) && !frame.contains(0));
     assert!(rt; !frame.has_seh() && frame.has_eh() && frame.is_function_start());
@@ -245,7 +244,7 @@ fn new_records(rt: HostRuntime) -> Result<(), Fail> {
         uses_base_pointer: false,
         program: Some(StringRef(42)),
     };
-    assert_eq!(rt; FrameData::from(&frame), want);
+    assert!(rt; FrameData::from(&frame) == want);
     Ok(())
 }
 
@@ -271,7 +270,7 @@ const FRAME_TYPES: &[(FrameType, &str)] = &[
 fn frame_types(rt: HostRuntime) -> Result<(), Fail> {
     for (kind, want) in FRAME_TYPES {
         let text = kind.to_string(rt.alloc())?;
-        assert_eq!(rt; text.as_str(), *want);
+        assert!(rt; text.as_str() == *want);
     }
     assert!(rt; FrameType::FPO < FrameType::Trap && FrameType::FrameData < FrameType::Unknown);
     Ok(())

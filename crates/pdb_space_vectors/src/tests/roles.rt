@@ -5,8 +5,7 @@ mod files;
 mod headers;
 mod names;
 
-use pdb_base::StreamIndex;
-use pdb_msf::Stream;
+use pdb_base::{Stream, StreamIndex};
 use pdb_roles::DBIExtraStreams;
 use std::alloc::Global;
 use std::test::Fail;

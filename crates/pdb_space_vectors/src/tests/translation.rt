@@ -1,7 +1,6 @@
 //! OMAP tables, sections, and the conversions by them.
 
-use pdb_base::{Error, ParseBuffer};
-use pdb_msf::Stream;
+use pdb_base::{Count, Error, ParseBuffer, Stream};
 use pdb_space::{
     AddressMap, ImageSectionHeader, OMAPRecord, OMAPRecords, OMAPTable, PdbInternalRva,
     PdbInternalRvaRangeIter, PdbInternalSectionOffset, RangeIter, Rva, RvaRangeIter,
@@ -11,14 +10,14 @@ use std::alloc::Global;
 use std::ops::Range;
 use std::test::Fail;
 
-/// The OMAP table of these records, of which there are at most 512: sources and targets.
+/// The OMAP table of these records, of which there are at most 1024: sources and targets.
 fn table(alloc: Global, records: &[(u32, u32)]) -> Result<OMAPTable, Fail> {
     let mut bytes = Vec::new(alloc);
     for (source, target) in records {
         bytes.extend_from_slice(&source.to_le_bytes())?;
         bytes.extend_from_slice(&target.to_le_bytes())?;
     }
-    bytes.truncate(0x1000);
+    bytes.truncate(0x2000);
     Ok(OMAPTable::parse(Stream::new(bytes))?)
 }
 
@@ -62,15 +61,16 @@ fn look_ups(rt: HostRuntime) -> Result<(), Fail> {
     Ok(())
 }
 
-/// The ranges that a table answers of a start and an end.
-fn ranges_of(
+/// Whether a table moves the range of a start and an end to these.
+fn moves_to(
     alloc: Global,
-    records: &[(u32, u32)],
+    table: &OMAPTable,
     start: u32,
     end: u32,
-) -> Result<Vec<Range<u32>>, Fail> {
-    let table = table(alloc, records)?;
-    Ok(table.lookup_range(start..end).collect(alloc)?)
+    want: &[Range<u32>],
+) -> Result<bool, Fail> {
+    let ranges: Vec<Range<u32>> = table.lookup_range(start..end).collect(alloc)?;
+    Ok(ranges.as_slice() == want)
 }
 
 /// Tables, the start and the end of a range, and those of the one range that they answer.
@@ -83,12 +83,60 @@ const RANGES: &[(Records, u32, u32, u32, u32)] = &[
 #[test]
 fn ranges(rt: HostRuntime) -> Result<(), Fail> {
     for (records, start, end, first, last) in RANGES {
-        let ranges = ranges_of(rt.alloc(), records, *start, *end)?;
+        let table = table(rt.alloc(), records)?;
         assert!(rt;
-            ranges.as_slice() == [*first..*last].as_slice(),
+            moves_to(rt.alloc(), &table, *start, *end, &[*first..*last])?,
             "{start}..{end}"
         );
     }
+    Ok(())
+}
+
+/// The table of 1000 records, of which record k moves 16k to 16k + 0x100000.
+fn thousand(alloc: Global) -> Result<OMAPTable, Fail> {
+    let mut records = Vec::new(alloc);
+    for k in 0..1000u32 {
+        records.push((16 * k, 16 * k + 0x10_0000))?;
+    }
+    table(alloc, &records)
+}
+
+/// What a table answers of an address, and how many sources are compared.
+fn counted(table: &OMAPTable, address: u32) -> (Option<u32>, u64) {
+    let mut count = Count::new();
+    let moved = table.lookup_counted(address, &mut count);
+    (moved, count.get())
+}
+
+#[test]
+fn many_records(rt: HostRuntime) -> Result<(), Fail> {
+    let table = thousand(rt.alloc())?;
+    assert!(rt; table.lookup(15999) == Some(1_064_575));
+    let (moved, compared) = counted(&table, 15999);
+    assert!(rt; moved == Some(1_064_575) && (1..=10).contains(&compared));
+    Ok(())
+}
+
+/// What a range over three of these records is moved to.
+const ACROSS: &[Range<u32>] = &[
+    1_064_542..1_064_544,
+    1_064_544..1_064_560,
+    1_064_560..1_064_562,
+];
+
+#[test]
+fn ranges_of_many_records(rt: HostRuntime) -> Result<(), Fail> {
+    let table = thousand(rt.alloc())?;
+    assert!(rt; moves_to(rt.alloc(), &table, 15966, 15986, ACROSS)?);
+    assert!(rt; moves_to(rt.alloc(), &table, 15990, 16002, &[1_064_566..1_064_578])?);
+    Ok(())
+}
+
+#[test]
+fn few_records(rt: HostRuntime) -> Result<(), Fail> {
+    assert!(rt; counted(&table(rt.alloc(), &[])?, 15999) == (None, 0));
+    let equal = table(rt.alloc(), &[(5, 0x10), (5, 0x20), (5, 0)])?;
+    assert!(rt; equal.lookup(5).is_none() && moves_to(rt.alloc(), &equal, 5, 9, &[])?);
     Ok(())
 }
 
@@ -103,17 +151,14 @@ fn records_of(alloc: Global, records: &[(u32, u32)]) -> Result<(bool, Vec<OMAPRe
 fn records(rt: HostRuntime) -> Result<(), Fail> {
     let (sorted, records) = records_of(rt.alloc(), &[(2, 1), (1, 2)])?;
     assert!(rt; !sorted);
-    assert_eq!(rt;
-        records.as_slice(),
-        [OMAPRecord::new(2, 1), OMAPRecord::new(1, 2)].as_slice()
-    );
+    assert!(rt; records.as_slice() == [OMAPRecord::new(2, 1), OMAPRecord::new(1, 2)].as_slice());
     Ok(())
 }
 
 #[test]
 fn single_records(rt: HostRuntime) {
     let first = OMAPRecord::new(1, 9);
-    assert_eq!(rt; (first.source_address(), first.target_address()), (1, 9));
+    assert!(rt; (first.source_address(), first.target_address()) == (1, 9));
     assert!(rt; first < OMAPRecord::new(2, 0) && first > OMAPRecord::new(1, 8));
 }
 
@@ -128,7 +173,7 @@ fn odd_length(rt: HostRuntime) -> Result<(), Fail> {
 #[test]
 fn range_iterators(rt: HostRuntime) {
     assert!(rt; RangeIter::empty().next().is_none() && RangeIter::default().next().is_none());
-    assert_eq!(rt; RangeIter::identity(0..3).next(), Some(0..3));
+    assert!(rt; RangeIter::identity(0..3).next() == Some(0..3));
 }
 
 /// The bytes of a section's header.
@@ -156,7 +201,7 @@ fn headers(rt: HostRuntime) -> Result<(), Fail> {
         number_of_line_numbers: 0,
         characteristics: SectionCharacteristics(0xc800_0040),
     };
-    assert_eq!(rt; header_of(HEADER)?, (want, 40));
+    assert!(rt; header_of(HEADER)? == (want, 40));
     Ok(())
 }
 
@@ -179,7 +224,7 @@ fn section_names(rt: HostRuntime) {
             name,
             ..ImageSectionHeader::default()
         };
-        assert_eq!(rt; header.name(), want);
+        assert!(rt; header.name() == want);
     }
 }
 
@@ -200,11 +245,11 @@ fn characteristics(rt: HostRuntime) {
     let flags = SectionCharacteristics(0xc800_0040);
     assert!(rt; flags.initialized_data() && flags.not_paged() && flags.read() && flags.write());
     assert!(rt; !flags.execute() && !flags.not_cached() && !flags.executable());
-    assert_eq!(rt; SectionCharacteristics::new(flags.bits()), flags);
+    assert!(rt; SectionCharacteristics::new(flags.bits()) == flags);
     let mut buffer = ParseBuffer::from(&HEADER[36..]);
     assert!(rt; matches!(buffer.parse::<SectionCharacteristics>(), Ok(word) if word == flags));
     for (word, want) in ALIGNMENTS {
-        assert_eq!(rt; SectionCharacteristics(*word).alignment(), *want);
+        assert!(rt; SectionCharacteristics(*word).alignment() == *want);
     }
 }
 
@@ -293,7 +338,7 @@ fn places(rt: HostRuntime) -> Result<(), Fail> {
     ];
     for (start, address, want) in rows {
         let place = place_of(rt.alloc(), section(start, 0x100), address)?;
-        assert_eq!(rt; place, want);
+        assert!(rt; place == want);
     }
     Ok(())
 }

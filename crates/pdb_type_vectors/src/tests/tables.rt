@@ -2,8 +2,7 @@
 
 ghost use Rattle.std.specs.Prelude.{◌≡◌, ◌<◌, length, IfOk};
 
-use pdb_base::{Count, Error, FallibleIterator, IdIndex, TypeIndex, Variant};
-use pdb_msf::Stream;
+use pdb_base::{Count, Error, FallibleIterator, IdIndex, Stream, TypeIndex, Variant};
 use pdb_tpi::{
     Header, IdFinder, IdInformation, IdIter, ItemFinder, ItemInformation, ItemIter, OpenTable,
     RecordPlace, Slice, Type, TypeFinder, TypeInformation, TypeIter,
@@ -163,7 +162,7 @@ fn header_told(
 fn headers(rt: HostRuntime) -> Result<(), Fail> {
     for (name, header_size, minimum, maximum, more, want) in HEADERS {
         let told = header_told(rt.alloc(), *header_size, *minimum, *maximum, *more)?;
-        assert_eq!(rt; told.as_str(), *want, "{name}");
+        assert!(rt; told.as_str() == *want, "{name}");
     }
     Ok(())
 }
@@ -212,11 +211,8 @@ fn id_table(alloc: Global, bytes: &[u8]) -> pdb_base::Result<IdInformation>
 #[test]
 fn fields(rt: HostRuntime) -> Result<(), Fail> {
     let table = id_table(rt.alloc(), &FIELDS)?;
-    assert_eq!(rt; table.header(), HEADER);
-    assert_eq!(rt;
-        (table.len(), table.is_empty()),
-        (0xff0f0eff - 0x0c0b0a09, false)
-    );
+    assert!(rt; table.header() == HEADER);
+    assert!(rt; (table.len(), table.is_empty()) == (0xff0f0eff - 0x0c0b0a09, false));
     Ok(())
 }
 
@@ -464,7 +460,7 @@ const FINDS: &[(&str, u32, &[u8], usize, u32, &[(u32, &str, u64)])] = &[
 fn finds(rt: HostRuntime) -> Result<(), Fail> {
     for (name, maximum, items, steps, covered, look_ups) in FINDS {
         let (last, is) = found_so(rt.alloc(), *maximum, items, *steps, look_ups)?;
-        assert_eq!(rt; (last, is), (TypeIndex(*covered), true), "{name}");
+        assert!(rt; (last, is) == (TypeIndex(*covered), true), "{name}");
     }
     Ok(())
 }
@@ -495,10 +491,7 @@ fn covered(alloc: Global, table: &TypeInformation) -> Result<[TypeIndex; 3], Fai
 fn updates(rt: HostRuntime) -> Result<(), Fail> {
     let table = table_of(rt.alloc(), 0x1000, 0x1014, &ITEMS)?;
     let covered = covered(rt.alloc(), &table)?;
-    assert_eq!(rt;
-        covered,
-        [TypeIndex(0x1007), TypeIndex(0x1007), TypeIndex(0x1013)]
-    );
+    assert!(rt; covered == [TypeIndex(0x1007), TypeIndex(0x1007), TypeIndex(0x1013)]);
     Ok(())
 }
 
@@ -513,7 +506,7 @@ fn item_told(finder: &TypeFinder<'_>, index: u32) -> Result<(usize, bool, bool),
 fn found(rt: HostRuntime) -> Result<(), Fail> {
     let table = table_of(rt.alloc(), 0x1000, 0x1014, &ITEMS)?;
     let told = item_told(&finder_after(rt.alloc(), &table, 16)?, 0x1008)?;
-    assert_eq!(rt; told, (2, false, true));
+    assert!(rt; told == (2, false, true));
     Ok(())
 }
 
@@ -525,7 +518,7 @@ fn is_refused(ids: &IdFinder<'_>, index: u32) -> bool {
 #[test]
 fn no_bytes(rt: HostRuntime) -> Result<(), Fail> {
     let empty: ItemInformation<IdIndex> = id_table(rt.alloc(), b"")?;
-    assert_eq!(rt; (empty.len(), empty.is_empty()), (0, true));
+    assert!(rt; (empty.len(), empty.is_empty()) == (0, true));
     let mut items: ItemIter<'_, IdIndex> = empty.iter();
     assert!(rt; matches!(items.next(), Ok(None)));
     Ok(())
@@ -541,10 +534,7 @@ fn nothing_found(alloc: Global, empty: &IdInformation) -> Result<(IdIndex, bool,
 #[test]
 fn no_ids(rt: HostRuntime) -> Result<(), Fail> {
     let empty = id_table(rt.alloc(), b"")?;
-    assert_eq!(rt;
-        nothing_found(rt.alloc(), &empty)?,
-        (IdIndex(0), true, true)
-    );
+    assert!(rt; nothing_found(rt.alloc(), &empty)? == (IdIndex(0), true, true));
     let mut ids: IdIter<'_> = empty.iter();
     assert!(rt; ids.next()?.is_none());
     Ok(())
@@ -565,7 +555,7 @@ fn finders_of(alloc: Global, table: &TypeInformation) -> Result<Vec<TypeFinder<'
 fn many_finders(rt: HostRuntime) -> Result<(), Fail> {
     let table = table_of(rt.alloc(), 0x1000, 0xffff_ffff, b"\x02\x00\x01\x10")?;
     let finders = finders_of(rt.alloc(), &table)?;
-    assert_eq!(rt; finders.len(), 100_000);
+    assert!(rt; finders.len() == 100_000);
     Ok(())
 }
 
@@ -634,18 +624,12 @@ fn steps_of(open: &mut OpenTable<TypeIndex>) -> Result<[(u32, u32); 4], Fail> {
 fn open_tables(rt: HostRuntime) -> Result<(), Fail> {
     let alloc = rt.alloc();
     let mut open = OpenTable::new(alloc, table_of(alloc, 0x1000, 0x1002, TWO_LISTS)?)?;
-    assert_eq!(rt;
-        steps_of(&mut open)?,
-        [(58, 12), (72, 18), (0, 0), (58, 12)]
-    );
+    assert!(rt; steps_of(&mut open)? == [(58, 12), (72, 18), (0, 0), (58, 12)]);
     open.learn(alloc, 0x1001);
-    assert_eq!(rt; (open.index(), open.items().len()), (0x1001, 2));
-    assert_eq!(rt;
-        [place_in(open.find(0xfff))?, place_in(open.find(0x1001))?],
-        [(0, 0), (72, 18)]
-    );
+    assert!(rt; (open.index(), open.items().len()) == (0x1001, 2));
+    assert!(rt; [place_in(open.find(0xfff))?, place_in(open.find(0x1001))?] == [(0, 0), (72, 18)]);
     assert!(rt; matches!(open.find(0x1002), Err(Error::TypeNotFound(0x1002))));
-    assert_eq!(rt; open.item(0x1001)?.len(), 18);
+    assert!(rt; open.item(0x1001)?.len() == 18);
     assert!(rt; are_a_and_b(&open.fields(alloc, TypeIndex(0x1001))?));
     Ok(())
 }

@@ -1,8 +1,7 @@
 //! What a buffer reads, and where it stands.
 
 use super::shows;
-use pdb_base::{Error, ParseBuffer, RawString, Variant};
-use pdb_msf::Stream;
+use pdb_base::{Error, ParseBuffer, RawString, Stream, Variant};
 use std::alloc::Global;
 use std::borrow::CowStr;
 use std::fmt;

@@ -264,9 +264,8 @@ fn mapped(
 fn address_maps(rt: HostRuntime) -> Result<(), Fail> {
     for (sections, original, to_source, from_source, want) in MAPS {
         let text = mapped(rt.alloc(), *sections, *original, *to_source, *from_source)?;
-        assert_eq!(rt;
-            text.as_str(),
-            *want,
+        assert!(rt;
+            text.as_str() == *want,
             "{sections} {original} {to_source} {from_source}"
         );
     }
@@ -392,7 +391,7 @@ fn frame_tables(rt: HostRuntime) -> Result<(), Fail> {
     }
     for (old, new, want) in BAD_FRAMES {
         let text = refusal(rt.alloc(), frames_of(rt.alloc(), *old, *new)?)?;
-        assert_eq!(rt; text.as_str(), *want, "{old} {new}");
+        assert!(rt; text.as_str() == *want, "{old} {new}");
     }
     Ok(())
 }

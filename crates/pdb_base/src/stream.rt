@@ -2,7 +2,7 @@
 
 ghost use Rattle.std.specs.Prelude.{◌≡◌, ◌<◌, length};
 
-use pdb_base::ParseBuffer;
+use crate::buffer::ParseBuffer;
 use std::marker::Model;
 
 /// The bytes of one stream of a file, or only the first of them if there was a limit.
