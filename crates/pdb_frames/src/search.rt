@@ -28,19 +28,29 @@ struct Found {
     start: u32,
 }
 
+/// The largest number of records of a table that a processor's caches hold.
+const FEW: usize = 1 << 17;
+
 /// The largest number of records that lie so close together that reading their starts hardly waits
-/// for memory.
+/// for memory, in a table that the caches don't hold.
 const NEAR: usize = 256;
 
 /// The number of parts into which records are split when the starts of several are read at once.
 const PARTS: usize = 8;
 
+/// Returns of how many records, in a table of so many, the starts of several are read at once.
+fn most_near(records: usize) -> usize
+    ensures { 0 < result }
+{
+    if records > FEW { NEAR } else { FEW }
+}
+
 /// Searches for the last record that starts at or below an address.
 ///
-/// As long as more than `NEAR` records are left, each step halves them with a branch: a processor
-/// that predicts it reads on before it knows which half counts. Then they are split into eight
-/// parts by the starts of seven records, which are read without waiting for one another, and the
-/// last few are halved. These steps don't branch: the distance of the address from the start is
+/// As long as more records are left than lie near one another, each step halves them with a branch:
+/// a processor that predicts it reads on before it knows which half counts. Then they are split into
+/// eight parts by the starts of seven records, which are read without waiting for one another, and
+/// the last few are halved. These steps don't branch: the distance of the address from the start is
 /// kept beside the index, since one subtraction both compares and gives the distance.
 #[tactic(auto, using(pdb_base::proofs::lemmas::Halving::halving_begins, pdb_base::proofs::lemmas::Halving::halving_takes, pdb_base::proofs::lemmas::Halving::halving_passes, pdb_base::proofs::lemmas::Halving::halving_ends, crate::proofs::SplitLemmas::first_part, crate::proofs::SplitLemmas::second_part, crate::proofs::SplitLemmas::known_by_distance, crate::proofs::SplitLemmas::split_begins, crate::proofs::SplitLemmas::part_inside))]
 fn search<R: FrameRecord>(bytes: &[u8], address: u32) -> Found
@@ -48,7 +58,8 @@ fn search<R: FrameRecord>(bytes: &[u8], address: u32) -> Found
         result.place result.start }
 {
     let (mut place, mut size) = (0, bytes.len() / R::SIZE);
-    while size > NEAR {
+    let near = most_near(size);
+    while size > near {
         let half = size / 2;
         if start_at::<R>(bytes, place + half) <= address {
             place += half;
