@@ -1,5 +1,0 @@
-//! Rows of records, tables as lines, questions about a file, and what the second program lists, as tests.
-#![tactic(auto)]
-
-#[cfg(test)]
-mod tests;

@@ -1,7 +1,0 @@
-//! The rows, a file a topic.
-
-mod asked;
-mod classes;
-mod dumped;
-mod listings;
-mod rows;

@@ -1,0 +1,12 @@
+//! The worked rows of the programs, a file a topic, and the short uses of the library.
+
+mod asked;
+mod channels;
+mod classes;
+mod dumped;
+mod listings;
+mod printed;
+mod processes;
+mod rows;
+mod runs;
+mod uses;

@@ -1,5 +1,0 @@
-//! The worked rows, a file a topic.
-
-mod flags;
-mod primitives;
-mod tables;
