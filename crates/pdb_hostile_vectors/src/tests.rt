@@ -1,14 +1,10 @@
 //! What a file of a stranger, or a machine without memory, may do to a reader.
 
-/// What a call answers; where memory is refused, what it answers when it is asked once more. The function
-/// returns `OutOfMemory` if memory is refused again.
+/// What a call answers; where memory is refused, what it answers when it is asked once more.
 macro_rules! settled {
     ($call:expr) => {
         match $call {
-            Err(Error::OutOfMemory) => match $call {
-                Err(Error::OutOfMemory) => return Err(Error::OutOfMemory),
-                answer => answer,
-            },
+            Err(Error::OutOfMemory) => $call,
             answer => answer,
         }
     };

@@ -16,3 +16,18 @@ mod roles;
 mod strings;
 mod tables;
 mod translation;
+
+use pdb_base::{Error, Stream};
+use std::alloc::Global;
+use std::test::Fail;
+
+/// A stream of these bytes, of which there are at most 512.
+fn stream(alloc: Global, bytes: &[u8]) -> Result<Stream, Fail> {
+    let len = bytes.len().min(512);
+    Ok(Stream::new(Vec::from_slice(alloc, &bytes[..len])?))
+}
+
+/// Whether these bytes are the text of an error.
+fn says(alloc: Global, error: Error, want: &[u8]) -> Result<bool, Fail> {
+    Ok(error.to_string(alloc)?.as_str().as_bytes() == want)
+}

@@ -13,15 +13,17 @@ fn stream(number: u32) -> Query {
     }
 }
 
+/// What a file begins with, and its header up to the directory's size: pages of 256 bytes, the free page
+/// map 1, and 8 pages used.
+const FRONT: &[u8] = b"Microsoft C/C++ MSF 7.00\r\n\x1aDS\0\0\0\0\x01\0\0\x01\0\0\0\x08\0\0\0";
+
 /// A file of 4096 bytes in pages of 256, whose directory has so many bytes and lies, as its location does,
-/// on page 1 all over: each of its words is 1.
-fn claiming(alloc: Global, directory_size: u32) -> Result<Vec<u8>> {
-    let mut file = Vec::from_slice(alloc, b"Microsoft C/C++ MSF 7.00\r\n\x1aDS\0\0\0")?;
-    for word in [256, 1, 8, directory_size, 0] {
-        file.extend_from_slice(&word.to_le_bytes())?;
-    }
+/// on page 1 all over: each of its words is 1. The word behind the directory's size is 0.
+fn claiming(alloc: Global, directory_size: u64) -> Result<Vec<u8>> {
+    let mut file = Vec::from_slice(alloc, FRONT)?;
+    file.extend_from_slice(&directory_size.to_le_bytes())?;
     for _ in 0..1011u16 {
-        file.extend_from_slice(&[1, 0, 0, 0])?;
+        file.extend_from_slice(b"\x01\0\0\0")?;
     }
     Ok(file)
 }
@@ -36,17 +38,32 @@ fn is_absent(reply: &Reply) -> bool {
     matches!(reply, Reply::Refused(Error::StreamNotFound(1)))
 }
 
+/// Whether replies are the byte 1, and that stream 1 is absent.
+fn are_one_stream(replies: &[Reply]) -> bool {
+    replies.first().is_some_and(is_one_byte) && replies.get(1).is_some_and(is_absent)
+}
+
 /// Whether a file has one stream, of the byte 1.
 fn is_one_stream(alloc: Global, file: &[u8]) -> Result<bool> {
     let replies = run(alloc, file, &[stream(0), stream(1)])?;
-    Ok(replies.first().is_some_and(is_one_byte) && replies.get(1).is_some_and(is_absent))
+    Ok(are_one_stream(&replies))
+}
+
+/// Whether a file whose directory has so many bytes has one stream.
+fn is_read(alloc: Global, directory_size: u64) -> Result<bool> {
+    let file = claiming(alloc, directory_size)?;
+    is_one_stream(alloc, &file)
+}
+
+/// Whether a file whose directory has so many bytes ends too soon.
+fn is_ended(alloc: Global, directory_size: u64) -> Result<bool> {
+    let replies = run(alloc, claiming(alloc, directory_size)?, &[stream(0)]);
+    Ok(matches!(replies, Err(Error::UnexpectedEof)))
 }
 
 #[test]
 fn directory_sizes(rt: HostRuntime) -> std::result::Result<(), Fail> {
-    let alloc = rt.alloc();
-    assert!(rt; is_one_stream(alloc, &claiming(alloc, 16_564_224)?)?);
-    let more = run(alloc, claiming(alloc, 16_564_225)?, &[stream(0)]);
-    assert!(rt; matches!(more, Err(Error::UnexpectedEof)));
+    assert!(rt; is_read(rt.alloc(), 16_564_224)?);
+    assert!(rt; is_ended(rt.alloc(), 16_564_225)?);
     Ok(())
 }

@@ -8,7 +8,7 @@ use pdb_base::{Error, FallibleIterator, IdIndex, Result, Stream, TypeIndex, Vari
 use pdb_command::{Outcome, act, read_all};
 use pdb_container::{Query, Reply, run};
 use pdb_msf::{BigMSF, Msf, ReadView, Source, SourceSlice, open_msf};
-use pdb_tpi::{IdInformation, TypeFinder, TypeInformation};
+use pdb_tpi::{Id, IdInformation, Type, TypeFinder, TypeInformation};
 use pdb_values::{FieldList, IdData, PointerType, TypeData};
 use pdb_vectors::{item_table, s1, s1_with};
 use std::alloc::Global;
@@ -21,12 +21,28 @@ fn opened(alloc: Global, row: &Row) -> Result<BigMSF<Vec<u8>>> {
     open_msf(alloc, edited(alloc, row.edits)?)
 }
 
+/// Whether an open file answers a row as ever.
+///
+/// # Errors
+/// `OutOfMemory` if memory is refused.
+fn is_asked(alloc: Global, file: &mut BigMSF<Vec<u8>>, row: &Row) -> Result<bool> {
+    match file.get(alloc, row.number, row.limit) {
+        Err(Error::OutOfMemory) => Err(Error::OutOfMemory),
+        answer => Ok(row.fits(&answer)),
+    }
+}
+
+/// Whether an open file answers a row as ever, twice.
+fn is_asked_twice(alloc: Global, file: &mut BigMSF<Vec<u8>>, row: &Row) -> Result<bool> {
+    let once = settled!(is_asked(alloc, file, row))?;
+    let again = settled!(is_asked(alloc, file, row))?;
+    Ok(once && again)
+}
+
 /// Whether a row is answered as ever, twice.
 fn is_answered(alloc: Global, row: &Row) -> Result<bool> {
     let mut file = settled!(opened(alloc, row))?;
-    let once = settled!(file.get(alloc, row.number, row.limit));
-    let again = settled!(file.get(alloc, row.number, row.limit));
-    Ok(row.fits(&once) && row.fits(&again))
+    is_asked_twice(alloc, &mut file, row)
 }
 
 #[test]
@@ -66,7 +82,7 @@ fn pages(rt: HostRuntime) -> std::result::Result<(), Fail> {
 
 /// A stream that is a table whose items have indexes from 0x1000 up to below a maximum.
 fn table_of(alloc: Global, maximum: u32, items: &[u8]) -> Result<Stream> {
-    let bytes = item_table(alloc, 56, 0x1000, maximum, items)?;
+    let bytes = settled!(item_table(alloc, 56, 0x1000, maximum, items))?;
     if bytes.len() >= 0xffff_ffff {
         return Err(Error::UnimplementedFeature("a long table"));
     }
@@ -98,7 +114,7 @@ fn is_learned(alloc: Global, table: &TypeInformation) -> Result<bool> {
 
 /// Whether finders of a table of nine items find them.
 fn is_indexed(alloc: Global) -> Result<bool> {
-    let table = TypeInformation::parse(settled!(table_of(alloc, 0x1009, &NINE))?)?;
+    let table = TypeInformation::parse(table_of(alloc, 0x1009, &NINE)?)?;
     is_learned(alloc, &table)
 }
 
@@ -210,14 +226,29 @@ impl Says {
     }
 }
 
+/// Whether a type is read so.
+///
+/// # Errors
+/// `OutOfMemory` if memory is refused.
+fn is_read_so(alloc: Global, item: &Type<'_>, says: &Says) -> Result<bool> {
+    match item.parse(alloc) {
+        Err(Error::OutOfMemory) => Err(Error::OutOfMemory),
+        read => Ok(says.fits(&read)),
+    }
+}
+
+/// Whether the first type of a table is read so.
+fn is_first_read(alloc: Global, table: &TypeInformation, says: &Says) -> Result<bool> {
+    match table.iter().next()? {
+        Some(item) => settled!(is_read_so(alloc, &item, says)),
+        None => Ok(false),
+    }
+}
+
 /// Whether the one type of a table is read so.
 fn is_type_read(alloc: Global, items: &[u8], says: &Says) -> Result<bool> {
-    let table = TypeInformation::parse(settled!(table_of(alloc, 0x1001, items))?)?;
-    let Some(item) = table.iter().next()? else {
-        return Ok(false);
-    };
-    let read = settled!(item.parse(alloc));
-    Ok(says.fits(&read))
+    let table = TypeInformation::parse(table_of(alloc, 0x1001, items)?)?;
+    is_first_read(alloc, &table, says)
 }
 
 #[test]
@@ -244,22 +275,36 @@ const BUILDS: &[(&[u8], bool)] = &[
     ),
 ];
 
-/// Whether what a module was built with is read, or ends too soon where it holds too few ids.
-fn is_build_read(alloc: Global, items: &[u8], is_held: bool) -> Result<bool> {
-    let table = IdInformation::parse(settled!(table_of(alloc, 0x1001, items))?)?;
-    let Some(item) = table.iter().next()? else {
-        return Ok(false);
-    };
-    match settled!(item.parse(alloc)) {
-        Ok(IdData::BuildInfo(build)) => {
-            Ok(
-                is_held
-                    && build.arguments.as_slice() == [IdIndex(0x1001), IdIndex(0x1002)].as_slice(),
-            )
-        }
+/// Whether an id says what a module was built with, or ends too soon where it holds too few ids.
+///
+/// # Errors
+/// `OutOfMemory` if memory is refused.
+fn is_id_read(alloc: Global, item: &Id<'_>, is_held: bool) -> Result<bool> {
+    match &item.parse(alloc) {
+        Ok(IdData::BuildInfo(build)) => Ok(is_held && are_both(build.arguments.as_slice())),
         Err(Error::UnexpectedEof) => Ok(!is_held),
+        Err(Error::OutOfMemory) => Err(Error::OutOfMemory),
         _ => Ok(false),
     }
+}
+
+/// Whether ids are 0x1001 and 0x1002.
+fn are_both(ids: &[IdIndex]) -> bool {
+    ids == [IdIndex(0x1001), IdIndex(0x1002)].as_slice()
+}
+
+/// Whether the first id of a table is read so.
+fn is_first_id_read(alloc: Global, table: &IdInformation, is_held: bool) -> Result<bool> {
+    match table.iter().next()? {
+        Some(item) => settled!(is_id_read(alloc, &item, is_held)),
+        None => Ok(false),
+    }
+}
+
+/// Whether what a module was built with is read, or ends too soon where it holds too few ids.
+fn is_build_read(alloc: Global, items: &[u8], is_held: bool) -> Result<bool> {
+    let table = IdInformation::parse(table_of(alloc, 0x1001, items)?)?;
+    is_first_id_read(alloc, &table, is_held)
 }
 
 #[test]
@@ -329,23 +374,21 @@ fn replies_told(replies: &[Reply]) -> (bool, bool) {
     (is, refused)
 }
 
-/// Runs over S1, of which each reply is the row's or `OutOfMemory`.
+/// Whether each reply of a run over S1 is the row's.
 ///
 /// # Errors
-/// `OutOfMemory` if the run was refused, or one of its replies was.
-fn answered(alloc: Global, file: &[u8]) -> Result<()> {
+/// `OutOfMemory` if the run was refused, or one of its replies was and the others are the rows'.
+fn is_replied(alloc: Global, file: &[u8]) -> Result<bool> {
     match replies_told(&ran(alloc, file)?) {
-        (true, false) => Ok(()),
         (true, true) => Err(Error::OutOfMemory),
-        (false, _) => Err(Error::UnimplementedFeature("another reply")),
+        (is, _) => Ok(is),
     }
 }
 
 /// Whether a run over S1 replies as ever.
 fn is_run(alloc: Global) -> Result<bool> {
     let file = settled!(s1(alloc))?;
-    settled!(answered(alloc, &file))?;
-    Ok(true)
+    settled!(is_replied(alloc, &file))
 }
 
 #[test]
@@ -400,23 +443,33 @@ const CALLS: &[(&[u8], &[&str], u8, &[u8], &[u8])] = &[
     ),
 ];
 
-/// What the program does, asked of S1 with these bytes as stream 3.
+/// Whether the program ended for want of memory.
+fn is_out_of_memory(outcome: &Outcome) -> bool {
+    outcome.status == 1
+        && outcome.out.is_empty()
+        && outcome.err.as_slice() == b"OutOfMemory\n".as_slice()
+}
+
+/// Whether the program, asked of S1 with these bytes as stream 3, ends with this status and writes this.
 ///
 /// # Errors
 /// `OutOfMemory` if memory is refused, also where the program says so.
-fn acted(alloc: Global, stream: &[u8], words: &[&str]) -> Result<Outcome> {
-    let file = s1_with(alloc, stream)?;
-    let outcome = act(alloc, words, file)?;
-    if outcome.status == 1
-        && outcome.out.is_empty()
-        && outcome.err.as_slice() == b"OutOfMemory\n".as_slice()
-    {
+fn is_told(
+    alloc: Global,
+    stream: &[u8],
+    words: &[&str],
+    status: u8,
+    out: &[u8],
+    err: &[u8],
+) -> Result<bool> {
+    let outcome = act(alloc, words, s1_with(alloc, stream)?)?;
+    if is_out_of_memory(&outcome) {
         return Err(Error::OutOfMemory);
     }
-    Ok(outcome)
+    Ok(outcome.status == status && outcome.out.as_slice() == out && outcome.err.as_slice() == err)
 }
 
-/// Whether the program ends with this status and writes this.
+/// The same, asked once more where memory is refused.
 fn is_acted(
     alloc: Global,
     stream: &[u8],
@@ -425,8 +478,7 @@ fn is_acted(
     out: &[u8],
     err: &[u8],
 ) -> Result<bool> {
-    let outcome = settled!(acted(alloc, stream, words))?;
-    Ok(outcome.status == status && outcome.out.as_slice() == out && outcome.err.as_slice() == err)
+    settled!(is_told(alloc, stream, words, status, out, err))
 }
 
 /// The lines that are printed without words: the digits of 512 `a` and 88 `b`, 32 bytes a line.
@@ -447,12 +499,11 @@ fn example(alloc: Global) -> Result<Vec<u8>> {
 
 #[test]
 fn acts(rt: HostRuntime) -> std::result::Result<(), Fail> {
-    let alloc = rt.alloc();
     for (stream, words, status, out, err) in CALLS {
-        let is = is_acted(alloc, stream, words, *status, out, err)?;
+        let is = is_acted(rt.alloc(), stream, words, *status, out, err)?;
         assert!(rt; is, "{words:?}");
     }
-    assert!(rt; is_example_printed(alloc)?);
+    assert!(rt; is_example_printed(rt.alloc())?);
     Ok(())
 }
 
@@ -467,17 +518,26 @@ fn sevens(alloc: Global, count: usize) -> Result<Vec<u8>> {
     Ok(vec![in alloc; 7u8; count]?)
 }
 
+/// Whether an input of these bytes is read whole.
+fn is_input_read(alloc: Global, bytes: &[u8]) -> Result<bool> {
+    let mut input = bytes;
+    let read = read_all(alloc, &mut input)?;
+    Ok(read.as_slice() == bytes)
+}
+
 /// Whether an input of so many bytes is read whole.
 fn is_read(alloc: Global, count: usize) -> Result<bool> {
     let bytes = settled!(sevens(alloc, count))?;
-    let read = settled!(read_all(alloc, &mut bytes.as_slice()))?;
-    Ok(read.as_slice() == bytes.as_slice())
+    settled!(is_input_read(alloc, &bytes))
 }
+
+/// How many bytes an input has.
+const COUNTS: &[usize] = &[0, 5, 100_000, 300_000];
 
 #[test]
 fn inputs(rt: HostRuntime) -> std::result::Result<(), Fail> {
-    for count in [0, 5, 100_000, 300_000] {
-        assert!(rt; is_read(rt.alloc(), count)?, "{count} bytes");
+    for count in COUNTS {
+        assert!(rt; is_read(rt.alloc(), *count)?, "{count} bytes");
     }
     Ok(())
 }

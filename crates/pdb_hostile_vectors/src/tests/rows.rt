@@ -72,13 +72,20 @@ pub(crate) fn edited(alloc: Global, edits: &[(usize, u8)]) -> Result<Vec<u8>> {
     Ok(file)
 }
 
+/// Whether all of these bytes are this one.
+fn are_all(bytes: &[u8], wanted: u8) -> bool {
+    for byte in bytes {
+        if *byte != wanted {
+            return false;
+        }
+    }
+    true
+}
+
 /// Whether these are so many bytes of stream 1, which has 512 times `a` and 88 times `b`.
 pub(crate) fn is_front(bytes: &[u8], len: usize) -> bool {
-    let (first, second) = bytes.split_at(bytes.len().min(512));
-    bytes.len() == len
-        && len <= 600
-        && first.iter().all(|byte| *byte == b'a')
-        && second.iter().all(|byte| *byte == b'b')
+    let (first, last) = bytes.split_at(bytes.len().min(512));
+    bytes.len() == len && len <= 600 && are_all(first, b'a') && are_all(last, b'b')
 }
 
 impl Row {

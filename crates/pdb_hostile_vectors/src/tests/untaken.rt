@@ -9,9 +9,9 @@ use pdb_base::{
     TypeIndex, Variant,
 };
 use pdb_container::{
-    AddressMap, FrameDataIter, FrameTable, IdInformation, ImageSectionHeader, OMAPRecord,
-    OMAPTable, PdbInternalRva, Rva, SectionOffset, StringRef, StringTable, TypeData, TypeFinder,
-    TypeInformation, TypeProperties, type_data_for_primitive,
+    AddressMap, FrameDataIter, FrameTable, Id, IdInformation, ImageSectionHeader, OMAPRecord,
+    OMAPTable, PdbInternalRva, Rva, SectionOffset, StringRef, StringTable, Type, TypeData,
+    TypeFinder, TypeInformation, TypeProperties, type_data_for_primitive,
 };
 use pdb_msf::{BigMSF, Msf, PageList, ReadView, SourceView, open_msf};
 use std::alloc::Global;
@@ -34,46 +34,76 @@ fn copied(alloc: Global, bytes: &[u8]) -> Result<Vec<u8>> {
 const BYTES: &[u8] =
     b"\x01\x02\x03\x04\x05\x06\x07\x08\x09\x0a\x0b\x0c\x0d\x0e\x0f\x10\x11\x12\x13\x14\x15\x16\x17\x18\x19\x1a\x1b\x1c\x1d\x1e\x1f\x20text\0\x04text\x05\0\x00\x80\x05";
 
-/// Whether numbers of each width are read one behind the other.
-fn are_numbers_read(buffer: &mut ParseBuffer<'_>) -> Result<bool> {
-    let bytes = u64::from(buffer.peek_u8()?) == 1 && buffer.peek_u16()? == 0x0201;
-    let unsigned = buffer.parse_u8()? == 1 && buffer.parse_u16()? == 0x0302;
-    let wide = buffer.parse_u32()? == 0x0706_0504 && buffer.parse_u64()? == 0x0f0e_0d0c_0b0a_0908;
-    let signed = buffer.parse_i16()? == 0x1110 && buffer.parse_i32()? == 0x1514_1312;
-    let index: TypeIndex = buffer.parse()?;
-    Ok(bytes && unsigned && wide && signed && index == TypeIndex(0x1918_1716) && buffer.pos() == 25)
+/// Whether narrow numbers are read one behind the other.
+fn are_numbers_read(buffer: &mut ParseBuffer<'_>) -> bool {
+    matches!(buffer.peek_u8(), Ok(1))
+        && matches!(buffer.peek_u16(), Ok(0x0201))
+        && matches!(buffer.parse_u8(), Ok(1))
+        && matches!(buffer.parse_u16(), Ok(0x0302))
 }
 
-/// Whether texts, and numbers of variable width, are read behind those, and no more than there is.
-fn are_texts_read(buffer: &mut ParseBuffer<'_>) -> Result<bool> {
-    let skipped = buffer.take(7)?.len() == 7;
-    let text = buffer.parse_cstring()?.as_bytes() == b"text".as_slice();
-    let pascal = buffer.parse_u8_pascal_string()?.as_bytes() == b"text".as_slice();
-    let number = buffer.parse_num()? == 5;
-    let variant = buffer.parse_variant()? == Variant::U8(5);
-    Ok(skipped && text && pascal && number && variant && buffer.is_empty())
+/// Whether wide numbers are read behind those.
+fn are_wide_read(buffer: &mut ParseBuffer<'_>) -> bool {
+    matches!(buffer.parse_u32(), Ok(0x0706_0504))
+        && matches!(buffer.parse_u64(), Ok(0x0f0e_0d0c_0b0a_0908))
+}
+
+/// Whether signed numbers, and an index, are read behind those.
+fn are_signed_read(buffer: &mut ParseBuffer<'_>) -> bool {
+    matches!(buffer.parse_i16(), Ok(0x1110))
+        && matches!(buffer.parse_i32(), Ok(0x1514_1312))
+        && matches!(buffer.parse(), Ok(TypeIndex(0x1918_1716)))
+        && buffer.pos() == 25
+}
+
+/// Whether a text was read.
+fn is_text(read: &Result<RawString<'_>>) -> bool {
+    matches!(read, Ok(text) if text.as_bytes() == b"text".as_slice())
+}
+
+/// Whether texts are read behind those.
+fn are_texts_read(buffer: &mut ParseBuffer<'_>) -> bool {
+    matches!(buffer.take(7), Ok(bytes) if bytes.len() == 7)
+        && is_text(&buffer.parse_cstring())
+        && is_text(&buffer.parse_u8_pascal_string())
+}
+
+/// Whether numbers of variable width are read behind those, and no more than there is.
+fn are_variants_read(buffer: &mut ParseBuffer<'_>) -> bool {
+    matches!(buffer.parse_num(), Ok(5))
+        && matches!(buffer.parse_variant(), Ok(Variant::U8(5)))
+        && buffer.is_empty()
+}
+
+/// Whether a number with an unknown prefix is refused.
+fn is_prefix_refused() -> bool {
+    matches!(
+        ParseBuffer::from(b"\x05\x80".as_slice()).parse_num(),
+        Err(Error::UnexpectedNumericPrefix(0x8005))
+    )
 }
 
 /// Whether a buffer's position goes where it is sent, and reads at its end are refused.
-fn is_moved(buffer: &mut ParseBuffer<'_>) -> Result<bool> {
+fn is_moved(buffer: &mut ParseBuffer<'_>) -> bool {
     buffer.seek(5);
-    buffer.align(4)?;
-    let aligned = buffer.pos() == 8;
-    buffer.truncate(10)?;
-    let left = buffer.len() == 2;
-    let refused = matches!(buffer.parse_u32(), Err(Error::UnexpectedEof));
-    let unknown = matches!(
-        ParseBuffer::from(b"\x05\x80".as_slice()).parse_num(),
-        Err(Error::UnexpectedNumericPrefix(0x8005))
-    );
-    Ok(aligned && left && refused && unknown)
+    buffer.align(4).is_ok()
+        && buffer.pos() == 8
+        && buffer.truncate(10).is_ok()
+        && buffer.len() == 2
+        && matches!(buffer.parse_u32(), Err(Error::UnexpectedEof))
 }
 
 /// Whether a buffer is read as ever.
-fn is_buffer_read(bytes: &[u8]) -> Result<bool> {
+fn is_buffer_read(bytes: &[u8]) -> bool {
     let mut buffer = ParseBuffer::from(bytes);
-    let read = are_numbers_read(&mut buffer)? && are_texts_read(&mut buffer)?;
-    Ok(read && is_moved(&mut buffer)? && StreamIndex(7).msf_number() == Some(7))
+    are_numbers_read(&mut buffer)
+        && are_wide_read(&mut buffer)
+        && are_signed_read(&mut buffer)
+        && are_texts_read(&mut buffer)
+        && are_variants_read(&mut buffer)
+        && is_moved(&mut buffer)
+        && is_prefix_refused()
+        && StreamIndex(7).msf_number() == Some(7)
 }
 
 /// Whether a list of pages is cut as ever.
@@ -86,14 +116,21 @@ fn is_list_cut(mut list: PageList) -> bool {
 /// The size of S1's directory, where it stands.
 const DIRECTORY_SIZE: usize = 44;
 
+/// Asks a file for a stream, which locates its directory.
+///
+/// # Errors
+/// `OutOfMemory` if memory is refused.
+fn locate(alloc: Global, file: &mut BigMSF<Vec<u8>>) -> Result<()> {
+    match file.get(alloc, 9, None) {
+        Err(Error::OutOfMemory) => Err(Error::OutOfMemory),
+        _ => Ok(()),
+    }
+}
+
 /// S1 with a directory of so many bytes, located.
 fn located(alloc: Global, size: u8) -> Result<BigMSF<Vec<u8>>> {
     let mut file = settled!(opened(alloc, size))?;
-    if let Err(Error::OutOfMemory) = file.get(alloc, 9, None) {
-        if let Err(Error::OutOfMemory) = file.get(alloc, 9, None) {
-            return Err(Error::OutOfMemory);
-        }
-    }
+    settled!(locate(alloc, &mut file))?;
     Ok(file)
 }
 
@@ -101,22 +138,24 @@ fn opened(alloc: Global, size: u8) -> Result<BigMSF<Vec<u8>>> {
     open_msf(alloc, edited(alloc, &[(DIRECTORY_SIZE, size)])?)
 }
 
-fn is_ended(answer: &Result<Stream>) -> bool {
-    matches!(answer, Err(Error::UnexpectedEof))
+/// Whether a file ends too soon for a stream.
+fn is_ended(alloc: Global, file: &mut BigMSF<Vec<u8>>, number: u32) -> bool {
+    matches!(file.get(alloc, number, None), Err(Error::UnexpectedEof))
 }
 
-fn is_absent(answer: &Result<Stream>) -> bool {
-    matches!(answer, Err(Error::StreamNotFound(_)))
+/// Whether a file lacks a stream.
+fn is_absent(alloc: Global, file: &mut BigMSF<Vec<u8>>, number: u32) -> bool {
+    matches!(file.get(alloc, number, None), Err(Error::StreamNotFound(_)))
 }
 
 /// Whether a located file refuses streams that its directory of so many bytes lacks: it has no count of
 /// them, too few sizes, or too few page numbers; or that are absent.
 fn are_streams_refused(alloc: Global, size: u8, file: &mut BigMSF<Vec<u8>>) -> bool {
     match size {
-        0 => is_ended(&file.get(alloc, 0, None)),
-        19 => is_ended(&file.get(alloc, 3, None)) && is_ended(&file.get(alloc, 0, None)),
-        24 => is_ended(&file.get(alloc, 3, None)),
-        _ => is_absent(&file.get(alloc, 2, None)) && is_absent(&file.get(alloc, 4, None)),
+        0 => is_ended(alloc, file, 0),
+        19 => is_ended(alloc, file, 3) && is_ended(alloc, file, 0),
+        24 => is_ended(alloc, file, 3),
+        _ => is_absent(alloc, file, 2) && is_absent(alloc, file, 4),
     }
 }
 
@@ -133,16 +172,23 @@ fn is_directory(alloc: Global, size: u8, calls: bool) -> Result<bool> {
     Ok(told && whole && are_streams_refused(alloc, size, &mut file))
 }
 
-/// Whether pages, views and buffers answer as ever, where `calls` says that they are asked.
-fn is_container(alloc: Global, calls: bool) -> Result<bool> {
-    let list = list_of(alloc, &[0, 1, 4, 5, 2, 2])?;
-    let stream = stream_of(alloc, BYTES)?;
-    if !calls {
-        return Ok(true);
-    }
-    let read = is_buffer_read(stream.as_slice())? && stream.parse_buffer().len() == BYTES.len();
+/// Whether a stream's bytes are read as ever, and are all in a view.
+fn is_stream_read(stream: Stream) -> bool {
+    let read = is_buffer_read(stream.as_slice()) && stream.parse_buffer().len() == BYTES.len();
     let view = ReadView::new(stream.into_bytes());
-    Ok(is_list_cut(list) && read && view.as_slice().len() == BYTES.len())
+    read && view.as_slice().len() == BYTES.len()
+}
+
+/// Whether a list of pages answers as ever, where `calls` says that it is asked.
+fn has_pages(alloc: Global, calls: bool) -> Result<bool> {
+    let list = list_of(alloc, &[0, 1, 4, 5, 2, 2])?;
+    Ok(!calls || is_list_cut(list))
+}
+
+/// Whether views and buffers answer as ever, where `calls` says that they are asked.
+fn has_bytes(alloc: Global, calls: bool) -> Result<bool> {
+    let stream = stream_of(alloc, BYTES)?;
+    Ok(!calls || is_stream_read(stream))
 }
 
 /// A table of three types: a pointer, a list of arguments with a false count, and a structure.
@@ -161,36 +207,79 @@ fn name_of<'t>(read: &Result<TypeData<'t>>) -> Option<RawString<'t>> {
     }
 }
 
+/// Whether a type was read as ever: at 0x1000 the pointer, at 0x1001 the list, and then the structure.
+fn is_read_so(index: u32, read: &Result<TypeData<'_>>) -> bool {
+    match index {
+        0x1000 => matches!(read, Ok(TypeData::Pointer(_))),
+        0x1001 => matches!(read, Err(Error::UnexpectedEof)),
+        _ => name_of(read) == Some(RawString::from("H_size")),
+    }
+}
+
+/// Whether a type's place, length and kind are told as ever.
+fn is_told(item: &Type<'_>, index: u32) -> bool {
+    item.index() == TypeIndex(index)
+        && !item.is_empty()
+        && (index != 0x1001 || item.len() == 10)
+        && (index != 0x1002 || item.raw_kind() == 0x1609)
+}
+
+/// Whether a type without a list, or with a false count, is told and read as ever.
+fn is_type_read(alloc: Global, item: &Type<'_>, index: u32) -> bool {
+    is_told(item, index) && is_read_so(index, &item.parse(alloc))
+}
+
 /// Whether types without a list, and a false count, are read as ever.
 fn are_types_read(alloc: Global, table: &TypeInformation) -> Result<bool> {
     let mut walk = table.iter();
-    let (Some(pointer), Some(list), Some(class)) = (walk.next()?, walk.next()?, walk.next()?) else {
-        return Ok(false);
-    };
-    let told = pointer.index() == TypeIndex(0x1000) && list.len() == 10 && !class.is_empty();
-    let read = matches!(pointer.parse(alloc), Ok(TypeData::Pointer(_)));
-    let cut = matches!(list.parse(alloc), Err(Error::UnexpectedEof));
-    let name = name_of(&class.parse(alloc)) == Some(RawString::from("H_size"));
-    let primitive = type_data_for_primitive(TypeIndex(0x74)).is_ok();
-    Ok(told && read && cut && name && primitive && class.raw_kind() == 0x1609)
+    for index in 0x1000..0x1003u32 {
+        let is = match walk.next()? {
+            Some(item) => is_type_read(alloc, &item, index),
+            None => false,
+        };
+        if !is {
+            return Ok(false);
+        }
+    }
+    Ok(true)
 }
 
-/// Whether a table is told, and a finder of it finds, as ever.
-fn is_found<'t>(table: &'t TypeInformation, mut finder: TypeFinder<'t>) -> Result<bool>
-    requires { finder.table ≡ table.now }
-{
-    let told = table.len() == 3 && !table.is_empty() && table.header().header_size == 56;
-    let mut walk = table.iter();
-    walk.next()?;
-    finder.update(&walk);
-    finder.update_all(&[walk]);
+/// Whether a primitive type, and a flag, are told as ever.
+fn are_parts_told() -> bool {
+    type_data_for_primitive(TypeIndex(0x74)).is_ok() && TypeProperties::new(0x2000).intrinsic_type()
+}
+
+/// Whether a finder that was shown the table finds as ever.
+fn is_finding(finder: &TypeFinder<'_>) -> bool {
     let mut count = Count::new();
     let found = finder.find_counted(TypeIndex(0x1002), &mut count).is_ok() && count.get() == 3;
     let refused = matches!(
         finder.find(TypeIndex(0x1003)),
         Err(Error::TypeNotFound(0x1003))
     );
-    Ok(told && found && refused && finder.max_index() == TypeIndex(0x1002))
+    found && refused && finder.max_index() == TypeIndex(0x1002)
+}
+
+/// Whether a table is told, and a finder of it finds, as ever.
+fn is_found<'t>(table: &'t TypeInformation, mut finder: TypeFinder<'t>) -> bool
+    requires { finder.table ≡ table.now }
+{
+    let told = table.len() == 3 && !table.is_empty() && table.header().header_size == 56;
+    let mut walk = table.iter();
+    let stepped = walk.next().is_ok();
+    finder.update(&walk);
+    finder.update_all(&[walk]);
+    told && stepped && is_finding(&finder)
+}
+
+/// Whether an id without a list is read.
+fn is_id_read(alloc: Global, item: &Id<'_>) -> bool {
+    item.parse(alloc).is_ok()
+}
+
+/// Whether an id with a false count is refused.
+fn is_id_refused(alloc: Global, item: &Id<'_>) -> bool {
+    matches!(item.parse(alloc), Err(Error::UnexpectedEof))
 }
 
 /// Whether an id without a list, and a false count, are read as ever.
@@ -199,34 +288,25 @@ fn are_ids_read(alloc: Global, table: &IdInformation) -> Result<bool> {
     let (Some(text), Some(build)) = (walk.next()?, walk.next()?) else {
         return Ok(false);
     };
-    let cut = matches!(build.parse(alloc), Err(Error::UnexpectedEof));
-    Ok(text.parse(alloc).is_ok() && cut && text.index() == IdIndex(0x1000))
+    let read = text.index() == IdIndex(0x1000) && is_id_read(alloc, &text);
+    Ok(read && is_id_refused(alloc, &build))
 }
 
-/// Whether tables answer as ever, where `calls` says that they are asked.
-fn are_tables(alloc: Global, calls: bool) -> Result<bool> {
-    let types = TypeInformation::parse(stream_of(alloc, TYPES)?)?;
-    let ids = IdInformation::parse(stream_of(alloc, IDS)?)?;
-    is_table(alloc, &types, &ids, calls)
+/// Whether a table of types answers as ever, where `calls` says that it is asked.
+fn is_table(alloc: Global, table: &TypeInformation, calls: bool) -> Result<bool> {
+    let finder = settled!(table.finder(alloc))?;
+    Ok(!calls || (is_found(table, finder) && are_types_read(alloc, table)?))
 }
 
-fn is_table(
-    alloc: Global,
-    types: &TypeInformation,
-    ids: &IdInformation,
-    calls: bool,
-) -> Result<bool> {
-    let finder = settled!(types.finder(alloc))?;
-    if !calls {
-        return Ok(true);
-    }
-    let flags = TypeProperties::new(0x2000).intrinsic_type();
-    Ok(
-        flags
-            && are_types_read(alloc, types)?
-            && is_found(types, finder)?
-            && are_ids_read(alloc, ids)?,
-    )
+/// Whether types answer as ever, where `calls` says that they are asked, as below.
+fn has_types(alloc: Global, calls: bool) -> Result<bool> {
+    let table = TypeInformation::parse(stream_of(alloc, TYPES)?)?;
+    is_table(alloc, &table, calls)
+}
+
+fn has_ids(alloc: Global, calls: bool) -> Result<bool> {
+    let table = IdInformation::parse(stream_of(alloc, IDS)?)?;
+    Ok(!calls || are_ids_read(alloc, &table)?)
 }
 
 const NAMES: &[u8] = b"\xfe\xef\xfe\xef\x01\0\0\0\x07\0\0\0\0foo\0ba\0";
@@ -280,10 +360,22 @@ fn are_frames(frames: &FrameTable) -> bool {
 }
 
 /// One section.
-fn sections(alloc: Global, section: ImageSectionHeader) -> Result<Vec<ImageSectionHeader>> {
+fn sections(alloc: Global) -> Result<Vec<ImageSectionHeader>> {
+    let section = ImageSectionHeader::parse(&mut ParseBuffer::from(SECTION))?;
     let mut sections = Vec::new(alloc);
     sections.push(section)?;
     Ok(sections)
+}
+
+/// Whether sections are the one that is named `.data`.
+fn is_section(sections: &[ImageSectionHeader]) -> bool {
+    matches!(sections, [section] if section.name() == ".data")
+}
+
+/// Whether a section is named, and places in it are found, as ever.
+fn are_sections(sections: Vec<ImageSectionHeader>) -> bool {
+    let named = is_section(&sections);
+    named && is_placed(&AddressMap::new(sections, None, None, None))
 }
 
 /// Whether names are found as ever, where `calls` says that they are asked for, as below.
@@ -303,13 +395,35 @@ fn has_frames(alloc: Global, calls: bool) -> Result<bool> {
 }
 
 fn has_places(alloc: Global, calls: bool) -> Result<bool> {
-    let section = ImageSectionHeader::parse(&mut ParseBuffer::from(SECTION))?;
-    let map = AddressMap::new(settled!(sections(alloc, section))?, None, None, None);
-    Ok(!calls || (is_placed(&map) && section.name() == ".data"))
+    let sections = settled!(sections(alloc))?;
+    Ok(!calls || are_sections(sections))
 }
 
-/// Whether names, addresses and frames are answered as ever. A function each: one that holds all is long
-/// in the proof.
+/// Whether S1 refuses streams as ever, with each size of its directory.
+fn are_directories(alloc: Global, calls: bool) -> Result<bool> {
+    for size in SIZES {
+        if !is_directory(alloc, *size, calls)? {
+            return Ok(false);
+        }
+    }
+    Ok(true)
+}
+
+/// The sizes of a directory.
+const SIZES: &[u8] = &[0, 19, 24, 32];
+
+/// Whether files, pages and buffers are answered as ever. A function each: one that holds all is long in the
+/// proof.
+fn is_container(alloc: Global, calls: bool) -> Result<bool> {
+    Ok(are_directories(alloc, calls)? && has_pages(alloc, calls)? && has_bytes(alloc, calls)?)
+}
+
+/// Whether types and ids are answered as ever.
+fn are_tables(alloc: Global, calls: bool) -> Result<bool> {
+    Ok((!calls || are_parts_told()) && has_types(alloc, calls)? && has_ids(alloc, calls)?)
+}
+
+/// Whether names, addresses and frames are answered as ever.
 fn is_space(alloc: Global, calls: bool) -> Result<bool> {
     Ok(
         has_names(alloc, calls)?
@@ -321,11 +435,6 @@ fn is_space(alloc: Global, calls: bool) -> Result<bool> {
 
 /// Whether all is answered as ever, where `calls` says that it is asked.
 fn is_all(alloc: Global, calls: bool) -> Result<bool> {
-    for size in [0, 19, 24, 32] {
-        if !is_directory(alloc, size, calls)? {
-            return Ok(false);
-        }
-    }
     Ok(is_container(alloc, calls)? && are_tables(alloc, calls)? && is_space(alloc, calls)?)
 }
 

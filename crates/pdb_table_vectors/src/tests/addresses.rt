@@ -3,6 +3,7 @@
 use pdb_space::{PdbInternalRva, PdbInternalSectionOffset, Rva, SectionOffset, StringRef};
 use std::alloc::Global;
 use std::cmp::Ordering;
+use std::fmt::{Debug, Display};
 use std::test::Fail;
 
 /// The largest number of 32 bits.
@@ -107,47 +108,44 @@ fn distances(rt: HostRuntime) {
 fn operators(rt: HostRuntime) {
     let mut address = Rva::from(0x40) + 1;
     address += 1;
-    assert!(rt; (u32::from(address), address - Rva(0x30)) == (0x42, 0x12));
+    assert!(rt; u32::from(address) == 0x42 && address - Rva(0x30) == 0x12);
     assert!(rt; Rva(1) < Rva(2) && Rva::default() == Rva(0));
 
     let mut address = PdbInternalRva::from(LAST - 2) + 1;
     address += 1;
-    assert!(rt; (u32::from(address), address - PdbInternalRva(1)) == (LAST, LAST - 1));
+    assert!(rt; u32::from(address) == LAST && address - PdbInternalRva(1) == LAST - 1);
     assert!(rt; PdbInternalRva(2) > PdbInternalRva::default());
 }
 
 #[test]
 fn string_refs(rt: HostRuntime) {
     let place = StringRef::from(0x42);
-    assert!(rt; (u32::from(place), place) == (0x42, StringRef(0x42)));
+    assert!(rt; u32::from(place) == 0x42 && place == StringRef(0x42));
     assert!(rt; StringRef(0x41) < place && StringRef(0x1000) > place);
 }
 
-/// The texts of an address: as it is shown, and for finding faults.
-fn address_texts(alloc: Global, address: Rva) -> Result<(String, String), Fail> {
-    let shown = address.to_string(alloc)?;
-    Ok((shown, format!(in alloc; "{address:?}")?))
+/// Whether a value is shown as this text.
+fn shows<T: Display>(alloc: Global, value: &T, want: &str) -> Result<bool, Fail> {
+    Ok(value.to_string(alloc)?.as_str() == want)
 }
 
-/// The texts of the place of a name.
-fn place_texts(alloc: Global, place: StringRef) -> Result<(String, String), Fail> {
-    let shown = place.to_string(alloc)?;
-    Ok((shown, format!(in alloc; "{place:?}")?))
+/// Whether a value is written as this text for finding faults.
+fn writes<T: Debug>(alloc: Global, value: &T, want: &str) -> Result<bool, Fail> {
+    Ok(format!(in alloc; "{value:?}")?.as_str() == want)
 }
 
 #[test]
 fn texts(rt: HostRuntime) -> Result<(), Fail> {
-    let (shown, written) = address_texts(rt.alloc(), Rva(0x42))?;
-    assert!(rt; shown.as_str() == "0x42" && written.as_str() == "Rva(0x42)");
-    let shown = PdbInternalRva(LAST).to_string(rt.alloc())?;
-    assert!(rt; shown.as_str() == "0xffffffff");
+    assert!(rt; shows(rt.alloc(), &Rva(0x42), "0x42")?);
+    assert!(rt; writes(rt.alloc(), &Rva(0x42), "Rva(0x42)")?);
+    assert!(rt; shows(rt.alloc(), &PdbInternalRva(LAST), "0xffffffff")?);
     Ok(())
 }
 
 #[test]
 fn texts_of_string_refs(rt: HostRuntime) -> Result<(), Fail> {
-    let (shown, written) = place_texts(rt.alloc(), StringRef(0x42))?;
-    assert!(rt; shown.as_str() == "0x42" && written.as_str() == "StringRef(0x42)");
+    assert!(rt; shows(rt.alloc(), &StringRef(0x42), "0x42")?);
+    assert!(rt; writes(rt.alloc(), &StringRef(0x42), "StringRef(0x42)")?);
     Ok(())
 }
 

@@ -1,5 +1,6 @@
 //! Frames of both formats.
 
+use super::says;
 use pdb_base::{Error, FallibleIterator, Le, Parse, Stream};
 use pdb_frames::{
     AddrRange, FrameData, FrameDataIter, FrameTable, FrameType, NewFrameData, OldFrameData,
@@ -44,19 +45,14 @@ fn step(frames: &mut FrameDataIter<'_>) -> pdb_base::Result<Option<(FrameType, u
     }
 }
 
-/// The formats and starts of all frames, and that None comes twice behind them.
-fn given(alloc: Global, frames: &mut FrameDataIter<'_>) -> Result<Vec<(FrameType, u32)>, Fail> {
-    let mut all = Vec::new(alloc);
-    for _ in 0..9 {
-        match step(frames)? {
-            Some(frame) => all.push(frame)?,
-            None => break,
+/// Whether an iterator gives these frames by their formats and starts, and None twice behind them.
+fn gives(frames: &mut FrameDataIter<'_>, want: &[(FrameType, u32)]) -> pdb_base::Result<bool> {
+    for frame in want {
+        if step(frames)? != Some(*frame) {
+            return Ok(false);
         }
     }
-    if step(frames)?.is_some() {
-        all.clear();
-    }
-    Ok(all)
+    Ok(step(frames)?.is_none() && step(frames)?.is_none())
 }
 
 const OLD: FrameType = FrameType::FPO;
@@ -112,38 +108,46 @@ const TABLES: &[(&str, Frames, Frames, Option<u32>, &[(FrameType, u32)])] = &[
     ("none", &[], &[], None, &[]),
 ];
 
-/// What the iterator of a table from an address gives, or that of all its frames where there is
-/// none, and whether the table is empty.
+/// Whether the iterator of a table from an address gives these frames, or that of all its frames where
+/// there is no address.
+fn gives_from(
+    table: &FrameTable,
+    address: Option<u32>,
+    want: &[(FrameType, u32)],
+) -> pdb_base::Result<bool> {
+    let mut frames = match address {
+        Some(address) => table.iter_at_rva(PdbInternalRva(address)),
+        None => table.iter(),
+    };
+    gives(&mut frames, want)
+}
+
+/// The same of the table of these frames, and whether that table is empty.
 fn told(
     alloc: Global,
     old: &[(u32, u32)],
     new: &[(u32, u32)],
     address: Option<u32>,
-) -> Result<(Vec<(FrameType, u32)>, bool), Fail> {
+    want: &[(FrameType, u32)],
+) -> Result<(bool, bool), Fail> {
     let table = table(alloc, old, new)?;
-    let mut frames = match address {
-        Some(address) => table.iter_at_rva(PdbInternalRva(address)),
-        None => table.iter(),
-    };
-    Ok((given(alloc, &mut frames)?, table.is_empty()))
+    Ok((gives_from(&table, address, want)?, table.is_empty()))
 }
 
 #[test]
 fn tables(rt: HostRuntime) -> Result<(), Fail> {
     for (name, old, new, address, want) in TABLES {
-        let (all, empty) = told(rt.alloc(), old, new, *address)?;
-        assert!(rt; all.as_slice() == *want, "{name}");
-        assert!(rt; empty == (old.is_empty() && new.is_empty()), "{name}");
+        let empty = old.is_empty() && new.is_empty();
+        let answer = told(rt.alloc(), old, new, *address, want)?;
+        assert!(rt; answer == (true, empty), "{name}");
     }
     Ok(())
 }
 
 #[test]
 fn no_tables(rt: HostRuntime) -> Result<(), Fail> {
-    let nothing = given(rt.alloc(), &mut FrameDataIter::default())?;
-    assert!(rt; nothing.is_empty());
-    let absent = FrameTable::parse(None, None)?;
-    assert!(rt; absent.is_empty());
+    assert!(rt; gives(&mut FrameDataIter::default(), &[])?);
+    assert!(rt; FrameTable::parse(None, None)?.is_empty());
     Ok(())
 }
 
@@ -155,35 +159,40 @@ fn zeros(alloc: Global, len: Option<usize>) -> Result<Option<Stream>, Fail> {
     }
 }
 
-/// The text of what a table of streams of so many bytes is refused with.
-fn refused(alloc: Global, old: Option<usize>, new: Option<usize>) -> Result<String, Fail> {
+/// Whether a table is parsed, where nothing is wanted, or refused with this text.
+fn answers(alloc: Global, answer: pdb_base::Result<FrameTable>, want: &str) -> Result<bool, Fail> {
+    match answer {
+        Ok(_) => Ok(want.is_empty()),
+        Err(error) => says(alloc, error, want.as_bytes()),
+    }
+}
+
+/// The same of a table of streams of so many bytes.
+fn parses(alloc: Global, old: Option<usize>, new: Option<usize>, want: &str) -> Result<bool, Fail> {
     let old = zeros(alloc, old)?;
     let new = zeros(alloc, new)?;
-    match FrameTable::parse(old, new) {
-        Ok(_) => Ok(String::from_str(alloc, "parsed")?),
-        Err(error) => Ok(error.to_string(alloc)?),
-    }
+    answers(alloc, FrameTable::parse(old, new), want)
 }
 
 const BAD_OLD: &str = "FPO stream has an invalid length or alignment for its records";
 
 const BAD_NEW: &str = "FrameData stream has an invalid length or alignment for its records";
 
-/// How many bytes the old stream and the new one have, and the text of what they are refused with.
+/// How many bytes the old stream and the new one have, and the text of what they are refused with,
+/// or nothing.
 const LENGTHS: &[(Option<usize>, Option<usize>, &str)] = &[
     (Some(15), Some(31), BAD_OLD),
     (None, Some(31), BAD_NEW),
     (Some(16), Some(48), BAD_NEW),
     (Some(17), None, BAD_OLD),
-    (Some(48), Some(64), "parsed"),
-    (Some(0), Some(0), "parsed"),
+    (Some(48), Some(64), ""),
+    (Some(0), Some(0), ""),
 ];
 
 #[test]
 fn lengths(rt: HostRuntime) -> Result<(), Fail> {
     for (old, new, want) in LENGTHS {
-        let text = refused(rt.alloc(), *old, *new)?;
-        assert!(rt; text.as_str() == *want);
+        assert!(rt; parses(rt.alloc(), *old, *new, want)?);
     }
     Ok(())
 }
@@ -195,56 +204,80 @@ const OLD_BYTES: &[u8] = b"\x00\x10\x00\x00\x20\x00\x00\x00\x01\x00\x00\x40\x03\
 const NEW_BYTES: &[u8] =
     b"\xf0\xff\xff\xff\x20\x00\x00\x00\x08\x00\x00\x00\x0c\x00\x00\x00\x10\x00\x00\x00\x2a\x00\x00\x00\x03\x00\x04\x00\x06\x00\x00\x00";
 
+/// What that old frame says.
+const OLD_FRAME: FrameData = FrameData {
+    ty: FrameType::TSS,
+    code_start: PdbInternalRva(0x1000),
+    code_size: 0x20,
+    locals_size: 4,
+    params_size: 12,
+    prolog_size: 5,
+    saved_regs_size: 8,
+    max_stack_size: None,
+    has_structured_eh: true,
+    has_cpp_eh: false,
+    is_function_start: false,
+    uses_base_pointer: true,
+    program: None,
+};
+
+/// What that new frame says.
+const NEW_FRAME: FrameData = FrameData {
+    ty: FrameType::FrameData,
+    code_start: PdbInternalRva(0xffff_fff0),
+    code_size: 0x20,
+    locals_size: 8,
+    params_size: 12,
+    prolog_size: 3,
+    saved_regs_size: 4,
+    max_stack_size: Some(16),
+    has_structured_eh: false,
+    has_cpp_eh: true,
+    is_function_start: true,
+    uses_base_pointer: false,
+    program: Some(StringRef(42)),
+};
+
+/// Whether that old frame answers each question of its own.
+fn is_old(frame: &OldFrameData) -> bool {
+    frame.start() == 0x1000
+        && frame.size() == 0x20
+        && frame.prolog_size() == 5
+        && frame.saved_regs_size() == 2
+        && frame.has_seh()
+        && frame.uses_base_pointer()
+        && frame.frame_type() == FrameType::TSS
+}
+
 #[test]
 fn old_records(rt: HostRuntime) -> Result<(), Fail> {
     let (frame, len) = OldFrameData::parse_from(OLD_BYTES, Le)?;
-    let place = (len, frame.start(), frame.size());
-    let sizes = (frame.prolog_size(), frame.saved_regs_size());
-    assert!(rt; (place, sizes) == ((16, 0x1000, 0x20), (5, 2)));
-    let marks = [frame.has_seh(), frame.uses_base_pointer()];
-    assert!(rt; marks == [true, true] && frame.frame_type() == FrameType::TSS);
-    let want = FrameData {
-        ty: FrameType::TSS,
-        code_start: PdbInternalRva(0x1000),
-        code_size: 0x20,
-        locals_size: 4,
-        params_size: 12,
-        prolog_size: 5,
-        saved_regs_size: 8,
-        max_stack_size: None,
-        has_structured_eh: true,
-        has_cpp_eh: false,
-        is_function_start: false,
-        uses_base_pointer: true,
-        program: None,
-    };
-    assert!(rt; FrameData::from(&frame) == want);
+    assert!(rt; len == 16);
+    assert!(rt; is_old(&frame));
+    assert!(rt; FrameData::from(&frame) == OLD_FRAME);
     Ok(())
+}
+
+/// Whether that new frame answers each question of its own.
+fn is_new(frame: &NewFrameData) -> bool {
+    !frame.has_seh() && frame.has_eh() && frame.is_function_start()
+}
+
+/// Whether that new frame has the two addresses, and not the other two.
+fn is_at(frame: &NewFrameData) -> bool {
+    frame.contains(0xffff_ffff)
+        && frame.contains(0xffff_fff0)
+        && !frame.contains(0xffff_ffef)
+        && !frame.contains(0)
 }
 
 #[test]
 fn new_records(rt: HostRuntime) -> Result<(), Fail> {
     let (frame, len) = NewFrameData::parse_from(NEW_BYTES, Le)?;
     assert!(rt; len == 32);
-    assert!(rt; frame.contains(0xffff_ffff) && frame.contains(0xffff_fff0));
-    assert!(rt; !frame.contains(0xffff_ffef) && !frame.contains(0));
-    assert!(rt; !frame.has_seh() && frame.has_eh() && frame.is_function_start());
-    let want = FrameData {
-        ty: FrameType::FrameData,
-        code_start: PdbInternalRva(0xffff_fff0),
-        code_size: 0x20,
-        locals_size: 8,
-        params_size: 12,
-        prolog_size: 3,
-        saved_regs_size: 4,
-        max_stack_size: Some(16),
-        has_structured_eh: false,
-        has_cpp_eh: true,
-        is_function_start: true,
-        uses_base_pointer: false,
-        program: Some(StringRef(42)),
-    };
-    assert!(rt; FrameData::from(&frame) == want);
+    assert!(rt; is_at(&frame));
+    assert!(rt; is_new(&frame));
+    assert!(rt; FrameData::from(&frame) == NEW_FRAME);
     Ok(())
 }
 

@@ -5,16 +5,8 @@ mod files;
 mod headers;
 mod names;
 
-use pdb_base::{Stream, StreamIndex};
+use pdb_base::StreamIndex;
 use pdb_roles::DBIExtraStreams;
-use std::alloc::Global;
-use std::test::Fail;
-
-/// A stream of these bytes, of which there are at most 512.
-fn stream(alloc: Global, bytes: &[u8]) -> Result<Stream, Fail> {
-    let len = bytes.len().min(512);
-    Ok(Stream::new(Vec::from_slice(alloc, &bytes[..len])?))
-}
 
 /// The first so many bytes, or all where there are fewer.
 fn front(bytes: &[u8], len: usize) -> &[u8] {

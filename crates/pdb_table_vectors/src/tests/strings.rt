@@ -1,6 +1,7 @@
 //! String tables, and the names in them.
 
-use pdb_base::{RawString, Stream};
+use super::{says, stream};
+use pdb_base::{RawString, Result as Answer};
 use pdb_space::{StringRef, StringTable};
 use std::alloc::Global;
 use std::test::Fail;
@@ -17,39 +18,53 @@ const OTHER_SIGNATURE: &[u8] = b"Unimplemented PDB feature: invalid string table
 
 const OTHER_VERSION: &[u8] = b"Unimplemented PDB feature: unknown string table hash version";
 
-/// A stream of these bytes, of which there are at most 20.
-fn stream(alloc: Global, bytes: &[u8]) -> Result<Stream, Fail> {
-    let len = bytes.len().min(20);
-    Ok(Stream::new(Vec::from_slice(alloc, &bytes[..len])?))
-}
-
-/// The table of these bytes.
-fn table_of(alloc: Global, bytes: &[u8]) -> Result<StringTable, Fail> {
-    Ok(StringTable::parse(stream(alloc, bytes)?)?)
-}
-
-/// What `parse` answers: nothing, or the text of an error.
-fn parsed(alloc: Global, bytes: &[u8]) -> Result<Vec<u8>, Fail> {
+/// Whether `parse` answers with a table, where nothing is wanted, or with an error of this text.
+fn parses(alloc: Global, bytes: &[u8], want: &[u8]) -> Result<bool, Fail> {
     match StringTable::parse(stream(alloc, bytes)?) {
-        Ok(_) => Ok(Vec::new(alloc)),
-        Err(error) => Ok(error.to_string(alloc)?.into_bytes()),
+        Ok(_) => Ok(want.is_empty()),
+        Err(error) => says(alloc, error, want),
     }
 }
 
-/// What a look-up answers: the bytes of the name, or the text of an error.
-fn named(alloc: Global, answer: pdb_base::Result<RawString<'_>>) -> Result<Vec<u8>, Fail> {
+/// Whether a look-up answers with these bytes: the name, or the text of an error.
+fn gives(alloc: Global, answer: Answer<RawString<'_>>, want: &[u8]) -> Result<bool, Fail> {
     match answer {
-        Ok(name) => Ok(Vec::from_slice(alloc, name.as_bytes())?),
-        Err(error) => Ok(error.to_string(alloc)?.into_bytes()),
+        Ok(name) => Ok(name.as_bytes() == want),
+        Err(error) => says(alloc, error, want),
     }
 }
 
-/// What a look-up answers as text: the name, or the text of an error.
-fn lossy(alloc: Global, table: &StringTable, name: StringRef) -> Result<Vec<u8>, Fail> {
+/// Whether a look-up as text answers with these bytes: the name, or the text of an error.
+fn reads(alloc: Global, table: &StringTable, name: StringRef, want: &[u8]) -> Result<bool, Fail> {
     match name.to_string_lossy(alloc, table) {
-        Ok(text) => Ok(Vec::from_slice(alloc, text.as_str().as_bytes())?),
-        Err(error) => Ok(error.to_string(alloc)?.into_bytes()),
+        Ok(text) => Ok(text.as_str().as_bytes() == want),
+        Err(error) => says(alloc, error, want),
     }
+}
+
+/// Whether both look-ups of a name answer with these bytes, and the one as text with the others.
+fn each_gives(
+    alloc: Global,
+    table: &StringTable,
+    name: StringRef,
+    want: &[u8],
+    text: &[u8],
+) -> Result<bool, Fail> {
+    let got = gives(alloc, table.get(name), want)?;
+    let raw = gives(alloc, name.to_raw_string(table), want)?;
+    Ok(got && raw && reads(alloc, table, name, text)?)
+}
+
+/// The same of the table of these bytes.
+fn holds(
+    alloc: Global,
+    bytes: &[u8],
+    name: StringRef,
+    want: &[u8],
+    text: &[u8],
+) -> Result<bool, Fail> {
+    let table = StringTable::parse(stream(alloc, bytes)?)?;
+    each_gives(alloc, &table, name, want, text)
 }
 
 /// Tables, and the texts of what they are refused with, or nothing.
@@ -78,29 +93,9 @@ const TABLES: &[(&[u8], &[u8])] = &[
 #[test]
 fn string_tables(rt: HostRuntime) -> Result<(), Fail> {
     for (bytes, want) in TABLES {
-        let answer = parsed(rt.alloc(), bytes)?;
-        assert!(rt; answer.as_slice() == *want, "{bytes:?}");
+        assert!(rt; parses(rt.alloc(), bytes, want)?, "{bytes:?}");
     }
     Ok(())
-}
-
-/// Whether both look-ups of a name give these bytes.
-fn both_give(
-    alloc: Global,
-    table: &StringTable,
-    name: StringRef,
-    want: &[u8],
-) -> Result<bool, Fail> {
-    let got = named(alloc, table.get(name))?;
-    let raw = named(alloc, name.to_raw_string(table))?;
-    Ok(got.as_slice() == want && raw.as_slice() == want)
-}
-
-/// Whether each look-up of a name in `TABLE` gives these bytes, and its text too.
-fn each_gives(alloc: Global, name: StringRef, want: &[u8]) -> Result<bool, Fail> {
-    let table = table_of(alloc, TABLE)?;
-    let text = lossy(alloc, &table, name)?;
-    Ok(text.as_slice() == want && both_give(alloc, &table, name, want)?)
 }
 
 /// Offsets, and the names there or the texts of what they are refused with.
@@ -119,23 +114,15 @@ const NAMES: &[(u32, &[u8])] = &[
 #[test]
 fn names(rt: HostRuntime) -> Result<(), Fail> {
     for (offset, want) in NAMES {
-        let is = each_gives(rt.alloc(), StringRef(*offset), want)?;
+        let is = holds(rt.alloc(), TABLE, StringRef(*offset), want, want)?;
         assert!(rt; is, "at {offset}");
     }
     Ok(())
 }
 
-/// The first name of `BROKEN`: its bytes, and its text.
-fn broken_name(alloc: Global) -> Result<(Vec<u8>, Vec<u8>), Fail> {
-    let table = table_of(alloc, BROKEN)?;
-    let raw = named(alloc, table.get(StringRef(0)))?;
-    Ok((raw, lossy(alloc, &table, StringRef(0))?))
-}
-
 #[test]
 fn broken(rt: HostRuntime) -> Result<(), Fail> {
-    let (raw, text) = broken_name(rt.alloc())?;
-    assert!(rt; raw.as_slice() == b"f\xffo".as_slice());
-    assert!(rt; text.as_slice() == "f\u{fffd}o".as_bytes());
+    let text = "f\u{fffd}o".as_bytes();
+    assert!(rt; holds(rt.alloc(), BROKEN, StringRef(0), b"f\xffo", text)?);
     Ok(())
 }

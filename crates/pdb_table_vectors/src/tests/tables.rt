@@ -37,36 +37,36 @@ fn table_of(
     Ok(TypeInformation::parse(stream_of(alloc, 56, minimum, maximum, items)?)?)
 }
 
-/// An item's index and kind, or the text of an error.
-fn shown(alloc: Global, answer: pdb_base::Result<Type<'_>>) -> Result<String, Fail> {
+/// Whether an error has this text.
+fn is_error(alloc: Global, error: Error, want: &str) -> Result<bool, Fail> {
+    Ok(error.to_string(alloc)?.as_str() == want)
+}
+
+/// Whether an item's index and kind read so.
+fn is_item(alloc: Global, item: Type<'_>, want: &str) -> Result<bool, Fail> {
+    let kind = item.raw_kind();
+    let index = item.index();
+    Ok(format!(in alloc; "{index} {kind:x}")?.as_str() == want)
+}
+
+/// Whether a step gives this item, or an error of this text, or nothing if the text is `none`.
+fn gives(
+    alloc: Global,
+    answer: pdb_base::Result<Option<Type<'_>>>,
+    want: &str,
+) -> Result<bool, Fail> {
     match answer {
-        Ok(item) => {
-            let kind = item.raw_kind();
-            let index = item.index();
-            Ok(format!(in alloc; "{index} {kind:x}")?)
-        }
-        Err(error) => Ok(error.to_string(alloc)?),
+        Ok(None) => Ok(want == "none"),
+        Ok(Some(item)) => is_item(alloc, item, want),
+        Err(error) => is_error(alloc, error, want),
     }
 }
 
-/// What a step gives: `none` at the end.
-fn one_step(alloc: Global, iterator: &mut TypeIter<'_>) -> Result<String, Fail> {
-    match iterator.next() {
-        Ok(None) => Ok(format!(in alloc; "none")?),
-        Ok(Some(item)) => shown(alloc, Ok(item)),
-        Err(error) => shown(alloc, Err(error)),
-    }
-}
-
-/// What a step of an iterator gives, which is also what a step of its clone gives.
-fn step(alloc: Global, iterator: &mut TypeIter<'_>) -> Result<String, Fail> {
-    let mut other = iterator.clone()?;
-    let given = one_step(alloc, iterator)?;
-    let again = one_step(alloc, &mut other)?;
-    if given.as_str() != again.as_str() {
-        return Err("two answers".into());
-    }
-    Ok(given)
+/// Whether a step of an iterator gives this, and also a step of its clone.
+fn step_gives(alloc: Global, iterator: &mut TypeIter<'_>, want: &str) -> Result<bool, Fail> {
+    let again = iterator.clone()?.next();
+    let is = gives(alloc, again, want)?;
+    Ok(gives(alloc, iterator.next(), want)? && is)
 }
 
 /// An iterator of the table after so many steps.
@@ -135,34 +135,38 @@ const HEADERS: &[(&str, u32, u32, u32, usize, &str)] = &[
     ),
 ];
 
-/// The size that the header of a table says, or the text of what the table is refused with.
-fn size_told(alloc: Global, stream: Stream) -> Result<String, Fail> {
-    match TypeInformation::parse(stream) {
-        Ok(table) => Ok(table.header().header_size.to_string(alloc)?),
-        Err(error) => Ok(error.to_string(alloc)?),
+/// The size that the header of a table says.
+fn size_in(stream: Stream) -> pdb_base::Result<u32> {
+    Ok(TypeInformation::parse(stream)?.header().header_size)
+}
+
+/// Whether the header of a table says this size, or the table is refused with this text.
+fn is_told(alloc: Global, stream: Stream, want: &str) -> Result<bool, Fail> {
+    match size_in(stream) {
+        Ok(size) => Ok(size.to_string(alloc)?.as_str() == want),
+        Err(error) => is_error(alloc, error, want),
     }
 }
 
-/// What a header with these fields tells of itself, with so many zeros behind its 56 bytes.
-fn header_told(
+/// Whether a header with these fields tells this of itself, with so many zeros behind its 56 bytes.
+fn header_tells(
     alloc: Global,
     header_size: u32,
     minimum: u32,
     maximum: u32,
     more: usize,
-) -> Result<String, Fail> {
+    want: &str,
+) -> Result<bool, Fail> {
     let rest = vec![in alloc; 0u8; more]?;
-    size_told(
-        alloc,
-        stream_of(alloc, header_size, minimum, maximum, &rest)?,
-    )
+    let stream = stream_of(alloc, header_size, minimum, maximum, &rest)?;
+    is_told(alloc, stream, want)
 }
 
 #[test]
 fn headers(rt: HostRuntime) -> Result<(), Fail> {
     for (name, header_size, minimum, maximum, more, want) in HEADERS {
-        let told = header_told(rt.alloc(), *header_size, *minimum, *maximum, *more)?;
-        assert!(rt; told.as_str() == *want, "{name}");
+        let is = header_tells(rt.alloc(), *header_size, *minimum, *maximum, *more, want)?;
+        assert!(rt; is, "{name}");
     }
     Ok(())
 }
@@ -208,11 +212,20 @@ fn id_table(alloc: Global, bytes: &[u8]) -> pdb_base::Result<IdInformation>
     IdInformation::parse(Stream::new(Vec::from_slice(alloc, bytes)?))
 }
 
+/// The header of a table of ids of these bytes, how many indexes it counts, and whether it counts
+/// none.
+fn id_header(alloc: Global, bytes: &[u8]) -> pdb_base::Result<(Header, usize, bool)>
+    requires { length bytes.now < 0xffffffff }
+{
+    let table = id_table(alloc, bytes)?;
+    Ok((table.header(), table.len(), table.is_empty()))
+}
+
 #[test]
 fn fields(rt: HostRuntime) -> Result<(), Fail> {
-    let table = id_table(rt.alloc(), &FIELDS)?;
-    assert!(rt; table.header() == HEADER);
-    assert!(rt; (table.len(), table.is_empty()) == (0xff0f0eff - 0x0c0b0a09, false));
+    let (header, len, is_empty) = id_header(rt.alloc(), &FIELDS)?;
+    assert!(rt; header == HEADER);
+    assert!(rt; (len, is_empty) == (0xff0f0eff - 0x0c0b0a09, false));
     Ok(())
 }
 
@@ -294,16 +307,20 @@ const WALKS: &[(&str, u32, &[u8], &[&str])] = &[
     ),
 ];
 
-/// Whether the steps of a walk give these texts.
-fn walk_gives(alloc: Global, minimum: u32, items: &[u8], steps: &[&str]) -> Result<bool, Fail> {
-    let table = table_of(alloc, minimum, minimum, items)?;
-    let mut iterator = table.iter();
+/// Whether the steps of an iterator give these texts.
+fn steps_give(alloc: Global, iterator: &mut TypeIter<'_>, steps: &[&str]) -> Result<bool, Fail> {
     for want in steps {
-        if step(alloc, &mut iterator)?.as_str() != *want {
+        if !step_gives(alloc, iterator, want)? {
             return Ok(false);
         }
     }
     Ok(true)
+}
+
+/// Whether the steps of a walk over a table of these items give these texts.
+fn walk_gives(alloc: Global, minimum: u32, items: &[u8], steps: &[&str]) -> Result<bool, Fail> {
+    let table = table_of(alloc, minimum, minimum, items)?;
+    steps_give(alloc, &mut table.iter(), steps)
 }
 
 #[test]
@@ -315,15 +332,30 @@ fn walks(rt: HostRuntime) -> Result<(), Fail> {
     Ok(())
 }
 
-/// What look-ups of these indexes answer, and how many lengths each reads.
-fn looked_up(alloc: Global, finder: &TypeFinder<'_>, index: u32) -> Result<(String, u64), Fail> {
-    let mut count = Count::new();
-    let found = shown(alloc, finder.find_counted(TypeIndex(index), &mut count))?;
-    let again = shown(alloc, finder.find(TypeIndex(index)))?;
-    if found.as_str() != again.as_str() {
-        return Err("two answers".into());
+/// Whether a look-up finds this item, or fails with this text.
+fn finds_this(alloc: Global, answer: pdb_base::Result<Type<'_>>, want: &str) -> Result<bool, Fail> {
+    match answer {
+        Ok(item) => is_item(alloc, item, want),
+        Err(error) => is_error(alloc, error, want),
     }
-    Ok((found, count.get()))
+}
+
+/// Whether both look-ups of an index answer so, and the one that counts reads so many lengths.
+fn look_up_gives(
+    alloc: Global,
+    finder: &TypeFinder<'_>,
+    index: u32,
+    want: &str,
+    reads: u64,
+) -> Result<bool, Fail> {
+    let mut count = Count::new();
+    let counted = finds_this(
+        alloc,
+        finder.find_counted(TypeIndex(index), &mut count),
+        want,
+    )?;
+    let found = finds_this(alloc, finder.find(TypeIndex(index)), want)?;
+    Ok(counted && found && count.get() == reads)
 }
 
 /// Shows a finder an iterator of its table after each of so many steps.
@@ -337,33 +369,39 @@ fn show_each(table: &TypeInformation, finder: &mut TypeFinder<'_>, steps: usize)
     Ok(())
 }
 
-/// A finder that has been shown an iterator of its table after each of so many steps.
-fn finder_after(
+/// The last index that a finder covers after so many steps, and whether look-ups then answer so,
+/// and read so many lengths.
+fn look_ups_give(
+    alloc: Global,
+    table: &TypeInformation,
+    finder: &mut TypeFinder<'_>,
+    steps: usize,
+    look_ups: &[(u32, &str, u64)],
+) -> Result<(TypeIndex, bool), Fail>
+    requires { finder.old.table ≡ table.now }
+{
+    show_each(table, finder, steps)?;
+    let last = finder.max_index();
+    for (index, want, reads) in look_ups {
+        if !look_up_gives(alloc, finder, *index, want, *reads)? {
+            return Ok((last, false));
+        }
+    }
+    Ok((last, true))
+}
+
+/// What `look_ups_give` says of a new finder of a table.
+fn found_in(
     alloc: Global,
     table: &TypeInformation,
     steps: usize,
-) -> Result<TypeFinder<'_>, Fail> {
-    let mut finder = table.finder(alloc)?;
-    show_each(table, &mut finder, steps)?;
-    Ok(finder)
-}
-
-/// Whether look-ups of a finder answer so, and read so many lengths.
-fn look_ups_give(
-    alloc: Global,
-    finder: &TypeFinder<'_>,
     look_ups: &[(u32, &str, u64)],
-) -> Result<bool, Fail> {
-    for (index, want, reads) in look_ups {
-        let (found, read) = looked_up(alloc, finder, *index)?;
-        if found.as_str() != *want || read != *reads {
-            return Ok(false);
-        }
-    }
-    Ok(true)
+) -> Result<(TypeIndex, bool), Fail> {
+    let mut finder = table.finder(alloc)?;
+    look_ups_give(alloc, table, &mut finder, steps, look_ups)
 }
 
-/// The last index that a finder covers after so many steps, and whether look-ups answer so.
+/// What `look_ups_give` says of a new finder of a table of these items.
 fn found_so(
     alloc: Global,
     maximum: u32,
@@ -372,8 +410,7 @@ fn found_so(
     look_ups: &[(u32, &str, u64)],
 ) -> Result<(TypeIndex, bool), Fail> {
     let table = table_of(alloc, 0x1000, maximum, items)?;
-    let finder = finder_after(alloc, &table, steps)?;
-    Ok((finder.max_index(), look_ups_give(alloc, &finder, look_ups)?))
+    found_in(alloc, &table, steps, look_ups)
 }
 
 /// Nine items of two bytes: the kinds 0x1000, 0x1001 and so on.
@@ -475,16 +512,23 @@ const ITEMS: [u8; 80] = [
 
 /// The last index that a finder covers once it is shown an iterator of a later place, then none,
 /// and then two.
-fn covered(alloc: Global, table: &TypeInformation) -> Result<[TypeIndex; 3], Fail> {
+fn covered_by(table: &TypeInformation, finder: &mut TypeFinder<'_>) -> Result<[TypeIndex; 3], Fail>
+    requires { finder.old.table ≡ table.now }
+{
     let eight = iterator_at(table, 8)?;
     let sixteen = iterator_at(table, 16)?;
-    let mut finder = table.finder(alloc)?;
     finder.update(&sixteen);
     let later = finder.max_index();
     finder.update_all(&[]);
     let none = finder.max_index();
     finder.update_all(&[eight, sixteen]);
     Ok([later, none, finder.max_index()])
+}
+
+/// What `covered_by` says of a new finder of a table.
+fn covered(alloc: Global, table: &TypeInformation) -> Result<[TypeIndex; 3], Fail> {
+    let mut finder = table.finder(alloc)?;
+    covered_by(table, &mut finder)
 }
 
 #[test]
@@ -495,17 +539,35 @@ fn updates(rt: HostRuntime) -> Result<(), Fail> {
     Ok(())
 }
 
-/// How many bytes a found item has, whether it has none, and whether its copy is equal to it.
-fn item_told(finder: &TypeFinder<'_>, index: u32) -> Result<(usize, bool, bool), Fail> {
+/// How many bytes an item has that a finder finds after 16 steps, whether it has none, and whether
+/// its copy is equal to it.
+fn item_told(
+    table: &TypeInformation,
+    finder: &mut TypeFinder<'_>,
+    index: u32,
+) -> Result<(usize, bool, bool), Fail>
+    requires { finder.old.table ≡ table.now }
+{
+    show_each(table, finder, 16)?;
     let item = finder.find(TypeIndex(index))?;
     let same = item;
     Ok((item.len(), item.is_empty(), item == same))
 }
 
+/// What `item_told` says of a new finder of a table.
+fn found_told(
+    alloc: Global,
+    table: &TypeInformation,
+    index: u32,
+) -> Result<(usize, bool, bool), Fail> {
+    let mut finder = table.finder(alloc)?;
+    item_told(table, &mut finder, index)
+}
+
 #[test]
 fn found(rt: HostRuntime) -> Result<(), Fail> {
     let table = table_of(rt.alloc(), 0x1000, 0x1014, &ITEMS)?;
-    let told = item_told(&finder_after(rt.alloc(), &table, 16)?, 0x1008)?;
+    let told = found_told(rt.alloc(), &table, 0x1008)?;
     assert!(rt; told == (2, false, true));
     Ok(())
 }
@@ -515,12 +577,16 @@ fn is_refused(ids: &IdFinder<'_>, index: u32) -> bool {
     matches!(ids.find(IdIndex(index)), Err(Error::TypeNotFound(bad)) if bad == index)
 }
 
+/// Whether a step of an iterator gives nothing.
+fn gives_none(items: &mut ItemIter<'_, IdIndex>) -> bool {
+    matches!(items.next(), Ok(None))
+}
+
 #[test]
 fn no_bytes(rt: HostRuntime) -> Result<(), Fail> {
     let empty: ItemInformation<IdIndex> = id_table(rt.alloc(), b"")?;
-    assert!(rt; (empty.len(), empty.is_empty()) == (0, true));
-    let mut items: ItemIter<'_, IdIndex> = empty.iter();
-    assert!(rt; matches!(items.next(), Ok(None)));
+    let told = (empty.len(), empty.is_empty(), gives_none(&mut empty.iter()));
+    assert!(rt; told == (0, true, true));
     Ok(())
 }
 
@@ -534,9 +600,9 @@ fn nothing_found(alloc: Global, empty: &IdInformation) -> Result<(IdIndex, bool,
 #[test]
 fn no_ids(rt: HostRuntime) -> Result<(), Fail> {
     let empty = id_table(rt.alloc(), b"")?;
-    assert!(rt; nothing_found(rt.alloc(), &empty)? == (IdIndex(0), true, true));
+    let told = nothing_found(rt.alloc(), &empty)?;
     let mut ids: IdIter<'_> = empty.iter();
-    assert!(rt; ids.next()?.is_none());
+    assert!(rt; (told, gives_none(&mut ids)) == ((IdIndex(0), true, true), true));
     Ok(())
 }
 
@@ -585,21 +651,61 @@ fn are_a_and_b(fields: &[TypeData<'_>]) -> bool {
         && is_enumerate(fields.get(1), b"B", 1)
 }
 
+/// Whether a finder says that the fields of a list are A and B.
+fn joins(alloc: Global, finder: &TypeFinder<'_>, index: u32) -> pdb_base::Result<bool> {
+    let fields = finder.fields(alloc, TypeIndex(index))?;
+    Ok(are_a_and_b(fields.as_slice()))
+}
+
+/// Whether a new finder joins the fields of the two lists.
+fn joins_two(alloc: Global, table: &TypeInformation) -> pdb_base::Result<bool> {
+    let finder = table.finder(alloc)?;
+    joins(alloc, &finder, 0x1001)
+}
+
+/// Whether a finder does not know the ninth list yet.
+fn is_not_indexed(alloc: Global, finder: &TypeFinder<'_>) -> bool {
+    let unknown = finder.fields(alloc, TypeIndex(0x1008));
+    matches!(unknown, Err(Error::TypeNotIndexed(0x1008, 0x1007)))
+}
+
+/// Whether a finder does not know the ninth list, and joins its fields after eight steps.
+fn joins_once_shown(
+    alloc: Global,
+    table: &TypeInformation,
+    finder: &mut TypeFinder<'_>,
+) -> Result<(bool, bool), Fail>
+    requires { finder.old.table ≡ table.now }
+{
+    let unknown = is_not_indexed(alloc, finder);
+    show_each(table, finder, 8)?;
+    Ok((unknown, joins(alloc, finder, 0x1008)?))
+}
+
+/// What `joins_once_shown` says of a new finder of a table.
+fn joins_nine(alloc: Global, table: &TypeInformation) -> Result<(bool, bool), Fail> {
+    let mut finder = table.finder(alloc)?;
+    joins_once_shown(alloc, table, &mut finder)
+}
+
+/// Whether the two lists are joined in one block.
+fn joined_in_one(alloc: Global) -> Result<bool, Fail> {
+    let table = table_of(alloc, 0x1000, 0x1002, TWO_LISTS)?;
+    Ok(joins_two(alloc, &table)?)
+}
+
+/// Whether the ninth list is unknown at first, and is then joined with one of another block.
+fn joined_in_two(alloc: Global) -> Result<(bool, bool), Fail> {
+    let table = table_of(alloc, 0x1000, 0x1009, LISTS)?;
+    joins_nine(alloc, &table)
+}
+
 #[test]
 fn joined_fields(rt: HostRuntime) -> Result<(), Fail> {
-    let alloc = rt.alloc();
-    let two = table_of(alloc, 0x1000, 0x1002, TWO_LISTS)?;
-    let finder = two.finder(alloc)?;
-    let fields = finder.fields(alloc, TypeIndex(0x1001))?;
-    assert!(rt; are_a_and_b(fields.as_slice()), "in one block");
-
-    let table = table_of(alloc, 0x1000, 0x1009, LISTS)?;
-    let mut finder = table.finder(alloc)?;
-    let unknown = finder.fields(alloc, TypeIndex(0x1008));
-    assert!(rt; matches!(unknown, Err(Error::TypeNotIndexed(0x1008, 0x1007))));
-    show_each(&table, &mut finder, 8)?;
-    let fields = finder.fields(alloc, TypeIndex(0x1008))?;
-    assert!(rt; are_a_and_b(fields.as_slice()), "in two blocks");
+    let in_one = joined_in_one(rt.alloc())?;
+    assert!(rt; in_one, "in one block");
+    let in_two = joined_in_two(rt.alloc())?;
+    assert!(rt; in_two == (true, true), "in two blocks");
     Ok(())
 }
 
@@ -620,16 +726,39 @@ fn steps_of(open: &mut OpenTable<TypeIndex>) -> Result<[(u32, u32); 4], Fail> {
     Ok([first, second, third, place_in(open.step())?])
 }
 
+/// Where the walk stands and how many indexes the table counts once it has learned the index
+/// 0x1001, the places of 0xfff and 0x1001, and whether there is no 0x1002.
+fn places_of(
+    alloc: Global,
+    open: &mut OpenTable<TypeIndex>,
+) -> Result<(u64, usize, [(u32, u32); 2], bool), Fail> {
+    open.learn(alloc, 0x1001);
+    let primitive = place_in(open.find(0xfff))?;
+    let last = place_in(open.find(0x1001))?;
+    let missing = matches!(open.find(0x1002), Err(Error::TypeNotFound(0x1002)));
+    Ok((open.index(), open.items().len(), [primitive, last], missing))
+}
+
+/// How many bytes the item 0x1001 has, and whether its fields are A and B.
+fn list_of(alloc: Global, open: &OpenTable<TypeIndex>) -> pdb_base::Result<(usize, bool)> {
+    let len = open.item(0x1001)?.len();
+    let fields = open.fields(alloc, TypeIndex(0x1001))?;
+    Ok((len, are_a_and_b(fields.as_slice())))
+}
+
+/// A table of the two lists that stays open.
+fn open_lists(alloc: Global) -> Result<OpenTable<TypeIndex>, Fail> {
+    Ok(OpenTable::new(alloc, table_of(alloc, 0x1000, 0x1002, TWO_LISTS)?)?)
+}
+
 #[test]
 fn open_tables(rt: HostRuntime) -> Result<(), Fail> {
-    let alloc = rt.alloc();
-    let mut open = OpenTable::new(alloc, table_of(alloc, 0x1000, 0x1002, TWO_LISTS)?)?;
-    assert!(rt; steps_of(&mut open)? == [(58, 12), (72, 18), (0, 0), (58, 12)]);
-    open.learn(alloc, 0x1001);
-    assert!(rt; (open.index(), open.items().len()) == (0x1001, 2));
-    assert!(rt; [place_in(open.find(0xfff))?, place_in(open.find(0x1001))?] == [(0, 0), (72, 18)]);
-    assert!(rt; matches!(open.find(0x1002), Err(Error::TypeNotFound(0x1002))));
-    assert!(rt; open.item(0x1001)?.len() == 18);
-    assert!(rt; are_a_and_b(&open.fields(alloc, TypeIndex(0x1001))?));
+    let mut open = open_lists(rt.alloc())?;
+    let steps = steps_of(&mut open)?;
+    let places = places_of(rt.alloc(), &mut open)?;
+    let list = list_of(rt.alloc(), &open)?;
+    assert!(rt; steps == [(58, 12), (72, 18), (0, 0), (58, 12)]);
+    assert!(rt; places == (0x1001, 2, [(0, 0), (72, 18)], true));
+    assert!(rt; list == (18, true));
     Ok(())
 }

@@ -1,5 +1,6 @@
 //! OMAP tables, sections, and the conversions by them.
 
+use super::stream;
 use pdb_base::{Count, Error, ParseBuffer, Stream};
 use pdb_space::{
     AddressMap, ImageSectionHeader, OMAPRecord, OMAPRecords, OMAPTable, PdbInternalRva,
@@ -10,13 +11,19 @@ use std::alloc::Global;
 use std::ops::Range;
 use std::test::Fail;
 
-/// The OMAP table of these records, of which there are at most 1024: sources and targets.
-fn table(alloc: Global, records: &[(u32, u32)]) -> Result<OMAPTable, Fail> {
-    let mut bytes = Vec::new(alloc);
+/// Adds records: sources and targets.
+fn push(bytes: &mut Vec<u8>, records: &[(u32, u32)]) -> Result<(), Fail> {
     for (source, target) in records {
         bytes.extend_from_slice(&source.to_le_bytes())?;
         bytes.extend_from_slice(&target.to_le_bytes())?;
     }
+    Ok(())
+}
+
+/// The OMAP table of these records, of which there are at most 1024: sources and targets.
+fn table(alloc: Global, records: &[(u32, u32)]) -> Result<OMAPTable, Fail> {
+    let mut bytes = Vec::new(alloc);
+    push(&mut bytes, records)?;
     bytes.truncate(0x2000);
     Ok(OMAPTable::parse(Stream::new(bytes))?)
 }
@@ -51,12 +58,21 @@ const LOOK_UPS: &[(Records, u32, Option<u32>)] = &[
     (&[], 0x10, None),
 ];
 
+/// Whether the table of these records is sorted, and what it answers of an address.
+fn looked_up(
+    alloc: Global,
+    records: &[(u32, u32)],
+    address: u32,
+) -> Result<(bool, Option<u32>), Fail> {
+    let table = table(alloc, records)?;
+    Ok((table.is_sorted(), table.lookup(address)))
+}
+
 #[test]
 fn look_ups(rt: HostRuntime) -> Result<(), Fail> {
     for (records, address, want) in LOOK_UPS {
-        let table = table(rt.alloc(), records)?;
-        assert!(rt; table.is_sorted());
-        assert!(rt; table.lookup(*address) == *want, "lookup of {address}");
+        let answer = looked_up(rt.alloc(), records, *address)?;
+        assert!(rt; answer == (true, *want), "lookup of {address}");
     }
     Ok(())
 }
@@ -73,21 +89,30 @@ fn moves_to(
     Ok(ranges.as_slice() == want)
 }
 
-/// Tables, the start and the end of a range, and those of the one range that they answer.
-const RANGES: &[(Records, u32, u32, u32, u32)] = &[
-    (UNMAPPED, 0, 0x1010, 0x15d44, 0x15d4c),
-    (LAST, 0x10, 0x20, 0xffff_fff8, 0xffff_ffff),
-    (EQUAL, 0x10, 0x12, 0x200, 0x202),
+/// The same of the table of these records.
+fn moves(
+    alloc: Global,
+    records: &[(u32, u32)],
+    start: u32,
+    end: u32,
+    want: &[Range<u32>],
+) -> Result<bool, Fail> {
+    let table = table(alloc, records)?;
+    moves_to(alloc, &table, start, end, want)
+}
+
+/// Tables, the start and the end of a range, and the one range that they answer.
+const RANGES: &[(Records, u32, u32, &[Range<u32>])] = &[
+    (UNMAPPED, 0, 0x1010, &[0x15d44..0x15d4c]),
+    (LAST, 0x10, 0x20, &[0xffff_fff8..0xffff_ffff]),
+    (EQUAL, 0x10, 0x12, &[0x200..0x202]),
 ];
 
 #[test]
 fn ranges(rt: HostRuntime) -> Result<(), Fail> {
-    for (records, start, end, first, last) in RANGES {
-        let table = table(rt.alloc(), records)?;
-        assert!(rt;
-            moves_to(rt.alloc(), &table, *start, *end, &[*first..*last])?,
-            "{start}..{end}"
-        );
+    for (records, start, end, want) in RANGES {
+        let is = moves(rt.alloc(), records, *start, *end, want)?;
+        assert!(rt; is, "{start}..{end}");
     }
     Ok(())
 }
@@ -108,12 +133,20 @@ fn counted(table: &OMAPTable, address: u32) -> (Option<u32>, u64) {
     (moved, count.get())
 }
 
+/// What the table of 1000 records answers of an address, and the same with the count.
+fn looked_up_of_many(
+    alloc: Global,
+    address: u32,
+) -> Result<(Option<u32>, (Option<u32>, u64)), Fail> {
+    let table = thousand(alloc)?;
+    Ok((table.lookup(address), counted(&table, address)))
+}
+
 #[test]
 fn many_records(rt: HostRuntime) -> Result<(), Fail> {
-    let table = thousand(rt.alloc())?;
-    assert!(rt; table.lookup(15999) == Some(1_064_575));
-    let (moved, compared) = counted(&table, 15999);
-    assert!(rt; moved == Some(1_064_575) && (1..=10).contains(&compared));
+    let (moved, (again, compared)) = looked_up_of_many(rt.alloc(), 15999)?;
+    assert!(rt; moved == Some(1_064_575));
+    assert!(rt; again == Some(1_064_575) && matches!(compared, 1..=10));
     Ok(())
 }
 
@@ -124,48 +157,75 @@ const ACROSS: &[Range<u32>] = &[
     1_064_560..1_064_562,
 ];
 
+/// What a range over the end of the last of these records is moved to.
+const AT_END: &[Range<u32>] = &[1_064_566..1_064_578];
+
+/// Whether the table of 1000 records moves the range of a start and an end to these.
+fn many_move(alloc: Global, start: u32, end: u32, want: &[Range<u32>]) -> Result<bool, Fail> {
+    let table = thousand(alloc)?;
+    moves_to(alloc, &table, start, end, want)
+}
+
 #[test]
 fn ranges_of_many_records(rt: HostRuntime) -> Result<(), Fail> {
-    let table = thousand(rt.alloc())?;
-    assert!(rt; moves_to(rt.alloc(), &table, 15966, 15986, ACROSS)?);
-    assert!(rt; moves_to(rt.alloc(), &table, 15990, 16002, &[1_064_566..1_064_578])?);
+    assert!(rt; many_move(rt.alloc(), 15966, 15986, ACROSS)?);
+    assert!(rt; many_move(rt.alloc(), 15990, 16002, AT_END)?);
     Ok(())
 }
+
+/// What the table of no records answers of an address, and how many sources are compared.
+fn counted_of_none(alloc: Global, address: u32) -> Result<(Option<u32>, u64), Fail> {
+    let table = table(alloc, &[])?;
+    Ok(counted(&table, address))
+}
+
+/// Records of one source, of which the last moves it nowhere.
+const NOWHERE: Records = &[(5, 0x10), (5, 0x20), (5, 0)];
 
 #[test]
 fn few_records(rt: HostRuntime) -> Result<(), Fail> {
-    assert!(rt; counted(&table(rt.alloc(), &[])?, 15999) == (None, 0));
-    let equal = table(rt.alloc(), &[(5, 0x10), (5, 0x20), (5, 0)])?;
-    assert!(rt; equal.lookup(5).is_none() && moves_to(rt.alloc(), &equal, 5, 9, &[])?);
+    assert!(rt; counted_of_none(rt.alloc(), 15999)? == (None, 0));
+    assert!(rt; looked_up(rt.alloc(), NOWHERE, 5)?.1.is_none());
+    assert!(rt; moves(rt.alloc(), NOWHERE, 5, 9, &[])?);
     Ok(())
 }
 
-/// Whether a table is sorted, and its records.
-fn records_of(alloc: Global, records: &[(u32, u32)]) -> Result<(bool, Vec<OMAPRecord>), Fail> {
-    let table = table(alloc, records)?;
+/// Whether a table has these records.
+fn lists(alloc: Global, table: &OMAPTable, want: &[OMAPRecord]) -> Result<bool, Fail> {
     let stored: OMAPRecords<'_> = table.records();
-    Ok((table.is_sorted(), stored.collect(alloc)?))
+    let all: Vec<OMAPRecord> = stored.collect(alloc)?;
+    Ok(all.as_slice() == want)
+}
+
+/// Whether the table of these records is sorted, and whether it has those.
+fn stores(
+    alloc: Global,
+    records: &[(u32, u32)],
+    want: &[OMAPRecord],
+) -> Result<(bool, bool), Fail> {
+    let table = table(alloc, records)?;
+    Ok((table.is_sorted(), lists(alloc, &table, want)?))
 }
 
 #[test]
 fn records(rt: HostRuntime) -> Result<(), Fail> {
-    let (sorted, records) = records_of(rt.alloc(), &[(2, 1), (1, 2)])?;
+    let want = [OMAPRecord::new(2, 1), OMAPRecord::new(1, 2)];
+    let (sorted, listed) = stores(rt.alloc(), &[(2, 1), (1, 2)], &want)?;
     assert!(rt; !sorted);
-    assert!(rt; records.as_slice() == [OMAPRecord::new(2, 1), OMAPRecord::new(1, 2)].as_slice());
+    assert!(rt; listed);
     Ok(())
 }
 
 #[test]
 fn single_records(rt: HostRuntime) {
     let first = OMAPRecord::new(1, 9);
-    assert!(rt; (first.source_address(), first.target_address()) == (1, 9));
+    assert!(rt; first.source_address() == 1 && first.target_address() == 9);
     assert!(rt; first < OMAPRecord::new(2, 0) && first > OMAPRecord::new(1, 8));
 }
 
 #[test]
 fn odd_length(rt: HostRuntime) -> Result<(), Fail> {
-    let bytes = Vec::from_slice(rt.alloc(), b"twelve bytes")?;
-    let odd = OMAPTable::parse(Stream::new(bytes));
+    let odd = OMAPTable::parse(stream(rt.alloc(), b"twelve bytes")?);
     assert!(rt; matches!(odd, Err(Error::InvalidStreamLength("OMAP"))));
     Ok(())
 }
@@ -187,21 +247,23 @@ fn header_of(bytes: &[u8]) -> pdb_base::Result<(ImageSectionHeader, usize)> {
     Ok((header, buffer.pos()))
 }
 
+/// What that header says.
+const FIELDS: ImageSectionHeader = ImageSectionHeader {
+    name: *b".data\0\0\0",
+    virtual_size: 0x93548,
+    virtual_address: 0x1e_d000,
+    size_of_raw_data: 0xfe00,
+    pointer_to_raw_data: 0x1e_a200,
+    pointer_to_relocations: 0,
+    pointer_to_line_numbers: 0,
+    number_of_relocations: 0,
+    number_of_line_numbers: 0,
+    characteristics: SectionCharacteristics(0xc800_0040),
+};
+
 #[test]
 fn headers(rt: HostRuntime) -> Result<(), Fail> {
-    let want = ImageSectionHeader {
-        name: *b".data\0\0\0",
-        virtual_size: 0x93548,
-        virtual_address: 0x1e_d000,
-        size_of_raw_data: 0xfe00,
-        pointer_to_raw_data: 0x1e_a200,
-        pointer_to_relocations: 0,
-        pointer_to_line_numbers: 0,
-        number_of_relocations: 0,
-        number_of_line_numbers: 0,
-        characteristics: SectionCharacteristics(0xc800_0040),
-    };
-    assert!(rt; header_of(HEADER)? == (want, 40));
+    assert!(rt; header_of(HEADER)? == (FIELDS, 40));
     Ok(())
 }
 
@@ -212,19 +274,25 @@ fn short_header(rt: HostRuntime) {
     assert!(rt; matches!(refused, Err(Error::UnexpectedEof)) && short.pos() == 0);
 }
 
+/// The names of sections as they are stored, and as they read.
+const SECTION_NAMES: &[([u8; 8], &str)] = &[
+    (*b".data\0\0\0", ".data"),
+    (*b"\xff\0\0\0\0\0\0\0", ""),
+    (*b"no nul..", "no nul.."),
+];
+
+/// A section of a name.
+fn section_of(name: [u8; 8]) -> ImageSectionHeader {
+    ImageSectionHeader {
+        name,
+        ..ImageSectionHeader::default()
+    }
+}
+
 #[test]
 fn section_names(rt: HostRuntime) {
-    let rows = [
-        (*b".data\0\0\0", ".data"),
-        (*b"\xff\0\0\0\0\0\0\0", ""),
-        (*b"no nul..", "no nul.."),
-    ];
-    for (name, want) in rows {
-        let header = ImageSectionHeader {
-            name,
-            ..ImageSectionHeader::default()
-        };
-        assert!(rt; header.name() == want);
+    for (name, want) in SECTION_NAMES {
+        assert!(rt; section_of(*name).name() == *want);
     }
 }
 
@@ -240,14 +308,28 @@ const ALIGNMENTS: &[(u32, Option<u16>)] = &[
     (0, None),
 ];
 
+/// Whether a word says data that is initialized, stays in memory, and can be read and written.
+fn is_data(flags: SectionCharacteristics) -> bool {
+    flags.initialized_data() && flags.not_paged() && flags.read() && flags.write()
+}
+
+/// Whether a word says code, or that it is kept out of caches.
+fn is_other(flags: SectionCharacteristics) -> bool {
+    flags.execute() || flags.not_cached() || flags.executable()
+}
+
+/// The word that bytes are read as.
+fn word_of(bytes: &[u8]) -> pdb_base::Result<SectionCharacteristics> {
+    ParseBuffer::from(bytes).parse()
+}
+
 #[test]
 fn characteristics(rt: HostRuntime) {
     let flags = SectionCharacteristics(0xc800_0040);
-    assert!(rt; flags.initialized_data() && flags.not_paged() && flags.read() && flags.write());
-    assert!(rt; !flags.execute() && !flags.not_cached() && !flags.executable());
+    assert!(rt; is_data(flags));
+    assert!(rt; !is_other(flags));
     assert!(rt; SectionCharacteristics::new(flags.bits()) == flags);
-    let mut buffer = ParseBuffer::from(&HEADER[36..]);
-    assert!(rt; matches!(buffer.parse::<SectionCharacteristics>(), Ok(word) if word == flags));
+    assert!(rt; matches!(word_of(&HEADER[36..]), Ok(word) if word == flags));
     for (word, want) in ALIGNMENTS {
         assert!(rt; SectionCharacteristics(*word).alignment() == *want);
     }
@@ -318,77 +400,106 @@ fn map_of(alloc: Global, section: ImageSectionHeader) -> Result<AddressMap, Fail
     Ok(AddressMap::new(sections, None, None, None))
 }
 
-/// The place of an address, where there is one section.
+/// The section and the offset of an address, where there is one section.
 fn place_of(
     alloc: Global,
     section: ImageSectionHeader,
     address: u32,
-) -> Result<Option<SectionOffset>, Fail> {
+) -> Result<Option<(u16, u32)>, Fail> {
     let map = map_of(alloc, section)?;
-    Ok(Rva(address).to_section_offset(&map))
+    Ok(match Rva(address).to_section_offset(&map) {
+        Some(place) => Some((place.section, place.offset)),
+        None => None,
+    })
 }
+
+/// The start of a section of 0x100 bytes, an address, and the section and the offset of that address.
+const PLACES: &[(u32, u32, Option<(u16, u32)>)] = &[
+    (0x1000, 0x10ff, Some((1, 0xff))),
+    (0x1000, 0x1100, None),
+    (0x1000, 0x0fff, None),
+    (0xffff_fff0, 0xffff_ffff, Some((1, 0xf))),
+];
 
 #[test]
 fn places(rt: HostRuntime) -> Result<(), Fail> {
-    let rows = [
-        (0x1000, 0x10ff, Some(SectionOffset::new(1, 0xff))),
-        (0x1000, 0x1100, None),
-        (0x1000, 0x0fff, None),
-        (0xffff_fff0, 0xffff_ffff, Some(SectionOffset::new(1, 0xf))),
-    ];
-    for (start, address, want) in rows {
-        let place = place_of(rt.alloc(), section(start, 0x100), address)?;
-        assert!(rt; place == want);
+    for (start, address, want) in PLACES {
+        let place = place_of(rt.alloc(), section(*start, 0x100), *address)?;
+        assert!(rt; place == *want);
     }
     Ok(())
 }
 
+/// The internal address of the offset 0x1234 in a section, where the one section lies at 0x10000000.
+fn address_in(alloc: Global, number: u16) -> Result<Option<u32>, Fail> {
+    let map = map_of(alloc, section(0x1000_0000, 0))?;
+    let place = PdbInternalSectionOffset::new(number, 0x1234);
+    Ok(match place.to_internal_rva(&map) {
+        Some(address) => Some(address.0),
+        None => None,
+    })
+}
+
+/// Sections, and those addresses.
+const SECTIONS: &[(u16, Option<u32>)] = &[(1, Some(0x1000_1234)), (2, None), (0, None)];
+
 #[test]
 fn sections(rt: HostRuntime) -> Result<(), Fail> {
-    let map = map_of(rt.alloc(), section(0x1000_0000, 0))?;
-    let rows = [(1, Some(PdbInternalRva(0x1000_1234))), (2, None), (0, None)];
-    for (number, want) in rows {
-        let address = PdbInternalSectionOffset::new(number, 0x1234).to_internal_rva(&map);
-        assert!(rt; address == want, "section {number}");
+    for (number, want) in SECTIONS {
+        assert!(rt;
+            address_in(rt.alloc(), *number)? == *want,
+            "section {number}"
+        );
     }
     Ok(())
+}
+
+/// Whether a map keeps the address 5, and has no place for it.
+fn keeps_addresses(map: &AddressMap) -> bool {
+    Rva(5).to_internal_rva(map) == Some(PdbInternalRva(5))
+        && PdbInternalRva(5).to_rva(map) == Some(Rva(5))
+        && Rva(5).to_section_offset(map).is_none()
+}
+
+/// Whether a map keeps the place of offset 7 in section 0.
+fn keeps_places(map: &AddressMap) -> bool {
+    let place = SectionOffset::new(0, 7);
+    let internal = PdbInternalSectionOffset::new(0, 7);
+    place.to_internal_offset(map) == Some(internal)
+        && internal.to_section_offset(map) == Some(place)
 }
 
 #[test]
 fn no_sections(rt: HostRuntime) {
     let map = AddressMap::empty(rt.alloc());
-    assert!(rt; Rva(5).to_internal_rva(&map) == Some(PdbInternalRva(5)));
-    assert!(rt; PdbInternalRva(5).to_rva(&map) == Some(Rva(5)));
-    assert!(rt; Rva(5).to_section_offset(&map).is_none());
-    let place = SectionOffset::new(0, 7);
-    let internal = PdbInternalSectionOffset::new(0, 7);
-    assert!(rt; place.to_internal_offset(&map) == Some(internal));
-    assert!(rt; internal.to_section_offset(&map) == Some(place));
+    assert!(rt; keeps_addresses(&map));
+    assert!(rt; keeps_places(&map));
 }
 
-/// The first two ranges that a map answers of a start and an end of internal addresses.
-fn two_ranges(map: &AddressMap, start: u32, end: u32) -> [Option<Range<Rva>>; 2] {
+/// Whether a map moves the range of a start and an end of internal addresses to this one alone, or
+/// nowhere.
+fn moves_out(map: &AddressMap, start: u32, end: u32, want: Option<Range<Rva>>) -> bool {
     let mut ranges: RvaRangeIter<'_> = map.rva_ranges(PdbInternalRva(start)..PdbInternalRva(end));
-    [ranges.next(), ranges.next()]
+    ranges.next() == want && ranges.next().is_none()
 }
 
-/// The first two ranges that a map answers of a start and an end of addresses.
-fn two_internal_ranges(
+/// Whether a map moves the range of a start and an end of addresses to this one alone, or nowhere.
+fn moves_internally(
     map: &AddressMap,
     start: u32,
     end: u32,
-) -> [Option<Range<PdbInternalRva>>; 2] {
+    want: Option<Range<PdbInternalRva>>,
+) -> bool {
     let mut ranges: PdbInternalRvaRangeIter<'_> = map.internal_rva_ranges(Rva(start)..Rva(end));
-    [ranges.next(), ranges.next()]
+    ranges.next() == want && ranges.next().is_none()
 }
 
 #[test]
 fn unmapped_ranges(rt: HostRuntime) {
     let map = AddressMap::empty(rt.alloc());
-    let ranges = two_ranges(&map, 0, 0x10);
-    assert!(rt; ranges == [Some(Rva(0)..Rva(0x10)), None]);
-    assert!(rt; two_ranges(&map, 5, 5) == [None, None]);
-    assert!(rt; two_internal_ranges(&map, 5, 5) == [None, None]);
+    assert!(rt; moves_out(&map, 0, 0x10, Some(Rva(0)..Rva(0x10))));
+    assert!(rt; moves_out(&map, 5, 5, None));
+    assert!(rt; moves_internally(&map, 5, 5, None));
 }
 
 /// A map whose one section lay at 0x1000, and lies at 0x2000.
@@ -414,34 +525,59 @@ const INTERNAL_PLACE: PdbInternalSectionOffset = PdbInternalSectionOffset {
     offset: 0x10,
 };
 
+/// Whether a map moves the internal place to the internal address, to the address and to the place.
+fn moves_internal_place(map: &AddressMap) -> bool {
+    INTERNAL_PLACE.to_internal_rva(map) == Some(INTERNAL)
+        && INTERNAL_PLACE.to_rva(map) == Some(ADDRESS)
+        && INTERNAL_PLACE.to_section_offset(map) == Some(PLACE)
+}
+
+/// Whether a map moves the place to the address, to the internal address and to the internal place.
+fn moves_place(map: &AddressMap) -> bool {
+    PLACE.to_rva(map) == Some(ADDRESS)
+        && PLACE.to_internal_rva(map) == Some(INTERNAL)
+        && PLACE.to_internal_offset(map) == Some(INTERNAL_PLACE)
+}
+
 #[test]
 fn rearranged_places(rt: HostRuntime) -> Result<(), Fail> {
     let map = rearranged(rt.alloc())?;
-    assert!(rt; INTERNAL_PLACE.to_internal_rva(&map) == Some(INTERNAL));
-    assert!(rt; INTERNAL_PLACE.to_rva(&map) == Some(ADDRESS));
-    assert!(rt; INTERNAL_PLACE.to_section_offset(&map) == Some(PLACE));
-    assert!(rt; PLACE.to_rva(&map) == Some(ADDRESS));
-    assert!(rt; PLACE.to_internal_rva(&map) == Some(INTERNAL));
-    assert!(rt; PLACE.to_internal_offset(&map) == Some(INTERNAL_PLACE));
+    assert!(rt; moves_internal_place(&map));
+    assert!(rt; moves_place(&map));
     Ok(())
+}
+
+/// Whether a map moves the address to the internal place, and one that lies before all sections
+/// nowhere.
+fn moves_address(map: &AddressMap) -> bool {
+    ADDRESS.to_internal_offset(map) == Some(INTERNAL_PLACE)
+        && Rva(0x1fff).to_internal_rva(map).is_none()
+}
+
+/// Whether a map moves the internal address to the place and to the internal place.
+fn moves_internal_address(map: &AddressMap) -> bool {
+    INTERNAL.to_section_offset(map) == Some(PLACE)
+        && INTERNAL.to_internal_offset(map) == Some(INTERNAL_PLACE)
 }
 
 #[test]
 fn rearranged_addresses(rt: HostRuntime) -> Result<(), Fail> {
     let map = rearranged(rt.alloc())?;
-    assert!(rt; ADDRESS.to_internal_offset(&map) == Some(INTERNAL_PLACE));
-    assert!(rt; Rva(0x1fff).to_internal_rva(&map).is_none());
-    assert!(rt; INTERNAL.to_section_offset(&map) == Some(PLACE));
-    assert!(rt; INTERNAL.to_internal_offset(&map) == Some(INTERNAL_PLACE));
+    assert!(rt; moves_address(&map));
+    assert!(rt; moves_internal_address(&map));
     Ok(())
+}
+
+/// Whether a map moves a range of internal addresses, and its image back.
+fn moves_ranges(map: &AddressMap) -> bool {
+    let image = Some(Rva(0x2010)..Rva(0x2020));
+    let internal = Some(PdbInternalRva(0x1010)..PdbInternalRva(0x1020));
+    moves_out(map, 0x1010, 0x1020, image) && moves_internally(map, 0x2010, 0x2020, internal)
 }
 
 #[test]
 fn rearranged_ranges(rt: HostRuntime) -> Result<(), Fail> {
     let map = rearranged(rt.alloc())?;
-    let ranges = two_ranges(&map, 0x1010, 0x1020);
-    assert!(rt; ranges == [Some(Rva(0x2010)..Rva(0x2020)), None]);
-    let [first, _] = two_internal_ranges(&map, 0x2010, 0x2020);
-    assert!(rt; first == Some(PdbInternalRva(0x1010)..PdbInternalRva(0x1020)));
+    assert!(rt; moves_ranges(&map));
     Ok(())
 }

@@ -1,5 +1,6 @@
 //! What a file says by the roles and the names of its streams.
 
+use super::super::says;
 use pdb_base::{FallibleIterator, Result as Answer};
 use pdb_frames::{FrameDataIter, FrameTable};
 use pdb_msf::{BigMSF, open_msf};
@@ -13,8 +14,9 @@ use std::test::Fail;
 /// Bytes in a page.
 const PAGE_SIZE: usize = 512;
 
-/// Where the header's numbers begin.
-const MAGIC: &[u8] = b"Microsoft C/C++ MSF 7.00\r\n\x1a\x44\x53\0\0\0";
+/// The header of a file of 16 pages: a directory of 84 bytes, whose page stands in page 3.
+const HEADER: &[u8] =
+    b"Microsoft C/C++ MSF 7.00\r\n\x1a\x44\x53\0\0\0\0\x02\0\0\x01\0\0\0\x10\0\0\0\x54\0\0\0\0\0\0\0\x03\0\0\0";
 
 /// Stream 1: the names `/a` of stream 2, which is absent, and `/names` of stream 4.
 const INFORMATION: &[u8] =
@@ -68,14 +70,20 @@ fn number_at(roles: &[Role], place: u16) -> u16 {
     0xffff
 }
 
-/// Stream 3 with these roles.
-fn debug(alloc: Global, roles: &[Role]) -> Result<Vec<u8>, Fail> {
-    let mut bytes = Vec::from_slice(alloc, DEBUG)?;
-    push(&mut bytes, 22)?;
+/// Adds what stands behind the parts of stream 3: the size of the debug header, and that header.
+fn push_roles(bytes: &mut Vec<u8>, roles: &[Role]) -> Result<(), Fail> {
+    push(bytes, 22)?;
     bytes.extend_from_slice(BEHIND)?;
     for place in 0..11u16 {
         bytes.extend_from_slice(&number_at(roles, place).to_le_bytes())?;
     }
+    Ok(())
+}
+
+/// Stream 3 with these roles.
+fn debug(alloc: Global, roles: &[Role]) -> Result<Vec<u8>, Fail> {
+    let mut bytes = Vec::from_slice(alloc, DEBUG)?;
+    push_roles(&mut bytes, roles)?;
     Ok(bytes)
 }
 
@@ -103,19 +111,19 @@ fn size_of(number: u32, debug: &[u8]) -> u32 {
     }
 }
 
-/// The directory of the eleven streams: their sizes, and a page for each that has bytes, from 5 on.
-fn directory(alloc: Global, debug: &[u8]) -> Result<Vec<u8>, Fail> {
-    let mut bytes = Vec::new(alloc);
-    push(&mut bytes, 11)?;
+/// Adds the directory of the eleven streams: their sizes, and a page for each that has bytes, from 5
+/// on. It has 84 bytes.
+fn push_directory(bytes: &mut Vec<u8>, debug: &[u8]) -> Result<(), Fail> {
+    push(bytes, 11)?;
     for number in 0..11u32 {
-        push(&mut bytes, size_of(number, debug))?;
+        push(bytes, size_of(number, debug))?;
     }
     for number in 0..11u32 {
         if !stream_of(number, debug).is_empty() {
-            push(&mut bytes, 5 + number)?;
+            push(bytes, 5 + number)?;
         }
     }
-    Ok(bytes)
+    Ok(())
 }
 
 /// Fills bytes up to so many pages.
@@ -124,41 +132,33 @@ fn fill(bytes: &mut Vec<u8>, pages: u32) -> Result<(), Fail> {
     Ok(())
 }
 
-/// The pages that locate the directory, and the directory.
-fn opening(alloc: Global, directory: &[u8]) -> Result<Vec<u8>, Fail> {
-    let mut bytes = Vec::from_slice(alloc, MAGIC)?;
-    push(&mut bytes, 512)?;
-    push(&mut bytes, 1)?;
-    push(&mut bytes, 16)?;
-    push(&mut bytes, directory.len().min(PAGE_SIZE) as u32)?;
-    push(&mut bytes, 0)?;
-    push(&mut bytes, 3)?;
-    fill(&mut bytes, 3)?;
-    push(&mut bytes, 4)?;
-    fill(&mut bytes, 4)?;
-    bytes.extend_from_slice(directory)?;
-    fill(&mut bytes, 5)?;
+/// Adds what stands behind the header: the page of the directory, the directory, and each stream in a
+/// page of its own.
+fn push_pages(bytes: &mut Vec<u8>, debug: &[u8]) -> Result<(), Fail> {
+    fill(bytes, 3)?;
+    push(bytes, 4)?;
+    fill(bytes, 4)?;
+    push_directory(bytes, debug)?;
+    fill(bytes, 5)?;
+    for number in 0..11u32 {
+        bytes.extend_from_slice(stream_of(number, debug))?;
+        fill(bytes, 6 + number)?;
+    }
+    Ok(())
+}
+
+/// The bytes of a file with this stream 3.
+fn written(alloc: Global, debug: &[u8]) -> Result<Vec<u8>, Fail> {
+    let mut bytes = Vec::from_slice(alloc, HEADER)?;
+    push_pages(&mut bytes, debug)?;
     Ok(bytes)
 }
 
 /// A file with these roles, each stream in a page of its own.
 fn file(alloc: Global, roles: &[Role]) -> Result<BigMSF<Vec<u8>>, Fail> {
     let debug = debug(alloc, roles)?;
-    let directory = directory(alloc, &debug)?;
-    let mut bytes = opening(alloc, &directory)?;
-    for number in 0..11u32 {
-        bytes.extend_from_slice(stream_of(number, &debug))?;
-        fill(&mut bytes, 6 + number)?;
-    }
+    let bytes = written(alloc, &debug)?;
     Ok(open_msf(alloc, bytes)?)
-}
-
-/// The text of the error that a call is refused with, or nothing.
-fn refusal<T: Drop>(alloc: Global, answer: Answer<T>) -> Result<String, Fail> {
-    match answer {
-        Ok(_) => Ok(String::new(alloc)),
-        Err(error) => Ok(error.to_string(alloc)?),
-    }
 }
 
 /// The places of the roles of an address map, and of those of a frame table.
@@ -176,113 +176,91 @@ const FRAME_DATA_AT: u16 = 9;
 
 /// The section headers, the original ones, OMAP to source and OMAP from source, and what an address map
 /// of these is refused with, or nothing.
-const MAPS: &[(u16, u16, u16, u16, &str)] = &[
-    (0xffff, 0xffff, 0xffff, 0xffff, ""),
-    (6, 0xffff, 99, 99, ""),
-    (6, 5, 0xffff, 0xffff, ""),
-    (0, 0, 0, 0, ""),
+const MAPS: &[([u16; 4], &str)] = &[
+    ([0xffff, 0xffff, 0xffff, 0xffff], ""),
+    ([6, 0xffff, 99, 99], ""),
+    ([6, 5, 0xffff, 0xffff], ""),
+    ([0, 0, 0, 0], ""),
     (
-        2,
-        99,
-        0,
-        0,
+        [2, 99, 0, 0],
         "The requested stream (2) is not stored in this file",
     ),
     (
-        99,
-        2,
-        0,
-        0,
+        [99, 2, 0, 0],
         "The requested stream (99) is not stored in this file",
     ),
     (
-        65534,
-        5,
-        0,
-        0,
+        [65534, 5, 0, 0],
         "The requested stream (65534) is not stored in this file",
     ),
-    (9, 99, 0, 0, "UnexpectedEof"),
+    ([9, 99, 0, 0], "UnexpectedEof"),
     (
-        6,
-        99,
-        2,
-        2,
+        [6, 99, 2, 2],
         "The requested stream (99) is not stored in this file",
     ),
-    (6, 10, 2, 2, "UnexpectedEof"),
+    ([6, 10, 2, 2], "UnexpectedEof"),
     (
-        6,
-        5,
-        2,
-        99,
+        [6, 5, 2, 99],
         "The requested stream (2) is not stored in this file",
     ),
     (
-        6,
-        5,
-        4,
-        99,
+        [6, 5, 4, 99],
         "OMAP stream has an invalid length or alignment for its records",
     ),
     (
-        6,
-        5,
-        7,
-        99,
+        [6, 5, 7, 99],
         "The requested stream (99) is not stored in this file",
     ),
     (
-        6,
-        5,
-        7,
-        4,
+        [6, 5, 7, 4],
         "OMAP stream has an invalid length or alignment for its records",
     ),
-    (0xffff, 5, 7, 8, ""),
+    ([0xffff, 5, 7, 8], ""),
 ];
 
-/// What the address map of a file with these streams is refused with, or nothing.
-fn mapped(
-    alloc: Global,
-    sections: u16,
-    original: u16,
-    to_source: u16,
-    from_source: u16,
-) -> Result<String, Fail> {
+/// Whether the address map of a file is made, where nothing is wanted, or refused with this text.
+fn is_mapped(alloc: Global, file: &mut BigMSF<Vec<u8>>, want: &str) -> Result<bool, Fail> {
+    match address_map(alloc, file) {
+        Ok(_) => Ok(want.is_empty()),
+        Err(error) => says(alloc, error, want.as_bytes()),
+    }
+}
+
+/// The same of a file with these streams: the section headers, the original ones, OMAP to source and
+/// OMAP from source.
+fn maps(alloc: Global, streams: [u16; 4], want: &str) -> Result<bool, Fail> {
     let roles = [
-        (SECTIONS_AT, sections),
-        (ORIGINAL_AT, original),
-        (TO_SOURCE_AT, to_source),
-        (FROM_SOURCE_AT, from_source),
+        (SECTIONS_AT, streams[0]),
+        (ORIGINAL_AT, streams[1]),
+        (TO_SOURCE_AT, streams[2]),
+        (FROM_SOURCE_AT, streams[3]),
     ];
     let mut file = file(alloc, &roles)?;
-    refusal(alloc, address_map(alloc, &mut file))
+    is_mapped(alloc, &mut file, want)
 }
 
 #[test]
 fn address_maps(rt: HostRuntime) -> Result<(), Fail> {
-    for (sections, original, to_source, from_source, want) in MAPS {
-        let text = mapped(rt.alloc(), *sections, *original, *to_source, *from_source)?;
-        assert!(rt;
-            text.as_str() == *want,
-            "{sections} {original} {to_source} {from_source}"
-        );
+    for (streams, want) in MAPS {
+        assert!(rt; maps(rt.alloc(), *streams, want)?, "{streams:?}");
     }
     Ok(())
 }
 
-/// The address map of a file with these roles.
-fn map_of(alloc: Global, roles: &[Role]) -> Result<AddressMap, Fail> {
-    let mut file = file(alloc, roles)?;
-    Ok(address_map(alloc, &mut file)?)
+/// Where an original address goes.
+fn moved(map: &AddressMap, address: u32) -> Option<u32> {
+    match PdbInternalRva(address).to_rva(map) {
+        Some(address) => Some(address.0),
+        None => None,
+    }
 }
 
-/// Where the original address 0x1010 goes, and where the address 0x5010 came from.
-fn moved(map: &AddressMap) -> (Option<u32>, Option<u32>) {
-    let there = PdbInternalRva(0x1010).to_rva(map).map(|rva| rva.0);
-    let back = Rva(0x5010).to_internal_rva(map).map(|rva| rva.0);
-    (there, back)
+/// Where an address of the image as it is loaded came from.
+fn moved_back(map: &AddressMap, address: u32) -> Option<u32> {
+    match Rva(address).to_internal_rva(map) {
+        Some(address) => Some(address.0),
+        None => None,
+    }
 }
 
 /// Whether the original address 0x1010 is in a section, and whether the addresses 0x1010 and 0x5010 of
@@ -295,14 +273,11 @@ fn lies(map: &AddressMap) -> (bool, bool, bool) {
     )
 }
 
-/// Roles, where the two addresses go, and where they lie.
-type Translation = (
-    &'static [Role],
-    (Option<u32>, Option<u32>),
-    (bool, bool, bool),
-);
+/// Where the original address 0x1010 goes, where the address 0x5010 came from, and where they lie.
+type Translation = (Option<u32>, Option<u32>, (bool, bool, bool));
 
-const TRANSLATIONS: &[Translation] = &[
+/// Roles, and what the address map of a file with these answers.
+const TRANSLATIONS: &[(&[Role], Translation)] = &[
     (
         &[
             (SECTIONS_AT, 6),
@@ -310,23 +285,33 @@ const TRANSLATIONS: &[Translation] = &[
             (TO_SOURCE_AT, 7),
             (FROM_SOURCE_AT, 8),
         ],
-        (Some(0x5010), Some(0x1010)),
-        (true, false, true),
+        (Some(0x5010), Some(0x1010), (true, false, true)),
     ),
     (
         &[(SECTIONS_AT, 6), (TO_SOURCE_AT, 7), (FROM_SOURCE_AT, 8)],
-        (Some(0x1010), Some(0x5010)),
-        (false, false, true),
+        (Some(0x1010), Some(0x5010), (false, false, true)),
     ),
-    (&[], (Some(0x1010), Some(0x5010)), (false, false, false)),
+    (&[], (Some(0x1010), Some(0x5010), (false, false, false))),
 ];
+
+/// What the address map of a file answers.
+fn mapped(alloc: Global, file: &mut BigMSF<Vec<u8>>) -> Answer<Translation> {
+    let map = address_map(alloc, file)?;
+    let there = moved(&map, 0x1010);
+    let back = moved_back(&map, 0x5010);
+    Ok((there, back, lies(&map)))
+}
+
+/// What the address map of a file with these roles answers.
+fn translated(alloc: Global, roles: &[Role]) -> Result<Translation, Fail> {
+    let mut file = file(alloc, roles)?;
+    Ok(mapped(alloc, &mut file)?)
+}
 
 #[test]
 fn translations(rt: HostRuntime) -> Result<(), Fail> {
-    for (roles, to, place) in TRANSLATIONS {
-        let map = map_of(rt.alloc(), roles)?;
-        assert!(rt; moved(&map) == *to, "{roles:?}");
-        assert!(rt; lies(&map) == *place, "{roles:?}");
+    for (roles, want) in TRANSLATIONS {
+        assert!(rt; translated(rt.alloc(), roles)? == *want, "{roles:?}");
     }
     Ok(())
 }
@@ -341,73 +326,97 @@ fn step(frames: &mut FrameDataIter<'_>) -> Answer<Option<u32>> {
 }
 
 /// The starts of the first two frames.
-fn starts(table: &FrameTable) -> Answer<(Option<u32>, Option<u32>)> {
+type Starts = (Option<u32>, Option<u32>);
+
+/// The starts of the first two frames of a table.
+fn starts(table: &FrameTable) -> Answer<Starts> {
     let mut frames = table.iter();
     let first = step(&mut frames)?;
     Ok((first, step(&mut frames)?))
 }
 
-/// The FPO stream, the frame data, and the starts of the frames of both.
-const FRAMES: &[(u16, u16, (Option<u32>, Option<u32>))] = &[
-    (0xffff, 0xffff, (None, None)),
-    (9, 0xffff, (Some(0x10), None)),
-    (0xffff, 10, (Some(0x20), None)),
-    (9, 10, (Some(0x10), Some(0x20))),
-    (0, 10, (Some(0x20), None)),
-];
-
-/// The same, and what the table is refused with.
-const BAD_FRAMES: &[(u16, u16, &str)] = &[
+/// The FPO stream, the frame data, and the starts of the frames of both, or what the table is refused
+/// with.
+const FRAMES: &[(u16, u16, Starts, &str)] = &[
+    (0xffff, 0xffff, (None, None), ""),
+    (9, 0xffff, (Some(0x10), None), ""),
+    (0xffff, 10, (Some(0x20), None), ""),
+    (9, 10, (Some(0x10), Some(0x20)), ""),
+    (0, 10, (Some(0x20), None), ""),
     (
         4,
         9,
+        (None, None),
         "FPO stream has an invalid length or alignment for its records",
     ),
     (
         9,
         9,
+        (None, None),
         "FrameData stream has an invalid length or alignment for its records",
     ),
-    (2, 99, "The requested stream (2) is not stored in this file"),
+    (
+        2,
+        99,
+        (None, None),
+        "The requested stream (2) is not stored in this file",
+    ),
     (
         4,
         99,
+        (None, None),
         "The requested stream (99) is not stored in this file",
     ),
 ];
 
-/// The frame table of a file with these streams.
-fn frames_of(alloc: Global, old: u16, new: u16) -> Result<Answer<FrameTable>, Fail> {
-    let roles = [(FPO_AT, old), (FRAME_DATA_AT, new)];
-    let mut file = file(alloc, &roles)?;
-    Ok(frame_table(alloc, &mut file))
+/// Whether the frame table of a file is refused with this text, or has frames from these starts on
+/// where there is no text.
+fn is_framed(
+    alloc: Global,
+    file: &mut BigMSF<Vec<u8>>,
+    want: Starts,
+    refusal: &str,
+) -> Result<bool, Fail> {
+    match frame_table(alloc, file) {
+        Ok(table) => {
+            Ok(matches!(starts(&table), Ok(given) if given == want) && refusal.is_empty())
+        }
+        Err(error) => says(alloc, error, refusal.as_bytes()),
+    }
+}
+
+/// The same of a file with these streams.
+fn frames(alloc: Global, old: u16, new: u16, want: Starts, refusal: &str) -> Result<bool, Fail> {
+    let mut file = file(alloc, &[(FPO_AT, old), (FRAME_DATA_AT, new)])?;
+    is_framed(alloc, &mut file, want, refusal)
 }
 
 #[test]
 fn frame_tables(rt: HostRuntime) -> Result<(), Fail> {
-    for (old, new, want) in FRAMES {
-        let table = frames_of(rt.alloc(), *old, *new)??;
-        assert!(rt; starts(&table)? == *want, "{old} {new}");
-    }
-    for (old, new, want) in BAD_FRAMES {
-        let text = refusal(rt.alloc(), frames_of(rt.alloc(), *old, *new)?)?;
-        assert!(rt; text.as_str() == *want, "{old} {new}");
+    for (old, new, want, refusal) in FRAMES {
+        let are = frames(rt.alloc(), *old, *new, *want, refusal)?;
+        assert!(rt; are, "{old} {new}");
     }
     Ok(())
 }
 
-/// The bytes of the stream of a name, or the text of the refusal.
-fn named_or_refused(alloc: Global, file: &mut BigMSF<Vec<u8>>, name: &[u8]) -> Answer<Vec<u8>> {
+/// Whether the stream of a name has these bytes, or is refused with this text.
+fn gives(
+    alloc: Global,
+    file: &mut BigMSF<Vec<u8>>,
+    name: &[u8],
+    want: &[u8],
+) -> Result<bool, Fail> {
     match named_stream(alloc, file, name) {
-        Ok(stream) => Ok(stream.into_bytes()),
-        Err(error) => Ok(error.to_string(alloc)?.into_bytes()),
+        Ok(stream) => Ok(stream.as_slice() == want),
+        Err(error) => says(alloc, error, want),
     }
 }
 
-/// The first name of the string table.
-fn first_name(alloc: Global, file: &mut BigMSF<Vec<u8>>) -> Answer<Vec<u8>> {
+/// Whether the first name of the string table is `foo`.
+fn has_foo(alloc: Global, file: &mut BigMSF<Vec<u8>>) -> Answer<bool> {
     let table = string_table(alloc, file)?;
-    Ok(Vec::from_slice(alloc, table.get(StringRef(1))?.as_bytes())?)
+    Ok(matches!(table.get(StringRef(1)), Ok(name) if name.as_bytes() == b"foo".as_slice()))
 }
 
 /// The age of the file.
@@ -415,14 +424,9 @@ fn age(alloc: Global, file: &mut BigMSF<Vec<u8>>) -> Answer<u32> {
     Ok(pdb_information(alloc, file)?.age)
 }
 
-/// Whether the file has frames of the older format.
-fn has_old_frames(alloc: Global, file: &mut BigMSF<Vec<u8>>) -> Answer<bool> {
-    Ok(extra_streams(alloc, file)?.fpo.is_some())
-}
-
 /// Whether the file's age is 1, and it has no frames of the older format.
 fn is_told(alloc: Global, file: &mut BigMSF<Vec<u8>>) -> Answer<bool> {
-    Ok(age(alloc, file)? == 1 && !has_old_frames(alloc, file)?)
+    Ok(age(alloc, file)? == 1 && extra_streams(alloc, file)?.fpo.is_none())
 }
 
 /// Names of streams, and the bytes of each or the text of its refusal.
@@ -435,14 +439,37 @@ const NAMED: &[(&[u8], &[u8])] = &[
     (b"/names", NAMES),
 ];
 
+/// The first name whose stream is not as it should be.
+fn wrong_name(alloc: Global, file: &mut BigMSF<Vec<u8>>) -> Result<Option<&'static [u8]>, Fail> {
+    for (name, want) in NAMED {
+        if !gives(alloc, file, name, want)? {
+            return Ok(Some(*name));
+        }
+    }
+    Ok(None)
+}
+
+/// That name, whether the string table has its name, and whether the file has its age.
+fn asked(
+    alloc: Global,
+    file: &mut BigMSF<Vec<u8>>,
+) -> Result<(Option<&'static [u8]>, bool, bool), Fail> {
+    let wrong = wrong_name(alloc, file)?;
+    let foo = has_foo(alloc, file)?;
+    Ok((wrong, foo, is_told(alloc, file)?))
+}
+
+/// The same of a file with no roles.
+fn answered(alloc: Global) -> Result<(Option<&'static [u8]>, bool, bool), Fail> {
+    let mut file = file(alloc, &[])?;
+    asked(alloc, &mut file)
+}
+
 #[test]
 fn named(rt: HostRuntime) -> Result<(), Fail> {
-    let mut file = file(rt.alloc(), &[])?;
-    for (name, want) in NAMED {
-        let found = named_or_refused(rt.alloc(), &mut file, name)?;
-        assert!(rt; found.as_slice() == *want, "{name:?}");
-    }
-    assert!(rt; first_name(rt.alloc(), &mut file)?.as_slice() == b"foo".as_slice());
-    assert!(rt; is_told(rt.alloc(), &mut file)?);
+    let (wrong, foo, told) = answered(rt.alloc())?;
+    assert!(rt; wrong.is_none(), "{wrong:?}");
+    assert!(rt; foo);
+    assert!(rt; told);
     Ok(())
 }

@@ -1,6 +1,7 @@
 //! The header of stream 3, and the place of the debug header.
 
-use super::{front, has_first, stream};
+use super::super::stream;
+use super::{front, has_first};
 use pdb_base::{Error, StreamIndex};
 use pdb_roles::{DBIExtraStreams, DBIHeader};
 use std::alloc::Global;

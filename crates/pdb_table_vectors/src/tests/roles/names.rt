@@ -1,8 +1,9 @@
 //! The header of stream 1, and the names of streams.
 
-use super::{front, stream};
-use pdb_base::{Error, StreamIndex};
-use pdb_roles::{PDBInformation, StreamName};
+use super::super::{says, stream};
+use super::front;
+use pdb_base::{Error, Result as Answer, StreamIndex};
+use pdb_roles::{PDBInformation, StreamName, StreamNames};
 use std::alloc::Global;
 use std::test::Fail;
 
@@ -28,45 +29,66 @@ fn information(alloc: Global, table: &[u8], entries: &[u8]) -> Result<Vec<u8>, F
     Ok(bytes)
 }
 
-/// The names and the streams of such a table, or why there are none.
-fn shown(alloc: Global, bytes: &[u8]) -> Result<String, Fail> {
-    let information = match PDBInformation::parse(stream(alloc, bytes)?) {
-        Ok(information) => information,
-        Err(error) => return Ok(error.to_string(alloc)?),
-    };
-    let names = match information.stream_names(alloc) {
-        Ok(names) => names,
-        Err(error) => return Ok(error.to_string(alloc)?),
-    };
-    let mut text = String::new(alloc);
-    for StreamName { name, stream_id } in names.as_slice() {
-        text.push_str(format!(in alloc; "{name}={stream_id};")?.as_str())?;
-    }
-    Ok(text)
+/// Adds a name and its stream to a text.
+fn push_name(alloc: Global, text: &mut String, named: &StreamName<'_>) -> Result<(), Fail> {
+    let StreamName { name, stream_id } = named;
+    text.push_str(format!(in alloc; "{name}={stream_id};")?.as_str())?;
+    Ok(())
 }
 
-const ENDS: &str = "UnexpectedEof";
+/// Whether names and their streams are this text, one behind the other.
+fn read(alloc: Global, names: &[StreamName<'_>], want: &[u8]) -> Result<bool, Fail> {
+    let mut text = String::new(alloc);
+    for named in names {
+        push_name(alloc, &mut text, named)?;
+    }
+    Ok(text.as_str().as_bytes() == want)
+}
+
+/// Whether the names and the streams of stream 1 are this text, or why there are none.
+fn lists(alloc: Global, information: &PDBInformation, want: &[u8]) -> Result<bool, Fail> {
+    match information.stream_names(alloc) {
+        Ok(names) => read(alloc, names.as_slice(), want),
+        Err(error) => says(alloc, error, want),
+    }
+}
+
+/// The same of a stream 1 of these bytes.
+fn is_shown(alloc: Global, bytes: &[u8], want: &[u8]) -> Result<bool, Fail> {
+    match PDBInformation::parse(stream(alloc, bytes)?) {
+        Ok(information) => lists(alloc, &information, want),
+        Err(error) => says(alloc, error, want),
+    }
+}
+
+/// The same of a stream 1 with such a table and its entries.
+fn is_listed(alloc: Global, table: &[u8], entries: &[u8], want: &[u8]) -> Result<bool, Fail> {
+    let bytes = information(alloc, table, entries)?;
+    is_shown(alloc, &bytes, want)
+}
+
+const ENDS: &[u8] = b"UnexpectedEof";
 
 /// Tables, their entries, and the names and streams that these are.
-const TABLES: &[(&[u8], &[u8], &str)] = &[
+const TABLES: &[(&[u8], &[u8], &[u8])] = &[
     (
         TWO,
         b"\x03\0\0\0\x07\0\0\0\0\0\0\0\x2c\x01\0\0",
-        "/names=7;/a=300;",
+        b"/names=7;/a=300;",
     ),
     (
         TWO,
         b"\x01\0\0\0\x07\0\0\0\x01\0\0\0\x08\0\0\0behind",
-        "a=7;a=8;",
+        b"a=7;a=8;",
     ),
     (TWO, b"\x03\0\0\0\x07\0\0\0\x0b\0\0\0\x01\0\0\0", ENDS),
-    (ONE, b"\x0a\0\0\0\xfe\xff\0\0", "=65534;"),
-    (ONE, b"\x0a\0\0\0\xff\xff\0\0", "=None;"),
-    (ONE, b"\x0a\0\0\0\x02\0\x01\0", "=None;"),
+    (ONE, b"\x0a\0\0\0\xfe\xff\0\0", b"=65534;"),
+    (ONE, b"\x0a\0\0\0\xff\xff\0\0", b"=None;"),
+    (ONE, b"\x0a\0\0\0\x02\0\x01\0", b"=None;"),
     (ONE, b"\x0b\0\0\0\x02\0\0\0", ENDS),
     (ONE, b"\x0c\0\0\0\x02\0\0\0", ENDS),
     (ONE, b"\xff\xff\xff\xff\x02\0\0\0\0", ENDS),
-    (b"\0\0\0\0\0\0\0\0\0\0\0\0\0\0\0\0", b"", ""),
+    (b"\0\0\0\0\0\0\0\0\0\0\0\0\0\0\0\0", b"", b""),
     (b"\xff\xff\xff\xff\0\0\0\0\0\0\0\0\0\0\0\0", b"", ENDS),
     (b"\0\0\0\0\0\0\0\0\xff\xff\xff\xff\0\0\0\0", b"", ENDS),
     (b"\0\0\0\0\0\0\0\0\0\0\0\0\xff\xff\xff\xff", b"", ENDS),
@@ -75,46 +97,88 @@ const TABLES: &[(&[u8], &[u8], &str)] = &[
 #[test]
 fn tables(rt: HostRuntime) -> Result<(), Fail> {
     for (table, entries, want) in TABLES {
-        let bytes = information(rt.alloc(), table, entries)?;
-        let text = shown(rt.alloc(), &bytes)?;
-        assert!(rt; text.as_str() == *want, "{entries:?}");
+        assert!(rt; is_listed(rt.alloc(), table, entries, want)?, "{entries:?}");
     }
     Ok(())
 }
 
-/// Stream 1 with two names.
-fn two(alloc: Global) -> Result<Vec<u8>, Fail> {
-    information(alloc, TWO, b"\x03\0\0\0\x07\0\0\0\0\0\0\0\x2c\x01\0\0")
-}
+/// Stream 1 with two names: the header, the names, their table, and its entries.
+const WHOLE: &[u8] =
+    b"\x94\x2e\x31\x01\x01\x02\x03\x04\x05\0\0\0\xa0\xa1\xa2\xa3\xa4\xa5\xa6\xa7\xa8\xa9\xaa\xab\xac\xad\xae\xaf\x0c\0\0\0/a\0/names\0\0x\x02\0\0\0\x08\0\0\0\x01\0\0\0\x03\0\0\0\x02\0\0\0\xff\xff\xff\xff\0\0\0\0\x03\0\0\0\x07\0\0\0\0\0\0\0\x2c\x01\0\0";
 
 #[test]
 fn cuts(rt: HostRuntime) -> Result<(), Fail> {
-    let bytes = two(rt.alloc())?;
     for len in 0..88usize {
-        let text = shown(rt.alloc(), front(&bytes, len))?;
-        assert!(rt; text.as_str() == ENDS, "of {len} bytes");
+        assert!(rt;
+            is_shown(rt.alloc(), front(WHOLE, len), ENDS)?,
+            "of {len} bytes"
+        );
     }
     Ok(())
+}
+
+/// The GUID of that stream.
+const GUID: &[u8] = b"\xa0\xa1\xa2\xa3\xa4\xa5\xa6\xa7\xa8\xa9\xaa\xab\xac\xad\xae\xaf";
+
+/// Whether the fields before the names are those of that stream.
+fn has_fields(information: &PDBInformation) -> bool {
+    information.version == 20_000_404
+        && information.signature == 0x0403_0201
+        && information.age == 5
+        && information.guid.as_slice() == GUID
+        && information.names_offset == 32
+        && information.names_size == 12
+}
+
+/// The number of the stream of a name, or none where there is no such name.
+fn number(names: &StreamNames<'_>, name: &[u8]) -> Answer<Option<u32>> {
+    match names.number(name) {
+        Ok(number) => Ok(Some(number)),
+        Err(Error::StreamNameNotFound) => Ok(None),
+        Err(error) => Err(error),
+    }
+}
+
+/// Names, and the numbers of their streams.
+const NUMBERS: &[(&[u8], Option<u32>)] = &[
+    (b"/a", Some(300)),
+    (b"/names", Some(7)),
+    (b"/name", None),
+];
+
+/// Whether each name of these has its number.
+fn has_numbers(names: &StreamNames<'_>) -> Answer<bool> {
+    for (name, want) in NUMBERS {
+        if number(names, name)? != *want {
+            return Ok(false);
+        }
+    }
+    Ok(true)
+}
+
+/// Whether there are two names, of which the first is of stream 7.
+fn has_two(names: &[StreamName<'_>]) -> bool {
+    names.len() == 2 && names[0] == names[0] && names[0].stream_id == StreamIndex(7)
+}
+
+/// Whether the names have their numbers, and there are two of them.
+fn has_names(alloc: Global, information: &PDBInformation) -> Answer<(bool, bool)> {
+    let names = information.stream_names(alloc)?;
+    let two = has_two(names.as_slice());
+    Ok((has_numbers(&names)?, two))
+}
+
+/// Whether that stream has its fields; and its names their numbers, and there are two of them.
+fn told(alloc: Global) -> Result<(bool, (bool, bool)), Fail> {
+    let information = PDBInformation::parse(stream(alloc, WHOLE)?)?;
+    Ok((has_fields(&information), has_names(alloc, &information)?))
 }
 
 #[test]
 fn fields(rt: HostRuntime) -> Result<(), Fail> {
-    let bytes = two(rt.alloc())?;
-    let information = PDBInformation::parse(stream(rt.alloc(), &bytes)?)?;
-    assert!(rt; information.version == 20_000_404);
-    assert!(rt; information.signature == 0x0403_0201);
-    assert!(rt; information.age == 5);
-    assert!(rt;
-        information.guid.as_slice()
-            == b"\xa0\xa1\xa2\xa3\xa4\xa5\xa6\xa7\xa8\xa9\xaa\xab\xac\xad\xae\xaf".as_slice()
-    );
-    assert!(rt; information.names_offset == 32 && information.names_size == 12);
-
-    let names = information.stream_names(rt.alloc())?;
-    assert!(rt; matches!(names.number(b"/a"), Ok(300)));
-    assert!(rt; matches!(names.number(b"/names"), Ok(7)));
-    assert!(rt; matches!(names.number(b"/name"), Err(Error::StreamNameNotFound)));
-    let named = names.as_slice();
-    assert!(rt; named.len() == 2 && named[0] == named[0] && named[0].stream_id == StreamIndex(7));
+    let (fields, (numbers, two)) = told(rt.alloc())?;
+    assert!(rt; fields);
+    assert!(rt; numbers);
+    assert!(rt; two);
     Ok(())
 }
