@@ -120,11 +120,22 @@ fn id_said(alloc: Global, record: &[u8]) -> std::result::Result<String, Fail> {
     Ok(first_said(alloc, &table)?)
 }
 
-/// The same of a record with padding and another byte behind it.
-fn longer_said(alloc: Global, record: &[u8]) -> std::result::Result<String, Fail> {
+/// Whether this is what an id is, or the text of its refusal.
+fn is_said(alloc: Global, record: &[u8], want: &str) -> std::result::Result<bool, Fail> {
+    let said = id_said(alloc, record)?;
+    Ok(said.as_str() == want)
+}
+
+/// The same of a record with more bytes behind it.
+fn is_said_with(
+    alloc: Global,
+    record: &[u8],
+    more: &[u8],
+    want: &str,
+) -> std::result::Result<bool, Fail> {
     let mut longer = Vec::from_slice(alloc, record)?;
-    longer.extend_from_slice(b"\xf2\xf1\x41")?;
-    id_said(alloc, &longer)
+    longer.extend_from_slice(more)?;
+    is_said(alloc, &longer, want)
 }
 
 /// Whether each front of a record, the whole not among them, ends too soon.
@@ -158,35 +169,24 @@ fn is_read(alloc: Global, record: &[u8], want: &IdData<'_>) -> Result<bool> {
     is_copied(alloc, &parse_id_data(alloc, record)?, want)
 }
 
-/// A record says this text with bytes behind it too, and no front of it says anything.
-fn judge_text(alloc: Global, record: &[u8], want: &str) -> std::result::Result<(), Fail> {
-    let whole = id_said(alloc, record)?;
-    let longer = longer_said(alloc, record)?;
-    let is_cut = ends_soon(alloc, record);
-    if is_cut && whole.as_str() == want && longer.as_str() == want {
-        Ok(())
-    } else {
-        Err(Fail::new(format_args!("{want}, {whole}, {longer}, {is_cut}")))
-    }
+/// Whether a record says this text with padding behind it too, and with another byte behind that, and
+/// no front of it says anything.
+fn is_told(alloc: Global, record: &[u8], want: &str) -> std::result::Result<bool, Fail> {
+    let is_padded = is_said_with(alloc, record, b"\xf2\xf1", want)?;
+    let is_longer = is_said_with(alloc, record, b"\xf2\xf1\x41", want)?;
+    Ok(is_padded && is_longer && is_said(alloc, record, want)? && ends_soon(alloc, record))
 }
 
-/// A record says this, and what it says is copied.
-fn judge(alloc: Global, record: &[u8], want: &IdData<'_>) -> std::result::Result<(), Fail> {
-    let is_read = is_read(alloc, record, want)?;
-    let want = text_of(alloc, want)?;
-    judge_text(alloc, record, want.as_str())?;
-    if is_read {
-        Ok(())
-    } else {
-        Err(Fail::new(format_args!("{want}, of another value")))
-    }
+/// Whether a record says this, and what it says is copied.
+fn is_row(alloc: Global, record: &[u8], want: &IdData<'_>) -> std::result::Result<bool, Fail> {
+    let text = text_of(alloc, want)?;
+    Ok(is_told(alloc, record, text.as_str())? && is_read(alloc, record, want)?)
 }
 
 #[test]
 fn plain_id_records(rt: HostRuntime) -> std::result::Result<(), Fail> {
-    let alloc = rt.alloc();
     for (record, want) in &plain_ids() {
-        judge(alloc, record, want)?;
+        assert!(rt; is_row(rt.alloc(), record, want)?, "{record:?}");
     }
     Ok(())
 }
@@ -200,18 +200,17 @@ const BUILDS: &[(&[u8], &[IdIndex])] = &[
     ),
 ];
 
+/// Whether a record says that a module was built with these.
+fn is_build(alloc: Global, record: &[u8], ids: &[IdIndex]) -> std::result::Result<bool, Fail> {
+    let want = build(alloc, ids)?;
+    is_row(alloc, record, &want)
+}
+
 #[test]
 fn build_records(rt: HostRuntime) -> std::result::Result<(), Fail> {
-    let alloc = rt.alloc();
     for (record, ids) in BUILDS {
-        judge(alloc, record, &build(alloc, ids)?)?;
+        assert!(rt; is_build(rt.alloc(), record, ids)?, "{record:?}");
     }
-    let padded = id_said(
-        alloc,
-        b"\x03\x16\x02\x00\x01\x10\x00\x00\x02\x10\x00\x00\xf2\xf1",
-    )?;
-    let want = text_of(alloc, &build(alloc, &[IdIndex(0x1001), IdIndex(0x1002)])?)?;
-    assert!(rt; padded.as_str() == want.as_str());
     Ok(())
 }
 
@@ -228,11 +227,16 @@ const PARTS: &[(&[u8], &[TypeIndex])] = &[
     ),
 ];
 
+/// Whether a record says these parts of a text.
+fn are_parts(alloc: Global, record: &[u8], types: &[TypeIndex]) -> std::result::Result<bool, Fail> {
+    let want = parts(alloc, types)?;
+    is_row(alloc, record, &want)
+}
+
 #[test]
 fn part_records(rt: HostRuntime) -> std::result::Result<(), Fail> {
-    let alloc = rt.alloc();
     for (record, types) in PARTS {
-        judge(alloc, record, &parts(alloc, types)?)?;
+        assert!(rt; are_parts(rt.alloc(), record, types)?, "{record:?}");
     }
     Ok(())
 }
@@ -288,10 +292,8 @@ const REFUSED: &[(&str, &[u8], &str)] = &[
 
 #[test]
 fn refused_ids(rt: HostRuntime) -> std::result::Result<(), Fail> {
-    let alloc = rt.alloc();
     for (name, record, want) in REFUSED {
-        let said = id_said(alloc, record)?;
-        assert!(rt; said.as_str() == *want, "{name}");
+        assert!(rt; is_said(rt.alloc(), record, want)?, "{name}");
     }
     Ok(())
 }

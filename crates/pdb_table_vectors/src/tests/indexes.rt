@@ -1,8 +1,9 @@
 //! Types by their index: those below 0x1000 have no record.
 
-use super::read::{is_value_copied, said_at};
-use pdb_base::TypeIndex;
+use super::read::{is_said_at, is_value_copied};
+use pdb_base::{Result, TypeIndex};
 use pdb_values::type_data_for_primitive;
+use std::alloc::Global;
 use std::test::Fail;
 
 /// An index, and what its type is, or the text of its refusal.
@@ -23,14 +24,19 @@ const ROWS: &[(u32, &str)] = &[
     ),
 ];
 
+/// The record of a bit field.
+const RECORD: &[u8] = b"\x05\x12\x75\x00\x00\x00\x03\x02";
+
+/// Whether a copy of a primitive type is equal.
+fn is_primitive_copied(alloc: Global) -> Result<bool> {
+    is_value_copied(alloc, &type_data_for_primitive(TypeIndex(0x674))?)
+}
+
 #[test]
-fn types_by_index(rt: HostRuntime) -> Result<(), Fail> {
-    let alloc = rt.alloc();
+fn types_by_index(rt: HostRuntime) -> std::result::Result<(), Fail> {
     for (index, want) in ROWS {
-        let text = said_at(alloc, b"\x05\x12\x75\x00\x00\x00\x03\x02", *index)?;
-        assert!(rt; text.as_str() == *want, "{index:x}");
+        assert!(rt; is_said_at(rt.alloc(), RECORD, *index, want)?, "{index:x}");
     }
-    let primitive = type_data_for_primitive(TypeIndex(0x674))?;
-    assert!(rt; is_value_copied(alloc, &primitive)?);
+    assert!(rt; is_primitive_copied(rt.alloc())?);
     Ok(())
 }

@@ -1,6 +1,6 @@
 //! Records with a list: arrays, arguments, methods and fields.
 
-use super::read::{ends_soon, is_value_copied, said, said_with, text_of};
+use super::read::{ends_soon, is_said, is_said_with, is_value_copied, text_of};
 use pdb_base::{ParseBuffer, Result, TypeIndex};
 use pdb_flags::FieldAttributes;
 use pdb_records::{parse_type_data, skip_arguments, skip_field_list};
@@ -61,31 +61,19 @@ fn is_read(alloc: Global, record: &'static [u8], want: &TypeData<'static>) -> Re
     Ok(parse_type_data(alloc, record)? == *want)
 }
 
-/// A record says this text, and what it says is copied.
-fn judge_text(alloc: Global, record: &[u8], want: &str) -> std::result::Result<(), Fail> {
-    let is_copied = is_record_copied(alloc, record)?;
-    let whole = said(alloc, record)?;
-    if is_copied && whole.as_str() == want {
-        Ok(())
-    } else {
-        Err(Fail::new(format_args!("{want}, {whole}, {is_copied}")))
-    }
+/// Whether a record says this text, and what it says is copied.
+fn is_told(alloc: Global, record: &[u8], want: &str) -> std::result::Result<bool, Fail> {
+    Ok(is_record_copied(alloc, record)? && is_said(alloc, record, want)?)
 }
 
-/// A record says this, and what it says is copied.
-fn judge(
+/// Whether a record says this, and what it says is copied.
+fn is_row(
     alloc: Global,
     record: &'static [u8],
     want: &TypeData<'static>,
-) -> std::result::Result<(), Fail> {
-    let is_read = is_read(alloc, record, want)?;
-    let want = text_of(alloc, want)?;
-    judge_text(alloc, record, want.as_str())?;
-    if is_read {
-        Ok(())
-    } else {
-        Err(Fail::new(format_args!("{want}, of another value")))
-    }
+) -> std::result::Result<bool, Fail> {
+    let text = text_of(alloc, want)?;
+    Ok(is_told(alloc, record, text.as_str())? && is_read(alloc, record, want)?)
 }
 
 /// The bytes of an array, its element, its stride and its dimensions.
@@ -147,32 +135,39 @@ const ARRAYS: &[ArrayRow] = &[
     ),
 ];
 
-/// An array's record says its row.
-fn judge_array(alloc: Global, row: &ArrayRow) -> std::result::Result<(), Fail> {
+/// Whether an array's record says its row.
+fn is_array(alloc: Global, row: &ArrayRow) -> std::result::Result<bool, Fail> {
     let (record, element, stride, dimensions) = row;
-    judge(alloc, record, &array(alloc, *element, *stride, dimensions)?)
+    let want = array(alloc, *element, *stride, dimensions)?;
+    is_row(alloc, record, &want)
+}
+
+/// What a record says, as `Debug` writes it.
+fn text_in(alloc: Global, record: &[u8]) -> Result<String> {
+    text_of(alloc, &parse_type_data(alloc, record)?)
 }
 
 /// Whether a record says the same with padding behind it, and is refused with another byte behind
 /// that, or where it is cut.
 fn is_padded(alloc: Global, record: &[u8]) -> std::result::Result<bool, Fail> {
-    let whole = said(alloc, record)?;
-    let padded = said_with(alloc, record, b"\xf3\xf2\xf1\xf0")?;
-    let longer = said_with(alloc, record, b"\xf3\xf2\xf1\xf0\x41")?;
-    let is_cut = ends_soon(alloc, record);
-    Ok(is_cut && padded.as_str() == whole.as_str() && longer.as_str() == "UnexpectedEof")
+    let want = text_in(alloc, record)?;
+    let is_padded = is_said_with(alloc, record, b"\xf3\xf2\xf1\xf0", want.as_str())?;
+    let is_longer = is_said_with(alloc, record, b"\xf3\xf2\xf1\xf0\x41", "UnexpectedEof")?;
+    Ok(is_padded && is_longer && ends_soon(alloc, record))
 }
 
 #[test]
 fn array_records(rt: HostRuntime) -> std::result::Result<(), Fail> {
     let alloc = rt.alloc();
     for row in PADDED_ARRAYS {
-        judge_array(alloc, row)?;
+        assert!(rt; is_array(alloc, row)?, "{row:?}");
     }
     for row in ARRAYS {
-        judge_array(alloc, row)?;
         let (record, ..) = row;
-        assert!(rt; is_padded(alloc, record)?, "{record:?}");
+        assert!(rt;
+            is_array(alloc, row)? && is_padded(alloc, record)?,
+            "{row:?}"
+        );
     }
     Ok(())
 }
@@ -219,39 +214,52 @@ fn left_behind(record: &[u8]) -> Result<usize> {
     Ok(buffer.len())
 }
 
+/// Whether a list of arguments says these.
+fn are_arguments(
+    alloc: Global,
+    record: &'static [u8],
+    types: &[TypeIndex],
+) -> std::result::Result<bool, Fail> {
+    let want = arguments(alloc, types)?;
+    is_row(alloc, record, &want)
+}
+
+/// A list of two arguments, and a byte behind it.
+const TWO_ARGUMENTS: &[u8] = b"\x01\x12\x02\x00\x00\x00\x74\x00\x00\x00\x75\x00\x00\x00\x41";
+
 #[test]
 fn argument_records(rt: HostRuntime) -> std::result::Result<(), Fail> {
-    let alloc = rt.alloc();
     for (record, types) in ARGUMENTS {
-        judge(alloc, record, &arguments(alloc, types)?)?;
+        assert!(rt; are_arguments(rt.alloc(), record, types)?, "{record:?}");
     }
-    assert!(rt; left_behind(b"\x01\x12\x02\x00\x00\x00\x74\x00\x00\x00\x75\x00\x00\x00\x41")? == 1);
+    assert!(rt; left_behind(TWO_ARGUMENTS)? == 1);
     Ok(())
 }
 
-/// A list of methods says these.
-fn judge_methods(
+/// Whether a list of methods says these.
+fn are_methods(
     alloc: Global,
     record: &'static [u8],
     entries: &[MethodListEntry],
-) -> std::result::Result<(), Fail> {
-    judge(alloc, record, &methods(alloc, entries)?)
+) -> std::result::Result<bool, Fail> {
+    let want = methods(alloc, entries)?;
+    is_row(alloc, record, &want)
 }
+
+/// A list of one method.
+const ONE_METHOD: &[u8] = b"\x06\x12\x13\x00\xcd\xab\x30\x10\x00\x00\x18\x01\x00\x00";
+
+/// A list of two methods.
+const TWO_METHODS: &[u8] =
+    b"\x06\x12\x13\x00\xcd\xab\x30\x10\x00\x00\x18\x01\x00\x00\x03\x00\xff\xff\x31\x10\x00\x00";
 
 #[test]
 fn method_records(rt: HostRuntime) -> std::result::Result<(), Fail> {
     let alloc = rt.alloc();
-    judge_methods(alloc, b"\x06\x12", &[])?;
-    judge_methods(
-        alloc,
-        b"\x06\x12\x13\x00\xcd\xab\x30\x10\x00\x00\x18\x01\x00\x00",
-        &[introducing()],
-    )?;
-    judge_methods(
-        alloc,
-        b"\x06\x12\x13\x00\xcd\xab\x30\x10\x00\x00\x18\x01\x00\x00\x03\x00\xff\xff\x31\x10\x00\x00",
-        &[introducing(), not_virtual()],
-    )
+    assert!(rt; are_methods(alloc, b"\x06\x12", &[])?);
+    assert!(rt; are_methods(alloc, ONE_METHOD, &[introducing()])?);
+    assert!(rt; are_methods(alloc, TWO_METHODS, &[introducing(), not_virtual()])?);
+    Ok(())
 }
 
 /// The bytes of a list of a class's members, each of another kind and padded or not: a base class, a
@@ -337,6 +345,17 @@ fn field_list_text(alloc: Global, fields: &str, continuation: Option<TypeIndex>)
     )?)
 }
 
+/// Whether a record says these fields, and which list continues them.
+fn is_field_list(
+    alloc: Global,
+    record: &[u8],
+    fields: &str,
+    continuation: Option<TypeIndex>,
+) -> std::result::Result<bool, Fail> {
+    let want = field_list_text(alloc, fields, continuation)?;
+    is_told(alloc, record, want.as_str())
+}
+
 /// Which list continues the one in a record.
 fn continuation_of(alloc: Global, record: &[u8]) -> Result<Option<TypeIndex>> {
     let mut buffer = ParseBuffer::from(record);
@@ -348,9 +367,11 @@ fn continuation_of(alloc: Global, record: &[u8]) -> Result<Option<TypeIndex>> {
 fn field_records(rt: HostRuntime) -> std::result::Result<(), Fail> {
     let alloc = rt.alloc();
     for (record, fields, continuation) in FIELD_LISTS {
-        let want = field_list_text(alloc, fields, *continuation)?;
-        judge_text(alloc, record, want.as_str())?;
-        assert!(rt; continuation_of(alloc, record)? == *continuation);
+        let is = is_field_list(alloc, record, fields, *continuation)?;
+        assert!(rt;
+            is && continuation_of(alloc, record)? == *continuation,
+            "{record:?}"
+        );
     }
     Ok(())
 }

@@ -1,7 +1,7 @@
 //! Records without a list: the fields of each leaf. Each field has a value of its own, so that one
 //! read in the place of another shows.
 
-use super::read::{ends_soon, is_value_copied, record_of, said, said_with, text_of};
+use super::read::{ends_soon, is_said, is_said_with, is_value_copied, record_of, text_of};
 use pdb_base::{RawString, TypeIndex, Variant};
 use pdb_flags::{FieldAttributes, FunctionAttributes, PointerAttributes, TypeProperties};
 use pdb_values::{
@@ -431,33 +431,33 @@ fn bases() -> [Row; 6] {
 /// The bytes of a pointer behind its leaf, the type that it points to, its attributes and its class.
 type PointerRow = (&'static [u8], u32, u32, Option<TypeIndex>);
 
+/// The class of pointers to its members.
+const CLASS_INDEX: Option<TypeIndex> = Some(TypeIndex(0x102c));
+
 /// Pointers of each mode.
-fn pointers() -> [PointerRow; 6] {
-    let class = Some(TypeIndex(0x102c));
-    [
-        (b"\x74\x00\x00\x00\x0c\x00\x01\x00", 0x74, 0x0001_000c, None),
-        (b"\x2b\x10\x00\x00\x2a\x00\x00\x00", 0x102b, 0x2a, None),
-        (
-            b"\x2b\x10\x00\x00\x4c\x00\x01\x00\x2c\x10\x00\x00",
-            0x102b,
-            0x0001_004c,
-            class,
-        ),
-        (
-            b"\x2b\x10\x00\x00\x6c\x1f\x09\x00\x2c\x10\x00\x00",
-            0x102b,
-            0x0009_1f6c,
-            class,
-        ),
-        (
-            b"\x2b\x10\x00\x00\x8c\x00\x01\x00",
-            0x102b,
-            0x0001_008c,
-            None,
-        ),
-        (b"\x2b\x10\x00\x00\x00\x00\x00\x00", 0x102b, 0, None),
-    ]
-}
+const POINTERS: &[PointerRow] = &[
+    (b"\x74\x00\x00\x00\x0c\x00\x01\x00", 0x74, 0x0001_000c, None),
+    (b"\x2b\x10\x00\x00\x2a\x00\x00\x00", 0x102b, 0x2a, None),
+    (
+        b"\x2b\x10\x00\x00\x4c\x00\x01\x00\x2c\x10\x00\x00",
+        0x102b,
+        0x0001_004c,
+        CLASS_INDEX,
+    ),
+    (
+        b"\x2b\x10\x00\x00\x6c\x1f\x09\x00\x2c\x10\x00\x00",
+        0x102b,
+        0x0009_1f6c,
+        CLASS_INDEX,
+    ),
+    (
+        b"\x2b\x10\x00\x00\x8c\x00\x01\x00",
+        0x102b,
+        0x0001_008c,
+        None,
+    ),
+    (b"\x2b\x10\x00\x00\x00\x00\x00\x00", 0x102b, 0, None),
+];
 
 /// A type with a modifier for each of these that holds.
 fn modifier(constant: bool, volatile: bool, unaligned: bool) -> TypeData<'static> {
@@ -531,26 +531,25 @@ fn table_shapes() -> [Row; 5] {
     ]
 }
 
-/// A record says this with a byte behind it too, and no front of it says anything.
-fn judge_text(alloc: Global, leaf: u16, fields: &[u8], want: &str) -> Result<(), Fail> {
+/// Whether a record says this with a byte behind it too, and no front of it says anything.
+fn is_record_of(alloc: Global, leaf: u16, fields: &[u8], want: &str) -> Result<bool, Fail> {
     let record = record_of(alloc, leaf, fields)?;
-    let whole = said(alloc, &record)?;
-    let longer = said_with(alloc, &record, b"\x41")?;
-    let is_cut = ends_soon(alloc, &record);
-    if is_cut && whole.as_str() == want && longer.as_str() == want {
-        Ok(())
-    } else {
-        Err(Fail::new(format_args!("{leaf:x}: {want}, {whole}, {longer}, {is_cut}")))
-    }
+    let is_whole = is_said(alloc, &record, want)? && is_said_with(alloc, &record, b"\x41", want)?;
+    Ok(is_whole && ends_soon(alloc, &record))
+}
+
+/// Whether a record says what it says, and a copy of that is equal.
+fn is_row(alloc: Global, row: &Row) -> Result<bool, Fail> {
+    let (leaf, fields, want) = row;
+    let text = text_of(alloc, want)?;
+    Ok(is_record_of(alloc, *leaf, fields, text.as_str())? && is_value_copied(alloc, want)?)
 }
 
 /// Each record says what it says, and a copy of that is equal.
 fn judge(alloc: Global, rows: &[Row]) -> Result<(), Fail> {
-    for (leaf, fields, want) in rows {
-        let text = text_of(alloc, want)?;
-        judge_text(alloc, *leaf, fields, text.as_str())?;
-        if !is_value_copied(alloc, want)? {
-            return Err(Fail::new(format_args!("{leaf:x}: the copy of {want:?}")));
+    for row in rows {
+        if !is_row(alloc, row)? {
+            return Err(Fail::new(format_args!("{row:?}")));
         }
     }
     Ok(())
@@ -591,13 +590,16 @@ fn modifier_and_bitfield_records(rt: HostRuntime) -> Result<(), Fail> {
     judge(rt.alloc(), &modifiers_and_bitfields())
 }
 
+/// Whether a record with padding behind a shape of three functions says that shape.
+fn is_padded_shape(alloc: Global) -> Result<bool, Fail> {
+    let want = text_of(alloc, &table_shape(3, b"\x55\x05"))?;
+    is_said(alloc, b"\x0a\x00\x03\x00\x55\x05\xf2\xf1", want.as_str())
+}
+
 #[test]
 fn table_shape_records(rt: HostRuntime) -> Result<(), Fail> {
-    let alloc = rt.alloc();
-    judge(alloc, &table_shapes())?;
-    let padded = said(alloc, b"\x0a\x00\x03\x00\x55\x05\xf2\xf1")?;
-    let want = text_of(alloc, &table_shape(3, b"\x55\x05"))?;
-    assert!(rt; padded.as_str() == want.as_str());
+    judge(rt.alloc(), &table_shapes())?;
+    assert!(rt; is_padded_shape(rt.alloc())?);
     Ok(())
 }
 
@@ -620,12 +622,17 @@ fn pointer_text(
     }
 }
 
+/// Whether the record of a pointer says its row.
+fn is_pointer(alloc: Global, row: &PointerRow) -> Result<bool, Fail> {
+    let (fields, underlying, word, containing_class) = row;
+    let want = pointer_text(alloc, *underlying, *word, *containing_class)?;
+    is_record_of(alloc, 0x1002, fields, want.as_str())
+}
+
 #[test]
 fn pointer_records(rt: HostRuntime) -> Result<(), Fail> {
-    let alloc = rt.alloc();
-    for (fields, underlying, word, containing_class) in pointers() {
-        let want = pointer_text(alloc, underlying, word, containing_class)?;
-        judge_text(alloc, 0x1002, fields, want.as_str())?;
+    for row in POINTERS {
+        assert!(rt; is_pointer(rt.alloc(), row)?, "{row:?}");
     }
     Ok(())
 }

@@ -58,21 +58,38 @@ fn found(alloc: Global, table: &TypeInformation, index: u32) -> pdb_base::Result
 
 /// What the type of an index is, as `Debug` writes it, or the text of its refusal, in a table whose
 /// one item is this record.
-pub(crate) fn said_at(alloc: Global, record: &[u8], index: u32) -> Result<String, Fail> {
+fn said_at(alloc: Global, record: &[u8], index: u32) -> Result<String, Fail> {
     let table = TypeInformation::parse(table_of(alloc, record)?)?;
     Ok(found(alloc, &table, index)?)
 }
 
-/// The same of the record itself.
-pub(crate) fn said(alloc: Global, record: &[u8]) -> Result<String, Fail> {
-    said_at(alloc, record, 0x1000)
+/// Whether this is what the type of an index is, or the text of its refusal, in a table whose one item
+/// is this record.
+pub(crate) fn is_said_at(
+    alloc: Global,
+    record: &[u8],
+    index: u32,
+    want: &str,
+) -> Result<bool, Fail> {
+    let said = said_at(alloc, record, index)?;
+    Ok(said.as_str() == want)
 }
 
-/// The same of the record with more bytes behind it.
-pub(crate) fn said_with(alloc: Global, record: &[u8], more: &[u8]) -> Result<String, Fail> {
+/// The same of the type of the record.
+pub(crate) fn is_said(alloc: Global, record: &[u8], want: &str) -> Result<bool, Fail> {
+    is_said_at(alloc, record, 0x1000, want)
+}
+
+/// The same of the type of the record with more bytes behind it.
+pub(crate) fn is_said_with(
+    alloc: Global,
+    record: &[u8],
+    more: &[u8],
+    want: &str,
+) -> Result<bool, Fail> {
     let mut longer = Vec::from_slice(alloc, record)?;
     longer.extend_from_slice(more)?;
-    said(alloc, &longer)
+    is_said(alloc, &longer, want)
 }
 
 /// Whether each front of a record, the whole not among them, ends too soon.
