@@ -2,8 +2,9 @@
 
 use pdb_base::{RawString, TypeIndex};
 use pdb_flags::TypeProperties;
-use pdb_rows::{Form, push_fields, push_row, type_row};
+use pdb_rows::{Form, Row, push_fields, push_row, type_row};
 use pdb_values::{ClassKind, ClassType, TypeData};
+use std::alloc::Global;
 use std::test::Fail;
 
 /// The structure as a line of text, as a line of JSON, and in full.
@@ -20,9 +21,9 @@ size: 4
 unique_name: .?AUS@@
 "#;
 
-#[test]
-fn class(rt: HostRuntime) -> Result<(), Fail> {
-    let data = TypeData::Class(ClassType {
+/// That structure.
+fn structure() -> TypeData<'static> {
+    TypeData::Class(ClassType {
         kind: ClassKind::Struct,
         count: 1,
         properties: TypeProperties::new(0x280),
@@ -32,12 +33,27 @@ fn class(rt: HostRuntime) -> Result<(), Fail> {
         size: 4,
         name: RawString::from("S\n\"x\""),
         unique_name: Some(RawString::from(".?AUS@@")),
-    });
-    let row = type_row(rt.alloc(), 0x1000, 0x1505, &data)?;
-    let mut out = Vec::new(rt.alloc());
-    push_row(Form::Text, &row, &mut out)?;
-    push_row(Form::Json, &row, &mut out)?;
-    push_fields(Form::Text, &row, &mut out)?;
+    })
+}
+
+/// A row as a line of text, as a line of JSON, and in full.
+fn lines(alloc: Global, row: &Row<'_>) -> Result<Vec<u8>, Fail> {
+    let mut out = Vec::new(alloc);
+    push_row(Form::Text, row, &mut out)?;
+    push_row(Form::Json, row, &mut out)?;
+    push_fields(Form::Text, row, &mut out)?;
+    Ok(out)
+}
+
+/// The row of a type in these forms.
+fn shown(alloc: Global, data: &TypeData<'_>) -> Result<Vec<u8>, Fail> {
+    let row = type_row(alloc, 0x1000, 0x1505, data)?;
+    lines(alloc, &row)
+}
+
+#[test]
+fn class(rt: HostRuntime) -> Result<(), Fail> {
+    let out = shown(rt.alloc(), &structure())?;
     assert!(rt; out.as_slice() == STRUCTURE.as_bytes());
     Ok(())
 }

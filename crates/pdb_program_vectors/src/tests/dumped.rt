@@ -146,20 +146,30 @@ fn form_of(words: &[&str]) -> Form {
     }
 }
 
-/// Whether the words ask for this of S1 with these bytes as its stream 3.
-fn lists(alloc: Global, row: &Listed) -> Result<bool> {
-    let (words, stream, lines, refusal) = *row;
-    let plain = plain_words(alloc, words)?;
-    let Ok(Task::List(command)) = asked_of_file("small.pdb", &plain) else {
-        return Ok(false);
-    };
-    let file = s1_with(alloc, stream)?;
+/// Whether nothing is refused, where the text is empty, or what is refused has this text.
+fn is_told(alloc: Global, answer: Result<()>, refusal: &str) -> Result<bool> {
+    match answer {
+        Ok(()) => Ok(refusal.is_empty()),
+        Err(error) => Ok(error.to_string(alloc)?.as_str() == refusal),
+    }
+}
+
+/// Whether a command lists this of S1 with these bytes as its stream 3, up to this refusal.
+fn is_listed(alloc: Global, command: Command, form: Form, row: &Listed) -> Result<bool> {
+    let (_, stream, lines, refusal) = *row;
     let mut out = Vec::new(alloc);
-    let is_told = match list(alloc, file, command, form_of(words), &mut out) {
-        Ok(()) => refusal.is_empty(),
-        Err(error) => error.to_string(alloc)?.as_str() == refusal,
-    };
-    Ok(is_told && out.as_slice() == lines.as_bytes())
+    let answer = list(alloc, s1_with(alloc, stream)?, command, form, &mut out);
+    Ok(is_told(alloc, answer, refusal)? && out.as_slice() == lines.as_bytes())
+}
+
+/// Whether the words of a row ask for what it lists.
+fn lists(alloc: Global, row: &Listed) -> Result<bool> {
+    let (words, ..) = *row;
+    let plain = plain_words(alloc, words)?;
+    match asked_of_file("small.pdb", &plain) {
+        Ok(Task::List(command)) => is_listed(alloc, command, form_of(words), row),
+        _ => Ok(false),
+    }
 }
 
 #[test]

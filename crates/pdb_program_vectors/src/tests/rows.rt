@@ -34,45 +34,66 @@ const FRAME: &str =
 {"code_start":4096,"code_size":16,"locals_size":8,"params_size":4,"prolog_size":3,"saved_regs_size":0,"max_stack_size":0,"ty":"fdata","has_structured_eh":false,"has_cpp_eh":true,"is_function_start":true,"uses_base_pointer":false,"program":32}
 "#;
 
+/// That section.
+const HEADER: ImageSectionHeader = ImageSectionHeader {
+    name: *b".text\0\0\0",
+    virtual_size: 10,
+    virtual_address: 0x1000,
+    size_of_raw_data: 512,
+    pointer_to_raw_data: 0x400,
+    pointer_to_relocations: 0,
+    pointer_to_line_numbers: 0,
+    number_of_relocations: 0,
+    number_of_line_numbers: 0,
+    characteristics: SectionCharacteristics(0x6050_0020),
+};
+
+/// That frame.
+const CODE: FrameData = FrameData {
+    ty: FrameType::FrameData,
+    code_start: PdbInternalRva(0x1000),
+    code_size: 16,
+    locals_size: 8,
+    params_size: 4,
+    prolog_size: 3,
+    saved_regs_size: 0,
+    max_stack_size: Some(0),
+    has_structured_eh: false,
+    has_cpp_eh: true,
+    is_function_start: true,
+    uses_base_pointer: false,
+    program: Some(StringRef(32)),
+};
+
+/// Whether a row has these lines.
+fn is_shown(alloc: Global, row: &Row<'_>, want: &str) -> Result<bool, Fail> {
+    let both = lines(alloc, row)?;
+    Ok(both.as_slice() == want.as_bytes())
+}
+
+/// Whether a section header has its lines.
+fn is_section_shown(alloc: Global) -> Result<bool, Fail> {
+    let row = section_row(alloc, 1, &HEADER)?;
+    is_shown(alloc, &row, SECTION)
+}
+
+/// Whether a record of an OMAP table has its lines.
+fn is_record_shown(alloc: Global) -> Result<bool, Fail> {
+    let row = omap_row(alloc, OMAPRecord::new(0x1000, 0x2000))?;
+    is_shown(alloc, &row, OMAP)
+}
+
+/// Whether a frame has its lines.
+fn is_frame_shown(alloc: Global) -> Result<bool, Fail> {
+    let row = frame_row(alloc, &CODE)?;
+    is_shown(alloc, &row, FRAME)
+}
+
 #[test]
 fn tables(rt: HostRuntime) -> Result<(), Fail> {
-    let header = ImageSectionHeader {
-        name: *b".text\0\0\0",
-        virtual_size: 10,
-        virtual_address: 0x1000,
-        size_of_raw_data: 512,
-        pointer_to_raw_data: 0x400,
-        pointer_to_relocations: 0,
-        pointer_to_line_numbers: 0,
-        number_of_relocations: 0,
-        number_of_line_numbers: 0,
-        characteristics: SectionCharacteristics::new(0x6050_0020),
-    };
-    let both = lines(rt.alloc(), &section_row(rt.alloc(), 1, &header)?)?;
-    assert!(rt; both.as_slice() == SECTION.as_bytes());
-    let both = lines(
-        rt.alloc(),
-        &omap_row(rt.alloc(), OMAPRecord::new(0x1000, 0x2000))?,
-    )?;
-    assert!(rt; both.as_slice() == OMAP.as_bytes());
-    let frame = FrameData {
-        ty: FrameType::FrameData,
-        code_start: PdbInternalRva(0x1000),
-        code_size: 16,
-        locals_size: 8,
-        params_size: 4,
-        prolog_size: 3,
-        saved_regs_size: 0,
-        max_stack_size: Some(0),
-        has_structured_eh: false,
-        has_cpp_eh: true,
-        is_function_start: true,
-        uses_base_pointer: false,
-        program: Some(StringRef(32)),
-    };
-    let both = lines(rt.alloc(), &frame_row(rt.alloc(), &frame)?)?;
-    assert!(rt; both.as_slice() == FRAME.as_bytes());
-    assert!(rt; leaf_name(0x151d).is_some());
-    assert!(rt; leaf_name(0x0017).is_none());
+    assert!(rt; is_section_shown(rt.alloc())?);
+    assert!(rt; is_record_shown(rt.alloc())?);
+    assert!(rt; is_frame_shown(rt.alloc())?);
+    assert!(rt; leaf_name(0x151d).is_some() && leaf_name(0x0017).is_none());
     Ok(())
 }

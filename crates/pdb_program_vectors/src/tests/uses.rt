@@ -4,13 +4,14 @@ mod file;
 
 use file::built;
 use pdb_container::{
-    FrameType, Msf, PdbInternalRva, PdbInternalSectionOffset, Rva, StringRef, TypeData, TypeIndex,
-    TypeInformation, open_msf,
+    FrameType, Msf, PdbInternalRva, PdbInternalSectionOffset, Rva, StringRef, TypeData, TypeFinder,
+    TypeIndex, TypeInformation, open_msf,
 };
 use pdb_examples::{
     class_fields, finder_of, frames_at, map_of, name_at, stream_and_views, stream_sizes,
     there_and_back, types_named,
 };
+use std::alloc::Global;
 use std::test::Fail;
 
 #[test]
@@ -49,14 +50,28 @@ fn is_x(value: &TypeData<'_>) -> bool {
     }
 }
 
+/// The types of the file.
+fn types_in(alloc: Global) -> Result<TypeInformation, Fail> {
+    let mut file = open_msf(alloc, built(alloc)?)?;
+    Ok(TypeInformation::parse(file.get(alloc, 2, None)?)?)
+}
+
+/// Whether the member `x` is the one field of the class.
+fn has_x(alloc: Global, finder: &TypeFinder<'_>) -> Result<bool, Fail> {
+    let fields = class_fields(alloc, finder, TypeIndex(0x1001))?;
+    Ok(matches!(fields.as_slice(), [field] if is_x(field)))
+}
+
+/// The same, by a finder that knows all types.
+fn is_class_of_x(alloc: Global, types: &TypeInformation) -> Result<bool, Fail> {
+    let finder = finder_of(alloc, types)?;
+    has_x(alloc, &finder)
+}
+
 #[test]
 fn fields(rt: HostRuntime) -> Result<(), Fail> {
-    let mut file = open_msf(rt.alloc(), built(rt.alloc())?)?;
-    let types = TypeInformation::parse(file.get(rt.alloc(), 2, None)?)?;
-    let finder = finder_of(rt.alloc(), &types)?;
-    let fields = class_fields(rt.alloc(), &finder, TypeIndex(0x1001))?;
-    let is = matches!(fields.as_slice(), [field] if is_x(field));
-    assert!(rt; is);
+    let types = types_in(rt.alloc())?;
+    assert!(rt; is_class_of_x(rt.alloc(), &types)?);
     Ok(())
 }
 
