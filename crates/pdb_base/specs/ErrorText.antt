@@ -1,5 +1,5 @@
 -- The text of each refusal, as `{}` prints it.
-use Rattle.std.specs.Prelude.{ℕ, ◌-◌, List, ◌++◌, length, replicate, false, Option, Some, None, codes}
+use Rattle.std.specs.Prelude.{⊤, ℕ, ◌-◌, List, ◌++◌, length, replicate, false, Option, Some, None, codes}
 use Rattle.std.specs.Fmt.{decimal, digits}
 use Rattle.pdb_base.specs.Refusal.{Refusal, unrecognized_file_format, stream_name_not_found, unexpected_eof, global_symbols_not_found, symbol_too_short, type_too_short, address_map_not_found, lines_not_found, invalid_compressed_annotation, out_of_memory, page_reference_out_of_range, invalid_page_size, stream_not_found, unimplemented_symbol_kind, type_not_found, unimplemented_type_kind, not_a_cross_module_ref, cross_module_ref_not_found, unexpected_numeric_prefix, unimplemented_debug_subsection, unimplemented_file_checksum_kind, invalid_file_checksum_offset, unknown_binary_annotation, type_not_indexed, invalid_stream_length, unimplemented_feature, invalid_type_information_header, io_error}
 
@@ -49,3 +49,28 @@ text_of lines_not_found = Some (codes "LinesNotFound")
 text_of invalid_compressed_annotation = Some (codes "InvalidCompressedAnnotation")
 text_of (unknown_binary_annotation number) = Some (codes "Unknown binary annotation " ++ decimal number)
 text_of out_of_memory = Some (codes "OutOfMemory")
+
+-- the refusals whose text says nothing but their name
+abbrev pub HasPlainText : Refusal → Type 0
+HasPlainText unrecognized_file_format = ⊤
+HasPlainText stream_name_not_found = ⊤
+HasPlainText unexpected_eof = ⊤
+HasPlainText global_symbols_not_found = ⊤
+HasPlainText symbol_too_short = ⊤
+HasPlainText type_too_short = ⊤
+HasPlainText address_map_not_found = ⊤
+HasPlainText lines_not_found = ⊤
+HasPlainText invalid_compressed_annotation = ⊤
+HasPlainText out_of_memory = ⊤
+HasPlainText _ = ⊥
+
+-- the refusals whose text names a number in hexadecimal
+abbrev pub HasHexadecimalText : Refusal → Type 0
+HasHexadecimalText (unimplemented_symbol_kind kind) = ⊤
+HasHexadecimalText (unimplemented_type_kind kind) = ⊤
+HasHexadecimalText (not_a_cross_module_ref index) = ⊤
+HasHexadecimalText (cross_module_ref_not_found index) = ⊤
+HasHexadecimalText (unexpected_numeric_prefix prefix) = ⊤
+HasHexadecimalText (unimplemented_debug_subsection kind) = ⊤
+HasHexadecimalText (invalid_file_checksum_offset offset) = ⊤
+HasHexadecimalText _ = ⊥

@@ -3,7 +3,8 @@
 ghost use Rattle.std.specs.Prelude.{◌≡◌, Some};
 ghost use Rattle.pdb_base.specs.declared.error.Error.TheVariants.{IoError, OutOfMemory};
 ghost use Rattle.pdb_base.specs.Refusal.{refusal_of};
-ghost use Rattle.pdb_base.specs.ErrorText.{hexadecimal_of_four, text_of};
+ghost use Rattle.std.specs.Fmt.{DisplaysOnOk};
+ghost use Rattle.pdb_base.specs.ErrorText.{hexadecimal_of_four, text_of, HasPlainText, HasHexadecimalText};
 
 use std::alloc::{AllocError, AllocFailed};
 use std::{fmt, io, result};
@@ -119,12 +120,84 @@ impl fmt::Display for Hexadecimal {
     }
 }
 
+/// Returns the text of an error that says nothing but its name.
+fn plain_text(error: &Error) -> &'static str
+    requires { HasPlainText (refusal_of error.now) }
+    ensures { text_of (refusal_of error.now) ≡ Some result.now }
+{
+    match error {
+        Error::UnrecognizedFileFormat => "UnrecognizedFileFormat",
+        Error::StreamNameNotFound => "StreamNameNotFound",
+        Error::UnexpectedEof => "UnexpectedEof",
+        Error::GlobalSymbolsNotFound => "GlobalSymbolsNotFound",
+        Error::SymbolTooShort => "SymbolTooShort",
+        Error::TypeTooShort => "TypeTooShort",
+        Error::AddressMapNotFound => "AddressMapNotFound",
+        Error::LinesNotFound => "LinesNotFound",
+        Error::InvalidCompressedAnnotation => "InvalidCompressedAnnotation",
+        Error::OutOfMemory => "OutOfMemory",
+        _ => unreachable!(),
+    }
+}
+
+/// Writes the text of an error that names a number in hexadecimal.
+fn write_hexadecimal<W: fmt::Write>(error: &Error, f: &mut fmt::Formatter<W>) -> fmt::Result
+    requires { HasHexadecimalText (refusal_of error.now) }
+    ensures { DisplaysOnOk W.write_str_gives f.old result (text_of (refusal_of error.now)) f.new }
+{
+    match error {
+        Error::UnimplementedSymbolKind(kind) => {
+            write!(
+                f,
+                "Support for symbols of kind {} is not implemented",
+                Hexadecimal(*kind as u32)
+            )
+        }
+        Error::UnimplementedTypeKind(kind) => {
+            write!(
+                f,
+                "Support for types of kind {} is not implemented",
+                Hexadecimal(*kind as u32)
+            )
+        }
+        Error::NotACrossModuleRef(index) => {
+            write!(
+                f,
+                "Type {} is not a cross module reference",
+                Hexadecimal(*index)
+            )
+        }
+        Error::CrossModuleRefNotFound(index) => {
+            write!(
+                f,
+                "Cross module reference {} not found in imports",
+                Hexadecimal(*index)
+            )
+        }
+        Error::UnexpectedNumericPrefix(prefix) => write!(
+            f,
+            "Variable-length numeric parsing encountered an unexpected prefix ({})",
+            Hexadecimal(*prefix as u32)
+        ),
+        Error::UnimplementedDebugSubsection(kind) => {
+            write!(
+                f,
+                "Debug module subsection of kind {} is not implemented",
+                Hexadecimal(*kind)
+            )
+        }
+        Error::InvalidFileChecksumOffset(offset) => {
+            write!(f, "Invalid source file checksum offset 0x{offset:x}")
+        }
+        _ => unreachable!(),
+    }
+}
+
 impl fmt::Display for Error {
     ghost output = { λ e. text_of (refusal_of e) };
 
     fn fmt<W: fmt::Write>(&self, f: &mut fmt::Formatter<W>) -> fmt::Result {
         match self {
-            Error::UnrecognizedFileFormat => write!(f, "UnrecognizedFileFormat"),
             Error::PageReferenceOutOfRange(page) => {
                 write!(f, "MSF referred to page number ({page}) out of range")
             }
@@ -140,7 +213,6 @@ impl fmt::Display for Error {
                     "The requested stream ({number}) is not stored in this file"
                 )
             }
-            Error::StreamNameNotFound => write!(f, "StreamNameNotFound"),
             Error::InvalidStreamLength(stream) => {
                 write!(
                     f,
@@ -148,73 +220,30 @@ impl fmt::Display for Error {
                 )
             }
             Error::IoError(error) => write!(f, "{IO_ERROR_FRONT}{error}"),
-            Error::UnexpectedEof => write!(f, "UnexpectedEof"),
             Error::UnimplementedFeature(feature) => {
                 write!(f, "Unimplemented PDB feature: {feature}")
-            }
-            Error::GlobalSymbolsNotFound => write!(f, "GlobalSymbolsNotFound"),
-            Error::SymbolTooShort => write!(f, "SymbolTooShort"),
-            Error::UnimplementedSymbolKind(kind) => {
-                write!(
-                    f,
-                    "Support for symbols of kind {} is not implemented",
-                    Hexadecimal(*kind as u32)
-                )
             }
             Error::InvalidTypeInformationHeader(rule) => {
                 write!(f, "The type information header was invalid: {rule}")
             }
-            Error::TypeTooShort => write!(f, "TypeTooShort"),
             Error::TypeNotFound(index) => write!(f, "Type {index} not found"),
             Error::TypeNotIndexed(index, covered) => {
                 write!(f, "Type {index} not indexed (index covers {covered})")
             }
-            Error::UnimplementedTypeKind(kind) => {
-                write!(
-                    f,
-                    "Support for types of kind {} is not implemented",
-                    Hexadecimal(*kind as u32)
-                )
-            }
-            Error::NotACrossModuleRef(index) => {
-                write!(
-                    f,
-                    "Type {} is not a cross module reference",
-                    Hexadecimal(*index)
-                )
-            }
-            Error::CrossModuleRefNotFound(index) => {
-                write!(
-                    f,
-                    "Cross module reference {} not found in imports",
-                    Hexadecimal(*index)
-                )
-            }
-            Error::UnexpectedNumericPrefix(prefix) => write!(
-                f,
-                "Variable-length numeric parsing encountered an unexpected prefix ({})",
-                Hexadecimal(*prefix as u32)
-            ),
-            Error::AddressMapNotFound => write!(f, "AddressMapNotFound"),
-            Error::UnimplementedDebugSubsection(kind) => {
-                write!(
-                    f,
-                    "Debug module subsection of kind {} is not implemented",
-                    Hexadecimal(*kind)
-                )
-            }
             Error::UnimplementedFileChecksumKind(kind) => {
                 write!(f, "Unknown source file checksum kind {kind}")
             }
-            Error::InvalidFileChecksumOffset(offset) => {
-                write!(f, "Invalid source file checksum offset 0x{offset:x}")
-            }
-            Error::LinesNotFound => write!(f, "LinesNotFound"),
-            Error::InvalidCompressedAnnotation => write!(f, "InvalidCompressedAnnotation"),
             Error::UnknownBinaryAnnotation(number) => {
                 write!(f, "Unknown binary annotation {number}")
             }
-            Error::OutOfMemory => write!(f, "OutOfMemory"),
+            Error::UnimplementedSymbolKind(_)
+            | Error::UnimplementedTypeKind(_)
+            | Error::NotACrossModuleRef(_)
+            | Error::CrossModuleRefNotFound(_)
+            | Error::UnexpectedNumericPrefix(_)
+            | Error::UnimplementedDebugSubsection(_)
+            | Error::InvalidFileChecksumOffset(_) => write_hexadecimal(self, f),
+            _ => f.write_str(plain_text(self)),
         }
     }
 }

@@ -98,13 +98,13 @@ impl<'b> ParseBuffer<'b> {
             return Ok(Variant::U16(prefix));
         }
         match prefix {
-            LF_CHAR => Ok(Variant::U8(self.parse_u8()?)),
-            LF_SHORT => Ok(Variant::I16(self.parse_i16()?)),
-            LF_USHORT => Ok(Variant::U16(self.parse_u16()?)),
-            LF_LONG => Ok(Variant::I32(self.parse_i32()?)),
-            LF_ULONG => Ok(Variant::U32(self.parse_u32()?)),
-            LF_QUADWORD => Ok(Variant::I64(self.parse_i64()?)),
-            LF_UQUADWORD => Ok(Variant::U64(self.parse_u64()?)),
+            LF_CHAR => self.parse_u8().map(Variant::U8),
+            LF_SHORT => self.parse_i16().map(Variant::I16),
+            LF_USHORT => self.parse_u16().map(Variant::U16),
+            LF_LONG => self.parse_i32().map(Variant::I32),
+            LF_ULONG => self.parse_u32().map(Variant::U32),
+            LF_QUADWORD => self.parse_i64().map(Variant::I64),
+            LF_UQUADWORD => self.parse_u64().map(Variant::U64),
             _ => Err(Error::UnexpectedNumericPrefix(prefix)),
         }
     }
