@@ -4,16 +4,13 @@ ghost use Rattle.std.specs.Prelude.{◌≡◌, None, Some, IfSome, IfNone};
 ghost use Rattle.std.specs.Option.{option_map};
 ghost use Rattle.pdb_space.specs.Omap.{IsSortedBySource, MovesSomehow};
 ghost use Rattle.pdb_space.specs.Conversions.{ComesSomehow, rva_to_internal_rva, rva_to_section_offset, rva_to_internal_offset, internal_rva_to_rva, internal_rva_to_section_offset, internal_rva_to_internal_offset, section_offset_to_rva, section_offset_to_internal_rva, section_offset_to_internal_offset, internal_offset_to_internal_rva, internal_offset_to_rva, internal_offset_to_section_offset};
-ghost use Rattle.pdb_c.specs.Fault.{fine};
-ghost use Rattle.pdb_c.specs.Found.{IsFound, found, not_held};
-ghost use Rattle.pdb_c.specs.Handle.{addresses_held};
-ghost use Rattle.pdb_c.specs.Place.{place_of, section_place};
+ghost use Rattle.pdb_handles.specs.Fault.{fine};
+ghost use Rattle.pdb_handles.specs.Found.{IsFound, found, not_held};
+ghost use Rattle.pdb_handles.specs.Handle.{addresses_held};
+ghost use Rattle.pdb_handles.specs.Place.{place_of, section_place};
 
-use crate::content::Content;
-use crate::fault::{Fault, NOT_OPEN};
-use crate::found::tell_found;
-use crate::handle::Handle;
-use crate::place::Place;
+use pdb_handles::found::tell_found;
+use pdb_handles::{Content, Fault, Handle, NOT_OPEN, Place};
 use pdb_space::{PdbInternalRva, PdbInternalSectionOffset, Rva, SectionOffset};
 use std::alloc::Global;
 

@@ -2,8 +2,8 @@
 use Rattle.std.proofs.Common.{◌∙◌, ap, sym, subst, Option}
 use Rattle.std.specs.Option.{option_map}
 use Rattle.pdb_base.specs.Refusal.{Refusal, refusal_of}
-use Rattle.pdb_c.specs.Copied.{CopiesOrLacks, text_copied}
-use Rattle.pdb_c.specs.Told.{text_if}
+use Rattle.pdb_handles.specs.Copied.{CopiesOrLacks, text_copied}
+use Rattle.pdb_handles.specs.Told.{text_if}
 use Rattle.pdb_c.proofs.text.pdb_error_text.Goals as goal
 
 pub returns-in-Some-clause-answer : goal.returns-in-Some-clause-answer
