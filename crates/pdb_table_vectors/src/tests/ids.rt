@@ -158,14 +158,15 @@ fn is_told(alloc: Global, record: &[u8], want: &str) -> std::result::Result<bool
     Ok(is_padded && is_longer && is_said(alloc, record, want)? && ends_soon(alloc, record))
 }
 
+/// Whether a record says its row, and what it says is copied.
+fn is_row(alloc: Global, record: &[u8], want: &str) -> std::result::Result<bool, Fail> {
+    Ok(is_told(alloc, record, want)? && is_record_copied(alloc, record)?)
+}
+
 #[test]
 fn id_records(rt: HostRuntime) -> std::result::Result<(), Fail> {
-    let alloc = rt.alloc();
     for (record, want) in ROWS {
-        assert!(rt;
-            is_told(alloc, record, want)? && is_record_copied(alloc, record)?,
-            "{record:?}"
-        );
+        assert!(rt; is_row(rt.alloc(), record, want)?, "{record:?}");
     }
     Ok(())
 }

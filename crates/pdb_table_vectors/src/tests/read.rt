@@ -1,5 +1,6 @@
 //! Records, as the one item of a table.
 
+use super::stream;
 use pdb_base::{Error, Stream, TypeIndex};
 use pdb_records::parse_type_data;
 use pdb_tpi::{Type, TypeFinder, TypeInformation};
@@ -9,16 +10,20 @@ use std::alloc::Global;
 use std::fmt::Debug;
 use std::test::Fail;
 
-/// A table whose header has 56 bytes, and whose one item, of index 0x1000, is this record.
+/// A record behind its length.
+fn item_of(alloc: Global, record: &[u8]) -> Result<Vec<u8>, Fail> {
+    let length = u16::try_from(record.len()).ok().ok_or("a long record")?;
+    let mut item = Vec::from_slice(alloc, &length.to_le_bytes())?;
+    item.extend_from_slice(record)?;
+    Ok(item)
+}
+
+/// A table of at most 512 bytes, whose header has 56 bytes, and whose one item, of index 0x1000, is this
+/// record.
 pub(crate) fn table_of(alloc: Global, record: &[u8]) -> Result<Stream, Fail> {
-    let length = u16::try_from(record.len()).map_err(|_| "a long record")?;
-    let mut items = Vec::from_slice(alloc, &length.to_le_bytes())?;
-    items.extend_from_slice(record)?;
-    let bytes = item_table(alloc, 56, 0x1000, 0x1001, &items)?;
-    if bytes.len() >= 0xffff_ffff {
-        return Err("a long table".into());
-    }
-    Ok(Stream::new(bytes))
+    let item = item_of(alloc, record)?;
+    let bytes = item_table(alloc, 56, 0x1000, 0x1001, &item)?;
+    stream(alloc, &bytes)
 }
 
 /// The bytes of a record: the number of its leaf, and what stands behind it.
