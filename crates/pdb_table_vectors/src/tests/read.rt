@@ -1,24 +1,29 @@
 //! Records, as the one item of a table.
 
+use super::stream;
 use pdb_base::{Error, Stream, TypeIndex};
 use pdb_records::parse_type_data;
-use pdb_tpi::{Type, TypeInformation};
+use pdb_tpi::{Type, TypeFinder, TypeInformation};
 use pdb_values::TypeData;
 use pdb_vectors::item_table;
 use std::alloc::Global;
 use std::fmt::Debug;
 use std::test::Fail;
 
-/// A table whose header has 56 bytes, and whose one item, of index 0x1000, is this record.
+/// A record behind its length.
+fn item_of(alloc: Global, record: &[u8]) -> Result<Vec<u8>, Fail> {
+    let length = u16::try_from(record.len()).ok().ok_or("a long record")?;
+    let mut item = Vec::from_slice(alloc, &length.to_le_bytes())?;
+    item.extend_from_slice(record)?;
+    Ok(item)
+}
+
+/// A table of at most 512 bytes, whose header has 56 bytes, and whose one item, of index 0x1000, is this
+/// record.
 pub(crate) fn table_of(alloc: Global, record: &[u8]) -> Result<Stream, Fail> {
-    let length = u16::try_from(record.len()).map_err(|_| "a long record")?;
-    let mut items = Vec::from_slice(alloc, &length.to_le_bytes())?;
-    items.extend_from_slice(record)?;
-    let bytes = item_table(alloc, 56, 0x1000, 0x1001, &items)?;
-    if bytes.len() >= 0xffff_ffff {
-        return Err("a long table".into());
-    }
-    Ok(Stream::new(bytes))
+    let item = item_of(alloc, record)?;
+    let bytes = item_table(alloc, 56, 0x1000, 0x1001, &item)?;
+    stream(alloc, &bytes)
 }
 
 /// The bytes of a record: the number of its leaf, and what stands behind it.
@@ -50,17 +55,21 @@ fn item_said(alloc: Global, item: Type<'_>) -> pdb_base::Result<String> {
     said_of(alloc, &item.parse(alloc))
 }
 
-/// What the type of an index is in a table, or the text of its refusal.
-fn found(alloc: Global, table: &TypeInformation, index: u32) -> pdb_base::Result<String> {
-    let finder = table.finder(alloc)?;
+/// What the type of an index is, or the text of its refusal.
+fn found(alloc: Global, finder: &TypeFinder<'_>, index: u32) -> pdb_base::Result<String> {
     item_said(alloc, finder.find(TypeIndex(index))?)
+}
+
+/// The same of a table.
+fn found_in(alloc: Global, table: &TypeInformation, index: u32) -> pdb_base::Result<String> {
+    found(alloc, &table.finder(alloc)?, index)
 }
 
 /// What the type of an index is, as `Debug` writes it, or the text of its refusal, in a table whose
 /// one item is this record.
 fn said_at(alloc: Global, record: &[u8], index: u32) -> Result<String, Fail> {
     let table = TypeInformation::parse(table_of(alloc, record)?)?;
-    Ok(found(alloc, &table, index)?)
+    Ok(found_in(alloc, &table, index)?)
 }
 
 /// Whether this is what the type of an index is, or the text of its refusal, in a table whose one item
@@ -92,11 +101,15 @@ pub(crate) fn is_said_with(
     is_said(alloc, &longer, want)
 }
 
+/// Whether the front of a record ends too soon.
+fn is_cut(alloc: Global, front: &[u8]) -> bool {
+    matches!(parse_type_data(alloc, front), Err(Error::UnexpectedEof))
+}
+
 /// Whether each front of a record, the whole not among them, ends too soon.
 pub(crate) fn ends_soon(alloc: Global, record: &[u8]) -> bool {
     for length in 0..record.len() {
-        let read = parse_type_data(alloc, &record[..length]);
-        if !matches!(read, Err(Error::UnexpectedEof)) {
+        if !is_cut(alloc, &record[..length]) {
             return false;
         }
     }
@@ -105,5 +118,5 @@ pub(crate) fn ends_soon(alloc: Global, record: &[u8]) -> bool {
 
 /// Whether a copy of a value is equal.
 pub(crate) fn is_value_copied(alloc: Global, data: &TypeData<'_>) -> pdb_base::Result<bool> {
-    Ok(data.clone(alloc)? == *data)
+    Ok(matches!(data.clone(alloc), Ok(copy) if copy == *data))
 }
