@@ -3,74 +3,99 @@
 use pdb_space::{PdbInternalRva, PdbInternalSectionOffset, Rva, SectionOffset, StringRef};
 use std::alloc::Global;
 use std::cmp::Ordering;
-use std::fmt::{Debug, Display};
 use std::test::Fail;
 
 /// The largest number of 32 bits.
 const LAST: u32 = 0xffff_ffff;
 
-/// A number, what is added, and the three sums: checked, saturating and wrapping.
-const SUMS: &[(u32, u32, Option<u32>, u32, u32)] = &[
-    (0x1000, 0x42, Some(0x1042), 0x1042, 0x1042),
-    (LAST - 1, 1, Some(LAST), LAST, LAST),
-    (LAST, 1, None, LAST, 0),
-    (LAST - 0xf, 0x20, None, LAST, 0x10),
-];
-
-/// The three sums of an address.
-fn sums_of(from: Rva, offset: u32) -> (Option<Rva>, Rva, Rva) {
-    (
-        from.checked_add(offset),
-        from.saturating_add(offset),
-        from.wrapping_add(offset),
-    )
+/// What two numbers give.
+enum Answer {
+    /// Their sums, checked, saturating and wrapping: the first as an address, an internal one, and
+    /// an offset in section 3 of both kinds, the second as what is added.
+    Sums(Option<u32>, u32, u32),
+    /// How far the first is from the second, checked, saturating and wrapping, as addresses and as
+    /// internal ones.
+    Differences(Option<u32>, u32, u32),
+    /// How they lie as offsets in section 1, and whether they are equal.
+    InOneSection(Option<Ordering>, bool),
+    /// The same of the first in section 1, and the second in section 2.
+    InTwoSections(Option<Ordering>, bool),
 }
 
-#[test]
-fn sums(rt: HostRuntime) {
-    for (number, offset, checked, saturating, wrapping) in SUMS {
-        let want = (
-            checked.map(|sum| Rva(sum)),
-            Rva(*saturating),
-            Rva(*wrapping),
-        );
-        assert!(rt;
-            sums_of(Rva(*number), *offset) == want,
-            "{number} and {offset}"
-        );
-    }
+/// Two numbers, and what they give.
+const ROWS: &[(u32, u32, Answer)] = &[
+    (0x1000, 0x42, Answer::Sums(Some(0x1042), 0x1042, 0x1042)),
+    (LAST - 1, 1, Answer::Sums(Some(LAST), LAST, LAST)),
+    (LAST, 1, Answer::Sums(None, LAST, 0)),
+    (LAST - 0xf, 0x20, Answer::Sums(None, LAST, 0x10)),
+    (5, 2, Answer::Sums(Some(7), 7, 7)),
+    (0x1042, 0x1000, Answer::Differences(Some(0x42), 0x42, 0x42)),
+    (7, 7, Answer::Differences(Some(0), 0, 0)),
+    (0, 1, Answer::Differences(None, 0, LAST)),
+    (0x10, LAST - 0xf, Answer::Differences(None, 0, 0x20)),
+    (5, 6, Answer::InOneSection(Some(Ordering::Less), false)),
+    (6, 5, Answer::InOneSection(Some(Ordering::Greater), false)),
+    (5, 5, Answer::InOneSection(Some(Ordering::Equal), true)),
+    (5, 5, Answer::InTwoSections(None, false)),
+];
+
+/// Three sums or differences: checked, saturating and wrapping.
+type Three = (Option<u32>, u32, u32);
+
+/// The three sums of an address.
+fn sums(from: Rva, offset: u32) -> Three {
+    let checked = from.checked_add(offset).map(u32::from);
+    (
+        checked,
+        from.saturating_add(offset).0,
+        from.wrapping_add(offset).0,
+    )
 }
 
 /// The three sums of an internal address.
-fn internal_sums_of(
-    from: PdbInternalRva,
-    offset: u32,
-) -> (Option<PdbInternalRva>, PdbInternalRva, PdbInternalRva) {
+fn internal_sums(from: PdbInternalRva, offset: u32) -> Three {
+    let checked = from.checked_add(offset).map(u32::from);
     (
-        from.checked_add(offset),
-        from.saturating_add(offset),
-        from.wrapping_add(offset),
+        checked,
+        from.saturating_add(offset).0,
+        from.wrapping_add(offset).0,
     )
 }
 
-#[test]
-fn internal_sums(rt: HostRuntime) {
-    for (number, offset, checked, saturating, wrapping) in SUMS {
-        let want = (
-            checked.map(|sum| PdbInternalRva(sum)),
-            PdbInternalRva(*saturating),
-            PdbInternalRva(*wrapping),
-        );
-        let sums = internal_sums_of(PdbInternalRva(*number), *offset);
-        assert!(rt; sums == want, "{number} and {offset}");
-    }
+/// The place of an offset in section 3.
+fn place(offset: u32) -> SectionOffset {
+    SectionOffset::new(3, offset)
 }
 
-/// Three differences: checked, saturating and wrapping.
-type Differences = (Option<u32>, u32, u32);
+/// The internal place of an offset in section 3.
+fn internal_place(offset: u32) -> PdbInternalSectionOffset {
+    PdbInternalSectionOffset::new(3, offset)
+}
+
+/// Whether these are the three sums of an offset in section 3.
+fn are_place_sums(from: u32, offset: u32, (checked, saturating, wrapping): Three) -> bool {
+    place(from).checked_add(offset) == checked.map(place)
+        && place(from).saturating_add(offset) == place(saturating)
+        && place(from).wrapping_add(offset) == place(wrapping)
+}
+
+/// The same of the internal place.
+fn are_internal_place_sums(from: u32, offset: u32, (checked, saturating, wrapping): Three) -> bool {
+    internal_place(from).checked_add(offset) == checked.map(internal_place)
+        && internal_place(from).saturating_add(offset) == internal_place(saturating)
+        && internal_place(from).wrapping_add(offset) == internal_place(wrapping)
+}
+
+/// Whether these are the three sums of two numbers, in each of four ways.
+fn are_sums(from: u32, offset: u32, want: Three) -> bool {
+    sums(Rva(from), offset) == want
+        && internal_sums(PdbInternalRva(from), offset) == want
+        && are_place_sums(from, offset, want)
+        && are_internal_place_sums(from, offset, want)
+}
 
 /// The three differences of two addresses.
-fn differences(to: Rva, from: Rva) -> Differences {
+fn differences(to: Rva, from: Rva) -> Three {
     (
         to.checked_sub(from),
         to.saturating_sub(from),
@@ -79,7 +104,7 @@ fn differences(to: Rva, from: Rva) -> Differences {
 }
 
 /// The three differences of two internal addresses.
-fn internal_differences(to: PdbInternalRva, from: PdbInternalRva) -> Differences {
+fn internal_differences(to: PdbInternalRva, from: PdbInternalRva) -> Three {
     (
         to.checked_sub(from),
         to.saturating_sub(from),
@@ -87,186 +112,144 @@ fn internal_differences(to: PdbInternalRva, from: PdbInternalRva) -> Differences
     )
 }
 
-/// Two numbers, and how far the first is from the second.
-const DISTANCES: &[(u32, u32, Differences)] = &[
-    (0x1042, 0x1000, (Some(0x42), 0x42, 0x42)),
-    (7, 7, (Some(0), 0, 0)),
-    (0, 1, (None, 0, LAST)),
-    (0x10, LAST - 0xf, (None, 0, 0x20)),
-];
+/// Whether these are the three differences of two numbers, in both ways.
+fn are_differences(to: u32, from: u32, want: Three) -> bool {
+    differences(Rva(to), Rva(from)) == want
+        && internal_differences(PdbInternalRva(to), PdbInternalRva(from)) == want
+}
 
-#[test]
-fn distances(rt: HostRuntime) {
-    for (number, start, want) in DISTANCES {
-        let far = differences(Rva(*number), Rva(*start));
-        let other = internal_differences(PdbInternalRva(*number), PdbInternalRva(*start));
-        assert!(rt; far == *want && other == *want, "from {start} to {number}");
+/// How two places lie, and whether they are equal.
+type Order = (Option<Ordering>, bool);
+
+/// How an offset in section 1 and another place lie, and whether they are equal.
+fn compared(offset: u32, other: SectionOffset) -> Order {
+    let place = SectionOffset::new(1, offset);
+    (place.partial_cmp(&other), place == other)
+}
+
+/// The same of internal places.
+fn internal_compared(offset: u32, other: PdbInternalSectionOffset) -> Order {
+    let place = PdbInternalSectionOffset::new(1, offset);
+    (place.partial_cmp(&other), place == other)
+}
+
+/// Whether an offset in section 1 and one in another section lie so, in both ways.
+fn lie(offset: u32, section: u16, other: u32, want: Order) -> bool {
+    compared(offset, SectionOffset::new(section, other)) == want
+        && internal_compared(offset, PdbInternalSectionOffset::new(section, other)) == want
+}
+
+/// Whether two numbers give this.
+fn give(first: u32, second: u32, want: &Answer) -> bool {
+    match want {
+        Answer::Sums(checked, saturating, wrapping) => {
+            are_sums(first, second, (*checked, *saturating, *wrapping))
+        }
+        Answer::Differences(checked, saturating, wrapping) => {
+            are_differences(first, second, (*checked, *saturating, *wrapping))
+        }
+        Answer::InOneSection(order, equal) => lie(first, 1, second, (*order, *equal)),
+        Answer::InTwoSections(order, equal) => lie(first, 2, second, (*order, *equal)),
     }
 }
 
 #[test]
-fn operators(rt: HostRuntime) {
+fn two_numbers(rt: HostRuntime) {
+    for (first, second, want) in ROWS {
+        assert!(rt; give(*first, *second, want), "{first} and {second}");
+    }
+}
+
+/// The address after 0x40 that two steps of 1 reach, and how far it is from 0x30.
+fn steps() -> (u32, u32) {
     let mut address = Rva::from(0x40) + 1;
     address += 1;
-    assert!(rt; u32::from(address) == 0x42 && address - Rva(0x30) == 0x12);
-    assert!(rt; Rva(1) < Rva(2) && Rva::default() == Rva(0));
+    (u32::from(address), address - Rva(0x30))
+}
 
+/// The internal address that two steps of 1 reach from the second below the last, and how far it is
+/// from 1.
+fn internal_steps() -> (u32, u32) {
     let mut address = PdbInternalRva::from(LAST - 2) + 1;
     address += 1;
-    assert!(rt; u32::from(address) == LAST && address - PdbInternalRva(1) == LAST - 1);
-    assert!(rt; PdbInternalRva(2) > PdbInternalRva::default());
+    (u32::from(address), address - PdbInternalRva(1))
+}
+
+/// The place that two steps of 1 reach from offset 5 of section 2.
+fn place_steps() -> SectionOffset {
+    let mut place = SectionOffset::new(2, 5) + 1;
+    place += 1;
+    place
+}
+
+/// The internal place that two steps of 1 reach from offset 5 of section 2.
+fn internal_place_steps() -> PdbInternalSectionOffset {
+    let mut place = PdbInternalSectionOffset::new(2, 5) + 1;
+    place += 1;
+    place
+}
+
+const SEVEN: SectionOffset = SectionOffset {
+    offset: 7,
+    section: 2,
+};
+
+const INTERNAL_SEVEN: PdbInternalSectionOffset = PdbInternalSectionOffset {
+    offset: 7,
+    section: 2,
+};
+
+#[test]
+fn operators(rt: HostRuntime) {
+    assert!(rt; steps() == (0x42, 0x12) && internal_steps() == (LAST, LAST - 1));
+    assert!(rt; place_steps() == SEVEN && internal_place_steps() == INTERNAL_SEVEN);
+}
+
+/// Whether addresses are ordered by their numbers, and 0 by default.
+fn are_ordered() -> bool {
+    Rva(1) < Rva(2) && Rva::default() == Rva(0) && PdbInternalRva(2) > PdbInternalRva::default()
+}
+
+/// Whether a place in section 1 is valid, and one by default is not.
+fn are_valid() -> bool {
+    SectionOffset::new(1, 0).is_valid()
+        && !SectionOffset::default().is_valid()
+        && PdbInternalSectionOffset::new(1, 0).is_valid()
+        && !PdbInternalSectionOffset::default().is_valid()
+}
+
+/// Whether an offset of a name is its number, and ordered by it.
+fn are_numbers() -> bool {
+    let place = StringRef::from(0x42);
+    u32::from(place) == 0x42
+        && place == StringRef(0x42)
+        && StringRef(0x41) < place
+        && StringRef(0x1000) > place
 }
 
 #[test]
-fn string_refs(rt: HostRuntime) {
-    let place = StringRef::from(0x42);
-    assert!(rt; u32::from(place) == 0x42 && place == StringRef(0x42));
-    assert!(rt; StringRef(0x41) < place && StringRef(0x1000) > place);
+fn single_numbers(rt: HostRuntime) {
+    assert!(rt; are_ordered() && are_valid() && are_numbers());
 }
 
-/// Whether a value is shown as this text.
-fn shows<T: Display>(alloc: Global, value: &T, want: &str) -> Result<bool, Fail> {
-    Ok(value.to_string(alloc)?.as_str() == want)
+/// Addresses and an offset of a name, as text and for finding faults.
+fn texts_of(
+    address: Rva,
+    last: PdbInternalRva,
+    name: StringRef,
+    alloc: Global,
+) -> Result<String, Fail> {
+    Ok(format!(in alloc; "{address} {address:?} {last} {name} {name:?}")?)
 }
 
-/// Whether a value is written as this text for finding faults.
-fn writes<T: Debug>(alloc: Global, value: &T, want: &str) -> Result<bool, Fail> {
-    Ok(format!(in alloc; "{value:?}")?.as_str() == want)
+/// Whether they read so.
+fn read(alloc: Global, want: &str) -> Result<bool, Fail> {
+    let texts = texts_of(Rva(0x42), PdbInternalRva(LAST), StringRef(0x42), alloc)?;
+    Ok(texts.as_str() == want)
 }
 
 #[test]
 fn texts(rt: HostRuntime) -> Result<(), Fail> {
-    assert!(rt; shows(rt.alloc(), &Rva(0x42), "0x42")?);
-    assert!(rt; writes(rt.alloc(), &Rva(0x42), "Rva(0x42)")?);
-    assert!(rt; shows(rt.alloc(), &PdbInternalRva(LAST), "0xffffffff")?);
+    assert!(rt; read(rt.alloc(), "0x42 Rva(0x42) 0xffffffff 0x42 StringRef(0x42)")?);
     Ok(())
-}
-
-#[test]
-fn texts_of_string_refs(rt: HostRuntime) -> Result<(), Fail> {
-    assert!(rt; shows(rt.alloc(), &StringRef(0x42), "0x42")?);
-    assert!(rt; writes(rt.alloc(), &StringRef(0x42), "StringRef(0x42)")?);
-    Ok(())
-}
-
-/// An offset in section 3, what is added, and the three sums.
-const PLACE_SUMS: &[(u32, u32, Option<u32>, u32, u32)] = &[
-    (5, 2, Some(7), 7, 7),
-    (LAST, 1, None, LAST, 0),
-];
-
-/// The three sums of a place.
-fn place_sums_of(
-    from: SectionOffset,
-    offset: u32,
-) -> (Option<SectionOffset>, SectionOffset, SectionOffset) {
-    (
-        from.checked_add(offset),
-        from.saturating_add(offset),
-        from.wrapping_add(offset),
-    )
-}
-
-#[test]
-fn place_sums(rt: HostRuntime) {
-    for (number, offset, checked, saturating, wrapping) in PLACE_SUMS {
-        let want = (
-            checked.map(|sum| SectionOffset::new(3, sum)),
-            SectionOffset::new(3, *saturating),
-            SectionOffset::new(3, *wrapping),
-        );
-        let sums = place_sums_of(SectionOffset::new(3, *number), *offset);
-        assert!(rt; sums == want, "{number} and {offset}");
-    }
-    let mut place = SectionOffset::new(2, 5) + 1;
-    place += 1;
-    assert!(rt;
-        place
-            == SectionOffset {
-                offset: 7,
-                section: 2
-            }
-    );
-}
-
-/// The three sums of an internal place, of which two are told by their offsets.
-fn internal_place_sums_of(
-    from: PdbInternalSectionOffset,
-    offset: u32,
-) -> (Option<PdbInternalSectionOffset>, u32, u32) {
-    (
-        from.checked_add(offset),
-        from.saturating_add(offset).offset,
-        from.wrapping_add(offset).offset,
-    )
-}
-
-#[test]
-fn internal_place_sums(rt: HostRuntime) {
-    for (number, offset, checked, saturating, wrapping) in PLACE_SUMS {
-        let want = (
-            checked.map(|sum| PdbInternalSectionOffset::new(3, sum)),
-            *saturating,
-            *wrapping,
-        );
-        let sums = internal_place_sums_of(PdbInternalSectionOffset::new(3, *number), *offset);
-        assert!(rt; sums == want, "{number} and {offset}");
-    }
-    let mut place = PdbInternalSectionOffset::new(2, 5) + 1;
-    place += 1;
-    assert!(rt;
-        place
-            == PdbInternalSectionOffset {
-                offset: 7,
-                section: 2
-            }
-    );
-}
-
-/// How two places lie, and whether they are equal.
-fn compared(place: SectionOffset, other: SectionOffset) -> (Option<Ordering>, bool) {
-    (place.partial_cmp(&other), place == other)
-}
-
-/// How two internal places lie, and whether they are equal.
-fn internal_compared(
-    place: PdbInternalSectionOffset,
-    other: PdbInternalSectionOffset,
-) -> (Option<Ordering>, bool) {
-    (place.partial_cmp(&other), place == other)
-}
-
-/// An offset in section 1, another section and an offset there, how the two places lie, and whether
-/// they are equal.
-const PLACES: &[(u32, u16, u32, Option<Ordering>, bool)] = &[
-    (5, 1, 6, Some(Ordering::Less), false),
-    (6, 1, 5, Some(Ordering::Greater), false),
-    (5, 1, 5, Some(Ordering::Equal), true),
-    (5, 2, 5, None, false),
-];
-
-#[test]
-fn places(rt: HostRuntime) {
-    for (offset, section, other, order, equal) in PLACES {
-        let given = compared(
-            SectionOffset::new(1, *offset),
-            SectionOffset::new(*section, *other),
-        );
-        let internal = internal_compared(
-            PdbInternalSectionOffset::new(1, *offset),
-            PdbInternalSectionOffset::new(*section, *other),
-        );
-        let want = (*order, *equal);
-        assert!(rt;
-            given == want && internal == want,
-            "{offset} and {other} in {section}"
-        );
-    }
-}
-
-#[test]
-fn valid_places(rt: HostRuntime) {
-    assert!(rt; SectionOffset::new(1, 0).is_valid() && !SectionOffset::default().is_valid());
-    let nowhere = PdbInternalSectionOffset::default();
-    assert!(rt; PdbInternalSectionOffset::new(1, 0).is_valid() && !nowhere.is_valid());
 }

@@ -5,6 +5,59 @@ use pdb_flags::{
     TypeProperties,
 };
 
+/// What a word of 16 bits says.
+enum Word {
+    /// As properties of a type: whether it is intrinsic, and its kinds of aggregates of floats and
+    /// of types of the component model.
+    Properties(bool, u8, u8),
+    /// As properties of a type: the place in `set_properties` of the one test that answers yes.
+    Property(Option<usize>),
+    /// As attributes of a field: the access, and the tests in `method_of`.
+    Field(u8, [bool; 4]),
+    /// As attributes of a function: the calling convention, and the tests in `marks_of`.
+    Function(u8, [bool; 3]),
+}
+
+/// Words, and what they say.
+const WORDS: &[(u16, Word)] = &[
+    (0x2000, Word::Properties(true, 0, 0)),
+    (0x1000, Word::Properties(false, 2, 0)),
+    (0x0800, Word::Properties(false, 1, 0)),
+    (0xc000, Word::Properties(false, 0, 3)),
+    (0x8000, Word::Properties(false, 0, 2)),
+    (0x0200, Word::Properties(false, 0, 0)),
+    (0x0001, Word::Property(Some(0))),
+    (0x0002, Word::Property(Some(1))),
+    (0x0004, Word::Property(Some(2))),
+    (0x0008, Word::Property(Some(3))),
+    (0x0010, Word::Property(Some(4))),
+    (0x0020, Word::Property(Some(5))),
+    (0x0040, Word::Property(Some(6))),
+    (0x0080, Word::Property(Some(7))),
+    (0x0100, Word::Property(Some(8))),
+    (0x0200, Word::Property(Some(9))),
+    (0x0400, Word::Property(Some(10))),
+    (0x0800, Word::Property(None)),
+    (0x1000, Word::Property(None)),
+    (0x2000, Word::Property(Some(11))),
+    (0x4000, Word::Property(None)),
+    (0x8000, Word::Property(None)),
+    (0x0003, Word::Field(3, [false, false, false, false])),
+    (0x0007, Word::Field(3, [true, false, false, false])),
+    (0x0008, Word::Field(0, [false, true, false, false])),
+    (0x000c, Word::Field(0, [false, false, false, false])),
+    (0x0011, Word::Field(1, [false, false, false, true])),
+    (0x0016, Word::Field(2, [false, false, true, false])),
+    (0xffe0, Word::Field(0, [false, false, false, false])),
+    (0x0018, Word::Field(0, [false, false, false, true])),
+    (0x001c, Word::Field(0, [false, false, false, false])),
+    (0x000b, Word::Function(11, [false, false, false])),
+    (0x01ff, Word::Function(255, [true, false, false])),
+    (0x0200, Word::Function(0, [false, true, false])),
+    (0x0407, Word::Function(7, [false, false, true])),
+    (0xf800, Word::Function(0, [false, false, false])),
+];
+
 /// What the tests of single bits say of properties, in the order of the bits.
 fn set_properties(word: TypeProperties) -> [bool; 12] {
     [
@@ -23,35 +76,14 @@ fn set_properties(word: TypeProperties) -> [bool; 12] {
     ]
 }
 
-#[test]
-fn single_properties(rt: HostRuntime) {
-    for place in 0u16..16 {
-        let want = [0, 1, 2, 3, 4, 5, 6, 7, 8, 9, 10, 13].map(|at| at == place);
-        assert!(rt;
-            set_properties(TypeProperties::new(1 << place)) == want,
-            "bit {place}"
-        );
+/// Whether of some tests, the one at this place alone answers yes.
+fn is_only(tests: &[bool], place: Option<usize>) -> bool {
+    for (at, set) in tests.iter().enumerate() {
+        if *set != (Some(at) == place) {
+            return false;
+        }
     }
-}
-
-/// Words, whether the types are intrinsic, and their kinds of aggregates of floats and of types of
-/// the component model.
-const PROPERTIES: &[(u16, bool, u8, u8)] = &[
-    (0x2000, true, 0, 0),
-    (0x1000, false, 2, 0),
-    (0x0800, false, 1, 0),
-    (0xc000, false, 0, 3),
-    (0x8000, false, 0, 2),
-    (0x0200, false, 0, 0),
-];
-
-#[test]
-fn properties(rt: HostRuntime) {
-    for (bits, intrinsic, hfa, mocom) in PROPERTIES {
-        let word = TypeProperties::new(*bits);
-        let told = (word.intrinsic_type(), word.hfa(), word.mocom(), word.bits());
-        assert!(rt; told == (*intrinsic, *hfa, *mocom, *bits), "{bits}");
-    }
+    true
 }
 
 /// What the tests of a field's word say of its method.
@@ -64,28 +96,6 @@ fn method_of(word: FieldAttributes) -> [bool; 4] {
     ]
 }
 
-/// Words, and the access and the method that they say.
-const FIELDS: &[(u16, u8, [bool; 4])] = &[
-    (0x0003, 3, [false, false, false, false]),
-    (0x0007, 3, [true, false, false, false]),
-    (0x0008, 0, [false, true, false, false]),
-    (0x000c, 0, [false, false, false, false]),
-    (0x0011, 1, [false, false, false, true]),
-    (0x0016, 2, [false, false, true, false]),
-    (0xffe0, 0, [false, false, false, false]),
-    (0x0018, 0, [false, false, false, true]),
-    (0x001c, 0, [false, false, false, false]),
-];
-
-#[test]
-fn fields(rt: HostRuntime) {
-    for (bits, access, want) in FIELDS {
-        let word = FieldAttributes::new(*bits);
-        let told = (word.access(), word.bits(), method_of(word));
-        assert!(rt; told == (*access, *bits, *want), "{bits}");
-    }
-}
-
 /// What the tests of single bits say of a function, in the order of the bits.
 fn marks_of(word: FunctionAttributes) -> [bool; 3] {
     [
@@ -95,136 +105,171 @@ fn marks_of(word: FunctionAttributes) -> [bool; 3] {
     ]
 }
 
-/// Words, the calling conventions that they say, and the marks.
-const FUNCTIONS: &[(u16, u8, bool, bool, bool)] = &[
-    (0x000b, 11, false, false, false),
-    (0x01ff, 255, true, false, false),
-    (0x0200, 0, false, true, false),
-    (0x0407, 7, false, false, true),
-    (0xf800, 0, false, false, false),
+/// Whether a word of properties, which keeps its bits, says that a type is intrinsic, and these
+/// kinds.
+fn says_properties(bits: u16, intrinsic: bool, hfa: u8, mocom: u8) -> bool {
+    let word = TypeProperties::new(bits);
+    (word.intrinsic_type(), word.hfa(), word.mocom(), word.bits()) == (intrinsic, hfa, mocom, bits)
+}
+
+/// Whether a word of a field, which keeps its bits, says this access and method.
+fn says_field(bits: u16, access: u8, method: [bool; 4]) -> bool {
+    let word = FieldAttributes::new(bits);
+    (word.access(), word.bits(), method_of(word)) == (access, bits, method)
+}
+
+/// Whether a word of a function, which keeps its bits, says this calling convention and these marks.
+fn says_function(bits: u16, convention: u8, marks: [bool; 3]) -> bool {
+    let word = FunctionAttributes::new(bits);
+    (word.calling_convention(), word.bits(), marks_of(word)) == (convention, bits, marks)
+}
+
+/// Whether a word says this.
+fn says(bits: u16, want: &Word) -> bool {
+    match want {
+        Word::Properties(intrinsic, hfa, mocom) => says_properties(bits, *intrinsic, *hfa, *mocom),
+        Word::Property(place) => is_only(&set_properties(TypeProperties::new(bits)), *place),
+        Word::Field(access, method) => says_field(bits, *access, *method),
+        Word::Function(convention, marks) => says_function(bits, *convention, *marks),
+    }
+}
+
+#[test]
+fn words(rt: HostRuntime) {
+    for (bits, want) in WORDS {
+        assert!(rt; says(*bits, want), "{bits:x}");
+    }
+}
+
+/// What a word of 32 bits says as attributes of a pointer.
+enum Pointer {
+    /// The kind and the size.
+    Kind(PointerKind, u8),
+    /// Nothing, since it is none.
+    Refused,
+    /// The mode, whether it is to a member, and whether it is a reference.
+    Mode(PointerMode, bool, bool),
+    /// The place in `set_attributes` of the one test that answers yes.
+    Attribute(Option<usize>),
+    /// Whether bit 19 marks it, and its size.
+    Size(bool, u8),
+}
+
+/// Words, and what they say.
+const POINTERS: &[(u32, Pointer)] = &[
+    (0, Pointer::Kind(PointerKind::Near16, 0)),
+    (1, Pointer::Kind(PointerKind::Far16, 0)),
+    (2, Pointer::Kind(PointerKind::Huge16, 0)),
+    (3, Pointer::Kind(PointerKind::BaseSeg, 0)),
+    (4, Pointer::Kind(PointerKind::BaseVal, 0)),
+    (5, Pointer::Kind(PointerKind::BaseSegVal, 0)),
+    (6, Pointer::Kind(PointerKind::BaseAddr, 0)),
+    (7, Pointer::Kind(PointerKind::BaseSegAddr, 0)),
+    (8, Pointer::Kind(PointerKind::BaseType, 0)),
+    (9, Pointer::Kind(PointerKind::BaseSelf, 0)),
+    (10, Pointer::Kind(PointerKind::Near32, 4)),
+    (11, Pointer::Kind(PointerKind::Far32, 4)),
+    (12, Pointer::Kind(PointerKind::Ptr64, 8)),
+    (0x0001_000c, Pointer::Kind(PointerKind::Ptr64, 8)),
+    (0x0d, Pointer::Refused),
+    (0x1f, Pointer::Refused),
+    (0xac, Pointer::Refused),
+    (0xec, Pointer::Refused),
+    (0xffff_ffff, Pointer::Refused),
+    (0x0c, Pointer::Mode(PointerMode::Pointer, false, false)),
+    (
+        0x0001_000c,
+        Pointer::Mode(PointerMode::Pointer, false, false),
+    ),
+    (
+        0x2c,
+        Pointer::Mode(PointerMode::LValueReference, false, true),
+    ),
+    (0x4c, Pointer::Mode(PointerMode::Member, true, false)),
+    (
+        0x6c,
+        Pointer::Mode(PointerMode::MemberFunction, true, false),
+    ),
+    (
+        0x8c,
+        Pointer::Mode(PointerMode::RValueReference, false, true),
+    ),
+    (0x0000_010c, Pointer::Attribute(Some(0))),
+    (0x0000_020c, Pointer::Attribute(Some(1))),
+    (0x0000_040c, Pointer::Attribute(Some(2))),
+    (0x0000_080c, Pointer::Attribute(Some(3))),
+    (0x0000_100c, Pointer::Attribute(Some(4))),
+    (0x0000_200c, Pointer::Attribute(None)),
+    (0x0000_400c, Pointer::Attribute(None)),
+    (0x0000_800c, Pointer::Attribute(None)),
+    (0x0001_000c, Pointer::Attribute(None)),
+    (0x0002_000c, Pointer::Attribute(None)),
+    (0x0004_000c, Pointer::Attribute(None)),
+    (0x0008_000c, Pointer::Attribute(Some(5))),
+    (0x0010_000c, Pointer::Attribute(None)),
+    (0x0020_000c, Pointer::Attribute(None)),
+    (0x0040_000c, Pointer::Attribute(None)),
+    (0x0080_000c, Pointer::Attribute(None)),
+    (0x0100_000c, Pointer::Attribute(None)),
+    (0x0200_000c, Pointer::Attribute(None)),
+    (0x0400_000c, Pointer::Attribute(None)),
+    (0x0800_000c, Pointer::Attribute(None)),
+    (0x1000_000c, Pointer::Attribute(None)),
+    (0x2000_000c, Pointer::Attribute(None)),
+    (0x4000_000c, Pointer::Attribute(None)),
+    (0x8000_000c, Pointer::Attribute(None)),
+    (0x0008_000c, Pointer::Size(true, 8)),
+    (0x0004_000c, Pointer::Size(false, 32)),
+    (0x0001_000c, Pointer::Size(false, 8)),
+    (0x0000_800a, Pointer::Size(false, 4)),
+    (0x0007_e000, Pointer::Size(false, 63)),
 ];
 
-#[test]
-fn functions(rt: HostRuntime) {
-    for (bits, convention, returns, constructor, with_bases) in FUNCTIONS {
-        let word = FunctionAttributes::new(*bits);
-        let told = (word.calling_convention(), word.bits(), marks_of(word));
-        let want = (*convention, *bits, [*returns, *constructor, *with_bases]);
-        assert!(rt; told == want, "{bits}");
-    }
-}
-
-/// The kind and the size of a pointer, where the word is one.
-fn kind_of(bits: u32) -> Option<(PointerKind, u8)> {
-    let word = PointerAttributes::new(bits)?;
-    Some((word.pointer_kind(), word.size()))
-}
-
-/// Words, and the kinds and sizes of the pointers.
-const KINDS: &[(u32, PointerKind, u8)] = &[
-    (0, PointerKind::Near16, 0),
-    (1, PointerKind::Far16, 0),
-    (2, PointerKind::Huge16, 0),
-    (3, PointerKind::BaseSeg, 0),
-    (4, PointerKind::BaseVal, 0),
-    (5, PointerKind::BaseSegVal, 0),
-    (6, PointerKind::BaseAddr, 0),
-    (7, PointerKind::BaseSegAddr, 0),
-    (8, PointerKind::BaseType, 0),
-    (9, PointerKind::BaseSelf, 0),
-    (10, PointerKind::Near32, 4),
-    (11, PointerKind::Far32, 4),
-    (12, PointerKind::Ptr64, 8),
-    (0x0001_000c, PointerKind::Ptr64, 8),
-];
-
-#[test]
-fn pointer_kinds(rt: HostRuntime) {
-    for (number, kind, size) in KINDS {
-        assert!(rt; kind_of(*number) == Some((*kind, *size)), "kind {number}");
-    }
-}
-
-#[test]
-fn no_pointers(rt: HostRuntime) {
-    for bits in [0x0d, 0x1f, 0xac, 0xec, 0xffff_ffff] {
-        assert!(rt; PointerAttributes::new(bits).is_none(), "{bits}");
-    }
-}
-
-/// The mode of a pointer, and whether it is one to a member and whether it is a reference.
-fn mode_of(bits: u32) -> Option<(PointerMode, bool, bool)> {
-    let word = PointerAttributes::new(bits)?;
-    Some((
-        word.pointer_mode(),
-        word.pointer_to_member(),
-        word.is_reference(),
-    ))
-}
-
-/// Words, the modes of the pointers, whether they are to members, and whether they are references.
-const MODES: &[(u32, PointerMode, bool, bool)] = &[
-    (0x0c, PointerMode::Pointer, false, false),
-    (0x0001_000c, PointerMode::Pointer, false, false),
-    (0x2c, PointerMode::LValueReference, false, true),
-    (0x4c, PointerMode::Member, true, false),
-    (0x6c, PointerMode::MemberFunction, true, false),
-    (0x8c, PointerMode::RValueReference, false, true),
-];
-
-#[test]
-fn pointer_modes(rt: HostRuntime) {
-    for (bits, mode, to_member, reference) in MODES {
-        let want = Some((*mode, *to_member, *reference));
-        assert!(rt; mode_of(*bits) == want, "mode of {bits}");
-    }
-}
-
-/// What the tests of single bits say of a pointer, in the order of the bits, where the word is one.
-fn set_attributes(bits: u32) -> Option<[bool; 6]> {
-    let word = PointerAttributes::new(bits)?;
-    Some([
+/// What the tests of single bits say of a pointer, in the order of the bits.
+fn set_attributes(word: PointerAttributes) -> [bool; 6] {
+    [
         word.is_flat_32(),
         word.is_volatile(),
         word.is_const(),
         word.is_unaligned(),
         word.is_restrict(),
         word.is_mocom(),
-    ])
+    ]
 }
 
-#[test]
-fn single_attributes(rt: HostRuntime) {
-    for place in 8u32..32 {
-        let want = [8, 9, 10, 11, 12, 19].map(|at| at == place);
-        assert!(rt;
-            set_attributes((1 << place) + 0x0c) == Some(want),
-            "bit {place}"
-        );
+/// The mode of a pointer, and whether it is one to a member and whether it is a reference.
+fn mode_of(word: PointerAttributes) -> (PointerMode, bool, bool) {
+    (
+        word.pointer_mode(),
+        word.pointer_to_member(),
+        word.is_reference(),
+    )
+}
+
+/// Whether a pointer's word says this.
+fn is_pointer(word: PointerAttributes, want: &Pointer) -> bool {
+    match want {
+        Pointer::Kind(kind, size) => (word.pointer_kind(), word.size()) == (*kind, *size),
+        Pointer::Refused => false,
+        Pointer::Mode(mode, to_member, reference) => {
+            mode_of(word) == (*mode, *to_member, *reference)
+        }
+        Pointer::Attribute(place) => is_only(&set_attributes(word), *place),
+        Pointer::Size(mocom, size) => (word.is_mocom(), word.size()) == (*mocom, *size),
     }
 }
 
-/// Whether bit 19 marks a pointer, its size, and the word itself.
-fn pointer_size(bits: u32) -> Option<(bool, u8, u32)> {
-    let word = PointerAttributes::new(bits)?;
-    Some((word.is_mocom(), word.size(), word.bits()))
+/// Whether a word says this of a pointer, and keeps its bits.
+fn points(bits: u32, want: &Pointer) -> bool {
+    match PointerAttributes::new(bits) {
+        Some(word) => is_pointer(word, want) && word.bits() == bits,
+        None => matches!(want, Pointer::Refused),
+    }
 }
 
-/// Words, whether bit 19 marks the pointers, and their sizes.
-const SIZES: &[(u32, bool, u8)] = &[
-    (0x0008_000c, true, 8),
-    (0x0004_000c, false, 32),
-    (0x0001_000c, false, 8),
-    (0x0000_800a, false, 4),
-    (0x0007_e000, false, 63),
-];
-
 #[test]
-fn pointer_sizes(rt: HostRuntime) {
-    for (bits, mocom, size) in SIZES {
-        assert!(rt;
-            pointer_size(*bits) == Some((*mocom, *size, *bits)),
-            "size of {bits}"
-        );
+fn pointers(rt: HostRuntime) {
+    for (bits, want) in POINTERS {
+        assert!(rt; points(*bits, want), "{bits:x}");
     }
 }

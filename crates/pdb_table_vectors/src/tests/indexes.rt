@@ -2,7 +2,7 @@
 
 use super::read::{is_said_at, is_value_copied};
 use pdb_base::{Result, TypeIndex};
-use pdb_values::type_data_for_primitive;
+use pdb_values::{TypeData, type_data_for_primitive};
 use std::alloc::Global;
 use std::test::Fail;
 
@@ -27,9 +27,17 @@ const ROWS: &[(u32, &str)] = &[
 /// The record of a bit field.
 const RECORD: &[u8] = b"\x05\x12\x75\x00\x00\x00\x03\x02";
 
+/// Whether a type is read, and a copy of it is equal.
+fn is_copied(alloc: Global, read: &Result<TypeData<'_>>) -> Result<bool> {
+    match read {
+        Ok(data) => is_value_copied(alloc, data),
+        Err(_) => Ok(false),
+    }
+}
+
 /// Whether a copy of a primitive type is equal.
 fn is_primitive_copied(alloc: Global) -> Result<bool> {
-    is_value_copied(alloc, &type_data_for_primitive(TypeIndex(0x674))?)
+    is_copied(alloc, &type_data_for_primitive(TypeIndex(0x674)))
 }
 
 #[test]

@@ -50,17 +50,22 @@ const PRIMITIVES: &[(u32, PrimitiveKind, Option<Indirection>)] = &[
     (0x33, PrimitiveKind::Bool64, None),
 ];
 
-/// The primitive type of an index, or the number that the refusal names, which is 0 where it names
+/// The primitive type that is read, or the number that the refusal names, which is 0 where it names
 /// none.
+fn told(read: &pdb_base::Result<TypeData<'_>>) -> Result<PrimitiveType, u32> {
+    match read {
+        Ok(TypeData::Primitive(primitive)) => Ok(*primitive),
+        Err(Error::TypeNotFound(number)) => Err(*number),
+        _ => Err(0),
+    }
+}
+
+/// The same of the type of an index.
 fn primitive(index: u32) -> Result<PrimitiveType, u32> {
     if index >= 0x1000 {
         return Err(0);
     }
-    match type_data_for_primitive(TypeIndex(index)) {
-        Ok(TypeData::Primitive(primitive)) => Ok(primitive),
-        Err(Error::TypeNotFound(number)) => Err(number),
-        _ => Err(0),
-    }
+    told(&type_data_for_primitive(TypeIndex(index)))
 }
 
 #[test]

@@ -1,9 +1,10 @@
 //! String tables, and the names in them.
 
 use super::{says, stream};
-use pdb_base::{RawString, Result as Answer};
+use pdb_base::{Error, RawString, Result as Answered};
 use pdb_space::{StringRef, StringTable};
 use std::alloc::Global;
+use std::borrow::CowStr;
 use std::test::Fail;
 
 /// Seven bytes of names, the last of which has no NUL among them, and a NUL behind.
@@ -18,111 +19,134 @@ const OTHER_SIGNATURE: &[u8] = b"Unimplemented PDB feature: invalid string table
 
 const OTHER_VERSION: &[u8] = b"Unimplemented PDB feature: unknown string table hash version";
 
-/// Whether `parse` answers with a table, where nothing is wanted, or with an error of this text.
-fn parses(alloc: Global, bytes: &[u8], want: &[u8]) -> Result<bool, Fail> {
-    match StringTable::parse(stream(alloc, bytes)?) {
-        Ok(_) => Ok(want.is_empty()),
-        Err(error) => says(alloc, error, want),
-    }
+/// What the table of some bytes is asked, and what is answered.
+enum Answer {
+    /// That it is a table.
+    Parsed,
+    /// That it is none: the text of the error.
+    Refused(&'static [u8]),
+    /// The name at an offset, and the same as text.
+    Name(u32, &'static [u8], &'static str),
+    /// That the name at an offset ends too soon: `UnexpectedEof`.
+    Ends(u32),
 }
 
-/// Whether a look-up answers with these bytes: the name, or the text of an error.
-fn gives(alloc: Global, answer: Answer<RawString<'_>>, want: &[u8]) -> Result<bool, Fail> {
-    match answer {
-        Ok(name) => Ok(name.as_bytes() == want),
-        Err(error) => says(alloc, error, want),
-    }
+/// The bytes of tables, and what is answered.
+const ROWS: &[(&[u8], Answer)] = &[
+    (TABLE, Answer::Parsed),
+    (BROKEN, Answer::Parsed),
+    (b"\xfe\xef\xfe\xef\x01\0\0\0\0\0\0\0", Answer::Parsed),
+    (
+        b"\xfe\xef\xfe\xef\x01\0\0\0\x08\0\0\0\0foo\0ba\0",
+        Answer::Parsed,
+    ),
+    (b"", Answer::Refused(ENDS)),
+    (b"\xfe\xef\xfe\xef\x01\0\0\0\0\0\0", Answer::Refused(ENDS)),
+    (b"\0\0\0\0\x03\0\0\0\0\0\0", Answer::Refused(ENDS)),
+    (
+        b"\xfe\xef\xfe\xee\x03\0\0\0\x09\0\0\0",
+        Answer::Refused(OTHER_SIGNATURE),
+    ),
+    (
+        b"\xef\xfe\xef\xfe\x01\0\0\0\0\0\0\0",
+        Answer::Refused(OTHER_SIGNATURE),
+    ),
+    (
+        b"\xfe\xef\xfe\xef\x01\0\0\0\x09\0\0\0\0foo\0ba\0",
+        Answer::Refused(ENDS),
+    ),
+    (
+        b"\xfe\xef\xfe\xef\x03\0\0\0\xff\xff\xff\xff\0foo\0ba\0",
+        Answer::Refused(ENDS),
+    ),
+    (
+        b"\xfe\xef\xfe\xef\x03\0\0\0\x07\0\0\0\0foo\0ba\0",
+        Answer::Refused(OTHER_VERSION),
+    ),
+    (
+        b"\xfe\xef\xfe\xef\0\0\0\0\0\0\0\0",
+        Answer::Refused(OTHER_VERSION),
+    ),
+    (TABLE, Answer::Name(0, b"", "")),
+    (TABLE, Answer::Name(1, b"foo", "foo")),
+    (TABLE, Answer::Name(2, b"oo", "oo")),
+    (TABLE, Answer::Name(4, b"", "")),
+    (TABLE, Answer::Ends(5)),
+    (TABLE, Answer::Ends(6)),
+    (TABLE, Answer::Ends(7)),
+    (TABLE, Answer::Ends(8)),
+    (TABLE, Answer::Ends(0xffff_ffff)),
+    (BROKEN, Answer::Name(0, b"f\xffo", "f\u{fffd}o")),
+];
+
+/// Whether a look-up answers with this name.
+fn gives(answer: &Answered<RawString<'_>>, want: &[u8]) -> bool {
+    matches!(answer, Ok(name) if name.as_bytes() == want)
 }
 
-/// Whether a look-up as text answers with these bytes: the name, or the text of an error.
-fn reads(alloc: Global, table: &StringTable, name: StringRef, want: &[u8]) -> Result<bool, Fail> {
-    match name.to_string_lossy(alloc, table) {
-        Ok(text) => Ok(text.as_str().as_bytes() == want),
-        Err(error) => says(alloc, error, want),
-    }
+/// Whether a look-up as text answers with this one.
+fn reads(answer: &Answered<CowStr<'_>>, want: &str) -> bool {
+    matches!(answer, Ok(text) if text.as_str() == want)
 }
 
-/// Whether both look-ups of a name answer with these bytes, and the one as text with the others.
+/// Whether each look-up of a name answers with it, and the one as text with this one.
 fn each_gives(
     alloc: Global,
     table: &StringTable,
     name: StringRef,
     want: &[u8],
-    text: &[u8],
-) -> Result<bool, Fail> {
-    let got = gives(alloc, table.get(name), want)?;
-    let raw = gives(alloc, name.to_raw_string(table), want)?;
-    Ok(got && raw && reads(alloc, table, name, text)?)
+    text: &str,
+) -> bool {
+    gives(&table.get(name), want)
+        && gives(&name.to_raw_string(table), want)
+        && reads(&name.to_string_lossy(alloc, table), text)
 }
 
-/// The same of the table of these bytes.
-fn holds(
-    alloc: Global,
-    bytes: &[u8],
-    name: StringRef,
-    want: &[u8],
-    text: &[u8],
-) -> Result<bool, Fail> {
-    let table = StringTable::parse(stream(alloc, bytes)?)?;
-    each_gives(alloc, &table, name, want, text)
+/// Whether each look-up of a name is refused, since it ends too soon.
+fn each_ends(alloc: Global, table: &StringTable, name: StringRef) -> bool {
+    matches!(table.get(name), Err(Error::UnexpectedEof))
+        && matches!(name.to_raw_string(table), Err(Error::UnexpectedEof))
+        && matches!(
+            name.to_string_lossy(alloc, table),
+            Err(Error::UnexpectedEof)
+        )
 }
 
-/// Tables, and the texts of what they are refused with, or nothing.
-const TABLES: &[(&[u8], &[u8])] = &[
-    (TABLE, b""),
-    (BROKEN, b""),
-    (b"\xfe\xef\xfe\xef\x01\0\0\0\0\0\0\0", b""),
-    (b"\xfe\xef\xfe\xef\x01\0\0\0\x08\0\0\0\0foo\0ba\0", b""),
-    (b"", ENDS),
-    (b"\xfe\xef\xfe\xef\x01\0\0\0\0\0\0", ENDS),
-    (b"\0\0\0\0\x03\0\0\0\0\0\0", ENDS),
-    (b"\xfe\xef\xfe\xee\x03\0\0\0\x09\0\0\0", OTHER_SIGNATURE),
-    (b"\xef\xfe\xef\xfe\x01\0\0\0\0\0\0\0", OTHER_SIGNATURE),
-    (b"\xfe\xef\xfe\xef\x01\0\0\0\x09\0\0\0\0foo\0ba\0", ENDS),
-    (
-        b"\xfe\xef\xfe\xef\x03\0\0\0\xff\xff\xff\xff\0foo\0ba\0",
-        ENDS,
-    ),
-    (
-        b"\xfe\xef\xfe\xef\x03\0\0\0\x07\0\0\0\0foo\0ba\0",
-        OTHER_VERSION,
-    ),
-    (b"\xfe\xef\xfe\xef\0\0\0\0\0\0\0\0", OTHER_VERSION),
-];
+/// Whether a table answers so.
+fn holds(alloc: Global, table: &StringTable, want: &Answer) -> bool {
+    match want {
+        Answer::Parsed => true,
+        Answer::Refused(_) => false,
+        Answer::Name(offset, want, text) => {
+            each_gives(alloc, table, StringRef(*offset), want, text)
+        }
+        Answer::Ends(offset) => each_ends(alloc, table, StringRef(*offset)),
+    }
+}
+
+/// Whether an error is what is answered.
+fn is_refused(alloc: Global, error: Error, want: &Answer) -> Result<bool, Fail> {
+    match want {
+        Answer::Refused(text) => says(alloc, error, text),
+        _ => Ok(false),
+    }
+}
+
+/// Whether the table of these bytes answers so.
+fn is_answered(alloc: Global, bytes: &[u8], want: &Answer) -> Result<bool, Fail> {
+    match StringTable::parse(stream(alloc, bytes)?) {
+        Ok(table) => Ok(holds(alloc, &table, want)),
+        Err(error) => is_refused(alloc, error, want),
+    }
+}
 
 #[test]
 fn string_tables(rt: HostRuntime) -> Result<(), Fail> {
-    for (bytes, want) in TABLES {
-        assert!(rt; parses(rt.alloc(), bytes, want)?, "{bytes:?}");
+    for (place, (bytes, want)) in ROWS.iter().enumerate() {
+        assert!(rt;
+            is_answered(rt.alloc(), bytes, want)?,
+            "row {place}: {bytes:?}"
+        );
     }
-    Ok(())
-}
-
-/// Offsets, and the names there or the texts of what they are refused with.
-const NAMES: &[(u32, &[u8])] = &[
-    (0, b""),
-    (1, b"foo"),
-    (2, b"oo"),
-    (4, b""),
-    (5, ENDS),
-    (6, ENDS),
-    (7, ENDS),
-    (8, ENDS),
-    (0xffff_ffff, ENDS),
-];
-
-#[test]
-fn names(rt: HostRuntime) -> Result<(), Fail> {
-    for (offset, want) in NAMES {
-        let is = holds(rt.alloc(), TABLE, StringRef(*offset), want, want)?;
-        assert!(rt; is, "at {offset}");
-    }
-    Ok(())
-}
-
-#[test]
-fn broken(rt: HostRuntime) -> Result<(), Fail> {
-    let text = "f\u{fffd}o".as_bytes();
-    assert!(rt; holds(rt.alloc(), BROKEN, StringRef(0), b"f\xffo", text)?);
     Ok(())
 }

@@ -11,241 +11,208 @@ use std::alloc::Global;
 use std::ops::Range;
 use std::test::Fail;
 
-/// Adds records: sources and targets.
-fn push(bytes: &mut Vec<u8>, records: &[(u32, u32)]) -> Result<(), Fail> {
-    for (source, target) in records {
-        bytes.extend_from_slice(&source.to_le_bytes())?;
-        bytes.extend_from_slice(&target.to_le_bytes())?;
-    }
-    Ok(())
+/// An OMAP table.
+enum Table {
+    /// That of these records, each a source and a target.
+    Of(&'static [(u32, u32)]),
+    /// That of 1000 records, of which record k moves 16k to 16k + 0x100000.
+    Thousand,
 }
 
-/// The OMAP table of these records, of which there are at most 1024: sources and targets.
-fn table(alloc: Global, records: &[(u32, u32)]) -> Result<OMAPTable, Fail> {
-    let mut bytes = Vec::new(alloc);
-    push(&mut bytes, records)?;
-    bytes.truncate(0x2000);
-    Ok(OMAPTable::parse(Stream::new(bytes))?)
+/// What a table is asked, and what it answers.
+enum TableRow {
+    /// Whether it is sorted.
+    Sorted(bool),
+    /// Its records, which are two.
+    Records([(u32, u32); 2]),
+    /// Where an address is moved.
+    Address(u32, Option<u32>),
+    /// Where an address is moved, and the least and the most sources that are compared.
+    Counted(u32, Option<u32>, u64, u64),
+    /// Where the range of a start and an end is moved.
+    Range(u32, u32, &'static [Range<u32>]),
 }
 
-/// A section at an address, with so many bytes in the file.
-fn section(virtual_address: u32, size_of_raw_data: u32) -> ImageSectionHeader {
-    ImageSectionHeader {
-        virtual_address,
-        size_of_raw_data,
-        ..ImageSectionHeader::default()
-    }
-}
+const NONE: Table = Table::Of(&[]);
 
-/// Records, each a source and a target.
-type Records = &'static [(u32, u32)];
+const UNMAPPED: Table = Table::Of(&[(0x1000, 0), (0x1008, 0x15d44)]);
 
-const UNMAPPED: Records = &[(0x1000, 0), (0x1008, 0x15d44)];
+const LAST: Table = Table::Of(&[(0x10, 0xffff_fff8)]);
 
-const LAST: Records = &[(0x10, 0xffff_fff8)];
+const EQUAL: Table = Table::Of(&[(0x10, 0x100), (0x10, 0x200)]);
 
-const EQUAL: Records = &[(0x10, 0x100), (0x10, 0x200)];
+const NOWHERE: Table = Table::Of(&[(5, 0x10), (5, 0x20), (5, 0)]);
 
-/// Tables that are sorted, and what they answer of an address.
-const LOOK_UPS: &[(Records, u32, Option<u32>)] = &[
-    (UNMAPPED, 0x0fff, None),
-    (UNMAPPED, 0x1007, None),
-    (UNMAPPED, 0x1008, Some(0x15d44)),
-    (LAST, 0x0f, None),
-    (LAST, 0x17, Some(0xffff_ffff)),
-    (LAST, 0x18, None),
-    (EQUAL, 0x10, Some(0x200)),
-    (&[], 0x10, None),
-];
+const DECREASING: Table = Table::Of(&[(2, 1), (1, 2)]);
 
-/// Whether the table of these records is sorted, and what it answers of an address.
-fn looked_up(
-    alloc: Global,
-    records: &[(u32, u32)],
-    address: u32,
-) -> Result<(bool, Option<u32>), Fail> {
-    let table = table(alloc, records)?;
-    Ok((table.is_sorted(), table.lookup(address)))
-}
-
-#[test]
-fn look_ups(rt: HostRuntime) -> Result<(), Fail> {
-    for (records, address, want) in LOOK_UPS {
-        let answer = looked_up(rt.alloc(), records, *address)?;
-        assert!(rt; answer == (true, *want), "lookup of {address}");
-    }
-    Ok(())
-}
-
-/// Whether a table moves the range of a start and an end to these.
-fn moves_to(
-    alloc: Global,
-    table: &OMAPTable,
-    start: u32,
-    end: u32,
-    want: &[Range<u32>],
-) -> Result<bool, Fail> {
-    let ranges: Vec<Range<u32>> = table.lookup_range(start..end).collect(alloc)?;
-    Ok(ranges.as_slice() == want)
-}
-
-/// The same of the table of these records.
-fn moves(
-    alloc: Global,
-    records: &[(u32, u32)],
-    start: u32,
-    end: u32,
-    want: &[Range<u32>],
-) -> Result<bool, Fail> {
-    let table = table(alloc, records)?;
-    moves_to(alloc, &table, start, end, want)
-}
-
-/// Tables, the start and the end of a range, and the one range that they answer.
-const RANGES: &[(Records, u32, u32, &[Range<u32>])] = &[
-    (UNMAPPED, 0, 0x1010, &[0x15d44..0x15d4c]),
-    (LAST, 0x10, 0x20, &[0xffff_fff8..0xffff_ffff]),
-    (EQUAL, 0x10, 0x12, &[0x200..0x202]),
-];
-
-#[test]
-fn ranges(rt: HostRuntime) -> Result<(), Fail> {
-    for (records, start, end, want) in RANGES {
-        let is = moves(rt.alloc(), records, *start, *end, want)?;
-        assert!(rt; is, "{start}..{end}");
-    }
-    Ok(())
-}
-
-/// The table of 1000 records, of which record k moves 16k to 16k + 0x100000.
-fn thousand(alloc: Global) -> Result<OMAPTable, Fail> {
-    let mut records = Vec::new(alloc);
-    for k in 0..1000u32 {
-        records.push((16 * k, 16 * k + 0x10_0000))?;
-    }
-    table(alloc, &records)
-}
-
-/// What a table answers of an address, and how many sources are compared.
-fn counted(table: &OMAPTable, address: u32) -> (Option<u32>, u64) {
-    let mut count = Count::new();
-    let moved = table.lookup_counted(address, &mut count);
-    (moved, count.get())
-}
-
-/// What the table of 1000 records answers of an address, and the same with the count.
-fn looked_up_of_many(
-    alloc: Global,
-    address: u32,
-) -> Result<(Option<u32>, (Option<u32>, u64)), Fail> {
-    let table = thousand(alloc)?;
-    Ok((table.lookup(address), counted(&table, address)))
-}
-
-#[test]
-fn many_records(rt: HostRuntime) -> Result<(), Fail> {
-    let (moved, (again, compared)) = looked_up_of_many(rt.alloc(), 15999)?;
-    assert!(rt; moved == Some(1_064_575));
-    assert!(rt; again == Some(1_064_575) && matches!(compared, 1..=10));
-    Ok(())
-}
-
-/// What a range over three of these records is moved to.
+/// What a range over three of the 1000 records is moved to.
 const ACROSS: &[Range<u32>] = &[
     1_064_542..1_064_544,
     1_064_544..1_064_560,
     1_064_560..1_064_562,
 ];
 
-/// What a range over the end of the last of these records is moved to.
-const AT_END: &[Range<u32>] = &[1_064_566..1_064_578];
+/// Tables, and what they answer.
+const TABLES: &[(Table, TableRow)] = &[
+    (NONE, TableRow::Sorted(true)),
+    (NONE, TableRow::Address(0x10, None)),
+    (NONE, TableRow::Counted(15999, None, 0, 0)),
+    (UNMAPPED, TableRow::Sorted(true)),
+    (UNMAPPED, TableRow::Address(0x0fff, None)),
+    (UNMAPPED, TableRow::Address(0x1007, None)),
+    (UNMAPPED, TableRow::Address(0x1008, Some(0x15d44))),
+    (UNMAPPED, TableRow::Range(0, 0x1010, &[0x15d44..0x15d4c])),
+    (LAST, TableRow::Sorted(true)),
+    (LAST, TableRow::Address(0x0f, None)),
+    (LAST, TableRow::Address(0x17, Some(0xffff_ffff))),
+    (LAST, TableRow::Address(0x18, None)),
+    (
+        LAST,
+        TableRow::Range(0x10, 0x20, &[0xffff_fff8..0xffff_ffff]),
+    ),
+    (EQUAL, TableRow::Sorted(true)),
+    (EQUAL, TableRow::Address(0x10, Some(0x200))),
+    (EQUAL, TableRow::Range(0x10, 0x12, &[0x200..0x202])),
+    (NOWHERE, TableRow::Address(5, None)),
+    (NOWHERE, TableRow::Range(5, 9, &[])),
+    (DECREASING, TableRow::Sorted(false)),
+    (DECREASING, TableRow::Records([(2, 1), (1, 2)])),
+    (Table::Thousand, TableRow::Address(15999, Some(1_064_575))),
+    (
+        Table::Thousand,
+        TableRow::Counted(15999, Some(1_064_575), 1, 10),
+    ),
+    (Table::Thousand, TableRow::Range(15966, 15986, ACROSS)),
+    (
+        Table::Thousand,
+        TableRow::Range(15990, 16002, &[1_064_566..1_064_578]),
+    ),
+];
 
-/// Whether the table of 1000 records moves the range of a start and an end to these.
-fn many_move(alloc: Global, start: u32, end: u32, want: &[Range<u32>]) -> Result<bool, Fail> {
-    let table = thousand(alloc)?;
-    moves_to(alloc, &table, start, end, want)
-}
-
-#[test]
-fn ranges_of_many_records(rt: HostRuntime) -> Result<(), Fail> {
-    assert!(rt; many_move(rt.alloc(), 15966, 15986, ACROSS)?);
-    assert!(rt; many_move(rt.alloc(), 15990, 16002, AT_END)?);
+/// Adds a record.
+fn push(bytes: &mut Vec<u8>, source: u32, target: u32) -> Result<(), Fail> {
+    bytes.extend_from_slice(&source.to_le_bytes())?;
+    bytes.extend_from_slice(&target.to_le_bytes())?;
     Ok(())
 }
 
-/// What the table of no records answers of an address, and how many sources are compared.
-fn counted_of_none(alloc: Global, address: u32) -> Result<(Option<u32>, u64), Fail> {
-    let table = table(alloc, &[])?;
-    Ok(counted(&table, address))
+/// The bytes of records.
+fn listed(alloc: Global, records: &[(u32, u32)]) -> Result<Vec<u8>, Fail> {
+    let mut bytes = Vec::new(alloc);
+    for (source, target) in records {
+        push(&mut bytes, *source, *target)?;
+    }
+    Ok(bytes)
 }
 
-/// Records of one source, of which the last moves it nowhere.
-const NOWHERE: Records = &[(5, 0x10), (5, 0x20), (5, 0)];
+/// The bytes of 1000 records, of which record k moves 16k to 16k + 0x100000.
+fn thousand(alloc: Global) -> Result<Vec<u8>, Fail> {
+    let mut bytes = Vec::new(alloc);
+    for k in 0..1000u32 {
+        push(&mut bytes, 16 * k, 16 * k + 0x10_0000)?;
+    }
+    Ok(bytes)
+}
+
+/// The bytes of a table.
+fn bytes_of(alloc: Global, table: &Table) -> Result<Vec<u8>, Fail> {
+    match table {
+        Table::Of(records) => listed(alloc, records),
+        Table::Thousand => thousand(alloc),
+    }
+}
+
+/// An OMAP table, of at most 1024 records.
+fn table_of(alloc: Global, table: &Table) -> Result<OMAPTable, Fail> {
+    let mut bytes = bytes_of(alloc, table)?;
+    bytes.truncate(0x2000);
+    Ok(OMAPTable::parse(Stream::new(bytes))?)
+}
+
+/// Whether these are all records: the sources and targets of two.
+fn are_records(mut records: OMAPRecords<'_>, want: &[(u32, u32); 2]) -> bool {
+    let [first, second] = want;
+    records.next() == Some(OMAPRecord::new(first.0, first.1))
+        && records.next() == Some(OMAPRecord::new(second.0, second.1))
+        && records.next().is_none()
+}
+
+/// Whether a table moves an address so, and compares a number of sources within these bounds.
+fn counts(table: &OMAPTable, address: u32, want: Option<u32>, least: u64, most: u64) -> bool {
+    let mut count = Count::new();
+    let moved = table.lookup_counted(address, &mut count);
+    moved == want && least <= count.get() && count.get() <= most
+}
+
+/// Whether these are all ranges.
+fn are_ranges(mut ranges: RangeIter<'_>, want: &[Range<u32>]) -> bool {
+    for range in want {
+        if ranges.next() != Some(range.start..range.end) {
+            return false;
+        }
+    }
+    ranges.next().is_none()
+}
+
+/// Whether a table answers so.
+fn answers(table: &OMAPTable, row: &TableRow) -> bool {
+    match row {
+        TableRow::Sorted(want) => table.is_sorted() == *want,
+        TableRow::Records(want) => are_records(table.records(), want),
+        TableRow::Address(address, want) => table.lookup(*address) == *want,
+        TableRow::Counted(address, want, least, most) => {
+            counts(table, *address, *want, *least, *most)
+        }
+        TableRow::Range(start, end, want) => are_ranges(table.lookup_range(*start..*end), want),
+    }
+}
+
+/// Whether the table answers so.
+fn is_answered(alloc: Global, table: &Table, row: &TableRow) -> Result<bool, Fail> {
+    let table = table_of(alloc, table)?;
+    Ok(answers(&table, row))
+}
 
 #[test]
-fn few_records(rt: HostRuntime) -> Result<(), Fail> {
-    assert!(rt; counted_of_none(rt.alloc(), 15999)? == (None, 0));
-    assert!(rt; looked_up(rt.alloc(), NOWHERE, 5)?.1.is_none());
-    assert!(rt; moves(rt.alloc(), NOWHERE, 5, 9, &[])?);
+fn tables(rt: HostRuntime) -> Result<(), Fail> {
+    for (place, (table, row)) in TABLES.iter().enumerate() {
+        assert!(rt; is_answered(rt.alloc(), table, row)?, "row {place}");
+    }
     Ok(())
 }
 
-/// Whether a table has these records.
-fn lists(alloc: Global, table: &OMAPTable, want: &[OMAPRecord]) -> Result<bool, Fail> {
-    let stored: OMAPRecords<'_> = table.records();
-    let all: Vec<OMAPRecord> = stored.collect(alloc)?;
-    Ok(all.as_slice() == want)
-}
-
-/// Whether the table of these records is sorted, and whether it has those.
-fn stores(
-    alloc: Global,
-    records: &[(u32, u32)],
-    want: &[OMAPRecord],
-) -> Result<(bool, bool), Fail> {
-    let table = table(alloc, records)?;
-    Ok((table.is_sorted(), lists(alloc, &table, want)?))
-}
-
-#[test]
-fn records(rt: HostRuntime) -> Result<(), Fail> {
-    let want = [OMAPRecord::new(2, 1), OMAPRecord::new(1, 2)];
-    let (sorted, listed) = stores(rt.alloc(), &[(2, 1), (1, 2)], &want)?;
-    assert!(rt; !sorted);
-    assert!(rt; listed);
-    Ok(())
-}
-
-#[test]
-fn single_records(rt: HostRuntime) {
+/// Whether a record says its source and its target, and is ordered by them in this order.
+fn orders_records() -> bool {
     let first = OMAPRecord::new(1, 9);
-    assert!(rt; first.source_address() == 1 && first.target_address() == 9);
-    assert!(rt; first < OMAPRecord::new(2, 0) && first > OMAPRecord::new(1, 8));
+    first.source_address() == 1
+        && first.target_address() == 9
+        && first < OMAPRecord::new(2, 0)
+        && first > OMAPRecord::new(1, 8)
+}
+
+/// Whether twelve bytes are refused as an OMAP table.
+fn refuses_odd_length(alloc: Global) -> Result<bool, Fail> {
+    let odd = OMAPTable::parse(stream(alloc, b"twelve bytes")?);
+    Ok(matches!(odd, Err(Error::InvalidStreamLength("OMAP"))))
+}
+
+/// Whether iterators that are empty, or so by default, have no range, and one over a range has it.
+fn iterates() -> bool {
+    RangeIter::empty().next().is_none()
+        && RangeIter::default().next().is_none()
+        && RangeIter::identity(0..3).next() == Some(0..3)
 }
 
 #[test]
-fn odd_length(rt: HostRuntime) -> Result<(), Fail> {
-    let odd = OMAPTable::parse(stream(rt.alloc(), b"twelve bytes")?);
-    assert!(rt; matches!(odd, Err(Error::InvalidStreamLength("OMAP"))));
+fn parts_of_tables(rt: HostRuntime) -> Result<(), Fail> {
+    assert!(rt; orders_records() && iterates());
+    assert!(rt; refuses_odd_length(rt.alloc())?);
     Ok(())
-}
-
-#[test]
-fn range_iterators(rt: HostRuntime) {
-    assert!(rt; RangeIter::empty().next().is_none() && RangeIter::default().next().is_none());
-    assert!(rt; RangeIter::identity(0..3).next() == Some(0..3));
 }
 
 /// The bytes of a section's header.
 const HEADER: &[u8] =
     b".data\0\0\0\x48\x35\x09\x00\x00\xd0\x1e\x00\x00\xfe\x00\x00\x00\xa2\x1e\x00\x00\x00\x00\x00\x00\x00\x00\x00\x00\x00\x00\x00\x40\x00\x00\xc8";
-
-/// The header at the front of bytes, and how many of them are read.
-fn header_of(bytes: &[u8]) -> pdb_base::Result<(ImageSectionHeader, usize)> {
-    let mut buffer = ParseBuffer::from(bytes);
-    let header = ImageSectionHeader::parse(&mut buffer)?;
-    Ok((header, buffer.pos()))
-}
 
 /// What that header says.
 const FIELDS: ImageSectionHeader = ImageSectionHeader {
@@ -258,55 +225,38 @@ const FIELDS: ImageSectionHeader = ImageSectionHeader {
     pointer_to_line_numbers: 0,
     number_of_relocations: 0,
     number_of_line_numbers: 0,
-    characteristics: SectionCharacteristics(0xc800_0040),
+    characteristics: WORD,
 };
 
-#[test]
-fn headers(rt: HostRuntime) -> Result<(), Fail> {
-    assert!(rt; header_of(HEADER)? == (FIELDS, 40));
-    Ok(())
+/// The word of characteristics at its end.
+const WORD: SectionCharacteristics = SectionCharacteristics(0xc800_0040);
+
+/// Whether a header is read that says this.
+fn says(read: &pdb_base::Result<ImageSectionHeader>, want: &ImageSectionHeader) -> bool {
+    matches!(read, Ok(header) if header == want)
+}
+
+/// Whether the header at the front of bytes says this, and has so many of them.
+fn is_header(bytes: &[u8], want: &ImageSectionHeader, length: usize) -> bool {
+    let mut buffer = ParseBuffer::from(bytes);
+    let is = says(&ImageSectionHeader::parse(&mut buffer), want);
+    is && buffer.pos() == length
+}
+
+/// Whether bytes end before their header does, and none of them is read then.
+fn ends_soon(bytes: &[u8]) -> bool {
+    let mut buffer = ParseBuffer::from(bytes);
+    let ends = matches!(
+        ImageSectionHeader::parse(&mut buffer),
+        Err(Error::UnexpectedEof)
+    );
+    ends && buffer.pos() == 0
 }
 
 #[test]
-fn short_header(rt: HostRuntime) {
-    let mut short = ParseBuffer::from(&HEADER[..39]);
-    let refused = ImageSectionHeader::parse(&mut short);
-    assert!(rt; matches!(refused, Err(Error::UnexpectedEof)) && short.pos() == 0);
+fn headers(rt: HostRuntime) {
+    assert!(rt; is_header(HEADER, &FIELDS, 40) && ends_soon(&HEADER[..39]));
 }
-
-/// The names of sections as they are stored, and as they read.
-const SECTION_NAMES: &[([u8; 8], &str)] = &[
-    (*b".data\0\0\0", ".data"),
-    (*b"\xff\0\0\0\0\0\0\0", ""),
-    (*b"no nul..", "no nul.."),
-];
-
-/// A section of a name.
-fn section_of(name: [u8; 8]) -> ImageSectionHeader {
-    ImageSectionHeader {
-        name,
-        ..ImageSectionHeader::default()
-    }
-}
-
-#[test]
-fn section_names(rt: HostRuntime) {
-    for (name, want) in SECTION_NAMES {
-        assert!(rt; section_of(*name).name() == *want);
-    }
-}
-
-/// Characteristics, and the alignments that they say.
-const ALIGNMENTS: &[(u32, Option<u16>)] = &[
-    (0xc800_0040, None),
-    (0x8, Some(1)),
-    (0x10_0000, Some(1)),
-    (0x70_0000, Some(64)),
-    (0xe0_0000, Some(8192)),
-    (0xf0_0000, None),
-    (0x70_0008, None),
-    (0, None),
-];
 
 /// Whether a word says data that is initialized, stays in memory, and can be read and written.
 fn is_data(flags: SectionCharacteristics) -> bool {
@@ -323,15 +273,79 @@ fn word_of(bytes: &[u8]) -> pdb_base::Result<SectionCharacteristics> {
     ParseBuffer::from(bytes).parse()
 }
 
+/// Whether a word is read that is this one.
+fn is_word(read: &pdb_base::Result<SectionCharacteristics>, want: SectionCharacteristics) -> bool {
+    matches!(read, Ok(word) if *word == want)
+}
+
 #[test]
 fn characteristics(rt: HostRuntime) {
-    let flags = SectionCharacteristics(0xc800_0040);
-    assert!(rt; is_data(flags));
-    assert!(rt; !is_other(flags));
-    assert!(rt; SectionCharacteristics::new(flags.bits()) == flags);
-    assert!(rt; matches!(word_of(&HEADER[36..]), Ok(word) if word == flags));
-    for (word, want) in ALIGNMENTS {
-        assert!(rt; SectionCharacteristics(*word).alignment() == *want);
+    assert!(rt; is_data(WORD) && !is_other(WORD));
+    assert!(rt; is_word(&word_of(&HEADER[36..]), WORD));
+    assert!(rt; SectionCharacteristics::new(WORD.bits()) == WORD);
+}
+
+/// What a section or its characteristics are asked, and what they answer.
+enum SectionRow {
+    /// A name as it is stored: as it reads.
+    Name([u8; 8], &'static str),
+    /// Characteristics: the alignment that they say.
+    Alignment(u32, Option<u16>),
+    /// A mask: the place in `flags_of` of the one test that answers yes.
+    Flag(u32, usize),
+    /// The start of a section of 0x100 bytes, and an address: its section and its offset.
+    Place(u32, u32, Option<(u16, u32)>),
+    /// A section, where the one section lies at 0x10000000: the internal address of offset 0x1234.
+    Address(u16, Option<u32>),
+}
+
+/// Questions, and what is answered.
+const SECTIONS: &[SectionRow] = &[
+    SectionRow::Name(*b".data\0\0\0", ".data"),
+    SectionRow::Name(*b"\xff\0\0\0\0\0\0\0", ""),
+    SectionRow::Name(*b"no nul..", "no nul.."),
+    SectionRow::Alignment(0xc800_0040, None),
+    SectionRow::Alignment(0x8, Some(1)),
+    SectionRow::Alignment(0x10_0000, Some(1)),
+    SectionRow::Alignment(0x70_0000, Some(64)),
+    SectionRow::Alignment(0xe0_0000, Some(8192)),
+    SectionRow::Alignment(0xf0_0000, None),
+    SectionRow::Alignment(0x70_0008, None),
+    SectionRow::Alignment(0, None),
+    SectionRow::Flag(0x20, 0),
+    SectionRow::Flag(0x40, 1),
+    SectionRow::Flag(0x80, 2),
+    SectionRow::Flag(0x100, 3),
+    SectionRow::Flag(0x200, 4),
+    SectionRow::Flag(0x800, 5),
+    SectionRow::Flag(0x1000, 6),
+    SectionRow::Flag(0x4000, 7),
+    SectionRow::Flag(0x8000, 8),
+    SectionRow::Flag(0x2_0000, 9),
+    SectionRow::Flag(0x4_0000, 10),
+    SectionRow::Flag(0x8_0000, 11),
+    SectionRow::Flag(0x100_0000, 12),
+    SectionRow::Flag(0x200_0000, 13),
+    SectionRow::Flag(0x400_0000, 14),
+    SectionRow::Flag(0x800_0000, 15),
+    SectionRow::Flag(0x1000_0000, 16),
+    SectionRow::Flag(0x2000_0000, 17),
+    SectionRow::Flag(0x4000_0000, 18),
+    SectionRow::Flag(0x8000_0000, 19),
+    SectionRow::Place(0x1000, 0x10ff, Some((1, 0xff))),
+    SectionRow::Place(0x1000, 0x1100, None),
+    SectionRow::Place(0x1000, 0x0fff, None),
+    SectionRow::Place(0xffff_fff0, 0xffff_ffff, Some((1, 0xf))),
+    SectionRow::Address(1, Some(0x1000_1234)),
+    SectionRow::Address(2, None),
+    SectionRow::Address(0, None),
+];
+
+/// A section of a name.
+fn section_of(name: [u8; 8]) -> ImageSectionHeader {
+    ImageSectionHeader {
+        name,
+        ..ImageSectionHeader::default()
     }
 }
 
@@ -361,36 +375,22 @@ fn flags_of(word: SectionCharacteristics) -> [bool; 20] {
     ]
 }
 
-/// The mask of each flag, from the lowest bit on.
-const MASKS: [u32; 20] = [
-    0x20,
-    0x40,
-    0x80,
-    0x100,
-    0x200,
-    0x800,
-    0x1000,
-    0x4000,
-    0x8000,
-    0x2_0000,
-    0x4_0000,
-    0x8_0000,
-    0x100_0000,
-    0x200_0000,
-    0x400_0000,
-    0x800_0000,
-    0x1000_0000,
-    0x2000_0000,
-    0x4000_0000,
-    0x8000_0000,
-];
-
-#[test]
-fn masks(rt: HostRuntime) {
-    for (place, mask) in MASKS.iter().enumerate() {
-        for (other, set) in flags_of(SectionCharacteristics(*mask)).iter().enumerate() {
-            assert!(rt; *set == (other == place), "{mask:x}");
+/// Whether the test of a word at this place alone answers yes.
+fn has_only(word: SectionCharacteristics, place: usize) -> bool {
+    for (other, set) in flags_of(word).iter().enumerate() {
+        if *set != (other == place) {
+            return false;
         }
+    }
+    true
+}
+
+/// A section at an address, with so many bytes in the file.
+fn section(virtual_address: u32, size_of_raw_data: u32) -> ImageSectionHeader {
+    ImageSectionHeader {
+        virtual_address,
+        size_of_raw_data,
+        ..ImageSectionHeader::default()
     }
 }
 
@@ -400,56 +400,55 @@ fn map_of(alloc: Global, section: ImageSectionHeader) -> Result<AddressMap, Fail
     Ok(AddressMap::new(sections, None, None, None))
 }
 
-/// The section and the offset of an address, where there is one section.
-fn place_of(
+/// The place of a section and an offset.
+fn place_at((section, offset): (u16, u32)) -> SectionOffset {
+    SectionOffset::new(section, offset)
+}
+
+/// Whether this is the place of an address, where one section of 0x100 bytes starts.
+fn is_place(
     alloc: Global,
-    section: ImageSectionHeader,
+    start: u32,
     address: u32,
-) -> Result<Option<(u16, u32)>, Fail> {
-    let map = map_of(alloc, section)?;
-    Ok(match Rva(address).to_section_offset(&map) {
-        Some(place) => Some((place.section, place.offset)),
-        None => None,
-    })
+    want: Option<(u16, u32)>,
+) -> Result<bool, Fail> {
+    let map = map_of(alloc, section(start, 0x100))?;
+    Ok(Rva(address).to_section_offset(&map) == want.map(place_at))
 }
 
-/// The start of a section of 0x100 bytes, an address, and the section and the offset of that address.
-const PLACES: &[(u32, u32, Option<(u16, u32)>)] = &[
-    (0x1000, 0x10ff, Some((1, 0xff))),
-    (0x1000, 0x1100, None),
-    (0x1000, 0x0fff, None),
-    (0xffff_fff0, 0xffff_ffff, Some((1, 0xf))),
-];
-
-#[test]
-fn places(rt: HostRuntime) -> Result<(), Fail> {
-    for (start, address, want) in PLACES {
-        let place = place_of(rt.alloc(), section(*start, 0x100), *address)?;
-        assert!(rt; place == *want);
-    }
-    Ok(())
-}
-
-/// The internal address of the offset 0x1234 in a section, where the one section lies at 0x10000000.
-fn address_in(alloc: Global, number: u16) -> Result<Option<u32>, Fail> {
+/// Whether this is the internal address of the offset 0x1234 in a section, where the one section lies
+/// at 0x10000000.
+fn is_address(alloc: Global, number: u16, want: Option<u32>) -> Result<bool, Fail> {
     let map = map_of(alloc, section(0x1000_0000, 0))?;
-    let place = PdbInternalSectionOffset::new(number, 0x1234);
-    Ok(match place.to_internal_rva(&map) {
-        Some(address) => Some(address.0),
-        None => None,
-    })
+    Ok(
+        PdbInternalSectionOffset::new(number, 0x1234).to_internal_rva(&map)
+            == want.map(PdbInternalRva::from),
+    )
 }
 
-/// Sections, and those addresses.
-const SECTIONS: &[(u16, Option<u32>)] = &[(1, Some(0x1000_1234)), (2, None), (0, None)];
+/// Whether this is what a header or its characteristics answer.
+fn is_told(row: &SectionRow) -> bool {
+    match row {
+        SectionRow::Name(name, want) => section_of(*name).name() == *want,
+        SectionRow::Alignment(word, want) => SectionCharacteristics(*word).alignment() == *want,
+        SectionRow::Flag(mask, place) => has_only(SectionCharacteristics(*mask), *place),
+        _ => false,
+    }
+}
+
+/// Whether this is what is answered.
+fn is_so(alloc: Global, row: &SectionRow) -> Result<bool, Fail> {
+    match row {
+        SectionRow::Place(start, address, want) => is_place(alloc, *start, *address, *want),
+        SectionRow::Address(number, want) => is_address(alloc, *number, *want),
+        _ => Ok(is_told(row)),
+    }
+}
 
 #[test]
 fn sections(rt: HostRuntime) -> Result<(), Fail> {
-    for (number, want) in SECTIONS {
-        assert!(rt;
-            address_in(rt.alloc(), *number)? == *want,
-            "section {number}"
-        );
+    for (place, row) in SECTIONS.iter().enumerate() {
+        assert!(rt; is_so(rt.alloc(), row)?, "row {place}");
     }
     Ok(())
 }
@@ -467,13 +466,6 @@ fn keeps_places(map: &AddressMap) -> bool {
     let internal = PdbInternalSectionOffset::new(0, 7);
     place.to_internal_offset(map) == Some(internal)
         && internal.to_section_offset(map) == Some(place)
-}
-
-#[test]
-fn no_sections(rt: HostRuntime) {
-    let map = AddressMap::empty(rt.alloc());
-    assert!(rt; keeps_addresses(&map));
-    assert!(rt; keeps_places(&map));
 }
 
 /// Whether a map moves the range of a start and an end of internal addresses to this one alone, or
@@ -494,20 +486,28 @@ fn moves_internally(
     ranges.next() == want && ranges.next().is_none()
 }
 
-#[test]
-fn unmapped_ranges(rt: HostRuntime) {
-    let map = AddressMap::empty(rt.alloc());
-    assert!(rt; moves_out(&map, 0, 0x10, Some(Rva(0)..Rva(0x10))));
-    assert!(rt; moves_out(&map, 5, 5, None));
-    assert!(rt; moves_internally(&map, 5, 5, None));
+/// Whether a map keeps a range, and moves an empty one nowhere, internally or not.
+fn keeps_ranges(map: &AddressMap) -> bool {
+    moves_out(map, 0, 0x10, Some(Rva(0)..Rva(0x10)))
+        && moves_out(map, 5, 5, None)
+        && moves_internally(map, 5, 5, None)
 }
+
+/// Whether a map keeps all this.
+fn keeps(map: &AddressMap) -> bool {
+    keeps_addresses(map) && keeps_places(map) && keeps_ranges(map)
+}
+
+const TO_INTERNAL: Table = Table::Of(&[(0x2000, 0x1000)]);
+
+const FROM_INTERNAL: Table = Table::Of(&[(0x1000, 0x2000)]);
 
 /// A map whose one section lay at 0x1000, and lies at 0x2000.
 fn rearranged(alloc: Global) -> Result<AddressMap, Fail> {
     let before = Vec::from_slice(alloc, &[section(0x1000, 0x1000)])?;
     let after = Vec::from_slice(alloc, &[section(0x2000, 0x1000)])?;
-    let to_internal = table(alloc, &[(0x2000, 0x1000)])?;
-    let from_internal = table(alloc, &[(0x1000, 0x2000)])?;
+    let to_internal = table_of(alloc, &TO_INTERNAL)?;
+    let from_internal = table_of(alloc, &FROM_INTERNAL)?;
     Ok(AddressMap::new(before, Some(after), Some(to_internal), Some(from_internal)))
 }
 
@@ -539,14 +539,6 @@ fn moves_place(map: &AddressMap) -> bool {
         && PLACE.to_internal_offset(map) == Some(INTERNAL_PLACE)
 }
 
-#[test]
-fn rearranged_places(rt: HostRuntime) -> Result<(), Fail> {
-    let map = rearranged(rt.alloc())?;
-    assert!(rt; moves_internal_place(&map));
-    assert!(rt; moves_place(&map));
-    Ok(())
-}
-
 /// Whether a map moves the address to the internal place, and one that lies before all sections
 /// nowhere.
 fn moves_address(map: &AddressMap) -> bool {
@@ -560,14 +552,6 @@ fn moves_internal_address(map: &AddressMap) -> bool {
         && INTERNAL.to_internal_offset(map) == Some(INTERNAL_PLACE)
 }
 
-#[test]
-fn rearranged_addresses(rt: HostRuntime) -> Result<(), Fail> {
-    let map = rearranged(rt.alloc())?;
-    assert!(rt; moves_address(&map));
-    assert!(rt; moves_internal_address(&map));
-    Ok(())
-}
-
 /// Whether a map moves a range of internal addresses, and its image back.
 fn moves_ranges(map: &AddressMap) -> bool {
     let image = Some(Rva(0x2010)..Rva(0x2020));
@@ -575,9 +559,24 @@ fn moves_ranges(map: &AddressMap) -> bool {
     moves_out(map, 0x1010, 0x1020, image) && moves_internally(map, 0x2010, 0x2020, internal)
 }
 
+/// Whether a map moves all this.
+fn moves(map: &AddressMap) -> bool {
+    moves_internal_place(map)
+        && moves_place(map)
+        && moves_address(map)
+        && moves_internal_address(map)
+        && moves_ranges(map)
+}
+
+/// Whether the map whose section lay elsewhere moves all this.
+fn is_rearranged(alloc: Global) -> Result<bool, Fail> {
+    let map = rearranged(alloc)?;
+    Ok(moves(&map))
+}
+
 #[test]
-fn rearranged_ranges(rt: HostRuntime) -> Result<(), Fail> {
-    let map = rearranged(rt.alloc())?;
-    assert!(rt; moves_ranges(&map));
+fn maps(rt: HostRuntime) -> Result<(), Fail> {
+    assert!(rt; keeps(&AddressMap::empty(rt.alloc())));
+    assert!(rt; is_rearranged(rt.alloc())?);
     Ok(())
 }
