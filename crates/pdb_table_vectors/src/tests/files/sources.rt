@@ -2,9 +2,9 @@
 
 use super::pages::are_slices;
 use super::{Made, STREAM_1, answers, bytes_of};
-use crate::{Failing, Noting, s1};
 use pdb_base::Error;
 use pdb_msf::{BigMSF, Msf, ReadView, Source, SourceSlice, SourceView, open_msf};
+use pdb_vectors::{Failing, Noting, s1};
 use std::alloc::Global;
 use std::io;
 use std::io::ErrorKind;

@@ -6,9 +6,9 @@ mod sources;
 mod streams;
 
 use super::base::shows;
-use crate::s1;
 use pdb_base::Stream;
 use pdb_msf::{BigMSF, Source};
+use pdb_vectors::s1;
 use std::alloc::Global;
 
 /// What a file or a source is made of.

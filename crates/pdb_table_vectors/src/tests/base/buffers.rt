@@ -48,7 +48,8 @@ enum Call {
 /// and how many bytes are left.
 type Row = (&'static str, &'static [u8], &'static [(Call, usize, usize)]);
 
-const ROWS: &[Row] = &[
+/// Numbers of so many bytes, and those of variable width without a sign.
+const NUMBERS: &[Row] = &[
     (
         "numbers of one byte",
         b"\x01\x02\x03\x04",
@@ -125,6 +126,59 @@ const ROWS: &[Row] = &[
         &[(Call::I64(Some(-1)), 8, 1), (Call::I64(None), 8, 1)],
     ),
     (
+        "a number without a prefix",
+        b"\xff\x7f\xff",
+        &[(Call::Num(Some(0x7fff)), 2, 1)],
+    ),
+    (
+        "a number of one byte",
+        b"\x00\x80\xff",
+        &[(Call::Num(Some(255)), 3, 0)],
+    ),
+    (
+        "a number of two bytes",
+        b"\x02\x80\x00\x80",
+        &[(Call::Num(Some(0x8000)), 4, 0)],
+    ),
+    (
+        "a number of four bytes",
+        b"\x04\x80\x01\x00\x00\x80\x00",
+        &[(Call::Num(Some(0x8000_0001)), 6, 1)],
+    ),
+    (
+        "a number of eight bytes",
+        b"\x0a\x80\xff\xff\xff\xff\xff\xff\xff\xff",
+        &[(Call::Num(Some(u64::MAX)), 10, 0)],
+    ),
+    (
+        "a number with a sign, of two bytes",
+        b"\x01\x80",
+        &[(Call::RefusedNum(0x8001), 0, 2)],
+    ),
+    (
+        "a number with a sign, of four bytes",
+        b"\x03\x80\x00\x00\x00\x00",
+        &[(Call::RefusedNum(0x8003), 0, 6)],
+    ),
+    (
+        "a number of another prefix",
+        b"\xff\xff",
+        &[(Call::RefusedNum(0xffff), 0, 2)],
+    ),
+    (
+        "a number and bytes",
+        b"\x01\x02\x03\x04ab",
+        &[
+            (Call::U32(Some(0x0403_0201)), 4, 2),
+            (Call::U32(None), 4, 2),
+            (Call::Take(2, Some(b"ab")), 6, 0),
+        ],
+    ),
+];
+
+/// Numbers of variable width, and what is read by the rule that its type says.
+const VARIANTS: &[Row] = &[
+    (
         "a variant without a prefix",
         b"\x00\x7f",
         &[(Call::Variant(Variant::U16(0x7f00), "32512"), 2, 0)],
@@ -196,46 +250,6 @@ const ROWS: &[Row] = &[
         &[(Call::CutVariant, 0, 1), (Call::Num(None), 0, 1)],
     ),
     (
-        "a number without a prefix",
-        b"\xff\x7f\xff",
-        &[(Call::Num(Some(0x7fff)), 2, 1)],
-    ),
-    (
-        "a number of one byte",
-        b"\x00\x80\xff",
-        &[(Call::Num(Some(255)), 3, 0)],
-    ),
-    (
-        "a number of two bytes",
-        b"\x02\x80\x00\x80",
-        &[(Call::Num(Some(0x8000)), 4, 0)],
-    ),
-    (
-        "a number of four bytes",
-        b"\x04\x80\x01\x00\x00\x80\x00",
-        &[(Call::Num(Some(0x8000_0001)), 6, 1)],
-    ),
-    (
-        "a number of eight bytes",
-        b"\x0a\x80\xff\xff\xff\xff\xff\xff\xff\xff",
-        &[(Call::Num(Some(u64::MAX)), 10, 0)],
-    ),
-    (
-        "a number with a sign, of two bytes",
-        b"\x01\x80",
-        &[(Call::RefusedNum(0x8001), 0, 2)],
-    ),
-    (
-        "a number with a sign, of four bytes",
-        b"\x03\x80\x00\x00\x00\x00",
-        &[(Call::RefusedNum(0x8003), 0, 6)],
-    ),
-    (
-        "a number of another prefix",
-        b"\xff\xff",
-        &[(Call::RefusedNum(0xffff), 0, 2)],
-    ),
-    (
         "variants one behind another",
         b"\x00\x80\xff\x09\x80\xff\xff\xff\xff\xff\xff\xff\xff\x05\x80",
         &[
@@ -249,6 +263,10 @@ const ROWS: &[Row] = &[
         b"\x42\x00\x00\x00",
         &[(Call::ParsedSymbol(SymbolIndex(0x42)), 4, 0)],
     ),
+];
+
+/// Places, texts, and the buffer in hexadecimal.
+const PLACES: &[Row] = &[
     (
         "places",
         b"hello",
@@ -347,15 +365,6 @@ const ROWS: &[Row] = &[
             0,
             0,
         )],
-    ),
-    (
-        "a number and bytes",
-        b"\x01\x02\x03\x04ab",
-        &[
-            (Call::U32(Some(0x0403_0201)), 4, 2),
-            (Call::U32(None), 4, 2),
-            (Call::Take(2, Some(b"ab")), 6, 0),
-        ],
     ),
 ];
 
@@ -490,10 +499,27 @@ fn is_row(alloc: Global, bytes: &[u8], calls: &[(Call, usize, usize)]) -> Result
 }
 
 #[test]
-fn calls(rt: HostRuntime) -> Result<(), Fail> {
-    for (name, bytes, calls) in ROWS {
+fn numbers(rt: HostRuntime) -> Result<(), Fail> {
+    for (name, bytes, calls) in NUMBERS {
         assert!(rt; is_row(rt.alloc(), bytes, calls)?, "{name}");
     }
+    Ok(())
+}
+
+#[test]
+fn variants(rt: HostRuntime) -> Result<(), Fail> {
+    for (name, bytes, calls) in VARIANTS {
+        assert!(rt; is_row(rt.alloc(), bytes, calls)?, "{name}");
+    }
+    Ok(())
+}
+
+#[test]
+fn places(rt: HostRuntime) -> Result<(), Fail> {
+    for (name, bytes, calls) in PLACES {
+        assert!(rt; is_row(rt.alloc(), bytes, calls)?, "{name}");
+    }
+    assert!(rt; stands(&ParseBuffer::default(), 0, 0));
     Ok(())
 }
 
@@ -595,9 +621,5 @@ fn raw_strings(rt: HostRuntime) {
     for (bytes, text, is_owned) in RAW {
         assert!(rt; is_raw(rt.alloc(), bytes, text, *is_owned), "{text}");
     }
-}
-
-#[test]
-fn defaults(rt: HostRuntime) {
-    assert!(rt; stands(&ParseBuffer::default(), 0, 0) && RawString::default().is_empty());
+    assert!(rt; RawString::default().is_empty());
 }

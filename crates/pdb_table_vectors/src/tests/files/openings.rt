@@ -2,9 +2,9 @@
 
 use super::streams::DIRECTORY_SIZE;
 use super::{Made, STREAM_1, answers, bytes_of, front, opens, shows};
-use crate::s1;
 use pdb_base::Error;
 use pdb_msf::{BigMSF, Msf, ReadView, Source, open_msf};
+use pdb_vectors::s1;
 use std::alloc::Global;
 use std::io;
 use std::io::ErrorKind;

@@ -1,4 +1,0 @@
-//! The worked examples as tests.
-
-mod base;
-mod files;
