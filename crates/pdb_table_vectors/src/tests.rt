@@ -1,6 +1,8 @@
 //! The worked rows, a file a topic.
 
 mod addresses;
+mod base;
+mod files;
 mod flags;
 mod frames;
 mod ids;

@@ -1,7 +1,7 @@
 //! The example file S1, small enough to be written out by hand.
 
-ghost use Rattle.std.specs.Prelude.{◌≡◌, ◌+◌, ◌≤◌, ◌++◌, length, take, vec_len, IfOk, IfErr, OnOk};
-ghost use Rattle.pdb_vectors.specs.Example.{directory, page, s1_bytes, s1_of};
+ghost use Rattle.std.specs.Prelude.{◌≡◌, ◌+◌, ◌≤◌, [], ◌++◌, length, take, vec_len, IfOk, IfErr, OnOk};
+ghost use Rattle.pdb_vectors.specs.Example.{directory, header, location, page, s1_bytes, s1_of};
 
 use pdb_base::{Error, Result};
 use std::alloc::Global;
@@ -63,12 +63,41 @@ fn directory(alloc: Global, size: u32) -> Result<Vec<u8>>
     Ok(bytes)
 }
 
+/// Adds the pages before those of the streams: the header, an empty one, the directory and where it
+/// lies.
+#[tactic(auto, using(crate::proofs::Constants::is_header, crate::proofs::Constants::is_location))]
+fn push_directory(file: &mut Vec<u8>, directory: &[u8]) -> Result<()>
+    requires { length directory.now ≤ 512 }
+    ensures pages { OnOk result (file.new.items ≡ file.old.items ++ page header 0 ++ page [] 0 ++ page directory.now 0 ++ page location 0) }
+    ensures len { OnOk result (vec_len file.new ≡ vec_len file.old + 2048) }
+    ensures want { IfErr result (λ e. e ≡ Error.OutOfMemory) }
+{
+    push_page(file, HEADER, 0)?;
+    push_page(file, b"", 0)?;
+    push_page(file, directory, 0)?;
+    push_page(file, LOCATION, 0)
+}
+
+/// Adds an empty page and the pages of the streams: the second one of stream 1, its first one, and the
+/// one of stream 3, which has these bytes.
+fn push_streams(file: &mut Vec<u8>, stream: &[u8]) -> Result<()>
+    requires { length stream.now ≤ 512 }
+    ensures pages { OnOk result (file.new.items ≡ file.old.items ++ page [] 0 ++ page [] 98 ++ page [] 97 ++ page stream.now 0) }
+    ensures len { OnOk result (vec_len file.new ≡ vec_len file.old + 2048) }
+    ensures want { IfErr result (λ e. e ≡ Error.OutOfMemory) }
+{
+    push_page(file, b"", 0)?;
+    push_page(file, b"", b'b')?;
+    push_page(file, b"", b'a')?;
+    push_page(file, stream, 0)
+}
+
 /// Returns the file S1 with other bytes as stream 3: the first 512 of `stream`, which is what a
 /// page holds.
 ///
 /// # Errors
 /// Returns `OutOfMemory` if memory is refused.
-#[tactic(auto, using(crate::proofs::Constants::is_header, crate::proofs::Constants::is_location), unfolding(crate::specs::Example::s1_of))]
+#[tactic(auto, unfolding(crate::specs::Example::s1_of))]
 pub fn s1_with(alloc: Global, stream: &[u8]) -> Result<Vec<u8>>
     ensures bytes { IfOk result (λ file. file.items ≡ s1_of (take 512 stream.now)) }
     ensures len { IfOk result (λ file. vec_len file ≡ 4096) }
@@ -77,14 +106,8 @@ pub fn s1_with(alloc: Global, stream: &[u8]) -> Result<Vec<u8>>
     let stream = page_of(stream);
     let directory = directory(alloc, stream.len() as u32)?;
     let mut file = Vec::with_capacity(alloc, 8 * PAGE_SIZE)?;
-    push_page(&mut file, HEADER, 0)?;
-    push_page(&mut file, b"", 0)?;
-    push_page(&mut file, &directory, 0)?;
-    push_page(&mut file, LOCATION, 0)?;
-    push_page(&mut file, b"", 0)?;
-    push_page(&mut file, b"", b'b')?;
-    push_page(&mut file, b"", b'a')?;
-    push_page(&mut file, stream, 0)?;
+    push_directory(&mut file, &directory)?;
+    push_streams(&mut file, stream)?;
     Ok(file)
 }
 

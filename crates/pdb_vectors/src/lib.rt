@@ -1,5 +1,4 @@
-//! The example file S1, tables and sources to test readers with, and the worked examples of the
-//! format as tests.
+//! The example file S1, tables and sources to test readers with.
 #![tactic(auto)]
 
 mod example;
@@ -11,6 +10,3 @@ pub use example::{s1, s1_with};
 pub use failing::Failing;
 pub use noting::Noting;
 pub use table::item_table;
-
-#[cfg(test)]
-mod tests;

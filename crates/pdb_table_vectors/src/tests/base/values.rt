@@ -1,9 +1,7 @@
 //! Values that are read by the rule that their type says.
 
-use super::shows_debug;
 use pdb_base::{
-    Error, FileIndex, IdIndex, Le, Parse, ParseBuffer, Register, StreamIndex, SymbolIndex,
-    TypeIndex, Variant,
+    Error, FileIndex, IdIndex, Le, Parse, ParseBuffer, Register, StreamIndex, TypeIndex,
 };
 use pdb_space::{
     OMAPRecord, PdbInternalRva, PdbInternalSectionOffset, SectionCharacteristics, StringRef,
@@ -57,34 +55,4 @@ fn named_values(rt: HostRuntime) {
     assert!(rt; begins(6, PdbInternalSectionOffset::new(5, 0x8001_fffe)));
     assert!(rt; begins(4, SectionCharacteristics(0x8001_fffe)));
     assert!(rt; begins(8, OMAPRecord::new(0x8001_fffe, 0xf807_0005)));
-}
-
-#[test]
-fn values(rt: HostRuntime) {
-    let mut buffer = ParseBuffer::from(
-        b"\x00\x80\xff\x09\x80\xff\xff\xff\xff\xff\xff\xff\xff\x05\x80".as_slice(),
-    );
-    assert!(rt; matches!(buffer.parse(), Ok(Variant::U8(255))));
-    assert!(rt; matches!(buffer.parse(), Ok(Variant::I64(-1))));
-    assert!(rt;
-        matches!(
-            buffer.parse::<Variant>(),
-            Err(Error::UnexpectedNumericPrefix(0x8005))
-        )
-    );
-    assert!(rt; buffer.pos() == 13);
-    let mut buffer = ParseBuffer::from(b"\x05\x80\x00\x00\x00\x00".as_slice());
-    assert!(rt;
-        matches!(
-            buffer.parse::<Variant>(),
-            Err(Error::UnexpectedNumericPrefix(0x8005))
-        ) && buffer.pos() == 0
-    );
-}
-
-#[test]
-fn symbol(rt: HostRuntime) {
-    let mut buffer = ParseBuffer::from(b"\x42\x00\x00\x00".as_slice());
-    assert!(rt; matches!(buffer.parse(), Ok(SymbolIndex(0x42))) && buffer.is_empty());
-    assert!(rt; shows_debug(rt.alloc(), &SymbolIndex(0x42), "SymbolIndex(0x42)"));
 }

@@ -1,0 +1,108 @@
+//! Files, their pages and their sources. Errors are compared by their texts.
+
+mod openings;
+mod pages;
+mod sources;
+mod streams;
+
+use super::base::shows;
+use pdb_base::Stream;
+use pdb_msf::{BigMSF, Source};
+use pdb_vectors::s1;
+use std::alloc::Global;
+
+/// What a file or a source is made of.
+enum Made {
+    /// S1 with these bytes set to others.
+    S1(&'static [(usize, u8)]),
+    /// So many bytes of S1.
+    Front(usize),
+    /// These bytes, and then zeros up to a length.
+    Filled(&'static [u8], usize),
+    /// So many zeros with these bytes set to others.
+    Zeros(usize, &'static [(usize, u8)]),
+}
+
+/// Sets bytes to others.
+fn set(bytes: &mut [u8], edits: &[(usize, u8)]) {
+    for (place, byte) in edits {
+        if *place < bytes.len() {
+            bytes[*place] = *byte;
+        }
+    }
+}
+
+/// Returns the file S1 with some bytes set to others.
+fn edited(alloc: Global, edits: &[(usize, u8)]) -> pdb_base::Result<Vec<u8>> {
+    let mut file = s1(alloc)?;
+    set(&mut file, edits);
+    Ok(file)
+}
+
+/// Returns so many bytes of S1.
+fn front(alloc: Global, len: usize) -> pdb_base::Result<Vec<u8>> {
+    let mut file = s1(alloc)?;
+    file.truncate(len);
+    Ok(file)
+}
+
+/// Returns these bytes, and then zeros up to a length.
+fn filled(alloc: Global, bytes: &[u8], len: usize) -> pdb_base::Result<Vec<u8>> {
+    let mut file = Vec::from_slice(alloc, bytes)?;
+    file.resize(len, 0)?;
+    Ok(file)
+}
+
+/// Returns zeros, with some bytes set to others.
+fn zeros(alloc: Global, len: usize, edits: &[(usize, u8)]) -> pdb_base::Result<Vec<u8>> {
+    let mut file = vec![in alloc; 0; len]?;
+    set(&mut file, edits);
+    Ok(file)
+}
+
+/// Returns the bytes that are made so.
+fn bytes_of(alloc: Global, file: &Made) -> pdb_base::Result<Vec<u8>> {
+    match file {
+        Made::S1(edits) => edited(alloc, edits),
+        Made::Front(len) => front(alloc, *len),
+        Made::Filled(bytes, len) => filled(alloc, bytes, *len),
+        Made::Zeros(len, edits) => zeros(alloc, *len, edits),
+    }
+}
+
+/// What is answered for a stream: bytes, bytes with others behind them, or an error of this text.
+enum Answer {
+    Bytes(&'static [u8]),
+    Joined(&'static [u8], &'static [u8]),
+    Error(&'static str),
+}
+
+/// The bytes of stream 1 of S1.
+const STREAM_1: Answer = Answer::Joined(&[b'a'; 512], &[b'b'; 88]);
+
+/// Whether bytes are those of an answer.
+fn are_bytes(bytes: &[u8], answer: &Answer) -> bool {
+    match answer {
+        Answer::Bytes(want) => bytes == *want,
+        Answer::Joined(first, second) => {
+            matches!(bytes.strip_prefix(*first), Some(rest) if rest == *second)
+        }
+        Answer::Error(_) => false,
+    }
+}
+
+/// Whether a call for a stream answers so.
+fn answers(alloc: Global, found: pdb_base::Result<Stream>, answer: &Answer) -> bool {
+    match found {
+        Ok(stream) => are_bytes(&stream.into_bytes(), answer),
+        Err(error) => matches!(answer, Answer::Error(text) if shows(alloc, &error, text)),
+    }
+}
+
+/// Whether opening a file fails with the text `want`, or succeeds if that is empty.
+fn opens<S: Source + Drop>(alloc: Global, found: pdb_base::Result<BigMSF<S>>, want: &str) -> bool {
+    match found {
+        Ok(_) => want.is_empty(),
+        Err(error) => shows(alloc, &error, want),
+    }
+}
