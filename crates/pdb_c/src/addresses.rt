@@ -4,16 +4,13 @@ ghost use Rattle.std.specs.Prelude.{◌≡◌, None, Some, IfSome, IfNone};
 ghost use Rattle.std.specs.Option.{option_map};
 ghost use Rattle.pdb_space.specs.Omap.{IsSortedBySource, MovesSomehow};
 ghost use Rattle.pdb_space.specs.Conversions.{ComesSomehow, rva_to_internal_rva, rva_to_section_offset, rva_to_internal_offset, internal_rva_to_rva, internal_rva_to_section_offset, internal_rva_to_internal_offset, section_offset_to_rva, section_offset_to_internal_rva, section_offset_to_internal_offset, internal_offset_to_internal_rva, internal_offset_to_rva, internal_offset_to_section_offset};
-ghost use Rattle.pdb_c.specs.Fault.{fine};
-ghost use Rattle.pdb_c.specs.Found.{IsFound, found, not_held};
-ghost use Rattle.pdb_c.specs.Handle.{addresses_held};
-ghost use Rattle.pdb_c.specs.Place.{place_of, section_place};
+ghost use Rattle.pdb_handles.specs.Fault.{fine};
+ghost use Rattle.pdb_handles.specs.Found.{IsFound, found, not_held};
+ghost use Rattle.pdb_handles.specs.Handle.{addresses_held};
+ghost use Rattle.pdb_handles.specs.Place.{place_of, section_place};
 
-use crate::content::Content;
-use crate::fault::{Fault, NOT_OPEN};
-use crate::found::tell_found;
-use crate::handle::Handle;
-use crate::place::Place;
+use pdb_handles::addresses::{find_by_addresses, if_internal, if_loaded};
+use pdb_handles::{Fault, Handle, Place};
 use pdb_space::{PdbInternalRva, PdbInternalSectionOffset, Rva, SectionOffset};
 use std::alloc::Global;
 
@@ -39,18 +36,13 @@ pub extern "C" fn pdb_rva_to_internal_rva(
     ensures kept { addresses.new.held.content ≡ addresses.old.held.content }
     ensures status { result ≡ fault.new.status }
 {
-    let Some(content) = addresses.take(alloc) else {
-        return Fault::status(NOT_OPEN).tell(fault);
-    };
-    let told = match &*content {
-        Content::Addresses(map) => tell_found(
-            Rva(address).to_internal_rva(map).map(|address| address.0),
-            answer,
-        ),
-        _ => Fault::status(NOT_OPEN),
-    };
-    addresses.put(content);
-    told.tell(fault)
+    find_by_addresses(
+        addresses,
+        alloc,
+        |map| if_internal(Rva(address).to_internal_rva(map)),
+        answer,
+    )
+    .tell(fault)
 }
 
 /// Converts an address in the image as it is loaded to its place in a section of that image.
@@ -70,20 +62,13 @@ pub extern "C" fn pdb_rva_to_section_offset(
     ensures kept { addresses.new.held.content ≡ addresses.old.held.content }
     ensures status { result ≡ fault.new.status }
 {
-    let Some(content) = addresses.take(alloc) else {
-        return Fault::status(NOT_OPEN).tell(fault);
-    };
-    let told = match &*content {
-        Content::Addresses(map) => tell_found(
-            Rva(address)
-                .to_section_offset(map)
-                .map(|place| Place::of_loaded(place)),
-            place,
-        ),
-        _ => Fault::status(NOT_OPEN),
-    };
-    addresses.put(content);
-    told.tell(fault)
+    find_by_addresses(
+        addresses,
+        alloc,
+        |map| Place::if_loaded(Rva(address).to_section_offset(map)),
+        place,
+    )
+    .tell(fault)
 }
 
 /// Converts an address in the image as it is loaded to its place in a section of the original
@@ -110,20 +95,13 @@ pub extern "C" fn pdb_rva_to_internal_offset(
     ensures kept { addresses.new.held.content ≡ addresses.old.held.content }
     ensures status { result ≡ fault.new.status }
 {
-    let Some(content) = addresses.take(alloc) else {
-        return Fault::status(NOT_OPEN).tell(fault);
-    };
-    let told = match &*content {
-        Content::Addresses(map) => tell_found(
-            Rva(address)
-                .to_internal_offset(map)
-                .map(|place| Place::of_internal(place)),
-            place,
-        ),
-        _ => Fault::status(NOT_OPEN),
-    };
-    addresses.put(content);
-    told.tell(fault)
+    find_by_addresses(
+        addresses,
+        alloc,
+        |map| Place::if_internal(Rva(address).to_internal_offset(map)),
+        place,
+    )
+    .tell(fault)
 }
 
 /// Converts an address in the original image to the address in the image as it is loaded to which
@@ -148,18 +126,13 @@ pub extern "C" fn pdb_internal_rva_to_rva(
     ensures kept { addresses.new.held.content ≡ addresses.old.held.content }
     ensures status { result ≡ fault.new.status }
 {
-    let Some(content) = addresses.take(alloc) else {
-        return Fault::status(NOT_OPEN).tell(fault);
-    };
-    let told = match &*content {
-        Content::Addresses(map) => tell_found(
-            PdbInternalRva(address).to_rva(map).map(|address| address.0),
-            answer,
-        ),
-        _ => Fault::status(NOT_OPEN),
-    };
-    addresses.put(content);
-    told.tell(fault)
+    find_by_addresses(
+        addresses,
+        alloc,
+        |map| if_loaded(PdbInternalRva(address).to_rva(map)),
+        answer,
+    )
+    .tell(fault)
 }
 
 /// Converts an address in the original image to its place in a section of the image as it is
@@ -186,20 +159,13 @@ pub extern "C" fn pdb_internal_rva_to_section_offset(
     ensures kept { addresses.new.held.content ≡ addresses.old.held.content }
     ensures status { result ≡ fault.new.status }
 {
-    let Some(content) = addresses.take(alloc) else {
-        return Fault::status(NOT_OPEN).tell(fault);
-    };
-    let told = match &*content {
-        Content::Addresses(map) => tell_found(
-            PdbInternalRva(address)
-                .to_section_offset(map)
-                .map(|place| Place::of_loaded(place)),
-            place,
-        ),
-        _ => Fault::status(NOT_OPEN),
-    };
-    addresses.put(content);
-    told.tell(fault)
+    find_by_addresses(
+        addresses,
+        alloc,
+        |map| Place::if_loaded(PdbInternalRva(address).to_section_offset(map)),
+        place,
+    )
+    .tell(fault)
 }
 
 /// Converts an address in the original image to its place in a section of that image.
@@ -219,20 +185,13 @@ pub extern "C" fn pdb_internal_rva_to_internal_offset(
     ensures kept { addresses.new.held.content ≡ addresses.old.held.content }
     ensures status { result ≡ fault.new.status }
 {
-    let Some(content) = addresses.take(alloc) else {
-        return Fault::status(NOT_OPEN).tell(fault);
-    };
-    let told = match &*content {
-        Content::Addresses(map) => tell_found(
-            PdbInternalRva(address)
-                .to_internal_offset(map)
-                .map(|place| Place::of_internal(place)),
-            place,
-        ),
-        _ => Fault::status(NOT_OPEN),
-    };
-    addresses.put(content);
-    told.tell(fault)
+    find_by_addresses(
+        addresses,
+        alloc,
+        |map| Place::if_internal(PdbInternalRva(address).to_internal_offset(map)),
+        place,
+    )
+    .tell(fault)
 }
 
 /// Converts a place in a section of the image as it is loaded to its address in that image.
@@ -253,20 +212,13 @@ pub extern "C" fn pdb_section_offset_to_rva(
     ensures kept { addresses.new.held.content ≡ addresses.old.held.content }
     ensures status { result ≡ fault.new.status }
 {
-    let Some(content) = addresses.take(alloc) else {
-        return Fault::status(NOT_OPEN).tell(fault);
-    };
-    let told = match &*content {
-        Content::Addresses(map) => tell_found(
-            SectionOffset::new(section, offset)
-                .to_rva(map)
-                .map(|address| address.0),
-            answer,
-        ),
-        _ => Fault::status(NOT_OPEN),
-    };
-    addresses.put(content);
-    told.tell(fault)
+    find_by_addresses(
+        addresses,
+        alloc,
+        |map| if_loaded(SectionOffset::new(section, offset).to_rva(map)),
+        answer,
+    )
+    .tell(fault)
 }
 
 /// Converts a place in a section of the image as it is loaded to its address in the original image.
@@ -294,20 +246,13 @@ pub extern "C" fn pdb_section_offset_to_internal_rva(
     ensures kept { addresses.new.held.content ≡ addresses.old.held.content }
     ensures status { result ≡ fault.new.status }
 {
-    let Some(content) = addresses.take(alloc) else {
-        return Fault::status(NOT_OPEN).tell(fault);
-    };
-    let told = match &*content {
-        Content::Addresses(map) => tell_found(
-            SectionOffset::new(section, offset)
-                .to_internal_rva(map)
-                .map(|address| address.0),
-            answer,
-        ),
-        _ => Fault::status(NOT_OPEN),
-    };
-    addresses.put(content);
-    told.tell(fault)
+    find_by_addresses(
+        addresses,
+        alloc,
+        |map| if_internal(SectionOffset::new(section, offset).to_internal_rva(map)),
+        answer,
+    )
+    .tell(fault)
 }
 
 /// Converts a place in a section of the image as it is loaded to its place in a section of the
@@ -340,20 +285,13 @@ pub extern "C" fn pdb_section_offset_to_internal_offset(
     ensures kept { addresses.new.held.content ≡ addresses.old.held.content }
     ensures status { result ≡ fault.new.status }
 {
-    let Some(content) = addresses.take(alloc) else {
-        return Fault::status(NOT_OPEN).tell(fault);
-    };
-    let told = match &*content {
-        Content::Addresses(map) => tell_found(
-            SectionOffset::new(section, offset)
-                .to_internal_offset(map)
-                .map(|place| Place::of_internal(place)),
-            place,
-        ),
-        _ => Fault::status(NOT_OPEN),
-    };
-    addresses.put(content);
-    told.tell(fault)
+    find_by_addresses(
+        addresses,
+        alloc,
+        |map| Place::if_internal(SectionOffset::new(section, offset).to_internal_offset(map)),
+        place,
+    )
+    .tell(fault)
 }
 
 /// Converts a place in a section of the original image to its address in that image.
@@ -374,20 +312,13 @@ pub extern "C" fn pdb_internal_offset_to_internal_rva(
     ensures kept { addresses.new.held.content ≡ addresses.old.held.content }
     ensures status { result ≡ fault.new.status }
 {
-    let Some(content) = addresses.take(alloc) else {
-        return Fault::status(NOT_OPEN).tell(fault);
-    };
-    let told = match &*content {
-        Content::Addresses(map) => tell_found(
-            PdbInternalSectionOffset::new(section, offset)
-                .to_internal_rva(map)
-                .map(|address| address.0),
-            answer,
-        ),
-        _ => Fault::status(NOT_OPEN),
-    };
-    addresses.put(content);
-    told.tell(fault)
+    find_by_addresses(
+        addresses,
+        alloc,
+        |map| if_internal(PdbInternalSectionOffset::new(section, offset).to_internal_rva(map)),
+        answer,
+    )
+    .tell(fault)
 }
 
 /// Converts a place in a section of the original image to its address in the image as it is loaded.
@@ -415,20 +346,13 @@ pub extern "C" fn pdb_internal_offset_to_rva(
     ensures kept { addresses.new.held.content ≡ addresses.old.held.content }
     ensures status { result ≡ fault.new.status }
 {
-    let Some(content) = addresses.take(alloc) else {
-        return Fault::status(NOT_OPEN).tell(fault);
-    };
-    let told = match &*content {
-        Content::Addresses(map) => tell_found(
-            PdbInternalSectionOffset::new(section, offset)
-                .to_rva(map)
-                .map(|address| address.0),
-            answer,
-        ),
-        _ => Fault::status(NOT_OPEN),
-    };
-    addresses.put(content);
-    told.tell(fault)
+    find_by_addresses(
+        addresses,
+        alloc,
+        |map| if_loaded(PdbInternalSectionOffset::new(section, offset).to_rva(map)),
+        answer,
+    )
+    .tell(fault)
 }
 
 /// Converts a place in a section of the original image to its place in a section of the image as it
@@ -461,18 +385,13 @@ pub extern "C" fn pdb_internal_offset_to_section_offset(
     ensures kept { addresses.new.held.content ≡ addresses.old.held.content }
     ensures status { result ≡ fault.new.status }
 {
-    let Some(content) = addresses.take(alloc) else {
-        return Fault::status(NOT_OPEN).tell(fault);
-    };
-    let told = match &*content {
-        Content::Addresses(map) => tell_found(
-            PdbInternalSectionOffset::new(section, offset)
-                .to_section_offset(map)
-                .map(|place| Place::of_loaded(place)),
-            place,
-        ),
-        _ => Fault::status(NOT_OPEN),
-    };
-    addresses.put(content);
-    told.tell(fault)
+    find_by_addresses(
+        addresses,
+        alloc,
+        |map| Place::if_loaded(PdbInternalSectionOffset::new(section, offset).to_section_offset(
+            map,
+        )),
+        place,
+    )
+    .tell(fault)
 }

@@ -4,36 +4,14 @@ ghost use Rattle.std.specs.Prelude.{◌≡◌, IfSome, IfNone, slice_get, List};
 ghost use Rattle.std.specs.Option.{option_map};
 ghost use Rattle.pdb_frames.specs.Table.{BeginsSomewhere, StartsIncrease, merge_from};
 ghost use Rattle.pdb_frames.specs.declared.frame_data.FrameData.{FrameData as Described};
-ghost use Rattle.pdb_c.specs.Found.{found, not_held};
-ghost use Rattle.pdb_c.specs.Frame.{frame_of};
-ghost use Rattle.pdb_c.specs.Handle.{frames_held};
+ghost use Rattle.pdb_handles.specs.Found.{found, not_held};
+ghost use Rattle.pdb_handles.specs.Frame.{frame_of};
+ghost use Rattle.pdb_handles.specs.Handle.{frames_held};
 
-use crate::content::Content;
-use crate::fault::{Fault, NOT_OPEN};
-use crate::found::tell_found;
-use crate::frame::Frame;
-use crate::handle::Handle;
-use pdb_base::FallibleIterator;
-use pdb_frames::FrameTable;
-use pdb_space::PdbInternalRva;
+use pdb_handles::found::tell_found;
+use pdb_handles::frames::first_from;
+use pdb_handles::{Content, Fault, Frame, Handle, NOT_OPEN};
 use std::alloc::Global;
-
-/// Returns the first frame of a table from an address on.
-fn first_from(table: &FrameTable, address: u32) -> Option<Frame>
-    ensures exact { StartsIncrease table.now →
-        result ≡ option_map frame_of (slice_get (merge_from address table.now) 0) }
-    ensures somewhere { (frames : List Described) × BeginsSomewhere table.now frames ×
-        (result ≡ option_map frame_of (slice_get frames 0)) }
-{
-    let mut frames = table.iter_at_rva(PdbInternalRva(address));
-    let Ok(first) = frames.next() else {
-        unreachable!();
-    };
-    match first {
-        Some(frame) => Some(Frame::of(&frame)),
-        None => None,
-    }
-}
 
 /// Writes the frame at an address of the original image: the first that `FrameTable::iter_at_rva`
 /// yields.

@@ -1,102 +1,16 @@
 //! What the record of an id says.
 
-ghost use Rattle.std.specs.Prelude.{◌≡◌, map, Ok};
-ghost use Rattle.std.specs.Option.{option_map};
-ghost use Rattle.pdb_base.specs.Answer.{Answers};
-ghost use Rattle.pdb_values.specs.Text.{text_bytes};
-ghost use Rattle.pdb_values.specs.IdValue.{id_name, id_value};
+ghost use Rattle.std.specs.Prelude.{◌≡◌};
 ghost use Rattle.pdb_tpi.specs.Record.{id_of};
-ghost use Rattle.pdb_c.specs.Copied.{CopiesOrLacks};
-ghost use Rattle.pdb_c.specs.Ids.{id_in, id_list_of, id_name_of, id_numbers, id_row, id_shape, list_in, source_numbers};
-ghost use Rattle.pdb_c.specs.Records.{if_copied};
-ghost use Rattle.pdb_c.specs.Roles.{IsAnswered};
+ghost use Rattle.pdb_handles.specs.Copied.{CopiesOrLacks};
+ghost use Rattle.pdb_handles.specs.Ids.{id_list_of, id_name_of, id_row};
+ghost use Rattle.pdb_handles.specs.Records.{if_copied};
+ghost use Rattle.pdb_handles.specs.Roles.{IsAnswered};
 
-use crate::copied::{copy_nothing, copy_out};
-use crate::fault::{FINE, Fault, NOWHERE};
-use crate::records::numbers_of;
-use crate::row::{NO_NUMBERS, Numbers, Row};
-use pdb_base::{IdIndex, RawString, Result};
-use pdb_records::parse_id_data;
-use pdb_values::{IdData, UserDefinedTypeSourceFileRef, UserDefinedTypeSourceId};
+use pdb_handles::copied::copy_if;
+use pdb_handles::ids::{copy_id_name, id_at, list_of, write_id_row};
+use pdb_handles::{Fault, Row};
 use std::alloc::Global;
-
-/// Parses the record of an id.
-#[tactic(auto, unfolding(pdb_tpi::specs::Record::id_of))]
-fn id_at<'t>(alloc: Global, bytes: &'t [u8]) -> Result<IdData<'t>>
-    ensures { Answers id_value result (id_of bytes.now) }
-{
-    parse_id_data(alloc, bytes)
-}
-
-/// Returns the number of an index, if there is one.
-fn id_in(index: Option<IdIndex>) -> Option<u32>
-    ensures { result ≡ id_in index }
-{
-    match index {
-        Some(index) => Some(index.0),
-        None => None,
-    }
-}
-
-/// Returns the numbers of the place where a type is declared.
-fn source_numbers(source: &UserDefinedTypeSourceId) -> Numbers
-    ensures { result ≡ source_numbers source.now.udt.0 source.now.line source.now.source_file }
-{
-    match source.source_file {
-        UserDefinedTypeSourceFileRef::Local(file) => Numbers {
-            type_index: Some(source.udt.0),
-            second_index: Some(file.0),
-            extra: Some(source.line),
-            ..NO_NUMBERS
-        },
-        UserDefinedTypeSourceFileRef::Remote(module, place) => Numbers {
-            type_index: Some(source.udt.0),
-            third_index: Some(module as u32),
-            number: Some(place.0 as u64),
-            extra: Some(source.line),
-            ..NO_NUMBERS
-        },
-    }
-}
-
-/// Returns the numbers of an id.
-fn id_numbers(value: &IdData<'_>) -> Numbers
-    ensures { result ≡ id_numbers (id_value value.now) }
-{
-    match value {
-        IdData::Function(id) => Numbers {
-            type_index: Some(id.function_type.0),
-            second_index: id_in(id.scope),
-            ..NO_NUMBERS
-        },
-        IdData::MemberFunction(id) => Numbers {
-            type_index: Some(id.function_type.0),
-            third_index: Some(id.parent.0),
-            ..NO_NUMBERS
-        },
-        IdData::BuildInfo(_) => NO_NUMBERS,
-        IdData::StringList(_) => NO_NUMBERS,
-        IdData::String(id) => Numbers {
-            list_index: id_in(id.substrings),
-            ..NO_NUMBERS
-        },
-        IdData::UserDefinedTypeSource(source) => source_numbers(source),
-    }
-}
-
-/// Returns the number of an id's shape.
-fn id_shape(value: &IdData<'_>) -> u32
-    ensures { result ≡ id_shape (id_value value.now) }
-{
-    match value {
-        IdData::Function(_) => 0,
-        IdData::MemberFunction(_) => 1,
-        IdData::BuildInfo(_) => 2,
-        IdData::StringList(_) => 3,
-        IdData::String(_) => 4,
-        IdData::UserDefinedTypeSource(_) => 5,
-    }
-}
 
 /// Writes the numbers in the record of an id.
 #[unsafe(no_mangle)]
@@ -104,25 +18,7 @@ pub extern "C" fn pdb_id_row(alloc: Global, bytes: &[u8], row: &mut Row, fault: 
     ensures answer { IsAnswered (λ value. id_row value) (id_of bytes.now) row.old fault.new row.new }
     ensures status { result ≡ fault.new.status }
 {
-    match id_at(alloc, bytes) {
-        Ok(value) => {
-            *row = Row::of(id_shape(&value), &id_numbers(&value));
-            Fault::status(FINE).tell(fault)
-        }
-        Err(error) => Fault::of(&error).tell(fault),
-    }
-}
-
-/// Returns the name of a function, a method or a text. No other id has one.
-fn name_in<'t>(value: &IdData<'t>) -> Option<RawString<'t>>
-    ensures { option_map text_bytes result ≡ id_name (id_value value.now) }
-{
-    match value {
-        IdData::Function(id) => Some(id.name),
-        IdData::MemberFunction(id) => Some(id.name),
-        IdData::String(id) => Some(id.name),
-        _ => None,
-    }
+    write_id_row(id_at(alloc, bytes), row).tell(fault)
 }
 
 /// Copies the name in the record of an id.
@@ -138,44 +34,7 @@ pub extern "C" fn pdb_id_name(
         (if_copied room.old (id_name_of bytes.now)) }
     ensures status { result ≡ fault.new.status }
 {
-    let value = match id_at(alloc, bytes) {
-        Ok(value) => value,
-        Err(error) => return copy_nothing(Fault::of(&error), length).tell(fault),
-    };
-    match name_in(&value) {
-        Some(name) => copy_out(name.as_bytes(), room, length).tell(fault),
-        None => copy_nothing(Fault::status(NOWHERE), length).tell(fault),
-    }
-}
-
-/// Returns the numbers of id indexes.
-fn id_numbers_of(alloc: Global, indexes: &[IdIndex]) -> Result<Vec<u32>>
-    ensures { Answers (λ numbers. numbers.items) result (Ok (map (λ index. index.0) indexes.now)) }
-{
-    let mut numbers = Vec::new(alloc);
-    for index in indexes {
-        numbers.push(index.0)?;
-    }
-    Ok(numbers)
-}
-
-/// Returns the indexes that an id lists, or None if it isn't a list.
-fn list_in(alloc: Global, value: &IdData<'_>) -> Result<Option<Vec<u32>>>
-    ensures { Answers (option_map (λ list. list.items)) result (Ok (list_in (id_value value.now))) }
-{
-    match value {
-        IdData::BuildInfo(list) => Ok(Some(id_numbers_of(alloc, &list.arguments)?)),
-        IdData::StringList(list) => Ok(Some(numbers_of(alloc, &list.substrings)?)),
-        _ => Ok(None),
-    }
-}
-
-/// Parses the record of an id and returns the indexes that it lists, or None if it isn't a list.
-fn list_of(alloc: Global, bytes: &[u8]) -> Result<Option<Vec<u32>>>
-    ensures { Answers (option_map (λ list. list.items)) result (id_list_of bytes.now) }
-{
-    let value = id_at(alloc, bytes)?;
-    list_in(alloc, &value)
+    copy_id_name(id_at(alloc, bytes), room, length).tell(fault)
 }
 
 /// Copies the indexes that the record of an id lists: those of the ids of a module's build
@@ -192,9 +51,5 @@ pub extern "C" fn pdb_id_list(
         (if_copied room.old (id_list_of bytes.now)) }
     ensures status { result ≡ fault.new.status }
 {
-    match list_of(alloc, bytes) {
-        Ok(Some(list)) => copy_out(&list, room, length).tell(fault),
-        Ok(None) => copy_nothing(Fault::status(NOWHERE), length).tell(fault),
-        Err(error) => copy_nothing(Fault::of(&error), length).tell(fault),
-    }
+    copy_if(list_of(alloc, bytes), room, length).tell(fault)
 }

@@ -1,45 +1,15 @@
 //! The offsets of all names of a string table.
 
-ghost use Rattle.std.specs.Prelude.{◌≡◌, IfOk, IfErr, IfSome, IfNone};
-ghost use Rattle.pdb_c.specs.Copied.{untouched};
-ghost use Rattle.pdb_c.specs.Fault.{not_open};
-ghost use Rattle.pdb_c.specs.Handle.{names_held};
-ghost use Rattle.pdb_c.specs.Offsets.{AreOffsets, WritesOffsets};
+ghost use Rattle.std.specs.Prelude.{◌≡◌, IfSome, IfNone};
+ghost use Rattle.pdb_handles.specs.Copied.{untouched};
+ghost use Rattle.pdb_handles.specs.Fault.{not_open};
+ghost use Rattle.pdb_handles.specs.Handle.{names_held};
+ghost use Rattle.pdb_handles.specs.Offsets.{WritesOffsets};
 
-use crate::content::Content;
-use crate::copied::{copy_nothing, copy_out};
-use crate::fault::{Fault, NOT_OPEN};
-use crate::handle::Handle;
-use pdb_base::{Error, Result};
-use pdb_space::{StringRef, StringTable};
+use pdb_handles::copied::copy_nothing;
+use pdb_handles::offsets::write_offsets;
+use pdb_handles::{Content, Fault, Handle, NOT_OPEN};
 use std::alloc::Global;
-
-/// Returns the offsets of all names, which stand one after another from offset 0 on.
-fn offsets_of(alloc: Global, names: &StringTable) -> Result<Vec<u32>>
-    ensures offsets { IfOk result (λ offsets. AreOffsets names.now offsets.items) }
-    ensures want { IfErr result (λ e. e ≡ Error.OutOfMemory) }
-{
-    let mut offsets = Vec::new(alloc);
-    let mut offset = 0u64;
-    while offset < 0x1_0000_0000 {
-        let Ok(name) = names.get(StringRef(offset as u32)) else {
-            return Ok(offsets);
-        };
-        offsets.push(offset as u32)?;
-        offset += name.len() as u64 + 1;
-    }
-    Ok(offsets)
-}
-
-/// Writes the offsets of all names to the caller's array.
-fn write_offsets(alloc: Global, names: &StringTable, room: &mut [u32], length: &mut usize) -> Fault
-    ensures { WritesOffsets names.now room.old (record { fault = result; length = length.new; room = room.new }) }
-{
-    match offsets_of(alloc, names) {
-        Ok(offsets) => copy_out(&offsets, room, length),
-        Err(error) => copy_nothing(Fault::of(&error), length),
-    }
-}
 
 /// Writes the offsets of all names of a table, in their order.
 #[unsafe(no_mangle)]

@@ -1,30 +1,16 @@
 //! OMAP tables.
 
-ghost use Rattle.std.specs.Prelude.{◌≡◌, ◌<◌, length, None, Some, IfSome, IfNone};
-ghost use Rattle.pdb_base.specs.Answer.{Answers};
+ghost use Rattle.std.specs.Prelude.{◌≡◌, IfSome, IfNone};
 ghost use Rattle.pdb_space.specs.Omap.{IsSortedBySource, MovesSomehow, shift, omap_table_of};
-ghost use Rattle.pdb_c.specs.declared.content.Content.TheVariants.{Omap};
-ghost use Rattle.pdb_c.specs.Fault.{fine};
-ghost use Rattle.pdb_c.specs.Found.{IsFound, found, not_held};
-ghost use Rattle.pdb_c.specs.Handle.{OpensStream, held_as, omap_held};
+ghost use Rattle.pdb_handles.specs.declared.content.Content.TheVariants.{Omap};
+ghost use Rattle.pdb_handles.specs.Fault.{fine};
+ghost use Rattle.pdb_handles.specs.Found.{IsFound, found, not_held};
+ghost use Rattle.pdb_handles.specs.Handle.{OpensStream, held_as, omap_held};
 
-use crate::content::Content;
-use crate::fault::{ALREADY_OPEN, Fault, NOT_OPEN, TOO_LONG};
-use crate::found::tell_found;
-use crate::handle::Handle;
-use pdb_base::{Result, Stream};
-use pdb_space::OMAPTable;
+use pdb_handles::found::tell_found;
+use pdb_handles::omap::table_in;
+use pdb_handles::{ALREADY_OPEN, Content, Fault, Handle, NOT_OPEN, TOO_LONG};
 use std::alloc::Global;
-
-/// Parses the OMAP table in a stream, which is copied.
-fn table_in(alloc: Global, stream: &[u8]) -> Result<Content>
-    requires { length stream.now < 0xffffffff }
-    ensures { Answers (λ content. content) result (held_as Omap (omap_table_of stream.now)) }
-{
-    let bytes = stream.to_vec(alloc)?;
-    let table = OMAPTable::parse(Stream::new(bytes))?;
-    Ok(Content::Omap(table))
-}
 
 /// Opens the OMAP table in a stream, which is copied.
 #[unsafe(no_mangle)]

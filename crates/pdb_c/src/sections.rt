@@ -1,82 +1,14 @@
 //! The sections of an image.
 
-ghost use Rattle.std.specs.Prelude.{◌≡◌, ◌<◌, ◌≤◌, length, map, Ok};
-ghost use Rattle.pdb_base.specs.Answer.{Answers};
-ghost use Rattle.pdb_c.specs.Copied.{CopiesOrLacks, copied, untouched};
-ghost use Rattle.pdb_c.specs.Fault.{too_long};
-ghost use Rattle.pdb_c.specs.Sections.{section_of, sections_in};
+ghost use Rattle.std.specs.Prelude.{◌≡◌, ◌<◌, ◌≤◌, length};
+ghost use Rattle.pdb_handles.specs.Copied.{CopiesOrLacks, copied, untouched};
+ghost use Rattle.pdb_handles.specs.Fault.{too_long};
+ghost use Rattle.pdb_handles.specs.Sections.{sections_in};
 
-use crate::copied::{copy_nothing, copy_out};
-use crate::fault::{Fault, TOO_LONG};
-use pdb_base::{Result, Stream};
-use pdb_roles::section_headers::section_headers;
-use pdb_space::ImageSectionHeader;
+use pdb_handles::copied::{copy_list, copy_nothing};
+use pdb_handles::sections::{Section, sections_in};
+use pdb_handles::{Fault, TOO_LONG};
 use std::alloc::Global;
-
-/// The header of a section: where it lies in memory and in the file, and what it is for.
-#[repr(C)]
-#[derive(Clone, Copy)]
-pub struct Section {
-    /// The name, with NULs after it if it is shorter than eight bytes.
-    pub name: [u8; 8],
-    /// The number of bytes that the section takes in memory.
-    pub virtual_size: u32,
-    /// The address of the section's first byte, in bytes from the image's base.
-    pub virtual_address: u32,
-    /// The number of bytes of the file that hold the section.
-    pub size_of_raw_data: u32,
-    /// The offset of those bytes in the file.
-    pub pointer_to_raw_data: u32,
-    /// The offset in the file of the section's relocations.
-    pub pointer_to_relocations: u32,
-    /// The offset in the file of the section's line numbers.
-    pub pointer_to_line_numbers: u32,
-    /// The number of relocations.
-    pub number_of_relocations: u16,
-    /// The number of line numbers.
-    pub number_of_line_numbers: u16,
-    /// What the section is for, as the PE format numbers the bits.
-    pub characteristics: u32,
-}
-
-/// Converts the header of a section for the caller.
-fn section_of(header: &ImageSectionHeader) -> Section
-    ensures { result ≡ section_of header.now }
-{
-    Section {
-        name: header.name,
-        virtual_size: header.virtual_size,
-        virtual_address: header.virtual_address,
-        size_of_raw_data: header.size_of_raw_data,
-        pointer_to_raw_data: header.pointer_to_raw_data,
-        pointer_to_relocations: header.pointer_to_relocations,
-        pointer_to_line_numbers: header.pointer_to_line_numbers,
-        number_of_relocations: header.number_of_relocations,
-        number_of_line_numbers: header.number_of_line_numbers,
-        characteristics: header.characteristics.0,
-    }
-}
-
-/// Converts the headers of sections for the caller.
-fn sections_of(alloc: Global, headers: &[ImageSectionHeader]) -> Result<Vec<Section>>
-    ensures { Answers (λ sections. sections.items) result (Ok (map section_of headers.now)) }
-{
-    let mut sections = Vec::new(alloc);
-    for header in headers {
-        sections.push(section_of(header))?;
-    }
-    Ok(sections)
-}
-
-/// Reads the headers of the sections that a stream holds.
-fn sections_in(alloc: Global, stream: &[u8]) -> Result<Vec<Section>>
-    requires { length stream.now < 0xffffffff }
-    ensures { Answers (λ sections. sections.items) result (sections_in stream.now) }
-{
-    let bytes = stream.to_vec(alloc)?;
-    let headers = section_headers(alloc, &Stream::new(bytes))?;
-    sections_of(alloc, &headers)
-}
 
 /// Writes the headers of the sections that a stream holds.
 #[unsafe(no_mangle)]
@@ -97,8 +29,5 @@ pub extern "C" fn pdb_sections(
     if stream.len() >= 0xffff_ffff {
         return copy_nothing(Fault::status(TOO_LONG), count).tell(fault);
     }
-    match sections_in(alloc, stream) {
-        Ok(sections) => copy_out(&sections, room, count).tell(fault),
-        Err(error) => copy_nothing(Fault::of(&error), count).tell(fault),
-    }
+    copy_list(sections_in(alloc, stream), room, count).tell(fault)
 }

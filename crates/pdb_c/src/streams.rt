@@ -1,28 +1,17 @@
 //! The streams of a file whose header and directory are kept.
 
 ghost use Rattle.std.specs.Prelude.{◌≡◌, Some};
-ghost use Rattle.pdb_base.specs.Answer.{Answers};
 ghost use Rattle.pdb_msf.specs.Layout.{size_by, stream_by, stream_count_in};
-ghost use Rattle.pdb_c.specs.Copied.{CopiesOrLacks, copied_of};
-ghost use Rattle.pdb_c.specs.File.{plan_said};
-ghost use Rattle.pdb_c.specs.Found.{answered_of, found_of};
-ghost use Rattle.pdb_c.specs.Handle.{Opens, file_held};
+ghost use Rattle.pdb_handles.specs.Copied.{CopiesOrLacks, copied_of};
+ghost use Rattle.pdb_handles.specs.File.{plan_said};
+ghost use Rattle.pdb_handles.specs.Found.{answered_of, found_of};
+ghost use Rattle.pdb_handles.specs.Handle.{Opens, file_held};
 
-use crate::content::Content;
-use crate::copied::{copy_nothing, copy_stream};
-use crate::fault::{ALREADY_OPEN, Fault, NOT_OPEN};
-use crate::found::{tell_answered, tell_found};
-use crate::handle::Handle;
-use pdb_base::Result;
-use pdb_msf::Layout;
+use pdb_handles::copied::{copy_nothing, copy_stream};
+use pdb_handles::found::{tell_answered, tell_found};
+use pdb_handles::streams::layout_in;
+use pdb_handles::{ALREADY_OPEN, Content, Fault, Handle, NOT_OPEN};
 use std::alloc::Global;
-
-/// Reads the header and the directory of a file.
-fn layout_in(alloc: Global, file: &[u8]) -> Result<Content>
-    ensures { Answers (λ content. content) result (plan_said file.now) }
-{
-    Ok(Content::File(Layout::read(alloc, file)?))
-}
 
 /// Opens a file: reads its header and its directory, and keeps them. The bytes are not kept.
 #[unsafe(no_mangle)]

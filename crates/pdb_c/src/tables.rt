@@ -1,34 +1,20 @@
 //! Tables of types and of ids behind a handle.
 
-ghost use Rattle.std.specs.Prelude.{◌≡◌, ◌<◌, length};
-ghost use Rattle.pdb_base.specs.Answer.{Answers};
+ghost use Rattle.std.specs.Prelude.{◌≡◌};
 ghost use Rattle.pdb_tpi.specs.Table.{count_of};
-ghost use Rattle.pdb_c.specs.declared.content.Content.TheVariants.{Table};
-ghost use Rattle.pdb_c.specs.Found.{found_of};
-ghost use Rattle.pdb_c.specs.Handle.{OpensStream, held_as, table_held};
-ghost use Rattle.pdb_c.specs.Records.{FieldsOrLacks};
-ghost use Rattle.pdb_c.specs.Tables.{located_in, table_opened};
-ghost use Rattle.pdb_c.specs.TableCalls.{fields_asked, rewound, step_told};
+ghost use Rattle.pdb_handles.specs.declared.content.Content.TheVariants.{Table};
+ghost use Rattle.pdb_handles.specs.Found.{found_of};
+ghost use Rattle.pdb_handles.specs.Handle.{OpensStream, held_as, table_held};
+ghost use Rattle.pdb_handles.specs.Records.{FieldsOrLacks};
+ghost use Rattle.pdb_handles.specs.Tables.{located_in, table_opened};
+ghost use Rattle.pdb_handles.specs.TableCalls.{fields_asked, rewound, step_told};
 
-use crate::content::Content;
-use crate::fault::{ALREADY_OPEN, FINE, Fault, NOT_OPEN, TOO_LONG};
-use crate::fields::{FieldRow, write_found, write_nothing};
-use crate::found::tell_found;
-use crate::handle::Handle;
-use crate::located::Located;
-use crate::open_table::{counted, find_record, listed_fields, next_record, opened};
-use pdb_base::{Result, Stream};
+use pdb_handles::fields::{FieldRow, write_found, write_nothing};
+use pdb_handles::found::tell_found;
+use pdb_handles::open_table::{counted, find_record, listed_fields, next_record};
+use pdb_handles::tables::table_in;
+use pdb_handles::{ALREADY_OPEN, Content, FINE, Fault, Handle, Located, NOT_OPEN, TOO_LONG};
 use std::alloc::Global;
-
-/// Opens the table in a stream, which is copied.
-fn table_in(alloc: Global, stream: &[u8]) -> Result<Content>
-    requires { length stream.now < 0xffffffff }
-    ensures { Answers (λ content. content) result (held_as Table (table_opened stream.now)) }
-{
-    let bytes = stream.to_vec(alloc)?;
-    let table = opened(alloc, Stream::new(bytes))?;
-    Ok(Content::Table(table))
-}
 
 /// Opens the table of types or of ids in a stream, which is copied. Its walk stands before the
 /// first item.

@@ -1,80 +1,12 @@
 //! Walks along tables of types, with the rows of their records.
 
 ghost use Rattle.std.specs.Prelude.{◌≡◌};
-ghost use Rattle.pdb_tpi.specs.OpenTable.{bytes_at};
-ghost use Rattle.pdb_tpi.specs.Record.{type_of};
-ghost use Rattle.pdb_c.specs.Walked.{IsTypeRow, WritesNext, WritesNextOf};
+ghost use Rattle.pdb_handles.specs.Walked.{WritesNextOf};
 
-use crate::content::Content;
-use crate::copied::copy_nothing;
-use crate::fault::{FINE, Fault, NOT_OPEN, NOWHERE};
-use crate::handle::Handle;
-use crate::located::Located;
-use crate::records::write_type_row;
-use crate::row::{NO_NUMBERS, Row};
-use pdb_base::TypeIndex;
-use pdb_tpi::{OpenTable, RecordPlace};
+use pdb_handles::copied::copy_nothing;
+use pdb_handles::walked::{TypeRow, write_next};
+use pdb_handles::{Content, Fault, Handle, NOT_OPEN};
 use std::alloc::Global;
-
-/// A record of a table of types, and what it says.
-#[repr(C)]
-#[derive(Clone, Copy)]
-pub struct TypeRow {
-    /// Where the record stands in the stream of the table.
-    pub place: Located,
-    /// How parsing the record ended.
-    pub fault: Fault,
-    /// The numbers in the record, or zeros if parsing it was refused.
-    pub row: Row,
-}
-
-/// Parses the record at a place of a table, which is that of the type of an index, and writes what
-/// it says, or the fault of its error and a row of zeros.
-#[inline(always)]
-fn write_type(
-    alloc: Global,
-    kept: &OpenTable<TypeIndex>,
-    index: u32,
-    place: RecordPlace,
-    told: &mut TypeRow,
-)
-    ensures { IsTypeRow index place (type_of index (bytes_at kept.now.table place)) told.new }
-{
-    told.place = Located::at(index, place);
-    told.fault = write_type_row(alloc, kept.bytes_at(place), index, &mut told.row);
-    if told.fault.status != FINE {
-        told.row = Row::of(0, &NO_NUMBERS);
-    }
-}
-
-/// Writes the next records of a walk to the front of the caller's array, as many as it has room for
-/// or as are left before the walk stops, and sets `count` to their number.
-fn write_next(
-    alloc: Global,
-    kept: &mut OpenTable<TypeIndex>,
-    rows: &mut [TypeRow],
-    count: &mut usize,
-) -> Fault
-    ensures { WritesNext rows.old kept.old
-        (record { fault = result; length = count.new; room = rows.new }) kept.new }
-{
-    for at in 0..rows.len() {
-        let index = kept.index().min(0xffff_ffff) as u32;
-        match kept.step() {
-            Ok(Some(place)) => write_type(alloc, kept, index, place, &mut rows[at]),
-            Ok(None) => {
-                *count = at;
-                return Fault::status(NOWHERE);
-            }
-            Err(error) => {
-                *count = at;
-                return Fault::of(&error);
-            }
-        }
-    }
-    *count = rows.len();
-    Fault::status(FINE)
-}
 
 /// Writes the next records of the walk along a table of types, each with its place and its row, to
 /// the front of the caller's array: as many as it has room for, or as are left before the walk ends

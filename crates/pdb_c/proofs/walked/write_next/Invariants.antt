@@ -1,6 +1,0 @@
--- The records so far are written.
-use Rattle.pdb_c.proofs.WalkedLemmas.{IsWrittenTo}
-use Rattle.pdb_c.proofs.walked.write_next.Given as goal
-
-abbrev pub invariant-loop-at : goal.invariant-loop-at
-invariant-loop-at l = IsWrittenTo l.fn.rows l.rows l.fn.kept l.at l.kept

@@ -1,0 +1,10 @@
+use Rattle.std.proofs.Common.{◌≡◌, map, take}
+use Rattle.std.specs.List.{flat_map}
+use Rattle.pdb_roles.specs.StreamNames.{named_view}
+use Rattle.pdb_handles.specs.Information.{named_row}
+use Rattle.pdb_handles.proofs.information.listed.Given as goal
+
+abbrev pub invariant-loop-named : goal.invariant-loop-named
+invariant-loop-named l =
+    (l.rows.items ≡ map (λ named. named_row (named_view named)) (take l.named-index l.streams))
+    × (l.names.items ≡ flat_map (λ named. (named_view named).name) (take l.named-index l.streams))

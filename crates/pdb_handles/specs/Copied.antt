@@ -1,0 +1,49 @@
+-- How an answer is written into a caller's array.
+use Rattle.std.specs.Prelude.{◌≡◌, ◌⊎◌, ℕ, List, [], ◌∷◌, ◌++◌, length, drop, nat_lt, if◌then◌else◌, Option, Some, None, Ok, Err}
+use Rattle.pdb_base.specs.Answer.{Answer}
+use Rattle.pdb_base.specs.Refusal.{out_of_memory}
+use Rattle.pdb_handles.specs.declared.fault.Fault.{Fault}
+use Rattle.pdb_handles.specs.Fault.{fine, fault_of, no_text, not_open, too_small}
+
+-- how a call ended, how many items its answer has, and the caller's array afterwards
+pub record Copied (A : Type 0) : Type 0 where
+  pub fault : Fault
+  pub length : ℕ
+  pub room : List A
+
+-- nothing is written
+abbrev pub untouched : {A : Type 0} → Fault → List A → Copied A
+untouched fault room = record { fault = fault; length = 0; room = room }
+
+-- The items are written at the front of the array, and the rest of it stays as it was. If there is no
+-- room for all of them, none is written, and the length still says how many there are.
+abbrev pub written : {A : Type 0} → List A → List A → Copied A
+written room items =
+    if nat_lt (length room) (length items)
+    then record { fault = too_small; length = length items; room = room }
+    else record { fault = fine; length = length items; room = items ++ drop (length items) room }
+
+-- the items of an answer are written, or the fault is that of its refusal
+abbrev pub copied : {A : Type 0} → List A → Answer (List A) → Copied A
+copied room (Ok items) = written room items
+copied room (Err refusal) = untouched (fault_of refusal) room
+
+-- the values of the answers before the first refusal among them, in order
+abbrev pub values_before_refusal : {A : Type 0} → List (Answer A) → List A
+values_before_refusal [] = []
+values_before_refusal (Ok value ∷ answers) = value ∷ values_before_refusal answers
+values_before_refusal (Err refusal ∷ answers) = []
+
+-- the answer for what a handle holds, if it holds what is asked, and else `not_open`
+abbrev pub copied_of : {A B : Type 0} → List B → (A → Answer (List B)) → Option A → Copied B
+copied_of room answer (Some held) = copied room (answer held)
+copied_of room answer None = untouched not_open room
+
+-- a text is written, or the fault is `no_text` if there is none
+abbrev pub text_copied : List ℕ → Option (List ℕ) → Copied ℕ
+text_copied room (Some text) = written room text
+text_copied room None = untouched no_text room
+
+-- What is meant was written; or memory was refused, and nothing was written.
+abbrev pub CopiesOrLacks : {A : Type 0} → Copied A → List A → Copied A → Type 0
+CopiesOrLacks done room meant = (done ≡ meant) ⊎ (done ≡ untouched (fault_of out_of_memory) room)

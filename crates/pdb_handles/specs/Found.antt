@@ -1,0 +1,38 @@
+-- How a value that may not exist is returned to a caller.
+use Rattle.std.specs.Prelude.{◌≡◌, Option, Some, None, Ok, Err}
+use Rattle.pdb_base.specs.Answer.{Answer}
+use Rattle.pdb_handles.specs.declared.fault.Fault.{Fault}
+use Rattle.pdb_handles.specs.Fault.{fault_of, fine, not_open, nowhere}
+
+-- how a call ended, and the caller's variable afterwards
+pub record Found (A : Type 0) : Type 0 where
+  pub fault : Fault
+  pub value : A
+
+-- the value that was found; or it was not found, and then the variable stays as it was
+abbrev pub found : {A : Type 0} → A → Option A → Found A
+found old (Some value) = record { fault = fine; value = value }
+found old None = record { fault = nowhere; value = old }
+
+-- the handle doesn't hold what is asked, and the variable stays as it was
+abbrev pub not_held : {A : Type 0} → A → Found A
+not_held old = record { fault = not_open; value = old }
+
+-- the value of an answer; or the fault of its refusal, and then the variable stays as it was
+abbrev pub answered : {A : Type 0} → A → Answer A → Found A
+answered old (Ok value) = record { fault = fine; value = value }
+answered old (Err refusal) = record { fault = fault_of refusal; value = old }
+
+-- the answer for what a handle holds, if it holds what is asked, and else `not_open`
+abbrev pub answered_of : {A B : Type 0} → B → (A → Answer B) → Option A → Found B
+answered_of old answer (Some held) = answered old (answer held)
+answered_of old answer None = not_held old
+
+-- a value of what a handle holds, if it holds what is asked, and else `not_open`
+abbrev pub found_of : {A B : Type 0} → B → (A → B) → Option A → Found B
+found_of old number (Some held) = found old (Some (number held))
+found_of old number None = not_held old
+
+-- A value was found, whatever it is, or none was found.
+abbrev pub IsFound : {A : Type 0} → A → Found A → Type 0
+IsFound {A} old told = (value : Option A) × (told ≡ found old value)

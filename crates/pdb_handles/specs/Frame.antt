@@ -1,0 +1,30 @@
+-- Frames, as a caller sees them.
+use Rattle.std.specs.Prelude.{ℕ, Bool, true, false, is_some, unwrap_or}
+use Rattle.pdb_frames.specs.declared.frame_data.FrameData.{FrameData}
+use Rattle.pdb_frames.specs.FrameNumbers.{kind_number}
+use Rattle.pdb_handles.specs.declared.frame.Frame.{Frame}
+
+-- a Boolean as a number
+abbrev pub flag : Bool → ℕ
+flag true = 1
+flag false = 0
+
+-- a frame for the caller
+abbrev pub frame_of : FrameData → Frame
+frame_of frame = record {
+  kind = kind_number frame.ty;
+  code_start = frame.code_start;
+  code_size = frame.code_size;
+  locals_size = frame.locals_size;
+  params_size = frame.params_size;
+  prolog_size = frame.prolog_size;
+  saved_regs_size = frame.saved_regs_size;
+  has_max_stack_size = flag (is_some frame.max_stack_size);
+  max_stack_size = unwrap_or frame.max_stack_size 0;
+  has_structured_eh = flag frame.has_structured_eh;
+  has_cpp_eh = flag frame.has_cpp_eh;
+  is_function_start = flag frame.is_function_start;
+  uses_base_pointer = flag frame.uses_base_pointer;
+  has_program = flag (is_some frame.program);
+  program = unwrap_or frame.program 0;
+}

@@ -1,0 +1,81 @@
+-- What a handle holds, and what opening it results in.
+use Rattle.std.specs.Prelude.{◌≡◌, ◌⊎◌, ◌<◌, ◌≤◌, ℕ, List, length, Option, Some, None, Ok, Err}
+use Rattle.pdb_base.specs.Answer.{Answer}
+use Rattle.pdb_base.specs.Refusal.{out_of_memory}
+use Rattle.pdb_frames.specs.Table.{Frames}
+use Rattle.pdb_msf.specs.Layout.{Plan}
+use Rattle.pdb_space.specs.Conversions.{Arrangement}
+use Rattle.pdb_space.specs.Omap.{Mapping}
+use Rattle.pdb_tpi.specs.Steps.{Stand}
+use Rattle.pdb_handles.specs.declared.content.Content.{Content}
+use Rattle.pdb_handles.specs.declared.content.Content.TheVariants as contents
+use Rattle.pdb_handles.specs.declared.fault.Fault.{Fault}
+use Rattle.pdb_handles.specs.Fault.{fine, fault_of, already_open, too_long}
+
+-- the number of the kind of a handle's contents; 0 if it holds nothing
+abbrev pub kind_of : Option Content → ℕ
+kind_of None = 0
+kind_of (Some (contents.Names names)) = 1
+kind_of (Some (contents.Omap table)) = 2
+kind_of (Some (contents.Addresses map)) = 3
+kind_of (Some (contents.Frames table)) = 4
+kind_of (Some (contents.File plan)) = 5
+kind_of (Some (contents.Table table)) = 6
+
+-- the value of an answer, as the contents of a handle
+abbrev pub held_as : {A : Type 0} → (A → Content) → Answer A → Answer Content
+held_as content (Ok value) = Ok (content value)
+held_as content (Err refusal) = Err refusal
+
+-- Memory was refused, and nothing is held.
+abbrev pub Lacks : Fault → Option Content → Type 0
+Lacks fault now = (fault ≡ fault_of out_of_memory) × (now ≡ None)
+
+-- The handle holds what is meant; or the fault is that of the refusal that is meant, and the handle holds
+-- nothing; or memory was refused.
+abbrev pub OpensTo : Answer Content → Fault → Option Content → Type 0
+OpensTo (Ok content) fault now = ((fault ≡ fine) × (now ≡ Some content)) ⊎ Lacks fault now
+OpensTo (Err refusal) fault now = ((fault ≡ fault_of refusal) × (now ≡ None)) ⊎ Lacks fault now
+
+-- A handle that holds nothing is opened to what is meant. One that holds something is refused with
+-- `already_open`, and still holds it.
+abbrev pub Opens : Option Content → Answer Content → Fault → Option Content → Type 0
+Opens None meant fault now = OpensTo meant fault now
+Opens (Some held) meant fault now = (fault ≡ already_open) × (now ≡ Some held)
+
+-- The same for what a caller's stream holds; a stream of 0xffffffff bytes or more is refused with
+-- `too_long`.
+abbrev pub OpensStream : List ℕ → Option Content → Answer Content → Fault → Option Content → Type 0
+OpensStream stream None meant fault now =
+    (length stream < 0xffffffff → OpensTo meant fault now) × (0xffffffff ≤ length stream → (fault ≡ too_long) × (now ≡ None))
+OpensStream stream (Some held) meant fault now = (fault ≡ already_open) × (now ≡ Some held)
+
+-- the names that a handle holds, if it holds names
+abbrev pub names_held : Option Content → Option (List ℕ)
+names_held (Some (contents.Names names)) = Some names
+names_held held = None
+
+-- the OMAP table that a handle holds, if it holds one
+abbrev pub omap_held : Option Content → Option (List Mapping)
+omap_held (Some (contents.Omap table)) = Some table
+omap_held held = None
+
+-- the address map that a handle holds, if it holds one
+abbrev pub addresses_held : Option Content → Option Arrangement
+addresses_held (Some (contents.Addresses map)) = Some map
+addresses_held held = None
+
+-- the plan of a file that a handle holds, if it holds one
+abbrev pub file_held : Option Content → Option Plan
+file_held (Some (contents.File plan)) = Some plan
+file_held held = None
+
+-- the frame table that a handle holds, if it holds one
+abbrev pub frames_held : Option Content → Option Frames
+frames_held (Some (contents.Frames table)) = Some table
+frames_held held = None
+
+-- the table of types or of ids that a handle holds, if it holds one, and where the walk along it stands
+abbrev pub table_held : Option Content → Option Stand
+table_held (Some (contents.Table table)) = Some table
+table_held held = None

@@ -1,0 +1,43 @@
+-- The lists and the unique name in a type record, as a caller sees them.
+use Rattle.std.specs.Prelude.{ℕ, List, map, Option, Some, None, Ok}
+use Rattle.pdb_base.specs.Answer.{Answer, ◌>>=◌}
+use Rattle.pdb_values.specs.declared.method.MethodListEntry.{MethodListEntry}
+use Rattle.pdb_values.specs.TypeValue as values
+use Rattle.pdb_values.specs.TypeValue.{PlainValue, TypeValue, plain}
+use Rattle.pdb_tpi.specs.Record.{type_of}
+use Rattle.pdb_handles.specs.declared.row.Row.{Row}
+use Rattle.pdb_handles.specs.Row.{no_numbers, row}
+
+-- a method of a list for the caller: like a method that isn't in a list, but without a name
+abbrev pub method_row : MethodListEntry → Row
+method_row method = row 5 (record no_numbers { attributes = Some method.attributes; type_index = Some method.method_type.0; extra = method.vtable_offset })
+
+-- the methods that a type lists, if it is a list of methods
+abbrev pub methods_in : TypeValue → Option (List Row)
+methods_in (values.method_list methods) = Some (map method_row methods)
+methods_in value = None
+
+abbrev pub methods_of : ℕ → List ℕ → Answer (Option (List Row))
+methods_of index bytes = type_of index bytes >>= λ value. Ok (methods_in value)
+
+-- how many bytes an array takes in each dimension, if the type is an array
+abbrev pub dimensions_in : TypeValue → Option (List ℕ)
+dimensions_in (values.array v) = Some v.dimensions
+dimensions_in value = None
+
+abbrev pub dimensions_of : ℕ → List ℕ → Answer (Option (List ℕ))
+dimensions_of index bytes = type_of index bytes >>= λ value. Ok (dimensions_in value)
+
+-- the name that tells a class, a union or an enumeration from others of its name, if it has one
+abbrev pub plain_unique_name : PlainValue → Option (List ℕ)
+plain_unique_name (values.class v) = v.unique_name
+plain_unique_name (values.union v) = v.unique_name
+plain_unique_name (values.enumeration v) = v.unique_name
+plain_unique_name value = None
+
+abbrev pub unique_name_in : TypeValue → Option (List ℕ)
+unique_name_in (plain value) = plain_unique_name value
+unique_name_in value = None
+
+abbrev pub unique_name_of : ℕ → List ℕ → Answer (Option (List ℕ))
+unique_name_of index bytes = type_of index bytes >>= λ value. Ok (unique_name_in value)

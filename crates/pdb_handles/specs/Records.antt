@@ -1,0 +1,105 @@
+-- The contents of a type record, as a caller sees them: its row, its name and its lists.
+use Rattle.std.specs.Prelude.{◌≡◌, ◌⊎◌, ℕ, ◌||◌, nat_lt, if◌then◌else◌, is_some, unwrap_or, List, [], ◌++◌, length, drop, map, Option, Some, None, Result, Ok, Err, MatchResult}
+use Rattle.std.specs.List.{flat_map}
+use Rattle.std.specs.Option.{option_map}
+use Rattle.pdb_base.specs.Answer.{Answer, ◌>>=◌}
+use Rattle.pdb_base.specs.declared.error.Error.{Error}
+use Rattle.pdb_base.specs.Refusal.{out_of_memory, refusal_of}
+use Rattle.pdb_values.specs.TypeValue.{TypeValue, argument_list, field_list, name_of, values_in}
+use Rattle.pdb_tpi.specs.Record.{type_of}
+use Rattle.pdb_handles.specs.declared.fault.Fault.{Fault}
+use Rattle.pdb_handles.specs.declared.fields.FieldRow.{FieldRow}
+use Rattle.pdb_handles.specs.declared.row.Row.{Row}
+use Rattle.pdb_handles.specs.Copied.{Copied, untouched, written}
+use Rattle.pdb_handles.specs.Fault.{fine, fault_of, nowhere, too_small}
+use Rattle.pdb_handles.specs.Frame.{flag}
+use Rattle.pdb_handles.specs.Row.{row_of}
+
+-- A row is written as what was read is shown; or the fault is that of the error, and the row stays as it was.
+abbrev pub IsWritten : {A : Type 0} → (A → Row) → Result A Error → Row → Fault → Row → Type 0
+IsWritten shown read old fault new = MatchResult read (λ x. (fault ≡ fine) × (new ≡ shown x)) (λ e. (fault ≡ fault_of (refusal_of e)) × (new ≡ old))
+
+-- what is written of a list that may be absent
+abbrev pub if_copied : {A : Type 0} → List A → Answer (Option (List A)) → Copied A
+if_copied room (Ok (Some items)) = written room items
+if_copied room (Ok None) = untouched nowhere room
+if_copied room (Err refusal) = untouched (fault_of refusal) room
+
+-- what is written of a list that a value shows, if it shows one
+abbrev pub shown_copied : {A B : Type 0} → List B → (A → Option (List B)) → Answer A → Copied B
+shown_copied room shown meant = if_copied room (meant >>= λ value. Ok (shown value))
+
+-- the name of the type in a record of this index
+abbrev pub type_name : ℕ → List ℕ → Answer (Option (List ℕ))
+type_name index bytes = type_of index bytes >>= λ value. Ok (name_of value)
+
+-- the types of the arguments that a type lists, if it is a list of arguments
+abbrev pub arguments_in : TypeValue → Option (List ℕ)
+arguments_in (argument_list arguments) = Some (map (λ index. index.0) arguments)
+arguments_in value = None
+
+abbrev pub arguments_of : ℕ → List ℕ → Answer (Option (List ℕ))
+arguments_of index bytes = type_of index bytes >>= λ value. Ok (arguments_in value)
+
+-- the fields that a type lists, if it is a list of fields
+abbrev pub fields_in : TypeValue → Option (List TypeValue)
+fields_in (field_list fields continuation) = Some (values_in fields)
+fields_in value = None
+
+abbrev pub fields_of_record : ℕ → List ℕ → Answer (Option (List TypeValue))
+fields_of_record index bytes = type_of index bytes >>= λ value. Ok (fields_in value)
+
+-- the bytes of a field's name; none if the field has no name
+abbrev pub name_bytes : TypeValue → List ℕ
+name_bytes value = unwrap_or (name_of value) []
+
+-- a field for the caller
+abbrev pub field_row : TypeValue → FieldRow
+field_row value = record { row = row_of value; has_name = flag (is_some (name_of value)); name_length = length (name_bytes value) }
+
+-- fields for the caller, and their names one behind another
+pub record Listing : Type 0 where
+  pub rows : List FieldRow
+  pub names : List ℕ
+
+abbrev pub listing : List TypeValue → Listing
+listing fields = record { rows = map field_row fields; names = flat_map name_bytes fields }
+
+-- the same for fields that may be absent
+abbrev pub listings : Answer (Option (List TypeValue)) → Answer (Option Listing)
+listings meant = meant >>= λ fields. Ok (option_map listing fields)
+
+-- the answer with fields, as one in which fields may be absent
+abbrev pub all_found : Answer (List TypeValue) → Answer (Option (List TypeValue))
+all_found meant = meant >>= λ fields. Ok (Some fields)
+
+-- the result of a call that writes rows and their names: how it ended, how many there are of both, and
+-- the caller's arrays afterwards
+pub record Fielded (R : Type 0) : Type 0 where
+  pub fault : Fault
+  pub rows : List R
+  pub count : ℕ
+  pub names : List ℕ
+  pub size : ℕ
+
+-- nothing is written
+abbrev pub unfielded : {R : Type 0} → Fault → List R → List ℕ → Fielded R
+unfielded fault rows names = record { fault = fault; rows = rows; count = 0; names = names; size = 0 }
+
+-- The rows and the names are written at the fronts of the arrays, the names one behind another. If there
+-- is no room for all of either, nothing is written, and the counts still say how many there are.
+abbrev pub fielded : {R : Type 0} → List R → List ℕ → List R → List ℕ → Fielded R
+fielded rows names told bytes =
+    if nat_lt (length rows) (length told) || nat_lt (length names) (length bytes)
+    then record { fault = too_small; rows = rows; count = length told; names = names; size = length bytes }
+    else record { fault = fine; rows = told ++ drop (length told) rows; count = length told; names = bytes ++ drop (length bytes) names; size = length bytes }
+
+-- the fields that are meant are written, or the fault is that of their refusal
+abbrev pub fields_told : List FieldRow → List ℕ → Answer (Option (List TypeValue)) → Fielded FieldRow
+fields_told rows names (Ok (Some fields)) = fielded rows names (map field_row fields) (flat_map name_bytes fields)
+fields_told rows names (Ok None) = unfielded nowhere rows names
+fields_told rows names (Err refusal) = unfielded (fault_of refusal) rows names
+
+-- What is meant was written; or memory was refused, and nothing was written.
+abbrev pub FieldsOrLacks : {R : Type 0} → Fielded R → List R → List ℕ → Fielded R → Type 0
+FieldsOrLacks done rows names meant = (done ≡ meant) ⊎ (done ≡ unfielded (fault_of out_of_memory) rows names)

@@ -1,0 +1,130 @@
+-- The contents of a type record, as a caller sees them: a row of numbers, of which each shape has some.
+use Rattle.std.specs.Prelude.{ℕ, ◌+◌, ◌*◌, Bool, false, is_some, unwrap_or, int_lt, pos, unsigned_abs, Option, Some, None}
+use Rattle.std.specs.Option.{option_map}
+use Rattle.pdb_base.specs.declared.index.TypeIndex.{TypeIndex}
+use Rattle.pdb_base.specs.declared.variant.Variant.{Variant}
+use Rattle.pdb_base.specs.declared.variant.Variant.TheVariants as variants
+use Rattle.pdb_values.specs.declared.class.ClassKind.{ClassKind}
+use Rattle.pdb_values.specs.declared.class.ClassKind.TheVariants as kinds
+use Rattle.pdb_values.specs.TypeValue as values
+use Rattle.pdb_values.specs.TypeValue.{TypeValue, PlainValue, plain}
+use Rattle.pdb_handles.specs.declared.row.Row.{Row}
+use Rattle.pdb_handles.specs.declared.row.Numbers.{Numbers}
+use Rattle.pdb_handles.specs.Frame.{flag}
+
+-- the number of a kind of class
+abbrev pub class_kind : ClassKind → ℕ
+class_kind kinds.Class = 0
+class_kind kinds.Struct = 1
+class_kind kinds.Interface = 2
+
+-- whether a number of any width is below 0
+abbrev pub is_negative : Variant → Bool
+is_negative (variants.I8 n) = int_lt n (pos 0)
+is_negative (variants.I16 n) = int_lt n (pos 0)
+is_negative (variants.I32 n) = int_lt n (pos 0)
+is_negative (variants.I64 n) = int_lt n (pos 0)
+is_negative value = false
+
+-- the absolute value of a number of any width
+abbrev pub magnitude : Variant → ℕ
+magnitude (variants.U8 n) = n
+magnitude (variants.U16 n) = n
+magnitude (variants.U32 n) = n
+magnitude (variants.U64 n) = n
+magnitude (variants.I8 n) = unsigned_abs n
+magnitude (variants.I16 n) = unsigned_abs n
+magnitude (variants.I32 n) = unsigned_abs n
+magnitude (variants.I64 n) = unsigned_abs n
+
+-- the number of a type's index, if there is one
+abbrev pub index_in : Option TypeIndex → Option ℕ
+index_in index = option_map (λ index. index.0) index
+
+-- no numbers
+abbrev pub no_numbers : Numbers
+no_numbers = record { kind = None; attributes = None; properties = None; count = None; type_index = None; second_index = None; third_index = None; list_index = None; extra = None; number = None }
+
+-- the numbers of a record without a list, or of a primitive type, which has none
+abbrev pub plain_numbers : PlainValue → Numbers
+plain_numbers (values.primitive v) = no_numbers
+plain_numbers (values.class v) = record no_numbers { kind = Some (class_kind v.kind); properties = Some v.properties; count = Some v.count; second_index = index_in v.derived_from; third_index = index_in v.vtable_shape; list_index = index_in v.fields; number = Some v.size }
+plain_numbers (values.member v) = record no_numbers { attributes = Some v.attributes; type_index = Some v.field_type.0; number = Some v.offset }
+plain_numbers (values.member_function v) = record no_numbers { attributes = Some v.attributes; count = Some v.parameter_count; type_index = Some v.return_type.0; second_index = Some v.class_type.0; third_index = index_in v.this_pointer_type; list_index = Some v.argument_list.0; extra = Some v.this_adjustment }
+plain_numbers (values.overloaded_method v) = record no_numbers { count = Some v.count; list_index = Some v.method_list.0 }
+plain_numbers (values.method v) = record no_numbers { attributes = Some v.attributes; type_index = Some v.method_type.0; extra = v.vtable_offset }
+plain_numbers (values.static_member v) = record no_numbers { attributes = Some v.attributes; type_index = Some v.field_type.0 }
+plain_numbers (values.nested v) = record no_numbers { attributes = Some v.attributes; type_index = Some v.nested_type.0 }
+plain_numbers (values.base_class v) = record no_numbers { kind = Some (class_kind v.kind); attributes = Some v.attributes; type_index = Some v.base_class.0; number = Some v.offset }
+plain_numbers (values.virtual_base_class v) = record no_numbers { kind = Some (flag v.direct); attributes = Some v.attributes; type_index = Some v.base_class.0; second_index = Some v.base_pointer.0; number = Some v.base_pointer_offset; extra = Some v.virtual_base_offset }
+plain_numbers (values.virtual_function_table_pointer v) = record no_numbers { type_index = Some v.table.0 }
+plain_numbers (values.procedure v) = record no_numbers { attributes = Some v.attributes; count = Some v.parameter_count; type_index = index_in v.return_type; list_index = Some v.argument_list.0 }
+plain_numbers (values.pointer v) = record no_numbers { attributes = Some v.attributes; type_index = Some v.underlying_type.0; second_index = index_in v.containing_class }
+plain_numbers (values.modifier v) = record no_numbers { kind = Some (flag v.constant + 2 * flag v.volatile + 4 * flag v.unaligned); type_index = Some v.underlying_type.0 }
+plain_numbers (values.enumeration v) = record no_numbers { properties = Some v.properties; count = Some v.count; type_index = Some v.underlying_type.0; list_index = Some v.fields.0 }
+plain_numbers (values.enumerate v) = record no_numbers { kind = Some (flag (is_negative v.value)); attributes = Some v.attributes; number = Some (magnitude v.value) }
+plain_numbers (values.union v) = record no_numbers { properties = Some v.properties; count = Some v.count; list_index = Some v.fields.0; number = Some v.size }
+plain_numbers (values.bitfield v) = record no_numbers { count = Some v.length; type_index = Some v.underlying_type.0; extra = Some v.position }
+plain_numbers (values.virtual_table_shape v) = record no_numbers { count = Some v.count }
+
+-- the numbers of a type
+abbrev pub numbers_of : TypeValue → Numbers
+numbers_of (plain value) = plain_numbers value
+numbers_of (values.array v) = record no_numbers { type_index = Some v.element_type.0; second_index = Some v.indexing_type.0; extra = v.stride }
+numbers_of (values.field_list fields continuation) = record no_numbers { list_index = index_in continuation }
+numbers_of (values.argument_list arguments) = no_numbers
+numbers_of (values.method_list methods) = no_numbers
+
+-- the number of a shape
+abbrev pub plain_shape : PlainValue → ℕ
+plain_shape (values.primitive v) = 0
+plain_shape (values.class v) = 1
+plain_shape (values.member v) = 2
+plain_shape (values.member_function v) = 3
+plain_shape (values.overloaded_method v) = 4
+plain_shape (values.method v) = 5
+plain_shape (values.static_member v) = 6
+plain_shape (values.nested v) = 7
+plain_shape (values.base_class v) = 8
+plain_shape (values.virtual_base_class v) = 9
+plain_shape (values.virtual_function_table_pointer v) = 10
+plain_shape (values.procedure v) = 11
+plain_shape (values.pointer v) = 12
+plain_shape (values.modifier v) = 13
+plain_shape (values.enumeration v) = 14
+plain_shape (values.enumerate v) = 15
+plain_shape (values.union v) = 17
+plain_shape (values.bitfield v) = 18
+plain_shape (values.virtual_table_shape v) = 22
+
+abbrev pub shape_of : TypeValue → ℕ
+shape_of (plain value) = plain_shape value
+shape_of (values.array v) = 16
+shape_of (values.field_list fields continuation) = 19
+shape_of (values.argument_list arguments) = 20
+shape_of (values.method_list methods) = 21
+
+-- the weight of a number's bit if the number is present, and else 0
+abbrev pub bit : ℕ → Option ℕ → ℕ
+bit weight number = weight * flag (is_some number)
+
+-- the row of a shape and its numbers; a number that is absent is 0
+unfoldable pub row : ℕ → Numbers → Row
+row shape numbers = record {
+  kind = unwrap_or numbers.kind 0;
+  attributes = unwrap_or numbers.attributes 0;
+  properties = unwrap_or numbers.properties 0;
+  count = unwrap_or numbers.count 0;
+  type_index = unwrap_or numbers.type_index 0;
+  second_index = unwrap_or numbers.second_index 0;
+  third_index = unwrap_or numbers.third_index 0;
+  list_index = unwrap_or numbers.list_index 0;
+  extra = unwrap_or numbers.extra 0;
+  number = unwrap_or numbers.number 0;
+  shape = shape;
+  stands = bit 1 numbers.kind + bit 2 numbers.attributes + bit 4 numbers.properties + bit 8 numbers.count + bit 16 numbers.type_index + bit 32 numbers.second_index + bit 64 numbers.third_index + bit 128 numbers.list_index + bit 256 numbers.extra + bit 512 numbers.number;
+}
+
+-- the row of a type
+abbrev pub row_of : TypeValue → Row
+row_of value = row (shape_of value) (numbers_of value)

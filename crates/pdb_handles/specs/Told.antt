@@ -1,0 +1,97 @@
+-- Which refusal a fault stands for, so that refusals can be told apart and shown as text.
+use Rattle.std.specs.Prelude.{◌≡◌, ℕ, zero, suc, ◌<◌, ◌^◌, ◌==◌, ◌&&◌, nat_lt, if◌then◌else◌, ⊤, List, [], ◌∷◌, Contains, slice_get, Option, Some, None, option_map}
+use Rattle.std.specs.declared.io.ErrorKind.{ErrorKind}
+use Rattle.std.specs.declared.io.ErrorKind.TheVariants as kinds
+use Rattle.pdb_base.specs.Refusal.{Refusal, unrecognized_file_format, stream_name_not_found, unexpected_eof, global_symbols_not_found, symbol_too_short, type_too_short, address_map_not_found, lines_not_found, invalid_compressed_annotation, out_of_memory, page_reference_out_of_range, invalid_page_size, stream_not_found, unimplemented_symbol_kind, type_not_found, unimplemented_type_kind, not_a_cross_module_ref, cross_module_ref_not_found, unexpected_numeric_prefix, unimplemented_debug_subsection, unimplemented_file_checksum_kind, invalid_file_checksum_offset, unknown_binary_annotation, type_not_indexed, invalid_stream_length, unimplemented_feature, invalid_type_information_header, io_error}
+use Rattle.pdb_base.specs.ErrorText.{text_of}
+use Rattle.pdb_handles.specs.declared.fault.Fault.{Fault}
+use Rattle.pdb_handles.specs.Fault.{fault_of, texts}
+
+-- the refusal that a status stands for, if any, with the two numbers that go with it
+abbrev pub Tells : Type 0
+Tells = ℕ → ℕ → Option Refusal
+
+-- no refusal
+abbrev pub none : Tells
+none first second = None
+
+-- a refusal with no number, for which both numbers are 0
+abbrev pub plain : Refusal → Tells
+plain refusal first second = if first == 0 && second == 0 then Some refusal else None
+
+-- a refusal with one number, for which the second number is 0
+abbrev pub numbered : (ℕ → Refusal) → Tells
+numbered refusal first second = if second == 0 then Some (refusal first) else None
+
+-- a refusal with one number, which must be below a bound
+abbrev pub below : ℕ → (ℕ → Refusal) → Tells
+below bound refusal first second = if nat_lt first bound && second == 0 then Some (refusal first) else None
+
+-- the text with this number; numbers begin at 1
+abbrev pub text_numbered : ℕ → Option (List ℕ)
+text_numbered zero = None
+text_numbered (suc place) = slice_get texts place
+
+-- a refusal with a text
+abbrev pub worded : (List ℕ → Refusal) → Tells
+worded refusal first second = if second == 0 then option_map refusal (text_numbered first) else None
+
+-- the kind with this number; numbers begin at 1
+abbrev pub kind_numbered : ℕ → Option ErrorKind
+kind_numbered zero = None
+kind_numbered (suc place) = slice_get (kinds.UnexpectedEof ∷ kinds.OutOfMemory ∷ []) place
+
+-- an error of a source
+abbrev pub of_source : Tells
+of_source first second = if second == 0 then option_map io_error (kind_numbered first) else None
+
+-- the refusal for each status, from 0 on
+abbrev pub tellings : List Tells
+tellings =
+    none
+    ∷ plain unrecognized_file_format ∷ numbered page_reference_out_of_range ∷ numbered invalid_page_size ∷ numbered stream_not_found
+    ∷ plain stream_name_not_found ∷ worded invalid_stream_length ∷ of_source ∷ plain unexpected_eof
+    ∷ worded unimplemented_feature ∷ plain global_symbols_not_found ∷ plain symbol_too_short ∷ below (2 ^ 16) unimplemented_symbol_kind
+    ∷ worded invalid_type_information_header ∷ plain type_too_short ∷ numbered type_not_found ∷ (λ first second. Some (type_not_indexed first second))
+    ∷ below (2 ^ 16) unimplemented_type_kind ∷ numbered not_a_cross_module_ref ∷ numbered cross_module_ref_not_found ∷ below (2 ^ 16) unexpected_numeric_prefix
+    ∷ plain address_map_not_found ∷ numbered unimplemented_debug_subsection ∷ below (2 ^ 8) unimplemented_file_checksum_kind ∷ numbered invalid_file_checksum_offset
+    ∷ plain lines_not_found ∷ plain invalid_compressed_annotation ∷ numbered unknown_binary_annotation ∷ plain out_of_memory ∷ []
+
+-- the same for a status that may not exist
+abbrev pub told_by : Option Tells → Tells
+told_by None = none
+told_by (Some telling) = telling
+
+-- the refusal that a fault stands for
+unfoldable pub refusal_told : Fault → Option Refusal
+refusal_told fault = told_by (slice_get tellings fault.status) fault.first fault.second
+
+-- A refusal that this library returns: its text is one of the library's, its numbers of 16 and of 8 bits
+-- are below their bounds, and an error of a source is one that bytes in memory give.
+abbrev pub IsOurs : Refusal → Type 0
+IsOurs (invalid_stream_length stream) = Contains texts stream
+IsOurs (unimplemented_feature feature) = Contains texts feature
+IsOurs (invalid_type_information_header rule) = Contains texts rule
+IsOurs (io_error kind) = Contains (kinds.UnexpectedEof ∷ kinds.OutOfMemory ∷ []) kind
+IsOurs (unimplemented_symbol_kind kind) = kind < 2 ^ 16
+IsOurs (unimplemented_type_kind kind) = kind < 2 ^ 16
+IsOurs (unexpected_numeric_prefix prefix) = prefix < 2 ^ 16
+IsOurs (unimplemented_file_checksum_kind kind) = kind < 2 ^ 8
+IsOurs refusal = ⊤
+
+-- The fault of a refusal that this library returns stands for that refusal.
+abbrev pub IsTold : Refusal → Type 0
+IsTold refusal = IsOurs refusal → refusal_told (fault_of refusal) ≡ Some refusal
+
+-- A fault that stands for a refusal is the fault of that refusal.
+abbrev pub TellsBack : Fault → Refusal → Type 0
+TellsBack fault refusal = refusal_told fault ≡ Some refusal → fault_of refusal ≡ fault
+
+-- the library's text of a refusal that may be absent
+abbrev pub text_if : Option Refusal → Option (List ℕ)
+text_if (Some refusal) = text_of refusal
+text_if None = None
+
+-- the text of a fault, if it stands for a refusal that has a text of the library's
+abbrev pub fault_text : Fault → Option (List ℕ)
+fault_text fault = text_if (refusal_told fault)

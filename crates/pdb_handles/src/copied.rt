@@ -1,0 +1,106 @@
+//! Answers that are copied into a caller's array.
+
+ghost use Rattle.std.specs.Prelude.{◌≡◌, ℕ, List, Option, Ok};
+ghost use Rattle.std.specs.Option.{option_map};
+ghost use Rattle.pdb_base.specs.Answer.{Answer, Answers};
+ghost use Rattle.pdb_values.specs.Text.{text_bytes};
+ghost use Rattle.pdb_handles.specs.Copied.{CopiesOrLacks, copied, written};
+ghost use Rattle.pdb_handles.specs.Records.{fielded, if_copied};
+
+use crate::fault::{FINE, Fault, NOWHERE, TOO_SMALL};
+use pdb_base::{RawString, Result, Stream};
+
+/// Copies items to the front of a caller's array and sets `length` to their number. If the array
+/// has no room for all of them, none is copied.
+pub fn copy_out<T: Copy>(items: &[T], room: &mut [T], length: &mut usize) -> Fault
+    ensures { record { fault = result; length = length.new; room = room.new } ≡ written room.old items.now }
+{
+    *length = items.len();
+    if room.len() < items.len() {
+        return Fault::status(TOO_SMALL);
+    }
+    room[..items.len()].copy_from_slice(items);
+    Fault::status(FINE)
+}
+
+/// Copies rows and the bytes of their names to the fronts of two arrays of the caller, if both have
+/// room for all of them, and sets `count` and `size` to their numbers.
+pub fn copy_both<T: Copy>(
+    items: &[T],
+    bytes: &[u8],
+    rows: &mut [T],
+    count: &mut usize,
+    names: &mut [u8],
+    size: &mut usize,
+) -> Fault
+    ensures { record { fault = result; rows = rows.new; count = count.new; names = names.new; size = size.new }
+        ≡ fielded rows.old names.old items.now bytes.now }
+{
+    *count = items.len();
+    *size = bytes.len();
+    if rows.len() < items.len() || names.len() < bytes.len() {
+        return Fault::status(TOO_SMALL);
+    }
+    rows[..items.len()].copy_from_slice(items);
+    names[..bytes.len()].copy_from_slice(bytes);
+    Fault::status(FINE)
+}
+
+/// Sets `length` to 0 and returns the fault.
+pub fn copy_nothing(fault: Fault, length: &mut usize) -> Fault
+    ensures fault { result ≡ fault }
+    ensures length { length.new ≡ 0 }
+{
+    *length = 0;
+    fault
+}
+
+/// Copies the bytes of a stream to the caller's array, or returns the fault of the error.
+pub fn copy_stream(answer: Result<Stream>, room: &mut [u8], length: &mut usize) -> Fault
+    ensures { (meant : Answer (List ℕ)) → Answers (λ stream. stream) answer meant
+        → CopiesOrLacks (record { fault = result; length = length.new; room = room.new }) room.old
+        (copied room.old meant) }
+{
+    match answer {
+        Ok(stream) => copy_out(stream.as_slice(), room, length),
+        Err(error) => copy_nothing(Fault::of(&error), length),
+    }
+}
+
+/// Copies the items of a list to the caller's array, or returns the fault of the error.
+pub fn copy_list<T: Copy>(answer: Result<Vec<T>>, room: &mut [T], length: &mut usize) -> Fault
+    ensures { (meant : Answer (List T)) → Answers (λ list. list.items) answer meant
+        → CopiesOrLacks (record { fault = result; length = length.new; room = room.new }) room.old
+        (copied room.old meant) }
+{
+    match answer {
+        Ok(items) => copy_out(&items, room, length),
+        Err(error) => copy_nothing(Fault::of(&error), length),
+    }
+}
+
+/// Copies the items of a list to the caller's array if there is one, or returns a fault of status
+/// `NOWHERE` if there is none, or the fault of the error.
+pub fn copy_if<T: Copy>(answer: Result<Option<Vec<T>>>, room: &mut [T], length: &mut usize) -> Fault
+    ensures { (meant : Answer (Option (List T))) → Answers (option_map (λ list. list.items)) answer meant
+        → CopiesOrLacks (record { fault = result; length = length.new; room = room.new }) room.old
+        (if_copied room.old meant) }
+{
+    match answer {
+        Ok(Some(items)) => copy_out(&items, room, length),
+        Ok(None) => copy_nothing(Fault::status(NOWHERE), length),
+        Err(error) => copy_nothing(Fault::of(&error), length),
+    }
+}
+
+/// Copies the bytes of a name to the caller's array if there is one, or returns a fault of status
+/// `NOWHERE` if there is none.
+pub fn copy_name(name: Option<RawString<'_>>, room: &mut [u8], length: &mut usize) -> Fault
+    ensures { record { fault = result; length = length.new; room = room.new }
+        ≡ if_copied room.old (Ok (option_map text_bytes name.entry)) }
+{
+    match name {
+        Some(name) => copy_out(name.as_bytes(), room, length),
+        None => copy_nothing(Fault::status(NOWHERE), length),
+    }
+}

@@ -1,0 +1,67 @@
+//! The parts of a caller's file that are found by the roles and names of its streams.
+
+ghost use Rattle.std.specs.Prelude.{◌≡◌, IfOk};
+ghost use Rattle.pdb_base.specs.Answer.{Answers};
+ghost use Rattle.pdb_msf.specs.Header.{opened};
+ghost use Rattle.pdb_handles.specs.File.{addresses_said, frames_said, named_stream_said, names_said};
+
+use crate::content::Content;
+use pdb_base::{Result, Stream};
+use pdb_msf::{BigMSF, open_msf};
+use pdb_roles::{address_map, frame_table, named_stream, string_table};
+use std::alloc::Global;
+
+/// Opens a file over the caller's bytes.
+///
+/// # Errors
+/// Fails as `open_msf` does.
+pub fn opened<'f>(alloc: Global, file: &'f [u8]) -> Result<BigMSF<&'f [u8]>>
+    ensures head { Answers (λ file. file.head) result (opened file.now) }
+    ensures bytes { IfOk result (λ opened. opened.source.now ≡ file.now) }
+{
+    open_msf(alloc, file)
+}
+
+/// Reads the first stream with this name.
+///
+/// # Errors
+/// Fails as `opened` and `named_stream` do.
+pub fn named_stream_in(alloc: Global, file: &[u8], name: &[u8]) -> Result<Stream>
+    ensures { Answers (λ stream. stream) result (named_stream_said name.now file.now) }
+{
+    let mut file = opened(alloc, file)?;
+    named_stream(alloc, &mut file, name)
+}
+
+/// Reads the string table of a file.
+///
+/// # Errors
+/// Fails as `opened` and `string_table` do.
+pub fn names_in(alloc: Global, file: &[u8]) -> Result<Content>
+    ensures { Answers (λ content. content) result (names_said file.now) }
+{
+    let mut file = opened(alloc, file)?;
+    Ok(Content::Names(string_table(alloc, &mut file)?))
+}
+
+/// Reads the address map of a file.
+///
+/// # Errors
+/// Fails as `opened` and `address_map` do.
+pub fn addresses_in(alloc: Global, file: &[u8]) -> Result<Content>
+    ensures { Answers (λ content. content) result (addresses_said file.now) }
+{
+    let mut file = opened(alloc, file)?;
+    Ok(Content::Addresses(address_map(alloc, &mut file)?))
+}
+
+/// Reads the frame table of a file.
+///
+/// # Errors
+/// Fails as `opened` and `frame_table` do.
+pub fn frames_in(alloc: Global, file: &[u8]) -> Result<Content>
+    ensures { Answers (λ content. content) result (frames_said file.now) }
+{
+    let mut file = opened(alloc, file)?;
+    Ok(Content::Frames(frame_table(alloc, &mut file)?))
+}

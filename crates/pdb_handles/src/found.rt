@@ -1,0 +1,35 @@
+//! Values that may be missing or refused.
+
+ghost use Rattle.std.specs.Prelude.{◌≡◌};
+ghost use Rattle.pdb_base.specs.Answer.{Answer, Gives};
+ghost use Rattle.pdb_handles.specs.Found.{answered, found};
+
+use crate::fault::{FINE, Fault, NOWHERE};
+use pdb_base::Result;
+
+/// Writes a value that was found, or returns a fault of status `NOWHERE` if there is none.
+pub fn tell_found<T: Copy>(answer: Option<T>, value: &mut T) -> Fault
+    ensures { record { fault = result; value = value.new } ≡ found value.old answer }
+{
+    match answer {
+        Some(number) => {
+            *value = number;
+            Fault::status(FINE)
+        }
+        None => Fault::status(NOWHERE),
+    }
+}
+
+/// Writes the value of an answer, or returns the fault of its error.
+pub fn tell_answered<T: Copy>(answer: Result<T>, value: &mut T) -> Fault
+    ensures { (meant : Answer T) → Gives (λ number. number) answer meant
+        → record { fault = result; value = value.new } ≡ answered value.old meant }
+{
+    match answer {
+        Ok(number) => {
+            *value = number;
+            Fault::status(FINE)
+        }
+        Err(error) => Fault::of(&error),
+    }
+}

@@ -1,0 +1,92 @@
+//! Frames, as a caller sees them.
+
+ghost use Rattle.std.specs.Prelude.{◌≡◌, unwrap_or, is_some};
+ghost use Rattle.pdb_frames.specs.FrameNumbers.{kind_number};
+ghost use Rattle.pdb_handles.specs.Frame.{flag, frame_of};
+
+use pdb_frames::{FrameData, FrameType};
+
+/// What a stack walker needs to know of the frame of some code. Each flag is 0 or 1.
+#[repr(C)]
+#[derive(Clone, Copy)]
+pub struct Frame {
+    /// What kind of frame it is, by the numbers of `StackFrameTypeEnum`.
+    pub kind: u32,
+    /// The address of the first byte of the code, in the original image.
+    pub code_start: u32,
+    /// How many bytes of code there are.
+    pub code_size: u32,
+    /// The size of the local variables in bytes.
+    pub locals_size: u32,
+    /// The size of the parameters in bytes.
+    pub params_size: u32,
+    /// How many bytes of code the prolog has.
+    pub prolog_size: u32,
+    /// The size of the saved registers in bytes.
+    pub saved_regs_size: u32,
+    /// Whether the record says how many bytes the code pushes on the stack at most.
+    pub has_max_stack_size: u32,
+    /// The number of these bytes, or 0.
+    pub max_stack_size: u32,
+    /// Whether the code handles structured exceptions.
+    pub has_structured_eh: u32,
+    /// Whether the code handles C++ exceptions.
+    pub has_cpp_eh: u32,
+    /// Whether a function starts with this code.
+    pub is_function_start: u32,
+    /// Whether the base pointer holds something other than the frame.
+    pub uses_base_pointer: u32,
+    /// Whether a program computes the registers of the caller.
+    pub has_program: u32,
+    /// The place of that program in the string table, or 0.
+    pub program: u32,
+}
+
+/// Returns the number of a kind of frame.
+fn kind_number(kind: FrameType) -> u32
+    ensures { result ≡ kind_number kind }
+{
+    match kind {
+        FrameType::FPO => 0,
+        FrameType::Trap => 1,
+        FrameType::TSS => 2,
+        FrameType::Standard => 3,
+        FrameType::FrameData => 4,
+        FrameType::Unknown => 0xff,
+    }
+}
+
+/// Returns 1 for true and 0 for false.
+pub fn flag(test: bool) -> u32
+    ensures { result ≡ flag test }
+{
+    if test { 1 } else { 0 }
+}
+
+impl Frame {
+    /// Converts a frame for the caller.
+    pub fn of(frame: &FrameData) -> Frame
+        ensures { result ≡ frame_of frame.now }
+    {
+        Frame {
+            kind: kind_number(frame.ty),
+            code_start: frame.code_start.0,
+            code_size: frame.code_size,
+            locals_size: frame.locals_size,
+            params_size: frame.params_size,
+            prolog_size: frame.prolog_size as u32,
+            saved_regs_size: frame.saved_regs_size as u32,
+            has_max_stack_size: flag(frame.max_stack_size.is_some()),
+            max_stack_size: frame.max_stack_size.unwrap_or(0),
+            has_structured_eh: flag(frame.has_structured_eh),
+            has_cpp_eh: flag(frame.has_cpp_eh),
+            is_function_start: flag(frame.is_function_start),
+            uses_base_pointer: flag(frame.uses_base_pointer),
+            has_program: flag(frame.program.is_some()),
+            program: match frame.program {
+                Some(place) => place.0,
+                None => 0,
+            },
+        }
+    }
+}

@@ -1,0 +1,39 @@
+//! What the definitions say in other words. The functions do nothing, or call other laws: each contract is a law.
+
+ghost use Rattle.std.specs.Prelude.{◌≡◌, ℕ, List, Ok, Some};
+ghost use Rattle.pdb_base.specs.Refusal.{Refusal};
+ghost use Rattle.pdb_msf.specs.Layout.{Plan, plan_of, stream_by};
+ghost use Rattle.pdb_handles.specs.declared.fault.Fault.{Fault};
+ghost use Rattle.pdb_handles.specs.File.{stream_said};
+ghost use Rattle.pdb_handles.specs.Names.{StandsAtItsPlace, WritesNamedFront};
+ghost use Rattle.pdb_handles.specs.declared.names.NamePlace.{NamePlace};
+ghost use Rattle.pdb_handles.specs.Told.{IsTold, TellsBack};
+
+use pdb_space::laws::{names, string_tables};
+
+/// Refusals of the library and the faults that tell one correspond one to one.
+pub fn statuses()
+    ensures forth { (refusal : Refusal) → IsTold refusal }
+    ensures back { (fault : Fault) (refusal : Refusal) → TellsBack fault refusal }
+{}
+
+/// If the plan of a file is kept, each stream read by it from the file's bytes is the one that is
+/// read from the file anew.
+pub fn kept_plans()
+    ensures { (file : List ℕ) (plan : Plan) (number limit : ℕ) → plan_of file ≡ Ok plan
+        → stream_by plan file number (Some limit) ≡ stream_said number limit file }
+{}
+
+/// The bytes of a string table's stream at the place of a name are the name.
+pub fn name_places()
+    ensures { (stream : List ℕ) (offset : ℕ) → StandsAtItsPlace stream offset }
+{
+    string_tables();
+    names();
+}
+
+/// The places that one call writes are those of the names at all offsets, or of those at the offsets
+/// before the first one without a name.
+pub fn names_fronts()
+    ensures { (names : List ℕ) (room : List NamePlace) (offsets : List ℕ) → WritesNamedFront names room offsets }
+{}

@@ -1,0 +1,582 @@
+//! What a record says, as a row of numbers.
+
+ghost use Rattle.std.specs.Prelude.{◌≡◌, ◌+◌, ◌*◌, ◌≤◌, []};
+ghost use Rattle.pdb_values.specs.Array.{array_value};
+ghost use Rattle.pdb_values.specs.Class.{class_value};
+ghost use Rattle.pdb_values.specs.Enumeration.{enumerate_value, enumeration_value};
+ghost use Rattle.pdb_values.specs.Member.{member_value, nested_value, static_member_value};
+ghost use Rattle.pdb_values.specs.Method.{method_value, overloaded_method_value};
+ghost use Rattle.pdb_values.specs.TableShape.{table_shape_value};
+ghost use Rattle.pdb_values.specs.Union.{union_value};
+ghost use Rattle.pdb_values.specs.TypeValue.{argument_list, array, base_class, bitfield, class, enumerate, enumeration, field_list, member, member_function, method, modifier, nested, no_field, overloaded_method, plain, pointer, procedure, static_member, union, virtual_base_class, virtual_function_table_pointer, virtual_table_shape};
+ghost use Rattle.pdb_values.specs.TypeView.{type_value};
+ghost use Rattle.pdb_handles.specs.Frame.{flag};
+ghost use Rattle.pdb_handles.specs.Row.{bit, class_kind, index_in, is_negative, magnitude, no_numbers, row, row_of};
+
+use crate::frame::flag;
+use pdb_base::{TypeIndex, Variant};
+use pdb_values::{
+    ArrayType, BaseClassType, BitfieldType, ClassKind, ClassType, EnumerateType, EnumerationType,
+    MemberFunctionType, MemberType, MethodType, ModifierType, NestedType, OverloadedMethodType,
+    PointerType, ProcedureType, StaticMemberType, TypeData, UnionType, VirtualBaseClassType,
+    VirtualFunctionTablePointerType, VirtualTableShapeType,
+};
+
+/// The numbers in the record of a type: what it says besides names and lists. Each shape has some
+/// of them.
+#[repr(C)]
+#[derive(Clone, Copy)]
+pub struct Row {
+    /// The size of a class or a union; the offset of a member or a base class; for a virtual base
+    /// class, the offset of the pointer to its table; or the absolute value of an enumeration's
+    /// value.
+    pub number: u64,
+    /// The shape of the record, numbered as in `pdb_shape`.
+    pub shape: u32,
+    /// Which of the numbers below, and of the one above, the record has: bit 0 for `kind`, bit 1
+    /// for `attributes`, and so on, bit 8 for `extra` and bit 9 for `number`. The others are 0.
+    pub stands: u32,
+    /// For a class or a base class, 0 for a class, 1 for a structure, 2 for an interface; for a
+    /// virtual base class, whether it is a direct one; for an enumeration's value, whether it is
+    /// below 0; for a type with modifiers, the sum of 1 for const, 2 for volatile and 4 for
+    /// unaligned.
+    pub kind: u32,
+    /// The word of a member's, a function's or a pointer's attributes.
+    pub attributes: u32,
+    /// The word of the properties of a class, a union or an enumeration.
+    pub properties: u32,
+    /// The number of members, values, parameters, methods or functions, or of the bits of a bit
+    /// field.
+    pub count: u32,
+    /// The type that is pointed at, modified or held; the type of a member, an element or a method;
+    /// the base class; or the type that a function returns.
+    pub type_index: u32,
+    /// The class of a method or of a pointer to a member, the pointer to a virtual base class's
+    /// table, the type by which an array is indexed, or the list of a class's base classes.
+    pub second_index: u32,
+    /// The type of a method's `this`, or the shape of a class's table of virtual functions.
+    pub third_index: u32,
+    /// The list of fields, of arguments or of methods, or the list in which a list of fields
+    /// continues.
+    pub list_index: u32,
+    /// The place of a method in the table of virtual functions, how `this` is adjusted, the place
+    /// of a virtual base class in its table, an array's stride, or the lowest bit of a bit field.
+    pub extra: u32,
+}
+
+/// The numbers that a record has.
+#[derive(Clone, Copy)]
+pub struct Numbers {
+    /// What `Row::kind` holds, if the record has it.
+    pub kind: Option<u32>,
+    /// What `Row::attributes` holds, if the record has it.
+    pub attributes: Option<u32>,
+    /// What `Row::properties` holds, if the record has it.
+    pub properties: Option<u32>,
+    /// What `Row::count` holds, if the record has it.
+    pub count: Option<u32>,
+    /// What `Row::type_index` holds, if the record has it.
+    pub type_index: Option<u32>,
+    /// What `Row::second_index` holds, if the record has it.
+    pub second_index: Option<u32>,
+    /// What `Row::third_index` holds, if the record has it.
+    pub third_index: Option<u32>,
+    /// What `Row::list_index` holds, if the record has it.
+    pub list_index: Option<u32>,
+    /// What `Row::extra` holds, if the record has it.
+    pub extra: Option<u32>,
+    /// What `Row::number` holds, if the record has it.
+    pub number: Option<u64>,
+}
+
+/// No numbers.
+pub const NO_NUMBERS: Numbers = Numbers {
+    kind: None,
+    attributes: None,
+    properties: None,
+    count: None,
+    type_index: None,
+    second_index: None,
+    third_index: None,
+    list_index: None,
+    extra: None,
+    number: None,
+};
+
+/// Returns the number of a kind of class.
+fn class_kind(kind: ClassKind) -> u32
+    ensures { result ≡ class_kind kind }
+{
+    match kind {
+        ClassKind::Class => 0,
+        ClassKind::Struct => 1,
+        ClassKind::Interface => 2,
+    }
+}
+
+/// Returns the number of an index, if there is one.
+fn index_in(index: Option<TypeIndex>) -> Option<u32>
+    ensures { result ≡ index_in index }
+{
+    match index {
+        Some(index) => Some(index.0),
+        None => None,
+    }
+}
+
+/// Returns whether a number is below 0.
+fn is_negative(value: Variant) -> bool
+    ensures { result ≡ is_negative value }
+{
+    match value {
+        Variant::I8(n) => n < 0,
+        Variant::I16(n) => n < 0,
+        Variant::I32(n) => n < 0,
+        Variant::I64(n) => n < 0,
+        _ => false,
+    }
+}
+
+/// Returns the absolute value of a number.
+fn magnitude(value: Variant) -> u64
+    ensures { result ≡ magnitude value }
+{
+    match value {
+        Variant::U8(n) => n as u64,
+        Variant::U16(n) => n as u64,
+        Variant::U32(n) => n as u64,
+        Variant::U64(n) => n,
+        Variant::I8(n) => n.unsigned_abs() as u64,
+        Variant::I16(n) => n.unsigned_abs() as u64,
+        Variant::I32(n) => n.unsigned_abs() as u64,
+        Variant::I64(n) => n.unsigned_abs(),
+    }
+}
+
+/// Returns the weight of a bit if its number is present, and 0 if not.
+#[inline(always)]
+fn bit(weight: u32, stands: bool) -> u32
+    requires { weight ≤ 512 }
+    ensures { result ≡ weight * flag stands }
+{
+    weight * flag(stands)
+}
+
+/// Returns the bits of the numbers that are present.
+#[inline(always)]
+fn stands(numbers: &Numbers) -> u32
+    ensures { result ≡ bit 1 numbers.now.kind + bit 2 numbers.now.attributes + bit 4 numbers.now.properties +
+        bit 8 numbers.now.count + bit 16 numbers.now.type_index + bit 32 numbers.now.second_index +
+        bit 64 numbers.now.third_index + bit 128 numbers.now.list_index + bit 256 numbers.now.extra +
+        bit 512 numbers.now.number }
+{
+    bit(1, numbers.kind.is_some())
+        + bit(2, numbers.attributes.is_some())
+        + bit(4, numbers.properties.is_some())
+        + bit(8, numbers.count.is_some())
+        + bit(16, numbers.type_index.is_some())
+        + bit(32, numbers.second_index.is_some())
+        + bit(64, numbers.third_index.is_some())
+        + bit(128, numbers.list_index.is_some())
+        + bit(256, numbers.extra.is_some())
+        + bit(512, numbers.number.is_some())
+}
+
+/// Returns the row of a class.
+#[inline(always)]
+fn class_row(v: &ClassType<'_>) -> Row
+    ensures { result ≡ row_of (plain (class (class_value v.now))) }
+{
+    Row::of(
+        1,
+        &Numbers {
+            kind: Some(class_kind(v.kind)),
+            properties: Some(v.properties.bits() as u32),
+            count: Some(v.count as u32),
+            second_index: index_in(v.derived_from),
+            third_index: index_in(v.vtable_shape),
+            list_index: index_in(v.fields),
+            number: Some(v.size),
+            ..NO_NUMBERS
+        },
+    )
+}
+
+/// Returns the row of a member.
+#[inline(always)]
+fn member_row(v: &MemberType<'_>) -> Row
+    ensures { result ≡ row_of (plain (member (member_value v.now))) }
+{
+    Row::of(
+        2,
+        &Numbers {
+            attributes: Some(v.attributes.bits() as u32),
+            type_index: Some(v.field_type.0),
+            number: Some(v.offset),
+            ..NO_NUMBERS
+        },
+    )
+}
+
+/// Returns the row of a method's type.
+#[inline(always)]
+fn member_function_row(v: &MemberFunctionType) -> Row
+    ensures { result ≡ row_of (plain (member_function v.now)) }
+{
+    Row::of(
+        3,
+        &Numbers {
+            attributes: Some(v.attributes.bits() as u32),
+            count: Some(v.parameter_count as u32),
+            type_index: Some(v.return_type.0),
+            second_index: Some(v.class_type.0),
+            third_index: index_in(v.this_pointer_type),
+            list_index: Some(v.argument_list.0),
+            extra: Some(v.this_adjustment),
+            ..NO_NUMBERS
+        },
+    )
+}
+
+/// Returns the row of the methods of one name.
+#[inline(always)]
+fn overloaded_method_row(v: &OverloadedMethodType<'_>) -> Row
+    ensures { result ≡ row_of (plain (overloaded_method (overloaded_method_value v.now))) }
+{
+    Row::of(
+        4,
+        &Numbers {
+            count: Some(v.count as u32),
+            list_index: Some(v.method_list.0),
+            ..NO_NUMBERS
+        },
+    )
+}
+
+/// Returns the row of a method.
+#[inline(always)]
+fn method_row(v: &MethodType<'_>) -> Row
+    ensures { result ≡ row_of (plain (method (method_value v.now))) }
+{
+    Row::of(
+        5,
+        &Numbers {
+            attributes: Some(v.attributes.bits() as u32),
+            type_index: Some(v.method_type.0),
+            extra: v.vtable_offset,
+            ..NO_NUMBERS
+        },
+    )
+}
+
+/// Returns the row of a static member.
+#[inline(always)]
+fn static_member_row(v: &StaticMemberType<'_>) -> Row
+    ensures { result ≡ row_of (plain (static_member (static_member_value v.now))) }
+{
+    Row::of(
+        6,
+        &Numbers {
+            attributes: Some(v.attributes.bits() as u32),
+            type_index: Some(v.field_type.0),
+            ..NO_NUMBERS
+        },
+    )
+}
+
+/// Returns the row of a nested type.
+#[inline(always)]
+fn nested_row(v: &NestedType<'_>) -> Row
+    ensures { result ≡ row_of (plain (nested (nested_value v.now))) }
+{
+    Row::of(
+        7,
+        &Numbers {
+            attributes: Some(v.attributes.bits() as u32),
+            type_index: Some(v.nested_type.0),
+            ..NO_NUMBERS
+        },
+    )
+}
+
+/// Returns the row of a base class.
+#[inline(always)]
+fn base_class_row(v: &BaseClassType) -> Row
+    ensures { result ≡ row_of (plain (base_class v.now)) }
+{
+    Row::of(
+        8,
+        &Numbers {
+            kind: Some(class_kind(v.kind)),
+            attributes: Some(v.attributes.bits() as u32),
+            type_index: Some(v.base_class.0),
+            number: Some(v.offset as u64),
+            ..NO_NUMBERS
+        },
+    )
+}
+
+/// Returns the row of a virtual base class.
+#[inline(always)]
+fn virtual_base_class_row(v: &VirtualBaseClassType) -> Row
+    ensures { result ≡ row_of (plain (virtual_base_class v.now)) }
+{
+    Row::of(
+        9,
+        &Numbers {
+            kind: Some(flag(v.direct)),
+            attributes: Some(v.attributes.bits() as u32),
+            type_index: Some(v.base_class.0),
+            second_index: Some(v.base_pointer.0),
+            number: Some(v.base_pointer_offset as u64),
+            extra: Some(v.virtual_base_offset),
+            ..NO_NUMBERS
+        },
+    )
+}
+
+/// Returns the row of a pointer to a table of virtual functions.
+#[inline(always)]
+fn virtual_function_table_pointer_row(v: &VirtualFunctionTablePointerType) -> Row
+    ensures { result ≡ row_of (plain (virtual_function_table_pointer v.now)) }
+{
+    Row::of(
+        10,
+        &Numbers {
+            type_index: Some(v.table.0),
+            ..NO_NUMBERS
+        },
+    )
+}
+
+/// Returns the row of a function's type.
+#[inline(always)]
+fn procedure_row(v: &ProcedureType) -> Row
+    ensures { result ≡ row_of (plain (procedure v.now)) }
+{
+    Row::of(
+        11,
+        &Numbers {
+            attributes: Some(v.attributes.bits() as u32),
+            count: Some(v.parameter_count as u32),
+            type_index: index_in(v.return_type),
+            list_index: Some(v.argument_list.0),
+            ..NO_NUMBERS
+        },
+    )
+}
+
+/// Returns the row of a pointer.
+#[inline(always)]
+fn pointer_row(v: &PointerType) -> Row
+    ensures { result ≡ row_of (plain (pointer v.now)) }
+{
+    Row::of(
+        12,
+        &Numbers {
+            attributes: Some(v.attributes.bits()),
+            type_index: Some(v.underlying_type.0),
+            second_index: index_in(v.containing_class),
+            ..NO_NUMBERS
+        },
+    )
+}
+
+/// Returns the row of a type with modifiers.
+#[inline(always)]
+fn modifier_row(v: &ModifierType) -> Row
+    ensures { result ≡ row_of (plain (modifier v.now)) }
+{
+    Row::of(
+        13,
+        &Numbers {
+            kind: Some(flag(v.constant) + 2 * flag(v.volatile) + 4 * flag(v.unaligned)),
+            type_index: Some(v.underlying_type.0),
+            ..NO_NUMBERS
+        },
+    )
+}
+
+/// Returns the row of an enumeration.
+#[inline(always)]
+fn enumeration_row(v: &EnumerationType<'_>) -> Row
+    ensures { result ≡ row_of (plain (enumeration (enumeration_value v.now))) }
+{
+    Row::of(
+        14,
+        &Numbers {
+            properties: Some(v.properties.bits() as u32),
+            count: Some(v.count as u32),
+            type_index: Some(v.underlying_type.0),
+            list_index: Some(v.fields.0),
+            ..NO_NUMBERS
+        },
+    )
+}
+
+/// Returns the row of a value of an enumeration.
+#[inline(always)]
+fn enumerate_row(v: &EnumerateType<'_>) -> Row
+    ensures { result ≡ row_of (plain (enumerate (enumerate_value v.now))) }
+{
+    Row::of(
+        15,
+        &Numbers {
+            kind: Some(flag(is_negative(v.value))),
+            attributes: Some(v.attributes.bits() as u32),
+            number: Some(magnitude(v.value)),
+            ..NO_NUMBERS
+        },
+    )
+}
+
+/// Returns the row of an array.
+#[inline(always)]
+fn array_row(v: &ArrayType) -> Row
+    ensures { result ≡ row_of (array (array_value v.now)) }
+{
+    Row::of(
+        16,
+        &Numbers {
+            type_index: Some(v.element_type.0),
+            second_index: Some(v.indexing_type.0),
+            extra: v.stride,
+            ..NO_NUMBERS
+        },
+    )
+}
+
+/// Returns the row of a union.
+#[inline(always)]
+fn union_row(v: &UnionType<'_>) -> Row
+    ensures { result ≡ row_of (plain (union (union_value v.now))) }
+{
+    Row::of(
+        17,
+        &Numbers {
+            properties: Some(v.properties.bits() as u32),
+            count: Some(v.count as u32),
+            list_index: Some(v.fields.0),
+            number: Some(v.size),
+            ..NO_NUMBERS
+        },
+    )
+}
+
+/// Returns the row of a bit field.
+#[inline(always)]
+fn bitfield_row(v: &BitfieldType) -> Row
+    ensures { result ≡ row_of (plain (bitfield v.now)) }
+{
+    Row::of(
+        18,
+        &Numbers {
+            count: Some(v.length as u32),
+            type_index: Some(v.underlying_type.0),
+            extra: Some(v.position as u32),
+            ..NO_NUMBERS
+        },
+    )
+}
+
+/// Returns the row of the shape of a table of virtual functions.
+#[inline(always)]
+fn virtual_table_shape_row(v: &VirtualTableShapeType<'_>) -> Row
+    ensures { result ≡ row_of (plain (virtual_table_shape (table_shape_value v.now))) }
+{
+    Row::of(
+        22,
+        &Numbers {
+            count: Some(v.count as u32),
+            ..NO_NUMBERS
+        },
+    )
+}
+
+/// Returns the row of a list of fields, from its continuation.
+#[inline(always)]
+pub fn field_list_row(continuation: Option<TypeIndex>) -> Row
+    ensures { result ≡ row_of (field_list no_field continuation) }
+{
+    Row::of(
+        19,
+        &Numbers {
+            list_index: index_in(continuation),
+            ..NO_NUMBERS
+        },
+    )
+}
+
+/// Returns the row of a list of arguments, which has no numbers.
+#[inline(always)]
+pub fn argument_list_row() -> Row
+    ensures { result ≡ row_of (argument_list []) }
+{
+    Row::of(20, &NO_NUMBERS)
+}
+
+impl Row {
+    /// Returns the row of a shape and its numbers.
+    #[inline(always)]
+    #[tactic(auto, unfolding(crate::specs::Row::row))]
+    pub fn of(shape: u32, numbers: &Numbers) -> Row
+        ensures { result ≡ row shape numbers.now }
+    {
+        Row {
+            number: numbers.number.unwrap_or(0),
+            shape,
+            stands: stands(numbers),
+            kind: numbers.kind.unwrap_or(0),
+            attributes: numbers.attributes.unwrap_or(0),
+            properties: numbers.properties.unwrap_or(0),
+            count: numbers.count.unwrap_or(0),
+            type_index: numbers.type_index.unwrap_or(0),
+            second_index: numbers.second_index.unwrap_or(0),
+            third_index: numbers.third_index.unwrap_or(0),
+            list_index: numbers.list_index.unwrap_or(0),
+            extra: numbers.extra.unwrap_or(0),
+        }
+    }
+
+    /// Writes the row of a type.
+    pub fn set_type(&mut self, value: &TypeData<'_>)
+        ensures { self.new ≡ row_of (type_value value.now) }
+    {
+        match value {
+            TypeData::Primitive(_) => *self = Row::of(0, &NO_NUMBERS),
+            TypeData::Class(v) => *self = class_row(v),
+            TypeData::Member(v) => *self = member_row(v),
+            TypeData::MemberFunction(v) => *self = member_function_row(v),
+            TypeData::OverloadedMethod(v) => *self = overloaded_method_row(v),
+            TypeData::Method(v) => *self = method_row(v),
+            TypeData::StaticMember(v) => *self = static_member_row(v),
+            TypeData::Nested(v) => *self = nested_row(v),
+            TypeData::BaseClass(v) => *self = base_class_row(v),
+            TypeData::VirtualBaseClass(v) => *self = virtual_base_class_row(v),
+            TypeData::VirtualFunctionTablePointer(v) => *self = virtual_function_table_pointer_row(
+                v,
+            ),
+            TypeData::Procedure(v) => *self = procedure_row(v),
+            TypeData::Pointer(v) => *self = pointer_row(v),
+            TypeData::Modifier(v) => *self = modifier_row(v),
+            TypeData::Enumeration(v) => *self = enumeration_row(v),
+            TypeData::Enumerate(v) => *self = enumerate_row(v),
+            TypeData::Array(v) => *self = array_row(v),
+            TypeData::Union(v) => *self = union_row(v),
+            TypeData::Bitfield(v) => *self = bitfield_row(v),
+            TypeData::FieldList(v) => *self = field_list_row(v.continuation),
+            TypeData::ArgumentList(_) => *self = argument_list_row(),
+            TypeData::MethodList(_) => *self = Row::of(21, &NO_NUMBERS),
+            TypeData::VirtualTableShape(v) => *self = virtual_table_shape_row(v),
+        }
+    }
+
+    /// Returns the row of a type.
+    pub fn of_type(value: &TypeData<'_>) -> Row
+        ensures { result ≡ row_of (type_value value.now) }
+    {
+        let mut row = Row::of(0, &NO_NUMBERS);
+        row.set_type(value);
+        row
+    }
+}
