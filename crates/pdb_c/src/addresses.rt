@@ -9,8 +9,13 @@ ghost use Rattle.pdb_handles.specs.Found.{IsFound, found, not_held};
 ghost use Rattle.pdb_handles.specs.Handle.{addresses_held};
 ghost use Rattle.pdb_handles.specs.Place.{place_of, section_place};
 
+<<<<<<< HEAD
 use pdb_handles::found::tell_found;
 use pdb_handles::{Content, Fault, Handle, NOT_OPEN, Place};
+=======
+use pdb_handles::addresses::{find_by_addresses, if_internal, if_loaded};
+use pdb_handles::{Fault, Handle, Place};
+>>>>>>> 2b326bacf35725d31bc0c98db6387e142f45982c
 use pdb_space::{PdbInternalRva, PdbInternalSectionOffset, Rva, SectionOffset};
 use std::alloc::Global;
 
@@ -36,18 +41,13 @@ pub extern "C" fn pdb_rva_to_internal_rva(
     ensures kept { addresses.new.held.content ≡ addresses.old.held.content }
     ensures status { result ≡ fault.new.status }
 {
-    let Some(content) = addresses.take(alloc) else {
-        return Fault::status(NOT_OPEN).tell(fault);
-    };
-    let told = match &*content {
-        Content::Addresses(map) => tell_found(
-            Rva(address).to_internal_rva(map).map(|address| address.0),
-            answer,
-        ),
-        _ => Fault::status(NOT_OPEN),
-    };
-    addresses.put(content);
-    told.tell(fault)
+    find_by_addresses(
+        addresses,
+        alloc,
+        |map| if_internal(Rva(address).to_internal_rva(map)),
+        answer,
+    )
+    .tell(fault)
 }
 
 /// Converts an address in the image as it is loaded to its place in a section of that image.
@@ -67,20 +67,13 @@ pub extern "C" fn pdb_rva_to_section_offset(
     ensures kept { addresses.new.held.content ≡ addresses.old.held.content }
     ensures status { result ≡ fault.new.status }
 {
-    let Some(content) = addresses.take(alloc) else {
-        return Fault::status(NOT_OPEN).tell(fault);
-    };
-    let told = match &*content {
-        Content::Addresses(map) => tell_found(
-            Rva(address)
-                .to_section_offset(map)
-                .map(|place| Place::of_loaded(place)),
-            place,
-        ),
-        _ => Fault::status(NOT_OPEN),
-    };
-    addresses.put(content);
-    told.tell(fault)
+    find_by_addresses(
+        addresses,
+        alloc,
+        |map| Place::if_loaded(Rva(address).to_section_offset(map)),
+        place,
+    )
+    .tell(fault)
 }
 
 /// Converts an address in the image as it is loaded to its place in a section of the original
@@ -107,20 +100,13 @@ pub extern "C" fn pdb_rva_to_internal_offset(
     ensures kept { addresses.new.held.content ≡ addresses.old.held.content }
     ensures status { result ≡ fault.new.status }
 {
-    let Some(content) = addresses.take(alloc) else {
-        return Fault::status(NOT_OPEN).tell(fault);
-    };
-    let told = match &*content {
-        Content::Addresses(map) => tell_found(
-            Rva(address)
-                .to_internal_offset(map)
-                .map(|place| Place::of_internal(place)),
-            place,
-        ),
-        _ => Fault::status(NOT_OPEN),
-    };
-    addresses.put(content);
-    told.tell(fault)
+    find_by_addresses(
+        addresses,
+        alloc,
+        |map| Place::if_internal(Rva(address).to_internal_offset(map)),
+        place,
+    )
+    .tell(fault)
 }
 
 /// Converts an address in the original image to the address in the image as it is loaded to which
@@ -145,18 +131,13 @@ pub extern "C" fn pdb_internal_rva_to_rva(
     ensures kept { addresses.new.held.content ≡ addresses.old.held.content }
     ensures status { result ≡ fault.new.status }
 {
-    let Some(content) = addresses.take(alloc) else {
-        return Fault::status(NOT_OPEN).tell(fault);
-    };
-    let told = match &*content {
-        Content::Addresses(map) => tell_found(
-            PdbInternalRva(address).to_rva(map).map(|address| address.0),
-            answer,
-        ),
-        _ => Fault::status(NOT_OPEN),
-    };
-    addresses.put(content);
-    told.tell(fault)
+    find_by_addresses(
+        addresses,
+        alloc,
+        |map| if_loaded(PdbInternalRva(address).to_rva(map)),
+        answer,
+    )
+    .tell(fault)
 }
 
 /// Converts an address in the original image to its place in a section of the image as it is
@@ -183,20 +164,13 @@ pub extern "C" fn pdb_internal_rva_to_section_offset(
     ensures kept { addresses.new.held.content ≡ addresses.old.held.content }
     ensures status { result ≡ fault.new.status }
 {
-    let Some(content) = addresses.take(alloc) else {
-        return Fault::status(NOT_OPEN).tell(fault);
-    };
-    let told = match &*content {
-        Content::Addresses(map) => tell_found(
-            PdbInternalRva(address)
-                .to_section_offset(map)
-                .map(|place| Place::of_loaded(place)),
-            place,
-        ),
-        _ => Fault::status(NOT_OPEN),
-    };
-    addresses.put(content);
-    told.tell(fault)
+    find_by_addresses(
+        addresses,
+        alloc,
+        |map| Place::if_loaded(PdbInternalRva(address).to_section_offset(map)),
+        place,
+    )
+    .tell(fault)
 }
 
 /// Converts an address in the original image to its place in a section of that image.
@@ -216,20 +190,13 @@ pub extern "C" fn pdb_internal_rva_to_internal_offset(
     ensures kept { addresses.new.held.content ≡ addresses.old.held.content }
     ensures status { result ≡ fault.new.status }
 {
-    let Some(content) = addresses.take(alloc) else {
-        return Fault::status(NOT_OPEN).tell(fault);
-    };
-    let told = match &*content {
-        Content::Addresses(map) => tell_found(
-            PdbInternalRva(address)
-                .to_internal_offset(map)
-                .map(|place| Place::of_internal(place)),
-            place,
-        ),
-        _ => Fault::status(NOT_OPEN),
-    };
-    addresses.put(content);
-    told.tell(fault)
+    find_by_addresses(
+        addresses,
+        alloc,
+        |map| Place::if_internal(PdbInternalRva(address).to_internal_offset(map)),
+        place,
+    )
+    .tell(fault)
 }
 
 /// Converts a place in a section of the image as it is loaded to its address in that image.
@@ -250,20 +217,13 @@ pub extern "C" fn pdb_section_offset_to_rva(
     ensures kept { addresses.new.held.content ≡ addresses.old.held.content }
     ensures status { result ≡ fault.new.status }
 {
-    let Some(content) = addresses.take(alloc) else {
-        return Fault::status(NOT_OPEN).tell(fault);
-    };
-    let told = match &*content {
-        Content::Addresses(map) => tell_found(
-            SectionOffset::new(section, offset)
-                .to_rva(map)
-                .map(|address| address.0),
-            answer,
-        ),
-        _ => Fault::status(NOT_OPEN),
-    };
-    addresses.put(content);
-    told.tell(fault)
+    find_by_addresses(
+        addresses,
+        alloc,
+        |map| if_loaded(SectionOffset::new(section, offset).to_rva(map)),
+        answer,
+    )
+    .tell(fault)
 }
 
 /// Converts a place in a section of the image as it is loaded to its address in the original image.
@@ -291,20 +251,13 @@ pub extern "C" fn pdb_section_offset_to_internal_rva(
     ensures kept { addresses.new.held.content ≡ addresses.old.held.content }
     ensures status { result ≡ fault.new.status }
 {
-    let Some(content) = addresses.take(alloc) else {
-        return Fault::status(NOT_OPEN).tell(fault);
-    };
-    let told = match &*content {
-        Content::Addresses(map) => tell_found(
-            SectionOffset::new(section, offset)
-                .to_internal_rva(map)
-                .map(|address| address.0),
-            answer,
-        ),
-        _ => Fault::status(NOT_OPEN),
-    };
-    addresses.put(content);
-    told.tell(fault)
+    find_by_addresses(
+        addresses,
+        alloc,
+        |map| if_internal(SectionOffset::new(section, offset).to_internal_rva(map)),
+        answer,
+    )
+    .tell(fault)
 }
 
 /// Converts a place in a section of the image as it is loaded to its place in a section of the
@@ -337,20 +290,13 @@ pub extern "C" fn pdb_section_offset_to_internal_offset(
     ensures kept { addresses.new.held.content ≡ addresses.old.held.content }
     ensures status { result ≡ fault.new.status }
 {
-    let Some(content) = addresses.take(alloc) else {
-        return Fault::status(NOT_OPEN).tell(fault);
-    };
-    let told = match &*content {
-        Content::Addresses(map) => tell_found(
-            SectionOffset::new(section, offset)
-                .to_internal_offset(map)
-                .map(|place| Place::of_internal(place)),
-            place,
-        ),
-        _ => Fault::status(NOT_OPEN),
-    };
-    addresses.put(content);
-    told.tell(fault)
+    find_by_addresses(
+        addresses,
+        alloc,
+        |map| Place::if_internal(SectionOffset::new(section, offset).to_internal_offset(map)),
+        place,
+    )
+    .tell(fault)
 }
 
 /// Converts a place in a section of the original image to its address in that image.
@@ -371,20 +317,13 @@ pub extern "C" fn pdb_internal_offset_to_internal_rva(
     ensures kept { addresses.new.held.content ≡ addresses.old.held.content }
     ensures status { result ≡ fault.new.status }
 {
-    let Some(content) = addresses.take(alloc) else {
-        return Fault::status(NOT_OPEN).tell(fault);
-    };
-    let told = match &*content {
-        Content::Addresses(map) => tell_found(
-            PdbInternalSectionOffset::new(section, offset)
-                .to_internal_rva(map)
-                .map(|address| address.0),
-            answer,
-        ),
-        _ => Fault::status(NOT_OPEN),
-    };
-    addresses.put(content);
-    told.tell(fault)
+    find_by_addresses(
+        addresses,
+        alloc,
+        |map| if_internal(PdbInternalSectionOffset::new(section, offset).to_internal_rva(map)),
+        answer,
+    )
+    .tell(fault)
 }
 
 /// Converts a place in a section of the original image to its address in the image as it is loaded.
@@ -412,20 +351,13 @@ pub extern "C" fn pdb_internal_offset_to_rva(
     ensures kept { addresses.new.held.content ≡ addresses.old.held.content }
     ensures status { result ≡ fault.new.status }
 {
-    let Some(content) = addresses.take(alloc) else {
-        return Fault::status(NOT_OPEN).tell(fault);
-    };
-    let told = match &*content {
-        Content::Addresses(map) => tell_found(
-            PdbInternalSectionOffset::new(section, offset)
-                .to_rva(map)
-                .map(|address| address.0),
-            answer,
-        ),
-        _ => Fault::status(NOT_OPEN),
-    };
-    addresses.put(content);
-    told.tell(fault)
+    find_by_addresses(
+        addresses,
+        alloc,
+        |map| if_loaded(PdbInternalSectionOffset::new(section, offset).to_rva(map)),
+        answer,
+    )
+    .tell(fault)
 }
 
 /// Converts a place in a section of the original image to its place in a section of the image as it
@@ -458,18 +390,13 @@ pub extern "C" fn pdb_internal_offset_to_section_offset(
     ensures kept { addresses.new.held.content ≡ addresses.old.held.content }
     ensures status { result ≡ fault.new.status }
 {
-    let Some(content) = addresses.take(alloc) else {
-        return Fault::status(NOT_OPEN).tell(fault);
-    };
-    let told = match &*content {
-        Content::Addresses(map) => tell_found(
-            PdbInternalSectionOffset::new(section, offset)
-                .to_section_offset(map)
-                .map(|place| Place::of_loaded(place)),
-            place,
-        ),
-        _ => Fault::status(NOT_OPEN),
-    };
-    addresses.put(content);
-    told.tell(fault)
+    find_by_addresses(
+        addresses,
+        alloc,
+        |map| Place::if_loaded(PdbInternalSectionOffset::new(section, offset).to_section_offset(
+            map,
+        )),
+        place,
+    )
+    .tell(fault)
 }

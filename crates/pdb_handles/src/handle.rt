@@ -16,7 +16,9 @@ use std::mem::replace;
 /// A handle to what a caller opened. If it is all zero, it holds nothing.
 #[repr(C)]
 pub struct Handle {
+    /// What it holds.
     pub held: Held,
+    /// The number of the kind of what it holds, 0 if it holds nothing.
     pub kind: u32,
     ghost agrees: { kind ≡ kind_of held.content },
 }

@@ -1,6 +1,10 @@
 //! Places in sections, as a caller sees them.
 
 ghost use Rattle.std.specs.Prelude.{◌≡◌};
+<<<<<<< HEAD
+=======
+ghost use Rattle.std.specs.Option.{option_map};
+>>>>>>> 2b326bacf35725d31bc0c98db6387e142f45982c
 ghost use Rattle.pdb_handles.specs.Place.{place_of};
 
 use pdb_space::{PdbInternalSectionOffset, SectionOffset};
@@ -33,6 +37,26 @@ impl Place {
         Place {
             offset: place.offset,
             section: place.section as u32,
+        }
+    }
+
+    /// Converts a place in a section of the image as it is loaded, if there is one.
+    pub fn if_loaded(place: Option<SectionOffset>) -> Option<Place>
+        ensures { result ≡ option_map place_of place }
+    {
+        match place {
+            Some(place) => Some(Place::of_loaded(place)),
+            None => None,
+        }
+    }
+
+    /// Converts a place in a section of the original image, if there is one.
+    pub fn if_internal(place: Option<PdbInternalSectionOffset>) -> Option<Place>
+        ensures { result ≡ option_map place_of place }
+    {
+        match place {
+            Some(place) => Some(Place::of_internal(place)),
+            None => None,
         }
     }
 }

@@ -67,15 +67,25 @@ pub struct Row {
 /// The numbers that a record has.
 #[derive(Clone, Copy)]
 pub struct Numbers {
+    /// What `Row::kind` holds, if the record has it.
     pub kind: Option<u32>,
+    /// What `Row::attributes` holds, if the record has it.
     pub attributes: Option<u32>,
+    /// What `Row::properties` holds, if the record has it.
     pub properties: Option<u32>,
+    /// What `Row::count` holds, if the record has it.
     pub count: Option<u32>,
+    /// What `Row::type_index` holds, if the record has it.
     pub type_index: Option<u32>,
+    /// What `Row::second_index` holds, if the record has it.
     pub second_index: Option<u32>,
+    /// What `Row::third_index` holds, if the record has it.
     pub third_index: Option<u32>,
+    /// What `Row::list_index` holds, if the record has it.
     pub list_index: Option<u32>,
+    /// What `Row::extra` holds, if the record has it.
     pub extra: Option<u32>,
+    /// What `Row::number` holds, if the record has it.
     pub number: Option<u64>,
 }
 

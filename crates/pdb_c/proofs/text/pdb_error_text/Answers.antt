@@ -1,14 +1,18 @@
 -- The text of the refusal that is told.
+<<<<<<< HEAD
 use Rattle.std.proofs.Common.{◌∙◌, ap, sym, subst, Option}
 use Rattle.std.specs.Option.{option_map}
 use Rattle.pdb_base.specs.Refusal.{Refusal, refusal_of}
+=======
+use Rattle.std.proofs.Common.{subst, Option}
+use Rattle.pdb_base.specs.Refusal.{Refusal}
+>>>>>>> 2b326bacf35725d31bc0c98db6387e142f45982c
 use Rattle.pdb_handles.specs.Copied.{CopiesOrLacks, text_copied}
 use Rattle.pdb_handles.specs.Told.{text_if}
 use Rattle.pdb_c.proofs.text.pdb_error_text.Goals as goal
 
-pub returns-in-Some-clause-answer : goal.returns-in-Some-clause-answer
-returns-in-Some-clause-answer c =
-    let told = ap (option_map refusal_of) (sym c.in-Some.is) ∙ c.told.ensures in
+pub returns-clause-answer : goal.returns-clause-answer
+returns-clause-answer c =
     let room = c.args.room.now in
-    subst (λ (refusal : Option Refusal). CopiesOrLacks (record { fault = c.tell.new.fault; length = c.copy_text.new.length; room = c.copy_text.new.room }) room (text_copied room (text_if refusal))) told
-    (rw c.tell.ensures.told c.copy_text.ensures)
+    subst (λ (refusal : Option Refusal). CopiesOrLacks (record { fault = c.tell.new.fault; length = c.copy_text_of.new.length; room = c.copy_text_of.new.room }) room (text_copied room (text_if refusal))) c.told-error.ensures
+    (rw c.tell.ensures.told c.copy_text_of.ensures)
