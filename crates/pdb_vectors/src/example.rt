@@ -68,7 +68,8 @@ fn directory(alloc: Global, size: u32) -> Result<Vec<u8>>
 #[tactic(auto, using(crate::proofs::Constants::is_header, crate::proofs::Constants::is_location))]
 fn push_directory(file: &mut Vec<u8>, directory: &[u8]) -> Result<()>
     requires { length directory.now ≤ 512 }
-    ensures pages { OnOk result (file.new.items ≡ file.old.items ++ page header 0 ++ page [] 0 ++ page directory.now 0 ++ page location 0) }
+    ensures pages { OnOk result (file.new.items ≡
+        file.old.items ++ page header 0 ++ page [] 0 ++ page directory.now 0 ++ page location 0) }
     ensures len { OnOk result (vec_len file.new ≡ vec_len file.old + 2048) }
     ensures want { IfErr result (λ e. e ≡ Error.OutOfMemory) }
 {
@@ -82,7 +83,8 @@ fn push_directory(file: &mut Vec<u8>, directory: &[u8]) -> Result<()>
 /// one of stream 3, which has these bytes.
 fn push_streams(file: &mut Vec<u8>, stream: &[u8]) -> Result<()>
     requires { length stream.now ≤ 512 }
-    ensures pages { OnOk result (file.new.items ≡ file.old.items ++ page [] 0 ++ page [] 98 ++ page [] 97 ++ page stream.now 0) }
+    ensures pages { OnOk result (file.new.items ≡
+        file.old.items ++ page [] 0 ++ page [] 98 ++ page [] 97 ++ page stream.now 0) }
     ensures len { OnOk result (vec_len file.new ≡ vec_len file.old + 2048) }
     ensures want { IfErr result (λ e. e ≡ Error.OutOfMemory) }
 {
