@@ -28,7 +28,7 @@ enum Ask {
     Less(FrameType, FrameType),
 }
 
-/// Where an iterator comes from.
+/// Where an iterator starts.
 enum Start {
     /// It is that of all frames of a table.
     Table,
@@ -260,33 +260,48 @@ fn steps_to(frames: &mut FrameDataIter<'_>, want: Option<(FrameType, u32)>) -> b
 }
 
 /// Whether an iterator gives these frames by their formats and starts, and None twice behind them.
-fn gives(frames: &mut FrameDataIter<'_>, want: &[(FrameType, u32)]) -> bool {
+fn gives(mut frames: FrameDataIter<'_>, want: &[(FrameType, u32)]) -> bool {
     for frame in want {
-        if !steps_to(frames, Some(*frame)) {
+        if !steps_to(&mut frames, Some(*frame)) {
             return false;
         }
     }
-    steps_to(frames, None) && steps_to(frames, None)
+    steps_to(&mut frames, None) && steps_to(&mut frames, None)
 }
 
-/// The iterator of a table that comes from there.
-fn iterator<'t>(table: &'t FrameTable, from: &Start) -> FrameDataIter<'t> {
-    match from {
+/// The iterator of a table that starts there.
+fn iterator<'t>(table: &'t FrameTable, start: &Start) -> FrameDataIter<'t> {
+    match start {
         Start::Table => table.iter(),
         Start::Address(address) => table.iter_at_rva(PdbInternalRva(*address)),
         Start::Nothing => FrameDataIter::default(),
     }
 }
 
-/// Whether a table answers so, or is refused with the text that is wanted.
-fn is_told(alloc: Global, table: Answer<FrameTable>, ask: &Ask) -> Result<bool, Fail> {
-    match (table, ask) {
-        (Ok(table), Ask::Frames(_, _, from, want, is_empty)) => {
-            Ok(gives(&mut iterator(&table, from), want) && table.is_empty() == *is_empty)
+/// Whether a table answers so.
+fn is_told(table: &FrameTable, ask: &Ask) -> bool {
+    match ask {
+        Ask::Frames(_, _, start, want, is_empty) => {
+            gives(iterator(table, start), want) && table.is_empty() == *is_empty
         }
-        (Ok(_), Ask::Table(..)) => Ok(true),
-        (Err(error), Ask::Refusal(_, _, want)) => says(alloc, error, want.as_bytes()),
+        Ask::Table(..) => true,
+        _ => false,
+    }
+}
+
+/// Whether a table is to be refused with the text of this error.
+fn is_refusal(alloc: Global, error: Error, ask: &Ask) -> Result<bool, Fail> {
+    match ask {
+        Ask::Refusal(_, _, want) => says(alloc, error, want.as_bytes()),
         _ => Ok(false),
+    }
+}
+
+/// Whether a table answers so, or is refused with the text that is wanted.
+fn is_parsed(alloc: Global, table: Answer<FrameTable>, ask: &Ask) -> Result<bool, Fail> {
+    match table {
+        Ok(table) => Ok(is_told(&table, ask)),
+        Err(error) => is_refusal(alloc, error, ask),
     }
 }
 
@@ -307,7 +322,7 @@ fn table_answers(
 ) -> Result<bool, Fail> {
     let old = some_stream(alloc, old)?;
     let new = some_stream(alloc, new)?;
-    is_told(alloc, FrameTable::parse(old, new), ask)
+    is_parsed(alloc, FrameTable::parse(old, new), ask)
 }
 
 /// Whether the old frame says what it should, and answers each question of its own.

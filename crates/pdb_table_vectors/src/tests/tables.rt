@@ -21,6 +21,8 @@ enum Source {
     Bytes(&'static [u8]),
     /// A header of 56 bytes that says this size, this minimum and this maximum, and these items.
     Table(u32, u32, u32, &'static [u8]),
+    /// Such a header, and zeros behind it up to so many bytes.
+    Zeros(u32, u32, u32, usize),
 }
 
 /// What is asked of a table, and its answer.
@@ -181,7 +183,7 @@ const TABLES: &[(&str, Source, Ask)] = &[
     ),
     (
         "1025",
-        Source::Table(1025, 0x1000, 0x1000, &[0; 1000]),
+        Source::Zeros(1025, 0x1000, 0x1000, 1056),
         Ask::Refusal("The type information header was invalid: header size is unreasonably large"),
     ),
     (
@@ -191,7 +193,7 @@ const TABLES: &[(&str, Source, Ask)] = &[
     ),
     (
         "1024 over 1024 bytes",
-        Source::Table(1024, 0x1000, 0x1000, &[0; 968]),
+        Source::Zeros(1024, 0x1000, 0x1000, 1024),
         Ask::HeaderSize(1024),
     ),
     (
@@ -389,12 +391,22 @@ const TABLES: &[(&str, Source, Ask)] = &[
     ),
 ];
 
+/// The bytes of a header, and zeros up to so many bytes.
+fn zeros(alloc: Global, size: u32, minimum: u32, maximum: u32, len: usize) -> Answer<Vec<u8>> {
+    let mut bytes = item_table(alloc, size, minimum, maximum, b"")?;
+    bytes.resize(len, 0)?;
+    Ok(bytes)
+}
+
 /// The bytes of a stream.
 fn bytes_of(alloc: Global, source: &Source) -> Answer<Vec<u8>> {
     match source {
         Source::Bytes(bytes) => Ok(Vec::from_slice(alloc, bytes)?),
         Source::Table(size, minimum, maximum, items) => {
             item_table(alloc, *size, *minimum, *maximum, items)
+        }
+        Source::Zeros(size, minimum, maximum, len) => {
+            zeros(alloc, *size, *minimum, *maximum, *len)
         }
     }
 }
@@ -674,19 +686,28 @@ fn table_answers(alloc: Global, table: &TypeInformation, ask: &Ask) -> Result<bo
     }
 }
 
-/// Whether a table answers so, or is refused with the text that is wanted.
-fn is_answered(alloc: Global, table: Answer<TypeInformation>, ask: &Ask) -> Result<bool, Fail> {
-    match (table, ask) {
-        (Ok(table), Ask::Open(asks)) => opened_tells(alloc, table, asks),
-        (Ok(table), _) => table_answers(alloc, &table, ask),
-        (Err(error), Ask::Refusal(want)) => says(alloc, error, want.as_bytes()),
-        (Err(_), _) => Ok(false),
+/// Whether a table that is owned answers so.
+fn owned_answers(alloc: Global, table: TypeInformation, ask: &Ask) -> Result<bool, Fail> {
+    match ask {
+        Ask::Open(asks) => opened_tells(alloc, table, asks),
+        _ => table_answers(alloc, &table, ask),
     }
 }
 
-/// The same of the table of a stream.
+/// Whether a table is to be refused with the text of this error.
+fn is_refusal(alloc: Global, error: Error, ask: &Ask) -> Result<bool, Fail> {
+    match ask {
+        Ask::Refusal(want) => says(alloc, error, want.as_bytes()),
+        _ => Ok(false),
+    }
+}
+
+/// Whether the table of a stream answers so, or is refused with the text that is wanted.
 fn is_row(alloc: Global, source: &Source, ask: &Ask) -> Result<bool, Fail> {
-    is_answered(alloc, parsed(alloc, source), ask)
+    match parsed(alloc, source) {
+        Ok(table) => owned_answers(alloc, table, ask),
+        Err(error) => is_refusal(alloc, error, ask),
+    }
 }
 
 #[test]

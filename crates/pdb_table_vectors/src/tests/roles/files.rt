@@ -1,7 +1,7 @@
 //! What a file says by the roles and the names of its streams.
 
 use super::super::says;
-use pdb_base::{FallibleIterator, Result as Answer};
+use pdb_base::{Error, FallibleIterator, Result as Answer};
 use pdb_frames::{FrameDataIter, FrameTable};
 use pdb_msf::{BigMSF, open_msf};
 use pdb_roles::{
@@ -339,13 +339,28 @@ fn translates(map: &AddressMap, want: &Translation) -> bool {
         && lie(map, want.lie)
 }
 
+/// Whether a file is to be refused with the text of this error.
+fn is_refusal(alloc: Global, error: Error, ask: &Ask) -> Result<bool, Fail> {
+    match ask {
+        Ask::NoMap(want) | Ask::NoFrames(want) => says(alloc, error, want.as_bytes()),
+        _ => Ok(false),
+    }
+}
+
+/// Whether there is to be an address map, and it answers so.
+fn is_mapped(map: &AddressMap, ask: &Ask) -> bool {
+    match ask {
+        Ask::Map => true,
+        Ask::Translation(want) => translates(map, want),
+        _ => false,
+    }
+}
+
 /// Whether an address map answers so, or is refused so.
 fn map_answers(alloc: Global, map: Answer<AddressMap>, ask: &Ask) -> Result<bool, Fail> {
-    match (map, ask) {
-        (Ok(_), Ask::Map) => Ok(true),
-        (Ok(map), Ask::Translation(want)) => Ok(translates(&map, want)),
-        (Err(error), Ask::NoMap(want)) => says(alloc, error, want.as_bytes()),
-        _ => Ok(false),
+    match map {
+        Ok(map) => Ok(is_mapped(&map, ask)),
+        Err(error) => is_refusal(alloc, error, ask),
     }
 }
 
@@ -365,10 +380,11 @@ fn start(mut frames: FrameDataIter<'_>, first: Option<u32>, second: Option<u32>)
 
 /// Whether a frame table answers so, or is refused so.
 fn frames_answer(alloc: Global, table: Answer<FrameTable>, ask: &Ask) -> Result<bool, Fail> {
-    match (table, ask) {
-        (Ok(table), Ask::Frames(first, second)) => Ok(start(table.iter(), *first, *second)),
-        (Err(error), Ask::NoFrames(want)) => says(alloc, error, want.as_bytes()),
-        _ => Ok(false),
+    match table {
+        Ok(table) => {
+            Ok(matches!(ask, Ask::Frames(first, second) if start(table.iter(), *first, *second)))
+        }
+        Err(error) => is_refusal(alloc, error, ask),
     }
 }
 
