@@ -1,7 +1,7 @@
 //! Frames of both formats.
 
-use super::says;
-use pdb_base::{Error, FallibleIterator, Le, Parse, Stream};
+use super::{says, stream};
+use pdb_base::{Error, FallibleIterator, Le, Parse, Result as Answer, Stream};
 use pdb_frames::{
     AddrRange, FrameData, FrameDataIter, FrameTable, FrameType, NewFrameData, OldFrameData,
 };
@@ -9,193 +9,85 @@ use pdb_space::{PdbInternalRva, StringRef};
 use std::alloc::Global;
 use std::test::Fail;
 
-/// Adds a frame: its start, its size and the bytes behind those.
-fn push(bytes: &mut Vec<u8>, start: u32, size: u32, others: &[u8]) -> Result<(), Fail> {
-    bytes.extend_from_slice(&start.to_le_bytes())?;
-    bytes.extend_from_slice(&size.to_le_bytes())?;
-    bytes.extend_from_slice(others)?;
-    Ok(())
+/// What is asked, and its answer.
+enum Ask {
+    /// What a table is refused with whose streams of old frames and of new ones have these bytes.
+    Refusal(Option<&'static [u8]>, Option<&'static [u8]>, &'static str),
+    /// That the table of such streams is not refused.
+    Table(Option<&'static [u8]>, Option<&'static [u8]>),
+    /// The formats and starts of the frames that an iterator of such a table gives, and whether the
+    /// table is empty.
+    Frames(Option<&'static [u8]>, Option<&'static [u8]>, Start, Frames, bool),
+    /// Whether bytes are those of the old frame, and do not end too soon.
+    Old(&'static [u8], bool),
+    /// Whether bytes are those of the new frame, and do not end too soon.
+    New(&'static [u8], bool),
+    /// The text of a format.
+    Text(FrameType, &'static str),
+    /// Two formats, of which the first is the lesser one.
+    Less(FrameType, FrameType),
 }
 
-/// A stream of frames, each of a start, a size and bytes behind those.
-fn stream(alloc: Global, frames: &[(u32, u32)], others: &[u8]) -> Result<Stream, Fail> {
-    let mut bytes = Vec::new(alloc);
-    for (start, size) in frames {
-        push(&mut bytes, *start, *size, others)?;
-    }
-    if bytes.len() >= 0xffff_ffff {
-        bytes.clear();
-    }
-    Ok(Stream::new(bytes))
+/// Where an iterator starts.
+enum Start {
+    /// It is that of all frames of a table.
+    Table,
+    /// It is that of the frames of a table from an address on.
+    Address(u32),
+    /// It is that of no table.
+    Nothing,
 }
 
-/// The table of these old frames and new ones, each a start and a size.
-fn table(alloc: Global, old: &[(u32, u32)], new: &[(u32, u32)]) -> Result<FrameTable, Fail> {
-    let old = stream(alloc, old, &[0; 8])?;
-    let new = stream(alloc, new, &[0; 24])?;
-    Ok(FrameTable::parse(Some(old), Some(new))?)
-}
-
-/// The format and start of the next frame.
-fn step(frames: &mut FrameDataIter<'_>) -> pdb_base::Result<Option<(FrameType, u32)>> {
-    match frames.next() {
-        Ok(Some(frame)) => Ok(Some((frame.ty, frame.code_start.0))),
-        Ok(None) => Ok(None),
-        Err(error) => Err(error),
-    }
-}
-
-/// Whether an iterator gives these frames by their formats and starts, and None twice behind them.
-fn gives(frames: &mut FrameDataIter<'_>, want: &[(FrameType, u32)]) -> pdb_base::Result<bool> {
-    for frame in want {
-        if step(frames)? != Some(*frame) {
-            return Ok(false);
-        }
-    }
-    Ok(step(frames)?.is_none() && step(frames)?.is_none())
-}
+/// The formats and the starts of frames.
+type Frames = &'static [(FrameType, u32)];
 
 const OLD: FrameType = FrameType::FPO;
 
 const NEW: FrameType = FrameType::FrameData;
 
-/// Frames of a table, each a start and a size.
-type Frames = &'static [(u32, u32)];
+/// The stream of old frames from 0x10 on, of 8 bytes, and from 0x20 on, of 4 bytes.
+const FIRST: Option<&[u8]> = Some(
+    b"\x10\0\0\0\x08\0\0\0\0\0\0\0\0\0\0\0\x20\0\0\0\x04\0\0\0\0\0\0\0\0\0\0\0",
+);
 
-const FIRST: Frames = &[(0x10, 8), (0x20, 4)];
+/// The stream of new frames from 0x10 on, of 8 bytes, and from 0x30 on, of 8 bytes.
+const SECOND: Option<&[u8]> = Some(
+    b"\x10\0\0\0\x08\0\0\0\0\0\0\0\0\0\0\0\0\0\0\0\0\0\0\0\0\0\0\0\0\0\0\0\x30\0\0\0\x08\0\0\0\0\0\0\0\0\0\0\0\0\0\0\0\0\0\0\0\0\0\0\0\0\0\0\0",
+);
 
-const SECOND: Frames = &[(0x10, 8), (0x30, 8)];
+/// The same, but for the first, which has 1 byte.
+const SHORT: Option<&[u8]> = Some(
+    b"\x10\0\0\0\x01\0\0\0\0\0\0\0\0\0\0\0\0\0\0\0\0\0\0\0\0\0\0\0\0\0\0\0\x30\0\0\0\x08\0\0\0\0\0\0\0\0\0\0\0\0\0\0\0\0\0\0\0\0\0\0\0\0\0\0\0",
+);
 
-const SHORT: Frames = &[(0x10, 1), (0x30, 8)];
+/// The stream of old frames from 0 on, of 0x64 bytes, and from 10 on, of 1 byte.
+const NESTED_OLD: Option<&[u8]> = Some(
+    b"\0\0\0\0\x64\0\0\0\0\0\0\0\0\0\0\0\x0a\0\0\0\x01\0\0\0\0\0\0\0\0\0\0\0",
+);
 
-const NESTED: Frames = &[(0, 0x64), (10, 1)];
+/// The same as new frames.
+const NESTED_NEW: Option<&[u8]> = Some(
+    b"\0\0\0\0\x64\0\0\0\0\0\0\0\0\0\0\0\0\0\0\0\0\0\0\0\0\0\0\0\0\0\0\0\x0a\0\0\0\x01\0\0\0\0\0\0\0\0\0\0\0\0\0\0\0\0\0\0\0\0\0\0\0\0\0\0\0",
+);
 
-const MERGED: &[(FrameType, u32)] = &[(NEW, 0x10), (OLD, 0x20), (NEW, 0x30)];
+/// The stream of a new frame from 0xfffffff0 on, of 0x20 bytes.
+const LAST: Option<&[u8]> = Some(
+    b"\xf0\xff\xff\xff\x20\0\0\0\0\0\0\0\0\0\0\0\0\0\0\0\0\0\0\0\0\0\0\0\0\0\0\0",
+);
 
-/// Tables by their old frames and their new ones, an address, and what the iterator from there
-/// gives, which without an address is that of all frames.
-const TABLES: &[(&str, Frames, Frames, Option<u32>, &[(FrameType, u32)])] = &[
-    ("iter", FIRST, SECOND, None, MERGED),
-    (
-        "in a gap",
-        FIRST,
-        SECOND,
-        Some(0x22),
-        &[(OLD, 0x20), (NEW, 0x30)],
-    ),
-    ("in both", FIRST, SECOND, Some(0x12), MERGED),
-    ("behind all", FIRST, SECOND, Some(0x40), &[]),
-    ("before all", FIRST, SECOND, Some(0), MERGED),
-    (
-        "in the old one",
-        FIRST,
-        SHORT,
-        Some(0x12),
-        &[(OLD, 0x10), (OLD, 0x20), (NEW, 0x30)],
-    ),
-    ("new for old", FIRST, SHORT, None, MERGED),
-    (
-        "to 2^32",
-        &[],
-        &[(0xffff_fff0, 0x20)],
-        Some(0xffff_ffff),
-        &[(NEW, 0xffff_fff0)],
-    ),
-    ("nested, new", &[], NESTED, Some(0x32), &[]),
-    ("nested, old", NESTED, &[], Some(0x32), &[]),
-    ("nested, inside", NESTED, &[], Some(10), &[(OLD, 10)]),
-    ("no size", &[(4, 0)], &[], Some(4), &[(OLD, 4)]),
-    ("none", &[], &[], None, &[]),
-];
+/// The stream of an old frame from 4 on, of no bytes.
+const NO_SIZE: Option<&[u8]> = Some(b"\x04\0\0\0\0\0\0\0\0\0\0\0\0\0\0\0");
 
-/// Whether the iterator of a table from an address gives these frames, or that of all its frames where
-/// there is no address.
-fn gives_from(
-    table: &FrameTable,
-    address: Option<u32>,
-    want: &[(FrameType, u32)],
-) -> pdb_base::Result<bool> {
-    let mut frames = match address {
-        Some(address) => table.iter_at_rva(PdbInternalRva(address)),
-        None => table.iter(),
-    };
-    gives(&mut frames, want)
-}
+/// The stream of no frames.
+const EMPTY: Option<&[u8]> = Some(b"");
 
-/// The same of the table of these frames, and whether that table is empty.
-fn told(
-    alloc: Global,
-    old: &[(u32, u32)],
-    new: &[(u32, u32)],
-    address: Option<u32>,
-    want: &[(FrameType, u32)],
-) -> Result<(bool, bool), Fail> {
-    let table = table(alloc, old, new)?;
-    Ok((gives_from(&table, address, want)?, table.is_empty()))
-}
+/// The frames of the first stream and the second one, and of the first one and the short one.
+const MERGED: Frames = &[(NEW, 0x10), (OLD, 0x20), (NEW, 0x30)];
 
-#[test]
-fn tables(rt: HostRuntime) -> Result<(), Fail> {
-    for (name, old, new, address, want) in TABLES {
-        let empty = old.is_empty() && new.is_empty();
-        let answer = told(rt.alloc(), old, new, *address, want)?;
-        assert!(rt; answer == (true, empty), "{name}");
-    }
-    Ok(())
-}
-
-#[test]
-fn no_tables(rt: HostRuntime) -> Result<(), Fail> {
-    assert!(rt; gives(&mut FrameDataIter::default(), &[])?);
-    assert!(rt; FrameTable::parse(None, None)?.is_empty());
-    Ok(())
-}
-
-/// A stream of so many zeros, of which there are at most 64.
-fn zeros(alloc: Global, len: Option<usize>) -> Result<Option<Stream>, Fail> {
-    match len {
-        Some(len) => Ok(Some(Stream::new(Vec::from_slice(alloc, &[0; 64][..len.min(64)])?))),
-        None => Ok(None),
-    }
-}
-
-/// Whether a table is parsed, where nothing is wanted, or refused with this text.
-fn answers(alloc: Global, answer: pdb_base::Result<FrameTable>, want: &str) -> Result<bool, Fail> {
-    match answer {
-        Ok(_) => Ok(want.is_empty()),
-        Err(error) => says(alloc, error, want.as_bytes()),
-    }
-}
-
-/// The same of a table of streams of so many bytes.
-fn parses(alloc: Global, old: Option<usize>, new: Option<usize>, want: &str) -> Result<bool, Fail> {
-    let old = zeros(alloc, old)?;
-    let new = zeros(alloc, new)?;
-    answers(alloc, FrameTable::parse(old, new), want)
-}
-
+/// What tables are refused with whose streams have no whole number of frames.
 const BAD_OLD: &str = "FPO stream has an invalid length or alignment for its records";
 
 const BAD_NEW: &str = "FrameData stream has an invalid length or alignment for its records";
-
-/// How many bytes the old stream and the new one have, and the text of what they are refused with,
-/// or nothing.
-const LENGTHS: &[(Option<usize>, Option<usize>, &str)] = &[
-    (Some(15), Some(31), BAD_OLD),
-    (None, Some(31), BAD_NEW),
-    (Some(16), Some(48), BAD_NEW),
-    (Some(17), None, BAD_OLD),
-    (Some(48), Some(64), ""),
-    (Some(0), Some(0), ""),
-];
-
-#[test]
-fn lengths(rt: HostRuntime) -> Result<(), Fail> {
-    for (old, new, want) in LENGTHS {
-        assert!(rt; parses(rt.alloc(), *old, *new, want)?);
-    }
-    Ok(())
-}
 
 /// The bytes of an old frame.
 const OLD_BYTES: &[u8] = b"\x00\x10\x00\x00\x20\x00\x00\x00\x01\x00\x00\x40\x03\x00\x05\x9a";
@@ -203,6 +95,12 @@ const OLD_BYTES: &[u8] = b"\x00\x10\x00\x00\x20\x00\x00\x00\x01\x00\x00\x40\x03\
 /// The bytes of a new frame.
 const NEW_BYTES: &[u8] =
     b"\xf0\xff\xff\xff\x20\x00\x00\x00\x08\x00\x00\x00\x0c\x00\x00\x00\x10\x00\x00\x00\x2a\x00\x00\x00\x03\x00\x04\x00\x06\x00\x00\x00";
+
+/// These without the first byte of the one, and without the last byte of the other.
+const OLD_CUT: &[u8] = b"\x10\x00\x00\x20\x00\x00\x00\x01\x00\x00\x40\x03\x00\x05\x9a";
+
+const NEW_CUT: &[u8] =
+    b"\xf0\xff\xff\xff\x20\x00\x00\x00\x08\x00\x00\x00\x0c\x00\x00\x00\x10\x00\x00\x00\x2a\x00\x00\x00\x03\x00\x04\x00\x06\x00\x00";
 
 /// What that old frame says.
 const OLD_FRAME: FrameData = FrameData {
@@ -238,7 +136,196 @@ const NEW_FRAME: FrameData = FrameData {
     program: Some(StringRef(42)),
 };
 
-/// Whether that old frame answers each question of its own.
+/// What is asked, by a name.
+const ROWS: &[(&str, Ask)] = &[
+    (
+        "all",
+        Ask::Frames(FIRST, SECOND, Start::Table, MERGED, false),
+    ),
+    (
+        "in a gap",
+        Ask::Frames(
+            FIRST,
+            SECOND,
+            Start::Address(0x22),
+            &[(OLD, 0x20), (NEW, 0x30)],
+            false,
+        ),
+    ),
+    (
+        "in both",
+        Ask::Frames(FIRST, SECOND, Start::Address(0x12), MERGED, false),
+    ),
+    (
+        "behind all",
+        Ask::Frames(FIRST, SECOND, Start::Address(0x40), &[], false),
+    ),
+    (
+        "before all",
+        Ask::Frames(FIRST, SECOND, Start::Address(0), MERGED, false),
+    ),
+    (
+        "in the old one",
+        Ask::Frames(
+            FIRST,
+            SHORT,
+            Start::Address(0x12),
+            &[(OLD, 0x10), (OLD, 0x20), (NEW, 0x30)],
+            false,
+        ),
+    ),
+    (
+        "new for old",
+        Ask::Frames(FIRST, SHORT, Start::Table, MERGED, false),
+    ),
+    (
+        "to 2^32",
+        Ask::Frames(
+            EMPTY,
+            LAST,
+            Start::Address(0xffff_ffff),
+            &[(NEW, 0xffff_fff0)],
+            false,
+        ),
+    ),
+    (
+        "nested, new",
+        Ask::Frames(EMPTY, NESTED_NEW, Start::Address(0x32), &[], false),
+    ),
+    (
+        "nested, old",
+        Ask::Frames(NESTED_OLD, EMPTY, Start::Address(0x32), &[], false),
+    ),
+    (
+        "nested, inside",
+        Ask::Frames(NESTED_OLD, EMPTY, Start::Address(10), &[(OLD, 10)], false),
+    ),
+    (
+        "no size",
+        Ask::Frames(NO_SIZE, EMPTY, Start::Address(4), &[(OLD, 4)], false),
+    ),
+    (
+        "no frames",
+        Ask::Frames(EMPTY, EMPTY, Start::Table, &[], true),
+    ),
+    (
+        "no streams",
+        Ask::Frames(None, None, Start::Nothing, &[], true),
+    ),
+    (
+        "15 and 31 bytes",
+        Ask::Refusal(Some(&[0; 15]), Some(&[0; 31]), BAD_OLD),
+    ),
+    (
+        "31 bytes of new frames",
+        Ask::Refusal(None, Some(&[0; 31]), BAD_NEW),
+    ),
+    (
+        "16 and 48 bytes",
+        Ask::Refusal(Some(&[0; 16]), Some(&[0; 48]), BAD_NEW),
+    ),
+    (
+        "17 bytes of old frames",
+        Ask::Refusal(Some(&[0; 17]), None, BAD_OLD),
+    ),
+    (
+        "48 and 64 bytes",
+        Ask::Table(Some(&[0; 48]), Some(&[0; 64])),
+    ),
+    ("0 and 0 bytes", Ask::Table(EMPTY, EMPTY)),
+    ("an old frame", Ask::Old(OLD_BYTES, true)),
+    ("15 bytes of it", Ask::Old(OLD_CUT, false)),
+    ("a new frame", Ask::New(NEW_BYTES, true)),
+    ("31 bytes of it", Ask::New(NEW_CUT, false)),
+    ("FPO", Ask::Text(FrameType::FPO, "fpo")),
+    ("Trap", Ask::Text(FrameType::Trap, "trap")),
+    ("TSS", Ask::Text(FrameType::TSS, "tss")),
+    ("Standard", Ask::Text(FrameType::Standard, "std")),
+    ("FrameData", Ask::Text(FrameType::FrameData, "fdata")),
+    ("Unknown", Ask::Text(FrameType::Unknown, "unknown")),
+    ("the first two", Ask::Less(FrameType::FPO, FrameType::Trap)),
+    (
+        "the last two",
+        Ask::Less(FrameType::FrameData, FrameType::Unknown),
+    ),
+];
+
+/// Whether the next frame has this format and start, or there is none.
+fn steps_to(frames: &mut FrameDataIter<'_>, want: Option<(FrameType, u32)>) -> bool {
+    match frames.next() {
+        Ok(Some(frame)) => want == Some((frame.ty, frame.code_start.0)),
+        Ok(None) => want.is_none(),
+        Err(_) => false,
+    }
+}
+
+/// Whether an iterator gives these frames by their formats and starts, and None twice behind them.
+fn gives(mut frames: FrameDataIter<'_>, want: &[(FrameType, u32)]) -> bool {
+    for frame in want {
+        if !steps_to(&mut frames, Some(*frame)) {
+            return false;
+        }
+    }
+    steps_to(&mut frames, None) && steps_to(&mut frames, None)
+}
+
+/// The iterator of a table that starts there.
+fn iterator<'t>(table: &'t FrameTable, start: &Start) -> FrameDataIter<'t> {
+    match start {
+        Start::Table => table.iter(),
+        Start::Address(address) => table.iter_at_rva(PdbInternalRva(*address)),
+        Start::Nothing => FrameDataIter::default(),
+    }
+}
+
+/// Whether a table answers so.
+fn is_told(table: &FrameTable, ask: &Ask) -> bool {
+    match ask {
+        Ask::Frames(_, _, start, want, is_empty) => {
+            gives(iterator(table, start), want) && table.is_empty() == *is_empty
+        }
+        Ask::Table(..) => true,
+        _ => false,
+    }
+}
+
+/// Whether a table is to be refused with the text of this error.
+fn is_refusal(alloc: Global, error: Error, ask: &Ask) -> Result<bool, Fail> {
+    match ask {
+        Ask::Refusal(_, _, want) => says(alloc, error, want.as_bytes()),
+        _ => Ok(false),
+    }
+}
+
+/// Whether a table answers so, or is refused with the text that is wanted.
+fn is_parsed(alloc: Global, table: Answer<FrameTable>, ask: &Ask) -> Result<bool, Fail> {
+    match table {
+        Ok(table) => Ok(is_told(&table, ask)),
+        Err(error) => is_refusal(alloc, error, ask),
+    }
+}
+
+/// The stream of these bytes, if there are any.
+fn some_stream(alloc: Global, bytes: Option<&[u8]>) -> Result<Option<Stream>, Fail> {
+    match bytes {
+        Some(bytes) => Ok(Some(stream(alloc, bytes)?)),
+        None => Ok(None),
+    }
+}
+
+/// Whether the table of such streams answers so.
+fn table_answers(
+    alloc: Global,
+    old: Option<&[u8]>,
+    new: Option<&[u8]>,
+    ask: &Ask,
+) -> Result<bool, Fail> {
+    let old = some_stream(alloc, old)?;
+    let new = some_stream(alloc, new)?;
+    is_parsed(alloc, FrameTable::parse(old, new), ask)
+}
+
+/// Whether the old frame says what it should, and answers each question of its own.
 fn is_old(frame: &OldFrameData) -> bool {
     frame.start() == 0x1000
         && frame.size() == 0x20
@@ -247,64 +334,64 @@ fn is_old(frame: &OldFrameData) -> bool {
         && frame.has_seh()
         && frame.uses_base_pointer()
         && frame.frame_type() == FrameType::TSS
+        && FrameData::from(frame) == OLD_FRAME
 }
 
-#[test]
-fn old_records(rt: HostRuntime) -> Result<(), Fail> {
-    let (frame, len) = OldFrameData::parse_from(OLD_BYTES, Le)?;
-    assert!(rt; len == 16);
-    assert!(rt; is_old(&frame));
-    assert!(rt; FrameData::from(&frame) == OLD_FRAME);
-    Ok(())
+/// Whether bytes are those of the old frame where they are to be, and end too soon where not.
+fn are_old(bytes: &[u8], are: bool) -> bool {
+    match OldFrameData::parse_from(bytes, Le) {
+        Ok((frame, len)) => are && len == 16 && is_old(&frame),
+        Err(error) => !are && matches!(error, Error::UnexpectedEof),
+    }
 }
 
-/// Whether that new frame answers each question of its own.
-fn is_new(frame: &NewFrameData) -> bool {
-    !frame.has_seh() && frame.has_eh() && frame.is_function_start()
-}
-
-/// Whether that new frame has the two addresses, and not the other two.
-fn is_at(frame: &NewFrameData) -> bool {
+/// Whether the new frame has the first two addresses, and not the other two.
+fn is_there(frame: &NewFrameData) -> bool {
     frame.contains(0xffff_ffff)
         && frame.contains(0xffff_fff0)
         && !frame.contains(0xffff_ffef)
         && !frame.contains(0)
 }
 
-#[test]
-fn new_records(rt: HostRuntime) -> Result<(), Fail> {
-    let (frame, len) = NewFrameData::parse_from(NEW_BYTES, Le)?;
-    assert!(rt; len == 32);
-    assert!(rt; is_at(&frame));
-    assert!(rt; is_new(&frame));
-    assert!(rt; FrameData::from(&frame) == NEW_FRAME);
-    Ok(())
+/// Whether the new frame says what it should, and answers each question of its own.
+fn is_new(frame: &NewFrameData) -> bool {
+    !frame.has_seh()
+        && frame.has_eh()
+        && frame.is_function_start()
+        && is_there(frame)
+        && FrameData::from(frame) == NEW_FRAME
 }
 
-#[test]
-fn short_records(rt: HostRuntime) {
-    let old = OldFrameData::parse_from(&OLD_BYTES[1..], Le);
-    assert!(rt; matches!(old, Err(Error::UnexpectedEof)));
-    let new = NewFrameData::parse_from(&NEW_BYTES[..31], Le);
-    assert!(rt; matches!(new, Err(Error::UnexpectedEof)));
-}
-
-/// Formats, and their texts.
-const FRAME_TYPES: &[(FrameType, &str)] = &[
-    (FrameType::FPO, "fpo"),
-    (FrameType::Trap, "trap"),
-    (FrameType::TSS, "tss"),
-    (FrameType::Standard, "std"),
-    (FrameType::FrameData, "fdata"),
-    (FrameType::Unknown, "unknown"),
-];
-
-#[test]
-fn frame_types(rt: HostRuntime) -> Result<(), Fail> {
-    for (kind, want) in FRAME_TYPES {
-        let text = kind.to_string(rt.alloc())?;
-        assert!(rt; text.as_str() == *want);
+/// Whether bytes are those of the new frame where they are to be, and end too soon where not.
+fn are_new(bytes: &[u8], are: bool) -> bool {
+    match NewFrameData::parse_from(bytes, Le) {
+        Ok((frame, len)) => are && len == 32 && is_new(&frame),
+        Err(error) => !are && matches!(error, Error::UnexpectedEof),
     }
-    assert!(rt; FrameType::FPO < FrameType::Trap && FrameType::FrameData < FrameType::Unknown);
+}
+
+/// Whether a format has this text.
+fn is_text(alloc: Global, kind: FrameType, want: &str) -> Result<bool, Fail> {
+    Ok(kind.to_string(alloc)?.as_str() == want)
+}
+
+/// Whether the answer is as it should be.
+fn is_answered(alloc: Global, ask: &Ask) -> Result<bool, Fail> {
+    match ask {
+        Ask::Refusal(old, new, _) | Ask::Table(old, new) | Ask::Frames(old, new, ..) => {
+            table_answers(alloc, *old, *new, ask)
+        }
+        Ask::Old(bytes, are) => Ok(are_old(bytes, *are)),
+        Ask::New(bytes, are) => Ok(are_new(bytes, *are)),
+        Ask::Text(kind, want) => is_text(alloc, *kind, want),
+        Ask::Less(less, kind) => Ok(less < kind),
+    }
+}
+
+#[test]
+fn frames(rt: HostRuntime) -> Result<(), Fail> {
+    for (name, ask) in ROWS {
+        assert!(rt; is_answered(rt.alloc(), ask)?, "{name}");
+    }
     Ok(())
 }

@@ -1,17 +1,22 @@
-//! The header of stream 3, and the place of the debug header.
+//! The header of stream 3, and what its debug header says.
 
 use super::super::stream;
-use super::{front, has_first};
-use pdb_base::{Error, StreamIndex};
+use super::front;
+use pdb_base::{Error, Result as Answer, Stream, StreamIndex};
 use pdb_roles::{DBIExtraStreams, DBIHeader};
 use std::alloc::Global;
 use std::test::Fail;
 
-/// A header in which no two fields are equal but by their sizes: 8 bytes of modules, 4 of section
-/// contributions, 12 of the section map, 16 of file info, 20 of the type server map, 6 of the debug
-/// header, 24 of names for edit and continue.
-const HEADER: &[u8] =
-    b"\xff\xff\xff\xff\x77\x09\x31\x01\x03\0\0\0\x11\x01\x12\x02\x13\x03\x14\x04\x15\x05\x16\x06\x08\0\0\0\x04\0\0\0\x0c\0\0\0\x10\0\0\0\x14\0\0\0\x17\0\0\x07\x06\0\0\0\x18\0\0\0\x19\x08\x64\x86\x1a\0\0\x09";
+/// The numbers 100 to 111, and half a number more.
+const LIST: &[u8] = b"\x64\0\x65\0\x66\0\x67\0\x68\0\x69\0\x6a\0\x6b\0\x6c\0\x6d\0\x6e\0\x6f\0\x70";
+
+/// A stream 3. Its header has 64 bytes, in which no two fields are equal but by their sizes: 8 bytes of
+/// modules, 4 of section contributions, 12 of the section map, 16 of file info, 20 of the type server
+/// map, 6 of the debug header, 24 of names for edit and continue. Between the header and the debug
+/// header stand 84 bytes of other numbers. The debug header is three numbers, and a byte stands behind
+/// them.
+const STREAM: &[u8] =
+    b"\xff\xff\xff\xff\x77\x09\x31\x01\x03\0\0\0\x11\x01\x12\x02\x13\x03\x14\x04\x15\x05\x16\x06\x08\0\0\0\x04\0\0\0\x0c\0\0\0\x10\0\0\0\x14\0\0\0\x17\0\0\x07\x06\0\0\0\x18\0\0\0\x19\x08\x64\x86\x1a\0\0\x09\xee\xee\xee\xee\xee\xee\xee\xee\xee\xee\xee\xee\xee\xee\xee\xee\xee\xee\xee\xee\xee\xee\xee\xee\xee\xee\xee\xee\xee\xee\xee\xee\xee\xee\xee\xee\xee\xee\xee\xee\xee\xee\xee\xee\xee\xee\xee\xee\xee\xee\xee\xee\xee\xee\xee\xee\xee\xee\xee\xee\xee\xee\xee\xee\xee\xee\xee\xee\xee\xee\xee\xee\xee\xee\xee\xee\xee\xee\xee\xee\xee\xee\xee\xee\x64\0\x65\0\x66\0\x67";
 
 /// What that header says.
 const FIELDS: DBIHeader = DBIHeader {
@@ -37,57 +42,107 @@ const FIELDS: DBIHeader = DBIHeader {
     reserved: 0x0900_001a,
 };
 
-/// Three numbers, and a byte behind them.
-const LIST: &[u8] = b"\x64\0\x65\0\x66\0\x67";
-
-/// The stream of that header, whole: between the header and the list stand other numbers.
-fn whole(alloc: Global) -> Result<Vec<u8>, Fail> {
-    let mut bytes = Vec::from_slice(alloc, HEADER)?;
-    bytes.resize(148, 0xee)?;
-    bytes.extend_from_slice(LIST)?;
-    Ok(bytes)
+/// The streams of the roles in the order of their list.
+fn numbers(roles: &DBIExtraStreams) -> [u16; 11] {
+    [
+        roles.fpo.0,
+        roles.exception.0,
+        roles.fixup.0,
+        roles.omap_to_src.0,
+        roles.omap_from_src.0,
+        roles.section_headers.0,
+        roles.token_rid_map.0,
+        roles.xdata.0,
+        roles.pdata.0,
+        roles.framedata.0,
+        roles.original_section_headers.0,
+    ]
 }
 
-/// What is answered of a header of so many bytes: it ends too soon, or says its fields.
-fn is_header(alloc: Global, bytes: &[u8]) -> Result<bool, Fail> {
-    let answer = DBIHeader::parse(&stream(alloc, bytes)?);
-    if bytes.len() < 64 {
-        return Ok(matches!(answer, Err(Error::UnexpectedEof)));
+/// Streams for each of the roles.
+const STREAMS: [u16; 11] = [100, 101, 102, 103, 104, 105, 106, 107, 108, 109, 110];
+
+/// No stream for any of them.
+const NO_STREAMS: [u16; 11] = [0xffff; 11];
+
+/// Whether the first so many roles have the streams 100, 101 and so on, and the others none.
+fn has_first(roles: &DBIExtraStreams, count: usize) -> bool {
+    let numbers = numbers(roles);
+    let count = count.min(11);
+    numbers[..count] == STREAMS[..count] && numbers[count..] == NO_STREAMS[count..]
+}
+
+/// Whether that many roles are told, or, where no number is wanted, the list ends too soon.
+fn are_roles(answer: Answer<DBIExtraStreams>, want: Option<usize>) -> bool {
+    match answer {
+        Ok(roles) => matches!(want, Some(count) if has_first(&roles, count)),
+        Err(error) => want.is_none() && matches!(error, Error::UnexpectedEof),
     }
-    Ok(matches!(answer, Ok(header) if header == FIELDS))
 }
 
-/// What is answered of the roles of so many bytes of the stream: an empty one has none, one that is cut
+/// How many roles the list tells if it has so many bytes: half a number is refused only among the first
+/// eleven.
+fn listed(len: usize) -> Option<usize> {
+    if len < 22 && len % 2 == 1 {
+        None
+    } else {
+        Some(len / 2)
+    }
+}
+
+/// How many roles the stream tells if it has so many bytes: an empty one has none, one that is cut
 /// before the third number's end ends too soon.
-fn is_answered(alloc: Global, bytes: &[u8]) -> Result<bool, Fail> {
-    let answer = DBIExtraStreams::new(&stream(alloc, bytes)?);
-    match bytes.len() {
-        0 => Ok(matches!(answer, Ok(roles) if has_first(&roles, 0))),
-        1..154 => Ok(matches!(answer, Err(Error::UnexpectedEof))),
-        _ => Ok(matches!(answer, Ok(roles) if has_first(&roles, 3))),
+fn told(len: usize) -> Option<usize> {
+    match len {
+        0 => Some(0),
+        1..154 => None,
+        _ => Some(3),
     }
+}
+
+/// Whether the header says its fields, or ends too soon in fewer than 64 bytes.
+fn is_header(answer: Answer<DBIHeader>, len: usize) -> bool {
+    match answer {
+        Ok(header) => len >= 64 && header == FIELDS,
+        Err(error) => len < 64 && matches!(error, Error::UnexpectedEof),
+    }
+}
+
+/// Whether a stream of so many bytes says its header and its roles.
+fn is_stream(stream: &Stream, len: usize) -> bool {
+    is_header(DBIHeader::parse(stream), len) && are_roles(DBIExtraStreams::new(stream), told(len))
+}
+
+/// Whether the list and the stream are answered so if they have so many bytes.
+fn is_front(alloc: Global, len: usize) -> Result<bool, Fail> {
+    let list = are_roles(DBIExtraStreams::parse(front(LIST, len)), listed(len));
+    Ok(list && is_stream(&stream(alloc, front(STREAM, len))?, len))
+}
+
+/// Whether a list tells no stream in the first role, and 65534 in the second.
+fn has_second() -> bool {
+    let answer = DBIExtraStreams::parse(b"\xff\xff\xfe\xff");
+    matches!(answer, Ok(roles) if roles.fpo.is_none() && roles.exception == StreamIndex(0xfffe))
 }
 
 #[test]
-fn headers(rt: HostRuntime) -> Result<(), Fail> {
-    let bytes = whole(rt.alloc())?;
+fn fronts(rt: HostRuntime) -> Result<(), Fail> {
     for len in 0..156usize {
-        let cut = front(&bytes, len);
-        assert!(rt; is_header(rt.alloc(), cut)?, "header of {len} bytes");
-        assert!(rt; is_answered(rt.alloc(), cut)?, "roles of {len} bytes");
+        assert!(rt; is_front(rt.alloc(), len)?, "of {len} bytes");
     }
+    assert!(rt; has_second());
     Ok(())
 }
 
+/// Whether an error says that the format is the oldest one.
+fn is_ancient(error: &Error) -> bool {
+    matches!(error, Error::UnimplementedFeature(feature) if *feature == "ancient DBI header")
+}
+
 /// Whether a stream is refused as one of the oldest format.
-fn is_ancient(alloc: Global, bytes: &[u8]) -> Result<bool, Fail> {
-    let stream = stream(alloc, bytes)?;
-    let header = DBIHeader::parse(&stream);
-    let roles = DBIExtraStreams::new(&stream);
-    Ok(
-        matches!(header, Err(Error::UnimplementedFeature(feature)) if feature == "ancient DBI header")
-            && matches!(roles, Err(Error::UnimplementedFeature(feature)) if feature == "ancient DBI header"),
-    )
+fn is_refused(stream: &Stream) -> bool {
+    let header = matches!(DBIHeader::parse(stream), Err(error) if is_ancient(&error));
+    header && matches!(DBIExtraStreams::new(stream), Err(error) if is_ancient(&error))
 }
 
 /// Streams that are as old as that.
@@ -96,7 +151,7 @@ const ANCIENT: &[&[u8]] = &[b"\xfe\xff\xff\xff", b"\0\0\0\0\0", b"\xff\xff\xff\x
 #[test]
 fn ancient_headers(rt: HostRuntime) -> Result<(), Fail> {
     for bytes in ANCIENT {
-        assert!(rt; is_ancient(rt.alloc(), bytes)?, "{bytes:?}");
+        assert!(rt; is_refused(&stream(rt.alloc(), bytes)?), "{bytes:?}");
     }
     Ok(())
 }

@@ -20,6 +20,102 @@ const TWO: &[u8] = b"\x02\0\0\0\x08\0\0\0\x01\0\0\0\x03\0\0\0\x02\0\0\0\xff\xff\
 /// One entry, capacity 1, and no word.
 const ONE: &[u8] = b"\x01\0\0\0\x01\0\0\0\0\0\0\0\0\0\0\0";
 
+/// Stream 1 with two names: the header, the names, their table, and its entries.
+const WHOLE: &[u8] =
+    b"\x94\x2e\x31\x01\x01\x02\x03\x04\x05\0\0\0\xa0\xa1\xa2\xa3\xa4\xa5\xa6\xa7\xa8\xa9\xaa\xab\xac\xad\xae\xaf\x0c\0\0\0/a\0/names\0\0x\x02\0\0\0\x08\0\0\0\x01\0\0\0\x03\0\0\0\x02\0\0\0\xff\xff\xff\xff\0\0\0\0\x03\0\0\0\x07\0\0\0\0\0\0\0\x2c\x01\0\0";
+
+const ENDS: &[u8] = b"UnexpectedEof";
+
+/// What is asked of a stream 1.
+enum Ask {
+    /// Of one with such a table and its entries: the names and streams that these are, or why there are
+    /// none.
+    Names(&'static [u8], &'static [u8], &'static [u8]),
+    /// Of the one with two names: that it ends too soon if it has fewer bytes than these.
+    Fronts(usize),
+    /// Of the same: its fields, and the numbers of its names.
+    Fields,
+}
+
+/// What is asked, by a name.
+const ROWS: &[(&str, Ask)] = &[
+    (
+        "two names",
+        Ask::Names(
+            TWO,
+            b"\x03\0\0\0\x07\0\0\0\0\0\0\0\x2c\x01\0\0",
+            b"/names=7;/a=300;",
+        ),
+    ),
+    (
+        "within a name, and bytes behind",
+        Ask::Names(
+            TWO,
+            b"\x01\0\0\0\x07\0\0\0\x01\0\0\0\x08\0\0\0behind",
+            b"a=7;a=8;",
+        ),
+    ),
+    (
+        "the second without a NUL",
+        Ask::Names(TWO, b"\x03\0\0\0\x07\0\0\0\x0b\0\0\0\x01\0\0\0", ENDS),
+    ),
+    (
+        "65534",
+        Ask::Names(ONE, b"\x0a\0\0\0\xfe\xff\0\0", b"=65534;"),
+    ),
+    (
+        "65535",
+        Ask::Names(ONE, b"\x0a\0\0\0\xff\xff\0\0", b"=None;"),
+    ),
+    (
+        "65538",
+        Ask::Names(ONE, b"\x0a\0\0\0\x02\0\x01\0", b"=None;"),
+    ),
+    (
+        "without a NUL",
+        Ask::Names(ONE, b"\x0b\0\0\0\x02\0\0\0", ENDS),
+    ),
+    (
+        "past all names",
+        Ask::Names(ONE, b"\x0c\0\0\0\x02\0\0\0", ENDS),
+    ),
+    (
+        "far past them",
+        Ask::Names(ONE, b"\xff\xff\xff\xff\x02\0\0\0\0", ENDS),
+    ),
+    (
+        "no name",
+        Ask::Names(b"\0\0\0\0\0\0\0\0\0\0\0\0\0\0\0\0", b"", b""),
+    ),
+    (
+        "a false count of entries",
+        Ask::Names(b"\xff\xff\xff\xff\0\0\0\0\0\0\0\0\0\0\0\0", b"", ENDS),
+    ),
+    (
+        "a false count of words of the first set",
+        Ask::Names(b"\0\0\0\0\0\0\0\0\xff\xff\xff\xff\0\0\0\0", b"", ENDS),
+    ),
+    (
+        "a false count of words of the second set",
+        Ask::Names(b"\0\0\0\0\0\0\0\0\0\0\0\0\xff\xff\xff\xff", b"", ENDS),
+    ),
+    ("fronts", Ask::Fronts(88)),
+    ("fields", Ask::Fields),
+];
+
+/// The GUID of that stream.
+const GUID: &[u8] = b"\xa0\xa1\xa2\xa3\xa4\xa5\xa6\xa7\xa8\xa9\xaa\xab\xac\xad\xae\xaf";
+
+/// Whether the fields before the names are those of that stream.
+fn has_fields(information: &PDBInformation) -> bool {
+    information.version == 20_000_404
+        && information.signature == 0x0403_0201
+        && information.age == 5
+        && information.guid.as_slice() == GUID
+        && information.names_offset == 32
+        && information.names_size == 12
+}
+
 /// Stream 1 with such a table and its entries.
 fn information(alloc: Global, table: &[u8], entries: &[u8]) -> Result<Vec<u8>, Fail> {
     let mut bytes = Vec::from_slice(alloc, HEADER)?;
@@ -67,93 +163,21 @@ fn is_listed(alloc: Global, table: &[u8], entries: &[u8], want: &[u8]) -> Result
     is_shown(alloc, &bytes, want)
 }
 
-const ENDS: &[u8] = b"UnexpectedEof";
-
-/// Tables, their entries, and the names and streams that these are.
-const TABLES: &[(&[u8], &[u8], &[u8])] = &[
-    (
-        TWO,
-        b"\x03\0\0\0\x07\0\0\0\0\0\0\0\x2c\x01\0\0",
-        b"/names=7;/a=300;",
-    ),
-    (
-        TWO,
-        b"\x01\0\0\0\x07\0\0\0\x01\0\0\0\x08\0\0\0behind",
-        b"a=7;a=8;",
-    ),
-    (TWO, b"\x03\0\0\0\x07\0\0\0\x0b\0\0\0\x01\0\0\0", ENDS),
-    (ONE, b"\x0a\0\0\0\xfe\xff\0\0", b"=65534;"),
-    (ONE, b"\x0a\0\0\0\xff\xff\0\0", b"=None;"),
-    (ONE, b"\x0a\0\0\0\x02\0\x01\0", b"=None;"),
-    (ONE, b"\x0b\0\0\0\x02\0\0\0", ENDS),
-    (ONE, b"\x0c\0\0\0\x02\0\0\0", ENDS),
-    (ONE, b"\xff\xff\xff\xff\x02\0\0\0\0", ENDS),
-    (b"\0\0\0\0\0\0\0\0\0\0\0\0\0\0\0\0", b"", b""),
-    (b"\xff\xff\xff\xff\0\0\0\0\0\0\0\0\0\0\0\0", b"", ENDS),
-    (b"\0\0\0\0\0\0\0\0\xff\xff\xff\xff\0\0\0\0", b"", ENDS),
-    (b"\0\0\0\0\0\0\0\0\0\0\0\0\xff\xff\xff\xff", b"", ENDS),
-];
-
-#[test]
-fn tables(rt: HostRuntime) -> Result<(), Fail> {
-    for (table, entries, want) in TABLES {
-        assert!(rt; is_listed(rt.alloc(), table, entries, want)?, "{entries:?}");
-    }
-    Ok(())
-}
-
-/// Stream 1 with two names: the header, the names, their table, and its entries.
-const WHOLE: &[u8] =
-    b"\x94\x2e\x31\x01\x01\x02\x03\x04\x05\0\0\0\xa0\xa1\xa2\xa3\xa4\xa5\xa6\xa7\xa8\xa9\xaa\xab\xac\xad\xae\xaf\x0c\0\0\0/a\0/names\0\0x\x02\0\0\0\x08\0\0\0\x01\0\0\0\x03\0\0\0\x02\0\0\0\xff\xff\xff\xff\0\0\0\0\x03\0\0\0\x07\0\0\0\0\0\0\0\x2c\x01\0\0";
-
-#[test]
-fn cuts(rt: HostRuntime) -> Result<(), Fail> {
-    for len in 0..88usize {
-        assert!(rt;
-            is_shown(rt.alloc(), front(WHOLE, len), ENDS)?,
-            "of {len} bytes"
-        );
-    }
-    Ok(())
-}
-
-/// The GUID of that stream.
-const GUID: &[u8] = b"\xa0\xa1\xa2\xa3\xa4\xa5\xa6\xa7\xa8\xa9\xaa\xab\xac\xad\xae\xaf";
-
-/// Whether the fields before the names are those of that stream.
-fn has_fields(information: &PDBInformation) -> bool {
-    information.version == 20_000_404
-        && information.signature == 0x0403_0201
-        && information.age == 5
-        && information.guid.as_slice() == GUID
-        && information.names_offset == 32
-        && information.names_size == 12
-}
-
-/// The number of the stream of a name, or none where there is no such name.
-fn number(names: &StreamNames<'_>, name: &[u8]) -> Answer<Option<u32>> {
-    match names.number(name) {
-        Ok(number) => Ok(Some(number)),
-        Err(Error::StreamNameNotFound) => Ok(None),
-        Err(error) => Err(error),
-    }
-}
-
-/// Names, and the numbers of their streams.
-const NUMBERS: &[(&[u8], Option<u32>)] = &[
-    (b"/a", Some(300)),
-    (b"/names", Some(7)),
-    (b"/name", None),
-];
-
-/// Whether each name of these has its number.
-fn has_numbers(names: &StreamNames<'_>) -> Answer<bool> {
-    for (name, want) in NUMBERS {
-        if number(names, name)? != *want {
+/// Whether each front of stream 1 of fewer bytes than these ends too soon.
+fn end_soon(alloc: Global, len: usize) -> Result<bool, Fail> {
+    for len in 0..len {
+        if !is_shown(alloc, front(WHOLE, len), ENDS)? {
             return Ok(false);
         }
     }
     Ok(true)
+}
+
+/// Whether the names `/a` and `/names` have their numbers, and `/name` is none.
+fn has_numbers(names: &StreamNames<'_>) -> bool {
+    matches!(names.number(b"/a"), Ok(300))
+        && matches!(names.number(b"/names"), Ok(7))
+        && matches!(names.number(b"/name"), Err(Error::StreamNameNotFound))
 }
 
 /// Whether there are two names, of which the first is of stream 7.
@@ -161,24 +185,31 @@ fn has_two(names: &[StreamName<'_>]) -> bool {
     names.len() == 2 && names[0] == names[0] && names[0].stream_id == StreamIndex(7)
 }
 
-/// Whether the names have their numbers, and there are two of them.
-fn has_names(alloc: Global, information: &PDBInformation) -> Answer<(bool, bool)> {
+/// Whether there are two names, which have their numbers.
+fn has_names(alloc: Global, information: &PDBInformation) -> Answer<bool> {
     let names = information.stream_names(alloc)?;
-    let two = has_two(names.as_slice());
-    Ok((has_numbers(&names)?, two))
+    Ok(has_two(names.as_slice()) && has_numbers(&names))
 }
 
-/// Whether that stream has its fields; and its names their numbers, and there are two of them.
-fn told(alloc: Global) -> Result<(bool, (bool, bool)), Fail> {
+/// Whether stream 1 has its fields and its names.
+fn is_whole(alloc: Global) -> Result<bool, Fail> {
     let information = PDBInformation::parse(stream(alloc, WHOLE)?)?;
-    Ok((has_fields(&information), has_names(alloc, &information)?))
+    Ok(has_fields(&information) && has_names(alloc, &information)?)
+}
+
+/// Whether the answer is as it should be.
+fn is_answered(alloc: Global, ask: &Ask) -> Result<bool, Fail> {
+    match ask {
+        Ask::Names(table, entries, want) => is_listed(alloc, table, entries, want),
+        Ask::Fronts(len) => end_soon(alloc, *len),
+        Ask::Fields => is_whole(alloc),
+    }
 }
 
 #[test]
-fn fields(rt: HostRuntime) -> Result<(), Fail> {
-    let (fields, (numbers, two)) = told(rt.alloc())?;
-    assert!(rt; fields);
-    assert!(rt; numbers);
-    assert!(rt; two);
+fn names(rt: HostRuntime) -> Result<(), Fail> {
+    for (name, ask) in ROWS {
+        assert!(rt; is_answered(rt.alloc(), ask)?, "{name}");
+    }
     Ok(())
 }
