@@ -117,7 +117,9 @@ const LISTS: &[u8] =
 /// Stream 3 of S1, the view that fails, what is asked, and what each reply says. No reply: the run is refused by
 /// the fault. A table is read for the first query of it, by the fourth view, and no other view answers the later
 /// ones. Where it is refused, the next query of it reads it again.
-const RUNS: &[(&[u8], u64, &[Query], &[Says])] = &[
+type Replied = (&'static [u8], u64, &'static [Query], &'static [Says]);
+
+const RUNS: &[Replied] = &[
     (b"hello", 1, &[STREAM_1, STREAM_1], &[]),
     (
         b"hello",
@@ -153,12 +155,11 @@ const RUNS: &[(&[u8], u64, &[Query], &[Says])] = &[
 
 /// Whether each reply says what it should.
 fn are_said(replies: &[Reply], wanted: &[Says]) -> bool {
-    for (reply, says) in replies.iter().zip(wanted) {
-        if !says.fits(reply) {
-            return false;
-        }
-    }
     replies.len() == wanted.len()
+        && replies
+            .iter()
+            .zip(wanted)
+            .all(|(reply, says)| says.fits(reply))
 }
 
 /// Whether a run replies so, or is refused by the fault where no reply is wanted.
@@ -169,25 +170,17 @@ fn is_replied(replies: Result<Vec<Reply>>, wanted: &[Says]) -> bool {
     }
 }
 
-/// Whether a run over S1 with these bytes as stream 3 replies so, if this view of it fails.
-fn is_run(
-    alloc: Global,
-    stream: &[u8],
-    n: u64,
-    queries: &[Query],
-    wanted: &[Says],
-) -> Result<bool> {
-    let file = Failing::new(s1_with(alloc, stream)?, n);
+/// Whether a run over a row's file replies so, if its view of that number fails.
+fn is_run(alloc: Global, row: &Replied) -> Result<bool> {
+    let (stream, n, queries, wanted) = row;
+    let file = Failing::new(s1_with(alloc, stream)?, *n);
     Ok(is_replied(run(alloc, file, queries), wanted))
 }
 
 #[test]
 fn runs(rt: HostRuntime) -> std::result::Result<(), Fail> {
-    for (stream, n, queries, wanted) in RUNS {
-        assert!(rt;
-            is_run(rt.alloc(), stream, *n, queries, wanted)?,
-            "view {n}, {queries:?}"
-        );
+    for row in RUNS {
+        assert!(rt; is_run(rt.alloc(), row)?, "view {}", row.1);
     }
     Ok(())
 }

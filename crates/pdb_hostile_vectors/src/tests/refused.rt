@@ -49,15 +49,31 @@ fn opened(alloc: Global, row: &Row) -> Result<BigMSF<Vec<u8>>> {
 }
 
 /// Whether a row is answered as ever, twice: none where memory is refused to the open file again.
-fn answered(alloc: Global, row: &Row) -> Result<Option<bool>> {
+fn told_of(alloc: Global, row: &Row) -> Result<Option<bool>> {
     Ok(told_twice(alloc, &mut opened(alloc, row)?, row))
+}
+
+/// The same, of a file that is opened once more where memory is refused.
+///
+/// # Errors
+/// `OutOfMemory` if memory is refused again.
+fn is_told(alloc: Global, row: &Row) -> Result<bool> {
+    match settled!(told_of(alloc, row)) {
+        Ok(Some(is)) => Ok(is),
+        Ok(None) => Err(Error::OutOfMemory),
+        Err(error) => Err(error),
+    }
 }
 
 #[test]
 fn streams(rt: HostRuntime) -> std::result::Result<(), Fail> {
     for row in ROWS {
-        let is = settled!(answered(rt.alloc(), row))?.ok_or(Error::OutOfMemory)?;
-        assert!(rt; is, "stream {}, limit {:?}", row.1, row.2);
+        assert!(rt;
+            is_told(rt.alloc(), row)?,
+            "stream {}, limit {:?}",
+            row.1,
+            row.2
+        );
     }
     Ok(())
 }
@@ -74,12 +90,9 @@ const PAGES: &[(&[u32], &[(u64, usize)])] = &[
 
 /// Whether slices begin at these places and have these sizes.
 fn are_slices(slices: &[SourceSlice], want: &[(u64, usize)]) -> bool {
-    for (slice, (offset, size)) in slices.iter().zip(want) {
-        if slice.offset != *offset || slice.size != *size {
-            return false;
-        }
-    }
     slices.len() == want.len()
+        && slices.iter().zip(want).all(|(slice, (offset, size))| slice.offset == *offset
+            && slice.size == *size)
 }
 
 /// Whether pages are joined so.
@@ -431,6 +444,11 @@ fn is_learned<'t>(table: &'t TypeInformation, mut finder: TypeFinder<'t>) -> boo
     first && is_found(&finder, 0x1008, 0x1008)
 }
 
+/// Whether a finder of a table of nine items finds them.
+fn is_indexed(alloc: Global, table: &TypeInformation) -> Result<bool> {
+    Ok(is_learned(table, table.finder(alloc)?))
+}
+
 /// A stream that is a table whose items have indexes from 0x1000 up to below a maximum.
 fn table_of(alloc: Global, maximum: u32, items: &[u8]) -> Result<Stream> {
     stream_of(item_table(alloc, 56, 0x1000, maximum, items)?)
@@ -517,10 +535,20 @@ fn is_ended(outcome: &Outcome, status: u8, out: &str, err: &str) -> bool {
         && outcome.err.as_slice() == err.as_bytes()
 }
 
-/// Whether the program, asked of S1 with these bytes as stream 3, ends with this status and writes this.
+/// The same, unless it ended for want of memory.
 ///
 /// # Errors
 /// `OutOfMemory` if memory is refused, also where the program says so.
+fn is_acted_so(outcome: Result<Outcome>, status: u8, out: &str, err: &str) -> Result<bool> {
+    match &outcome {
+        Ok(outcome) if is_ended(outcome, 1, "", "OutOfMemory\n") => Err(Error::OutOfMemory),
+        Ok(outcome) => Ok(is_ended(outcome, status, out, err)),
+        Err(Error::OutOfMemory) => Err(Error::OutOfMemory),
+        Err(_) => Ok(false),
+    }
+}
+
+/// Whether the program, asked of S1 with these bytes as stream 3, ends with this status and writes this.
 fn is_acted(
     alloc: Global,
     stream: &[u8],
@@ -529,11 +557,8 @@ fn is_acted(
     out: &str,
     err: &str,
 ) -> Result<bool> {
-    let outcome = act(alloc, words, s1_with(alloc, stream)?)?;
-    if is_ended(&outcome, 1, "", "OutOfMemory\n") {
-        return Err(Error::OutOfMemory);
-    }
-    Ok(is_ended(&outcome, status, out, err))
+    let file = s1_with(alloc, stream)?;
+    is_acted_so(act(alloc, words, file), status, out, err)
 }
 
 /// Whether an input of these bytes is read whole.
@@ -555,7 +580,7 @@ fn is_build(alloc: Global, items: &[u8], is_held: bool) -> Result<bool> {
 
 fn are_nine(alloc: Global) -> Result<bool> {
     let types = TypeInformation::parse(table_of(alloc, 0x1009, &NINE)?)?;
-    Ok(is_learned(&types, types.finder(alloc)?))
+    is_indexed(alloc, &types)
 }
 
 fn is_run(alloc: Global) -> Result<bool> {
@@ -582,11 +607,15 @@ fn is_answered(alloc: Global, asked: &Asked) -> Result<bool> {
     }
 }
 
+/// The same, asked once more where memory is refused.
+fn is_settled(alloc: Global, asked: &Asked) -> Result<bool> {
+    settled!(is_answered(alloc, asked))
+}
+
 #[test]
 fn rows(rt: HostRuntime) -> std::result::Result<(), Fail> {
     for (name, asked) in ASKED {
-        let is = settled!(is_answered(rt.alloc(), asked))?;
-        assert!(rt; is, "{name}");
+        assert!(rt; is_settled(rt.alloc(), asked)?, "{name}");
     }
     Ok(())
 }

@@ -183,14 +183,26 @@ const TYPES: &[u8] =
 const IDS: &[u8] =
     b"\0\0\0\0\x38\0\0\0\x00\x10\0\0\x02\x10\0\0\0\0\0\0\0\0\0\0\0\0\0\0\0\0\0\0\0\0\0\0\0\0\0\0\0\0\0\0\0\0\0\0\0\0\0\0\0\0\0\0\x08\0\x05\x16\0\0\0\0a\0\x08\0\x03\x16\x03\0\x01\x10\0\0";
 
-/// Whether a type was read as ever: at 0x1000 the pointer, at 0x1001 the list, and then the structure.
+/// Whether a name is that of the structure.
+fn is_h_size(name: Option<RawString<'_>>) -> bool {
+    matches!(name, Some(name) if name.as_bytes() == b"H_size".as_slice())
+}
+
+/// Whether a type is as ever: at 0x1000 the pointer, at 0x74 a primitive type, and at 0x1002 the structure.
+fn is_so(data: &TypeData<'_>, index: u32) -> bool {
+    match data {
+        TypeData::Pointer(_) => index == 0x1000,
+        TypeData::Primitive(_) => index == 0x74,
+        _ => index == 0x1002 && is_h_size(data.name()),
+    }
+}
+
+/// Whether a type was read as ever: the list at 0x1001 ends too soon.
 fn is_read_so(read: Result<TypeData<'_>>, index: u32) -> bool {
-    match (index, &read) {
-        (0x1000, Ok(TypeData::Pointer(_))) => true,
-        (0x1001, Err(Error::UnexpectedEof)) => true,
-        (0x1002, Ok(data)) => data.name() == Some(RawString::from("H_size")),
-        (0x74, Ok(_)) => true,
-        _ => false,
+    match &read {
+        Ok(data) => is_so(data, index),
+        Err(Error::UnexpectedEof) => index == 0x1001,
+        Err(_) => false,
     }
 }
 
@@ -494,11 +506,15 @@ fn nothing(rt: HostRuntime) {
     let _ = rt.alloc();
 }
 
+/// The same, made once more where memory is refused.
+fn is_settled(alloc: Global, fixture: &Fixture, calls: bool) -> Result<bool> {
+    settled!(has(alloc, fixture, calls))
+}
+
 #[test]
 fn fixtures(rt: HostRuntime) -> std::result::Result<(), Fail> {
     for (name, fixture) in FIXTURES {
-        let is = settled!(has(rt.alloc(), fixture, false))?;
-        assert!(rt; is, "{name}");
+        assert!(rt; is_settled(rt.alloc(), fixture, false)?, "{name}");
     }
     Ok(())
 }
@@ -506,8 +522,7 @@ fn fixtures(rt: HostRuntime) -> std::result::Result<(), Fail> {
 #[test]
 fn calls(rt: HostRuntime) -> std::result::Result<(), Fail> {
     for (name, fixture) in FIXTURES {
-        let is = settled!(has(rt.alloc(), fixture, true))?;
-        assert!(rt; is, "{name}");
+        assert!(rt; is_settled(rt.alloc(), fixture, true)?, "{name}");
     }
     Ok(())
 }
