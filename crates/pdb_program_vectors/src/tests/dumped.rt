@@ -175,7 +175,7 @@ fn lists(alloc: Global, row: &Listed) -> Result<bool> {
 #[test]
 fn listed(rt: HostRuntime) -> std::result::Result<(), Fail> {
     for row in LISTED {
-        assert!(rt; lists(rt.alloc(), row)?, "{:?} {}", row.0, row.2);
+        assert!(rt; lists(rt.alloc(), row)?, "{}{}", row.2, row.3);
     }
     Ok(())
 }
@@ -186,16 +186,14 @@ const SECTION_LINE: &str =
     pointer_to_relocations=0x0 number_of_relocations=0 pointer_to_line_numbers=0x0 number_of_line_numbers=0 \
     characteristics=[executable,execute,read]\n";
 
-/// Whether a writer with so much room, of which so much is taken, has got what it has room for of the line; and
-/// was it asked for more, the listing is refused.
-fn is_front(taken: &[u8], count: usize, is_refused: bool) -> bool {
-    let line = SECTION_LINE.as_bytes();
-    is_refused == (taken.len() < line.len())
-        && count == line.len().min(taken.len())
-        && line
-            .iter()
-            .zip(taken)
-            .all(|(wanted, byte)| *wanted == *byte)
+/// Whether a writer of which so much is taken has got the front of a line that it has room for, and the listing is
+/// refused; or the whole line, and the listing isn't refused.
+fn is_front(line: &[u8], taken: &[u8], count: usize, is_refused: bool) -> bool {
+    if is_refused {
+        count == taken.len() && line.starts_with(taken)
+    } else {
+        count == line.len() && taken.starts_with(line)
+    }
 }
 
 /// Whether a writer with so much room gets the front of the line that it has room for.
@@ -206,7 +204,7 @@ fn is_cut(alloc: Global, room: usize) -> Result<bool> {
     let command = Command::Sections { stream: Some(3) };
     let is_refused = list(alloc, file, command, Form::Text, &mut out).is_err();
     let count = out.position() as usize;
-    Ok(is_front(&taken, count, is_refused))
+    Ok(is_front(SECTION_LINE.as_bytes(), &taken, count, is_refused))
 }
 
 #[test]

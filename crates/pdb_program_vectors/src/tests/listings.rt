@@ -194,7 +194,7 @@ const LISTED: &[Listed] = &[
 fn items_of(alloc: Global, records: &[&[u8]]) -> Result<Vec<u8>> {
     let mut items = Vec::new(alloc);
     for record in records {
-        items.extend_from_slice(&(record.len() as u16).to_le_bytes())?;
+        items.extend_from_slice(&(record.len().min(0xffff) as u16).to_le_bytes())?;
         items.extend_from_slice(record)?;
     }
     Ok(items)

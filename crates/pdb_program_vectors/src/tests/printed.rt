@@ -4,6 +4,7 @@ use pdb_base::Result;
 use pdb_command::{Outcome, act};
 use pdb_vectors::{item_table, s1, s1_with};
 use std::alloc::Global;
+use std::test::Fail;
 
 pub const USAGE: &str =
     "usage: pdbq stream N [LIMIT] | type S I | id S I | name S O | ranges S A B | fields S I\n";
@@ -405,15 +406,9 @@ fn is_printed(alloc: Global, row: &Row) -> Result<bool> {
 }
 
 #[test]
-fn printed(rt: HostRuntime) -> Result<()> {
+fn printed(rt: HostRuntime) -> std::result::Result<(), Fail> {
     for row in ROWS {
-        assert!(rt;
-            is_printed(rt.alloc(), row)?,
-            "{:?}, {}{}",
-            row.1,
-            row.3,
-            row.4
-        );
+        assert!(rt; is_printed(rt.alloc(), row)?, "{}{}", row.3, row.4);
     }
     Ok(())
 }

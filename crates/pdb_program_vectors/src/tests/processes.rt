@@ -139,7 +139,7 @@ fn calls(rt: HostRuntime) -> Result<(), Fail> {
     for (words, status, out, err) in CALLS {
         assert!(rt;
             is_called(rt.alloc(), &file, words, *status, out, err),
-            "{words:?}"
+            "status {status}"
         );
     }
     Ok(())

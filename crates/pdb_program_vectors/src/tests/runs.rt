@@ -24,15 +24,16 @@ const LIMITED: Query = Query::Stream {
 
 const REFUSED: &str = "The requested stream (2) is not stored in this file";
 
-/// Queries of S1, and what each reply says.
-const RUNS: &[(&[Query], &[&str])] = &[
+/// A name, queries of S1, and what each reply says.
+const RUNS: &[(&str, &[Query], &[&str])] = &[
     (
+        "four queries",
         &[ABSENT, WHOLE, ABSENT, LIMITED],
         &[REFUSED, "hello", REFUSED, "he"],
     ),
-    (&[ABSENT], &[REFUSED]),
-    (&[WHOLE], &["hello"]),
-    (&[LIMITED], &["he"]),
+    ("an absent stream", &[ABSENT], &[REFUSED]),
+    ("a stream", &[WHOLE], &["hello"]),
+    ("its first bytes", &[LIMITED], &["he"]),
 ];
 
 /// Whether a reply says this: bytes, or the text of an error.
@@ -48,12 +49,11 @@ fn says(alloc: Global, reply: &Reply, want: &str) -> bool {
 
 /// Whether each reply says what it should.
 fn are_said(alloc: Global, replies: &[Reply], wanted: &[&str]) -> bool {
-    for (reply, want) in replies.iter().zip(wanted) {
-        if !says(alloc, reply, want) {
-            return false;
-        }
-    }
     replies.len() == wanted.len()
+        && replies
+            .iter()
+            .zip(wanted)
+            .all(|(reply, want)| says(alloc, reply, want))
 }
 
 /// Whether a run replies so to all queries at once.
@@ -78,8 +78,8 @@ fn is_replied(alloc: Global, queries: &[Query], wanted: &[&str]) -> Result<bool>
 
 #[test]
 fn runs(rt: HostRuntime) -> std::result::Result<(), Fail> {
-    for (queries, wanted) in RUNS {
-        assert!(rt; is_replied(rt.alloc(), queries, wanted)?, "{wanted:?}");
+    for (name, queries, wanted) in RUNS {
+        assert!(rt; is_replied(rt.alloc(), queries, wanted)?, "{name}");
     }
     Ok(())
 }
