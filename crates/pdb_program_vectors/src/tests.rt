@@ -2,7 +2,6 @@
 
 mod asked;
 mod channels;
-mod classes;
 mod dumped;
 mod listings;
 mod printed;

@@ -5,14 +5,6 @@ use pdb_container::{Query, Reply, run};
 use std::alloc::Global;
 use std::test::Fail;
 
-/// A question for a whole stream.
-fn stream(number: u32) -> Query {
-    Query::Stream {
-        number,
-        limit: None,
-    }
-}
-
 /// What a file begins with, and its header up to the directory's size: pages of 256 bytes, the free page
 /// map 1, and 8 pages used.
 const FRONT: &[u8] = b"Microsoft C/C++ MSF 7.00\r\n\x1aDS\0\0\0\0\x01\0\0\x01\0\0\0\x08\0\0\0";
@@ -28,6 +20,18 @@ fn claiming(alloc: Global, directory_size: u64) -> Result<Vec<u8>> {
     Ok(file)
 }
 
+/// Questions for streams 0 and 1.
+const STREAMS: &[Query] = &[
+    Query::Stream {
+        number: 0,
+        limit: None,
+    },
+    Query::Stream {
+        number: 1,
+        limit: None,
+    },
+];
+
 /// Whether a reply is a stream of the byte 1.
 fn is_one_byte(reply: &Reply) -> bool {
     matches!(reply, Reply::Bytes(bytes) if bytes.as_slice() == [1u8].as_slice())
@@ -38,32 +42,30 @@ fn is_absent(reply: &Reply) -> bool {
     matches!(reply, Reply::Refused(Error::StreamNotFound(1)))
 }
 
+/// Whether a file has one stream, of the byte 1, or else ends too soon.
+fn is_so(replies: Result<Vec<Reply>>, has_stream: bool) -> bool {
+    match &replies {
+        Ok(replies) => has_stream && are_one_stream(replies),
+        Err(Error::UnexpectedEof) => !has_stream,
+        Err(_) => false,
+    }
+}
+
 /// Whether replies are the byte 1, and that stream 1 is absent.
 fn are_one_stream(replies: &[Reply]) -> bool {
     replies.first().is_some_and(is_one_byte) && replies.get(1).is_some_and(is_absent)
 }
 
-/// Whether a file has one stream, of the byte 1.
-fn is_one_stream(alloc: Global, file: &[u8]) -> Result<bool> {
-    let replies = run(alloc, file, &[stream(0), stream(1)])?;
-    Ok(are_one_stream(&replies))
-}
-
-/// Whether a file whose directory has so many bytes has one stream.
-fn is_read(alloc: Global, directory_size: u64) -> Result<bool> {
+/// Whether a file whose directory has so many bytes has one stream, or else ends too soon.
+fn is_read(alloc: Global, directory_size: u64, has_stream: bool) -> Result<bool> {
     let file = claiming(alloc, directory_size)?;
-    is_one_stream(alloc, &file)
-}
-
-/// Whether a file whose directory has so many bytes ends too soon.
-fn is_ended(alloc: Global, directory_size: u64) -> Result<bool> {
-    let replies = run(alloc, claiming(alloc, directory_size)?, &[stream(0)]);
-    Ok(matches!(replies, Err(Error::UnexpectedEof)))
+    Ok(is_so(run(alloc, file, STREAMS), has_stream))
 }
 
 #[test]
 fn directory_sizes(rt: HostRuntime) -> std::result::Result<(), Fail> {
-    assert!(rt; is_read(rt.alloc(), 16_564_224)?);
-    assert!(rt; is_ended(rt.alloc(), 16_564_225)?);
+    for (size, has_stream) in [(16_564_224, true), (16_564_225, false)] {
+        assert!(rt; is_read(rt.alloc(), size, has_stream)?, "{size} bytes");
+    }
     Ok(())
 }

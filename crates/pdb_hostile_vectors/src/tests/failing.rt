@@ -1,160 +1,186 @@
 //! Sources of which one view fails: the fault is told where it is met, and what is asked again is then
 //! answered.
 
-use super::rows::{Row, edited, is_front, rows};
-use pdb_base::{Error, Result};
+use super::rows::{ROWS, Row, edited, is_front};
+use pdb_base::{Error, Result, Stream};
 use pdb_container::{Query, Reply, run};
 use pdb_msf::{BigMSF, Msf, open_msf};
-use pdb_vectors::{Failing, item_table, s1, s1_with};
+use pdb_vectors::{Failing, s1_with};
 use std::alloc::Global;
 use std::io::ErrorKind;
 use std::test::Fail;
 
-/// Whether a call is refused by the fault of the source.
-fn is_fault<T>(answer: &Result<T>) -> bool {
-    matches!(answer, Err(Error::IoError(error)) if error.kind() == ErrorKind::Other)
+/// Whether a refusal is the fault of the source.
+fn is_fault(error: &Error) -> bool {
+    matches!(error, Error::IoError(error) if error.kind() == ErrorKind::Other)
 }
 
-/// Opens a row's file, of whose views this one fails.
-fn opened(alloc: Global, row: &Row, n: u64) -> Result<BigMSF<Failing>> {
-    open_msf(alloc, Failing::new(edited(alloc, row.edits)?, n))
+/// Whether a row's stream is answered as ever: none where the answer is the fault of the source.
+fn told(row: &Row, answer: Result<Stream>) -> Option<bool> {
+    match &answer {
+        Err(error) if is_fault(error) => None,
+        answer => Some(row.fits(answer)),
+    }
 }
 
 /// Whether the row's stream is answered as ever, and how many faults were told before it was.
 fn asked(alloc: Global, file: &mut BigMSF<Failing>, row: &Row) -> (bool, u64) {
-    let answer = file.get(alloc, row.number, row.limit);
-    if is_fault(&answer) {
-        let again = file.get(alloc, row.number, row.limit);
-        return (row.fits(&again), 1);
+    let Row(_, number, limit, ..) = row;
+    match told(row, file.get(alloc, *number, *limit)) {
+        Some(is) => (is, 0),
+        None => (told(row, file.get(alloc, *number, *limit)) == Some(true), 1),
     }
-    (row.fits(&answer), 0)
 }
 
-/// Whether a row is answered as ever, but for one fault where one of its views fails.
-fn is_answered(alloc: Global, row: &Row, n: u64) -> Result<bool> {
-    let first = opened(alloc, row, n);
-    let is_open = !is_fault(&first);
-    let mut file = if is_open {
-        first?
-    } else {
-        opened(alloc, row, 0)?
-    };
-    let (once, faults) = asked(alloc, &mut file, row);
-    let (again, more) = asked(alloc, &mut file, row);
-    let faults = if is_open {
-        faults.saturating_add(more)
-    } else {
-        1
-    };
-    Ok(once && again && faults == u64::from(n <= row.views))
+/// Whether a row is answered as ever, twice, but for so many faults.
+fn is_asked_twice(alloc: Global, file: &mut BigMSF<Failing>, row: &Row, wanted: u64) -> bool {
+    let (once, faults) = asked(alloc, file, row);
+    let (again, more) = asked(alloc, file, row);
+    once && again && faults.saturating_add(more) == wanted
+}
+
+/// Opens a row's file, of whose views this one fails; none does if the number is 0.
+fn opened(alloc: Global, row: &Row, n: u64) -> Result<BigMSF<Failing>> {
+    let Row(edits, ..) = row;
+    open_msf(alloc, Failing::new(edited(alloc, edits)?, n))
+}
+
+/// Whether a row is answered as ever, but for one fault where one of its views fails: the first opens the file.
+fn is_answered(alloc: Global, row: &Row, n: u64) -> bool {
+    let Row(.., views) = row;
+    match opened(alloc, row, n) {
+        Ok(mut file) => n != 1
+            && is_asked_twice(alloc, &mut file, row, u64::from(0 < n && n <= *views)),
+        Err(error) => n == 1 && is_fault(&error),
+    }
 }
 
 #[test]
 fn views(rt: HostRuntime) -> std::result::Result<(), Fail> {
-    for n in 1..6u64 {
-        for row in &rows() {
-            let is = is_answered(rt.alloc(), row, n)?;
-            assert!(rt; is, "view {n}, stream {}", row.number);
+    for n in 0..6u64 {
+        for row in ROWS {
+            assert!(rt;
+                is_answered(rt.alloc(), row, n),
+                "view {n}, stream {}",
+                row.1
+            );
         }
     }
     Ok(())
 }
 
-/// A question for stream 1.
-fn stream_1() -> Query {
-    Query::Stream {
-        number: 1,
-        limit: None,
+/// What a reply says.
+enum Says {
+    /// The fault of the source.
+    Fault,
+    /// All of stream 1.
+    Stream,
+    /// The list of this index.
+    List(u32),
+}
+
+impl Says {
+    /// Whether a reply says so.
+    fn fits(&self, reply: &Reply) -> bool {
+        match (self, reply) {
+            (Says::Fault, Reply::Refused(error)) => is_fault(error),
+            (Says::Stream, Reply::Bytes(bytes)) => is_front(bytes, 600),
+            (Says::List(wanted), Reply::Record { index, kind, name }) => {
+                *index == *wanted && *kind == 0x1201 && name.is_none()
+            }
+            _ => false,
+        }
     }
 }
 
-/// Whether a reply is the fault.
-fn is_refused(reply: &Reply) -> bool {
-    matches!(reply, Reply::Refused(Error::IoError(error)) if error.kind() == ErrorKind::Other)
+/// A question for stream 1.
+const STREAM_1: Query = Query::Stream {
+    number: 1,
+    limit: None,
+};
+
+/// Questions for a type of stream 3.
+const TYPE_1000: Query = Query::TypeRecord {
+    stream: 3,
+    index: 0x1000,
+};
+
+const TYPE_1001: Query = Query::TypeRecord {
+    stream: 3,
+    index: 0x1001,
+};
+
+/// A table of two types: lists of no arguments.
+const LISTS: &[u8] =
+    b"\0\0\0\0\x38\0\0\0\x00\x10\0\0\x02\x10\0\0\0\0\0\0\0\0\0\0\0\0\0\0\0\0\0\0\0\0\0\0\0\0\0\0\0\0\0\0\0\0\0\0\0\0\0\0\0\0\0\0\x06\0\x01\x12\0\0\0\0\x06\0\x01\x12\0\0\0\0";
+
+/// Stream 3 of S1, the view that fails, what is asked, and what each reply says. No reply: the run is refused by
+/// the fault. A table is read for the first query of it, by the fourth view, and no other view answers the later
+/// ones. Where it is refused, the next query of it reads it again.
+type Replied = (&'static [u8], u64, &'static [Query], &'static [Says]);
+
+const RUNS: &[Replied] = &[
+    (b"hello", 1, &[STREAM_1, STREAM_1], &[]),
+    (
+        b"hello",
+        2,
+        &[STREAM_1, STREAM_1],
+        &[Says::Fault, Says::Stream],
+    ),
+    (
+        b"hello",
+        3,
+        &[STREAM_1, STREAM_1],
+        &[Says::Fault, Says::Stream],
+    ),
+    (
+        b"hello",
+        4,
+        &[STREAM_1, STREAM_1],
+        &[Says::Fault, Says::Stream],
+    ),
+    (
+        LISTS,
+        5,
+        &[TYPE_1001, STREAM_1, TYPE_1000],
+        &[Says::List(0x1001), Says::Fault, Says::List(0x1000)],
+    ),
+    (
+        LISTS,
+        4,
+        &[TYPE_1001, STREAM_1, TYPE_1000],
+        &[Says::Fault, Says::Stream, Says::List(0x1000)],
+    ),
+];
+
+/// Whether each reply says what it should.
+fn are_said(replies: &[Reply], wanted: &[Says]) -> bool {
+    replies.len() == wanted.len()
+        && replies
+            .iter()
+            .zip(wanted)
+            .all(|(reply, says)| says.fits(reply))
 }
 
-/// Whether a reply is all of stream 1.
-fn is_stream_1(reply: &Reply) -> bool {
-    matches!(reply, Reply::Bytes(bytes) if is_front(bytes, 600))
+/// Whether a run replies so, or is refused by the fault where no reply is wanted.
+fn is_replied(replies: Result<Vec<Reply>>, wanted: &[Says]) -> bool {
+    match &replies {
+        Ok(replies) => are_said(replies, wanted),
+        Err(error) => wanted.is_empty() && is_fault(error),
+    }
 }
 
-/// Whether replies are the fault, and then all of stream 1.
-fn are_fault_and_stream(replies: &[Reply]) -> bool {
-    replies.len() == 2
-        && replies.first().is_some_and(is_refused)
-        && replies.get(1).is_some_and(is_stream_1)
-}
-
-/// A run that asks for stream 1 twice, of a file of whose views this one fails.
-fn ran(alloc: Global, n: u64) -> Result<Vec<Reply>> {
-    run(
-        alloc,
-        Failing::new(s1(alloc)?, n),
-        &[stream_1(), stream_1()],
-    )
-}
-
-/// Whether the run replies with the fault, and then with all of stream 1.
-fn is_asked_again(alloc: Global, n: u64) -> Result<bool> {
-    let replies = ran(alloc, n)?;
-    Ok(are_fault_and_stream(&replies))
+/// Whether a run over a row's file replies so, if its view of that number fails.
+fn is_run(alloc: Global, row: &Replied) -> Result<bool> {
+    let (stream, n, queries, wanted) = row;
+    let file = Failing::new(s1_with(alloc, stream)?, *n);
+    Ok(is_replied(run(alloc, file, queries), wanted))
 }
 
 #[test]
 fn runs(rt: HostRuntime) -> std::result::Result<(), Fail> {
-    assert!(rt; is_fault(&ran(rt.alloc(), 1)));
-    for n in 2..5u64 {
-        assert!(rt; is_asked_again(rt.alloc(), n)?, "view {n}");
+    for row in RUNS {
+        assert!(rt; is_run(rt.alloc(), row)?, "view {}", row.1);
     }
-    Ok(())
-}
-
-/// Two items of a table of types: lists of no arguments.
-const LISTS: &[u8] = b"\x06\0\x01\x12\0\0\0\0\x06\0\x01\x12\0\0\0\0";
-
-/// A question for a type of stream 3.
-fn list(index: u32) -> Query {
-    Query::TypeRecord { stream: 3, index }
-}
-
-/// Whether a reply is the list of an index.
-fn is_list(reply: &Reply, wanted: u32) -> bool {
-    matches!(reply, Reply::Record { index, kind: 0x1201, name: None } if *index == wanted)
-}
-
-/// The replies of a file whose stream 3 is the table of two lists, and of whose views this one fails: for one
-/// list, for stream 1, and for the other list.
-fn asked_of_lists(alloc: Global, n: u64) -> Result<Vec<Reply>> {
-    let table = item_table(alloc, 56, 0x1000, 0x1002, LISTS)?;
-    let file = Failing::new(s1_with(alloc, &table)?, n);
-    run(alloc, file, &[list(0x1001), stream_1(), list(0x1000)])
-}
-
-/// Whether only the reply for stream 1 is the fault.
-fn is_read_once(replies: &[Reply]) -> bool {
-    matches!(replies, [first, fault, last] if is_list(first, 0x1001) && is_refused(fault) && is_list(last, 0x1000))
-}
-
-/// Whether only the first reply is the fault.
-fn is_read_again(replies: &[Reply]) -> bool {
-    matches!(replies, [fault, stream, last] if is_refused(fault) && is_stream_1(stream) && is_list(last, 0x1000))
-}
-
-/// Whether the replies are those of a table that is read again where it is refused: by the fourth view, and
-/// not by the fifth.
-fn is_list_read(alloc: Global, n: u64) -> Result<bool> {
-    let replies = asked_of_lists(alloc, n)?;
-    Ok(match n {
-        4 => is_read_again(&replies),
-        _ => is_read_once(&replies),
-    })
-}
-
-/// A table is read for the first query of it, and no other view answers the later ones. Where it is refused,
-/// the next query of it reads it again.
-#[test]
-fn one_read(rt: HostRuntime) -> std::result::Result<(), Fail> {
-    assert!(rt; is_list_read(rt.alloc(), 5)?);
-    assert!(rt; is_list_read(rt.alloc(), 4)?);
     Ok(())
 }

@@ -7,7 +7,6 @@ use std::alloc::Global;
 use std::io::ErrorKind;
 
 /// What a stream is answered with.
-#[derive(Clone, Copy)]
 pub(crate) enum Want {
     /// These bytes.
     Bytes(&'static [u8]),
@@ -21,45 +20,38 @@ pub(crate) enum Want {
     OutOfRange(u32),
 }
 
-/// What is asked of S1 with some bytes set to others.
-#[derive(Clone, Copy)]
-pub(crate) struct Row {
-    /// The places and the bytes that are set there.
-    pub(crate) edits: &'static [(usize, u8)],
-    /// The stream that is asked for.
-    pub(crate) number: u32,
-    /// The limit.
-    pub(crate) limit: Option<usize>,
-    /// What is answered.
-    pub(crate) want: Want,
-    /// How many views of a source it takes to open the file and to ask twice.
-    pub(crate) views: u64,
-}
+/// What is asked of S1: the places and the bytes that are set there, the stream that is asked for and the limit;
+/// what is answered; and how many views of a source it takes to open the file and to ask twice.
+pub(crate) struct Row(
+    pub(crate) &'static [(usize, u8)],
+    pub(crate) u32,
+    pub(crate) Option<usize>,
+    pub(crate) Want,
+    pub(crate) u64,
+);
 
 /// Where stream 3's page number stands in S1.
 const PAGE_OF_3: usize = 1052;
 
-/// A row of S1 as it is.
-fn plain_row(number: u32, limit: Option<usize>, want: Want, views: u64) -> Row {
-    Row {
-        edits: &[],
-        number,
-        limit,
-        want,
-        views,
-    }
-}
+/// Stream 3 in page 8, behind the file's end.
+const PAST: &[(usize, u8)] = &[(PAGE_OF_3, 8)];
 
-/// A row on stream 3 of S1 with some bytes set to others.
-fn edited_row(edits: &'static [(usize, u8)], limit: Option<usize>, want: Want, views: u64) -> Row {
-    Row {
-        edits,
-        number: 3,
-        limit,
-        want,
-        views,
-    }
-}
+/// Stream 3 in page 9, which is none.
+const NONE: &[(usize, u8)] = &[(PAGE_OF_3, 9)];
+
+/// S1 as it is, and then with stream 3 elsewhere.
+pub(crate) const ROWS: &[Row] = &[
+    Row(&[], 1, None, Want::Front(600), 5),
+    Row(&[], 1, Some(513), Want::Front(513), 5),
+    Row(&[], 0, None, Want::Bytes(b""), 5),
+    Row(&[], 3, None, Want::Bytes(b"hello"), 5),
+    Row(&[], 2, None, Want::Absent, 3),
+    Row(&[], 4, None, Want::Absent, 3),
+    Row(PAST, 3, None, Want::Ended, 5),
+    Row(PAST, 3, Some(0), Want::Bytes(b""), 5),
+    Row(NONE, 3, None, Want::OutOfRange(9), 3),
+    Row(NONE, 3, Some(0), Want::OutOfRange(9), 3),
+];
 
 /// The file S1 with some bytes set to others.
 pub(crate) fn edited(alloc: Global, edits: &[(usize, u8)]) -> Result<Vec<u8>> {
@@ -91,36 +83,27 @@ pub(crate) fn is_front(bytes: &[u8], len: usize) -> bool {
 impl Row {
     /// Whether the row's stream is answered so. It takes no memory.
     pub(crate) fn fits(&self, answer: &Result<Stream>) -> bool {
-        match (answer, &self.want) {
-            (Ok(stream), Want::Bytes(bytes)) => stream.as_slice() == *bytes,
-            (Ok(stream), Want::Front(len)) => is_front(stream.as_slice(), *len),
-            (Err(Error::StreamNotFound(number)), Want::Absent) => *number == self.number,
-            (Err(Error::IoError(error)), Want::Ended) => error.kind() == ErrorKind::UnexpectedEof,
-            (Err(Error::PageReferenceOutOfRange(page)), Want::OutOfRange(want)) => *page == *want,
+        let Row(_, number, _, want, _) = self;
+        match (want, answer) {
+            (Want::Bytes(bytes), Ok(stream)) => stream.as_slice() == *bytes,
+            (Want::Front(len), Ok(stream)) => is_front(stream.as_slice(), *len),
+            (Want::Absent, Err(Error::StreamNotFound(absent))) => *absent == *number,
+            (Want::Ended, Err(Error::IoError(error))) => error.kind() == ErrorKind::UnexpectedEof,
+            (Want::OutOfRange(page), Err(Error::PageReferenceOutOfRange(told))) => *told == *page,
             _ => false,
         }
     }
 }
 
-/// S1 as it is, and then with stream 3 in page 8, behind the file's end, and in page 9, which is none.
-pub(crate) fn rows() -> [Row; 10] {
-    let past = &[(PAGE_OF_3, 8)];
-    let none = &[(PAGE_OF_3, 9)];
-    [
-        plain_row(1, None, Want::Front(600), 5),
-        plain_row(1, Some(513), Want::Front(513), 5),
-        plain_row(0, None, Want::Bytes(b""), 5),
-        plain_row(3, None, Want::Bytes(b"hello"), 5),
-        plain_row(2, None, Want::Absent, 3),
-        plain_row(4, None, Want::Absent, 3),
-        edited_row(past, None, Want::Ended, 5),
-        edited_row(past, Some(0), Want::Bytes(b""), 5),
-        edited_row(none, None, Want::OutOfRange(9), 3),
-        edited_row(none, Some(0), Want::OutOfRange(9), 3),
-    ]
+/// A stream of these bytes.
+pub(crate) fn stream_of(bytes: Vec<u8>) -> Result<Stream> {
+    if bytes.len() >= 0xffff_ffff {
+        return Err(Error::UnimplementedFeature("a long stream"));
+    }
+    Ok(Stream::new(bytes))
 }
 
-/// A list of pages of 4096 bytes, added in turn.
+/// A list of pages of 4096 bytes, added in turn, each once more where memory is refused.
 pub(crate) fn list_of(alloc: Global, pages: &[u32]) -> Result<PageList> {
     let mut list = PageList::new(alloc, 4096);
     for page in pages {

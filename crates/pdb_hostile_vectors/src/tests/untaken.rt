@@ -3,49 +3,49 @@
 
 ghost use Rattle.std.specs.Prelude.{◌≡◌};
 
-use super::rows::{edited, list_of};
+use super::rows::{edited, list_of, stream_of};
 use pdb_base::{
     Count, Error, FallibleIterator, IdIndex, ParseBuffer, RawString, Result, Stream, StreamIndex,
     TypeIndex, Variant,
 };
 use pdb_container::{
-    AddressMap, FrameDataIter, FrameTable, Id, IdInformation, ImageSectionHeader, OMAPRecord,
-    OMAPTable, PdbInternalRva, Rva, SectionOffset, StringRef, StringTable, Type, TypeData,
-    TypeFinder, TypeInformation, TypeProperties, type_data_for_primitive,
+    AddressMap, FrameDataIter, FrameTable, Id, IdData, IdInformation, ImageSectionHeader,
+    OMAPRecord, OMAPTable, PdbInternalRva, Rva, SectionOffset, StringRef, StringTable, Type,
+    TypeData, TypeFinder, TypeInformation, TypeProperties, type_data_for_primitive,
 };
 use pdb_msf::{BigMSF, Msf, PageList, ReadView, SourceView, open_msf};
 use std::alloc::Global;
 use std::test::Fail;
 
-/// A stream of these bytes.
-fn stream_of(alloc: Global, bytes: &[u8]) -> Result<Stream> {
-    let bytes = settled!(copied(alloc, bytes))?;
-    if bytes.len() >= 0xffff_ffff {
-        return Err(Error::UnimplementedFeature("a long stream"));
-    }
-    Ok(Stream::new(bytes))
-}
-
-fn copied(alloc: Global, bytes: &[u8]) -> Result<Vec<u8>> {
-    Ok(Vec::from_slice(alloc, bytes)?)
-}
-
 /// Numbers of each width, and texts.
 const BYTES: &[u8] =
     b"\x01\x02\x03\x04\x05\x06\x07\x08\x09\x0a\x0b\x0c\x0d\x0e\x0f\x10\x11\x12\x13\x14\x15\x16\x17\x18\x19\x1a\x1b\x1c\x1d\x1e\x1f\x20text\0\x04text\x05\0\x00\x80\x05";
 
-/// Whether narrow numbers are read one behind the other.
-fn are_numbers_read(buffer: &mut ParseBuffer<'_>) -> bool {
-    matches!(buffer.peek_u8(), Ok(1))
-        && matches!(buffer.peek_u16(), Ok(0x0201))
-        && matches!(buffer.parse_u8(), Ok(1))
-        && matches!(buffer.parse_u16(), Ok(0x0302))
+/// Whether a number of one, two, four or eight bytes was read so.
+fn is_u8(read: Result<u8>, wanted: u8) -> bool {
+    matches!(read, Ok(number) if number == wanted)
 }
 
-/// Whether wide numbers are read behind those.
-fn are_wide_read(buffer: &mut ParseBuffer<'_>) -> bool {
-    matches!(buffer.parse_u32(), Ok(0x0706_0504))
-        && matches!(buffer.parse_u64(), Ok(0x0f0e_0d0c_0b0a_0908))
+fn is_u16(read: Result<u16>, wanted: u16) -> bool {
+    matches!(read, Ok(number) if number == wanted)
+}
+
+fn is_u32(read: Result<u32>, wanted: u32) -> bool {
+    matches!(read, Ok(number) if number == wanted)
+}
+
+fn is_u64(read: Result<u64>, wanted: u64) -> bool {
+    matches!(read, Ok(number) if number == wanted)
+}
+
+/// Whether numbers are read one behind the other.
+fn are_numbers_read(buffer: &mut ParseBuffer<'_>) -> bool {
+    is_u8(buffer.peek_u8(), 1)
+        && is_u16(buffer.peek_u16(), 0x0201)
+        && is_u8(buffer.parse_u8(), 1)
+        && is_u16(buffer.parse_u16(), 0x0302)
+        && is_u32(buffer.parse_u32(), 0x0706_0504)
+        && is_u64(buffer.parse_u64(), 0x0f0e_0d0c_0b0a_0908)
 }
 
 /// Whether signed numbers, and an index, are read behind those.
@@ -57,22 +57,37 @@ fn are_signed_read(buffer: &mut ParseBuffer<'_>) -> bool {
 }
 
 /// Whether a text was read.
-fn is_text(read: &Result<RawString<'_>>) -> bool {
+fn is_text(read: Result<RawString<'_>>) -> bool {
     matches!(read, Ok(text) if text.as_bytes() == b"text".as_slice())
 }
 
 /// Whether texts are read behind those.
 fn are_texts_read(buffer: &mut ParseBuffer<'_>) -> bool {
     matches!(buffer.take(7), Ok(bytes) if bytes.len() == 7)
-        && is_text(&buffer.parse_cstring())
-        && is_text(&buffer.parse_u8_pascal_string())
+        && is_text(buffer.parse_cstring())
+        && is_text(buffer.parse_u8_pascal_string())
 }
 
 /// Whether numbers of variable width are read behind those, and no more than there is.
 fn are_variants_read(buffer: &mut ParseBuffer<'_>) -> bool {
-    matches!(buffer.parse_num(), Ok(5))
+    is_u64(buffer.parse_num(), 5)
         && matches!(buffer.parse_variant(), Ok(Variant::U8(5)))
         && buffer.is_empty()
+}
+
+/// Whether a buffer ends too soon.
+fn is_short(read: Result<u32>) -> bool {
+    matches!(read, Err(Error::UnexpectedEof))
+}
+
+/// Whether a buffer's position goes where it is sent, and reads at its end are refused.
+fn is_moved(buffer: &mut ParseBuffer<'_>) -> bool {
+    buffer.seek(5);
+    buffer.align(4).is_ok()
+        && buffer.pos() == 8
+        && buffer.truncate(10).is_ok()
+        && buffer.len() == 2
+        && is_short(buffer.parse_u32())
 }
 
 /// Whether a number with an unknown prefix is refused.
@@ -83,27 +98,23 @@ fn is_prefix_refused() -> bool {
     )
 }
 
-/// Whether a buffer's position goes where it is sent, and reads at its end are refused.
-fn is_moved(buffer: &mut ParseBuffer<'_>) -> bool {
-    buffer.seek(5);
-    buffer.align(4).is_ok()
-        && buffer.pos() == 8
-        && buffer.truncate(10).is_ok()
-        && buffer.len() == 2
-        && matches!(buffer.parse_u32(), Err(Error::UnexpectedEof))
-}
-
 /// Whether a buffer is read as ever.
 fn is_buffer_read(bytes: &[u8]) -> bool {
     let mut buffer = ParseBuffer::from(bytes);
     are_numbers_read(&mut buffer)
-        && are_wide_read(&mut buffer)
         && are_signed_read(&mut buffer)
         && are_texts_read(&mut buffer)
         && are_variants_read(&mut buffer)
         && is_moved(&mut buffer)
         && is_prefix_refused()
         && StreamIndex(7).msf_number() == Some(7)
+}
+
+/// Whether a stream's bytes are read as ever, and are all in a view.
+fn is_stream_read(stream: Stream) -> bool {
+    let read = is_buffer_read(stream.as_slice()) && stream.parse_buffer().len() == BYTES.len();
+    let view = ReadView::new(stream.into_bytes());
+    read && view.as_slice().len() == BYTES.len()
 }
 
 /// Whether a list of pages is cut as ever.
@@ -127,68 +138,41 @@ fn locate(alloc: Global, file: &mut BigMSF<Vec<u8>>) -> Result<()> {
     }
 }
 
-/// S1 with a directory of so many bytes, located.
-fn located(alloc: Global, size: u8) -> Result<BigMSF<Vec<u8>>> {
-    let mut file = settled!(opened(alloc, size))?;
-    settled!(locate(alloc, &mut file))?;
-    Ok(file)
-}
-
+/// S1 with a directory of so many bytes.
 fn opened(alloc: Global, size: u8) -> Result<BigMSF<Vec<u8>>> {
     open_msf(alloc, edited(alloc, &[(DIRECTORY_SIZE, size)])?)
 }
 
-/// Whether a file ends too soon for a stream.
-fn is_ended(alloc: Global, file: &mut BigMSF<Vec<u8>>, number: u32) -> bool {
-    matches!(file.get(alloc, number, None), Err(Error::UnexpectedEof))
-}
-
-/// Whether a file lacks a stream.
-fn is_absent(alloc: Global, file: &mut BigMSF<Vec<u8>>, number: u32) -> bool {
-    matches!(file.get(alloc, number, None), Err(Error::StreamNotFound(_)))
-}
-
-/// Whether a located file refuses streams that its directory of so many bytes lacks: it has no count of
-/// them, too few sizes, or too few page numbers; or that are absent.
-fn are_streams_refused(alloc: Global, size: u8, file: &mut BigMSF<Vec<u8>>) -> bool {
-    match size {
-        0 => is_ended(alloc, file, 0),
-        19 => is_ended(alloc, file, 3) && is_ended(alloc, file, 0),
-        24 => is_ended(alloc, file, 3),
-        _ => is_absent(alloc, file, 2) && is_absent(alloc, file, 4),
+/// Whether a stream is refused: the file ends too soon for it, or else it is absent.
+fn is_refused(answer: Result<Stream>, is_ended: bool) -> bool {
+    match &answer {
+        Err(Error::UnexpectedEof) => is_ended,
+        Err(Error::StreamNotFound(_)) => !is_ended,
+        _ => false,
     }
 }
 
-/// Whether S1 with a directory of so many bytes refuses streams as ever, where `calls` says that it is
-/// asked for them.
-fn is_directory(alloc: Global, size: u8, calls: bool) -> Result<bool> {
-    let mut file = located(alloc, size)?;
-    if !calls {
-        return Ok(true);
+/// Whether a located file tells what it is, and refuses streams, as ever.
+fn is_file(alloc: Global, file: &mut BigMSF<Vec<u8>>, size: u8, refused: &[(u32, bool)]) -> bool {
+    let told = file.located() && file.asked() >= u64::from(size) && file.source().len() == 4096;
+    for (number, is_ended) in refused {
+        if !is_refused(file.get(alloc, *number, None), *is_ended) {
+            return false;
+        }
     }
-    let told = file.located() && file.asked() >= u64::from(size);
-    let source = file.source();
-    let whole = source.len() == 4096;
-    Ok(told && whole && are_streams_refused(alloc, size, &mut file))
+    told
 }
 
-/// Whether a stream's bytes are read as ever, and are all in a view.
-fn is_stream_read(stream: Stream) -> bool {
-    let read = is_buffer_read(stream.as_slice()) && stream.parse_buffer().len() == BYTES.len();
-    let view = ReadView::new(stream.into_bytes());
-    read && view.as_slice().len() == BYTES.len()
-}
-
-/// Whether a list of pages answers as ever, where `calls` says that it is asked.
-fn has_pages(alloc: Global, calls: bool) -> Result<bool> {
-    let list = list_of(alloc, &[0, 1, 4, 5, 2, 2])?;
-    Ok(!calls || is_list_cut(list))
-}
-
-/// Whether views and buffers answer as ever, where `calls` says that they are asked.
-fn has_bytes(alloc: Global, calls: bool) -> Result<bool> {
-    let stream = stream_of(alloc, BYTES)?;
-    Ok(!calls || is_stream_read(stream))
+/// The same where `calls` says that it is asked, once it is located.
+fn is_located(
+    alloc: Global,
+    file: &mut BigMSF<Vec<u8>>,
+    size: u8,
+    refused: &[(u32, bool)],
+    calls: bool,
+) -> Result<bool> {
+    locate(alloc, file)?;
+    Ok(!calls || is_file(alloc, file, size, refused))
 }
 
 /// A table of three types: a pointer, a list of arguments with a false count, and a structure.
@@ -199,20 +183,26 @@ const TYPES: &[u8] =
 const IDS: &[u8] =
     b"\0\0\0\0\x38\0\0\0\x00\x10\0\0\x02\x10\0\0\0\0\0\0\0\0\0\0\0\0\0\0\0\0\0\0\0\0\0\0\0\0\0\0\0\0\0\0\0\0\0\0\0\0\0\0\0\0\0\0\x08\0\x05\x16\0\0\0\0a\0\x08\0\x03\x16\x03\0\x01\x10\0\0";
 
-/// The name of a type, if it is read and has one.
-fn name_of<'t>(read: &Result<TypeData<'t>>) -> Option<RawString<'t>> {
-    match read {
-        Ok(data) => data.name(),
-        Err(_) => None,
+/// Whether a name is that of the structure.
+fn is_h_size(name: Option<RawString<'_>>) -> bool {
+    matches!(name, Some(name) if name.as_bytes() == b"H_size".as_slice())
+}
+
+/// Whether a type is as ever: at 0x1000 the pointer, at 0x74 a primitive type, and at 0x1002 the structure.
+fn is_so(data: &TypeData<'_>, index: u32) -> bool {
+    match data {
+        TypeData::Pointer(_) => index == 0x1000,
+        TypeData::Primitive(_) => index == 0x74,
+        _ => index == 0x1002 && is_h_size(data.name()),
     }
 }
 
-/// Whether a type was read as ever: at 0x1000 the pointer, at 0x1001 the list, and then the structure.
-fn is_read_so(index: u32, read: &Result<TypeData<'_>>) -> bool {
-    match index {
-        0x1000 => matches!(read, Ok(TypeData::Pointer(_))),
-        0x1001 => matches!(read, Err(Error::UnexpectedEof)),
-        _ => name_of(read) == Some(RawString::from("H_size")),
+/// Whether a type was read as ever: the list at 0x1001 ends too soon.
+fn is_read_so(read: Result<TypeData<'_>>, index: u32) -> bool {
+    match &read {
+        Ok(data) => is_so(data, index),
+        Err(Error::UnexpectedEof) => index == 0x1001,
+        Err(_) => false,
     }
 }
 
@@ -225,88 +215,92 @@ fn is_told(item: &Type<'_>, index: u32) -> bool {
 }
 
 /// Whether a type without a list, or with a false count, is told and read as ever.
-fn is_type_read(alloc: Global, item: &Type<'_>, index: u32) -> bool {
-    is_told(item, index) && is_read_so(index, &item.parse(alloc))
+fn is_type_read(alloc: Global, step: Result<Option<Type<'_>>>, index: u32) -> bool {
+    match &step {
+        Ok(Some(item)) => is_told(item, index) && is_read_so(item.parse(alloc), index),
+        _ => false,
+    }
 }
 
-/// Whether types without a list, and a false count, are read as ever.
-fn are_types_read(alloc: Global, table: &TypeInformation) -> Result<bool> {
+/// Whether types without a list, and a false count, are read as ever; and whether a primitive type, and a flag,
+/// are told so.
+fn are_types_read(alloc: Global, table: &TypeInformation) -> bool {
     let mut walk = table.iter();
     for index in 0x1000..0x1003u32 {
-        let is = match walk.next()? {
-            Some(item) => is_type_read(alloc, &item, index),
-            None => false,
-        };
-        if !is {
-            return Ok(false);
+        if !is_type_read(alloc, walk.next(), index) {
+            return false;
         }
     }
-    Ok(true)
+    is_read_so(type_data_for_primitive(TypeIndex(0x74)), 0x74)
+        && TypeProperties::new(0x2000).intrinsic_type()
 }
 
-/// Whether a primitive type, and a flag, are told as ever.
-fn are_parts_told() -> bool {
-    type_data_for_primitive(TypeIndex(0x74)).is_ok() && TypeProperties::new(0x2000).intrinsic_type()
+/// Whether a type was found, or else is not there.
+fn is_known(found: Result<Type<'_>>, is_there: bool) -> bool {
+    match &found {
+        Ok(_) => is_there,
+        Err(Error::TypeNotFound(0x1003)) => !is_there,
+        Err(_) => false,
+    }
 }
 
 /// Whether a finder that was shown the table finds as ever.
 fn is_finding(finder: &TypeFinder<'_>) -> bool {
     let mut count = Count::new();
-    let found = finder.find_counted(TypeIndex(0x1002), &mut count).is_ok() && count.get() == 3;
-    let refused = matches!(
-        finder.find(TypeIndex(0x1003)),
-        Err(Error::TypeNotFound(0x1003))
-    );
-    found && refused && finder.max_index() == TypeIndex(0x1002)
+    is_known(finder.find_counted(TypeIndex(0x1002), &mut count), true)
+        && count.get() == 3
+        && is_known(finder.find(TypeIndex(0x1003)), false)
+        && finder.max_index() == TypeIndex(0x1002)
 }
 
-/// Whether a table is told, and a finder of it finds, as ever.
-fn is_found<'t>(table: &'t TypeInformation, mut finder: TypeFinder<'t>) -> bool
-    requires { finder.table ≡ table.now }
+/// Whether a finder finds as ever.
+fn is_found<'t>(table: &'t TypeInformation, finder: &mut TypeFinder<'t>) -> bool
+    requires { finder.old.table ≡ table.now }
 {
-    let told = table.len() == 3 && !table.is_empty() && table.header().header_size == 56;
     let mut walk = table.iter();
     let stepped = walk.next().is_ok();
     finder.update(&walk);
     finder.update_all(&[walk]);
-    told && stepped && is_finding(&finder)
+    stepped && is_finding(finder)
 }
 
-/// Whether an id without a list is read.
-fn is_id_read(alloc: Global, item: &Id<'_>) -> bool {
-    item.parse(alloc).is_ok()
-}
-
-/// Whether an id with a false count is refused.
-fn is_id_refused(alloc: Global, item: &Id<'_>) -> bool {
-    matches!(item.parse(alloc), Err(Error::UnexpectedEof))
-}
-
-/// Whether an id without a list, and a false count, are read as ever.
-fn are_ids_read(alloc: Global, table: &IdInformation) -> Result<bool> {
-    let mut walk = table.iter();
-    let (Some(text), Some(build)) = (walk.next()?, walk.next()?) else {
-        return Ok(false);
-    };
-    let read = text.index() == IdIndex(0x1000) && is_id_read(alloc, &text);
-    Ok(read && is_id_refused(alloc, &build))
+/// Whether a table's parts are told as ever.
+fn is_header_told(table: &TypeInformation) -> bool {
+    table.len() == 3 && !table.is_empty() && table.header().header_size == 56
 }
 
 /// Whether a table of types answers as ever, where `calls` says that it is asked.
-fn is_table(alloc: Global, table: &TypeInformation, calls: bool) -> Result<bool> {
-    let finder = settled!(table.finder(alloc))?;
-    Ok(!calls || (is_found(table, finder) && are_types_read(alloc, table)?))
+fn are_types(alloc: Global, table: &TypeInformation, calls: bool) -> Result<bool> {
+    let mut finder = table.finder(alloc)?;
+    Ok(
+        !calls
+            || (is_header_told(table)
+                && is_found(table, &mut finder)
+                && are_types_read(alloc, table)),
+    )
 }
 
-/// Whether types answer as ever, where `calls` says that they are asked, as below.
-fn has_types(alloc: Global, calls: bool) -> Result<bool> {
-    let table = TypeInformation::parse(stream_of(alloc, TYPES)?)?;
-    is_table(alloc, &table, calls)
+/// Whether an id was read, or else ends too soon.
+fn is_id_read(read: Result<IdData<'_>>, is_whole: bool) -> bool {
+    match &read {
+        Ok(_) => is_whole,
+        Err(Error::UnexpectedEof) => !is_whole,
+        Err(_) => false,
+    }
 }
 
-fn has_ids(alloc: Global, calls: bool) -> Result<bool> {
-    let table = IdInformation::parse(stream_of(alloc, IDS)?)?;
-    Ok(!calls || are_ids_read(alloc, &table)?)
+/// Whether an id without a list, or with a false count, is read as ever.
+fn is_id(alloc: Global, step: Result<Option<Id<'_>>>, index: u32, is_whole: bool) -> bool {
+    match &step {
+        Ok(Some(item)) => item.index() == IdIndex(index) && is_id_read(item.parse(alloc), is_whole),
+        _ => false,
+    }
+}
+
+/// Whether an id without a list, and a false count, are read as ever.
+fn are_ids_read(alloc: Global, table: &IdInformation) -> bool {
+    let mut walk = table.iter();
+    is_id(alloc, walk.next(), 0x1000, true) && is_id(alloc, walk.next(), 0x1001, false)
 }
 
 const NAMES: &[u8] = b"\xfe\xef\xfe\xef\x01\0\0\0\x07\0\0\0\0foo\0ba\0";
@@ -321,10 +315,18 @@ const FRAMES: &[u8] =
 const SECTION: &[u8] =
     b".data\0\0\0\0\x01\0\0\0\x10\0\0\0\x01\0\0\0\0\0\0\0\0\0\0\0\0\0\0\0\0\0\0\0\0\0\0\0";
 
+/// Whether a name of this length was read, or the table ends too soon for any.
+fn is_name(name: Result<RawString<'_>>, wanted: Option<usize>) -> bool {
+    match &name {
+        Ok(name) => wanted == Some(name.len()),
+        Err(Error::UnexpectedEof) => wanted.is_none(),
+        Err(_) => false,
+    }
+}
+
 /// Whether names are found as ever.
 fn is_named(names: &StringTable) -> bool {
-    matches!(names.get(StringRef(1)), Ok(name) if name.len() == 3)
-        && matches!(StringRef(5).to_raw_string(names), Err(Error::UnexpectedEof))
+    is_name(names.get(StringRef(1)), Some(3)) && is_name(StringRef(5).to_raw_string(names), None)
 }
 
 /// Whether addresses are moved as ever.
@@ -367,75 +369,136 @@ fn sections(alloc: Global) -> Result<Vec<ImageSectionHeader>> {
     Ok(sections)
 }
 
-/// Whether sections are the one that is named `.data`.
-fn is_section(sections: &[ImageSectionHeader]) -> bool {
-    matches!(sections, [section] if section.name() == ".data")
-}
-
 /// Whether a section is named, and places in it are found, as ever.
 fn are_sections(sections: Vec<ImageSectionHeader>) -> bool {
-    let named = is_section(&sections);
-    named && is_placed(&AddressMap::new(sections, None, None, None))
+    let is_section = matches!(sections.as_slice(), [section] if section.name() == ".data");
+    is_section && is_placed(&AddressMap::new(sections, None, None, None))
 }
 
-/// Whether names are found as ever, where `calls` says that they are asked for, as below.
-fn has_names(alloc: Global, calls: bool) -> Result<bool> {
-    let names = StringTable::parse(stream_of(alloc, NAMES)?)?;
-    Ok(!calls || is_named(&names))
+/// What a stream is read as.
+enum Kind {
+    Bytes,
+    Types,
+    Ids,
+    Names,
+    Moved,
+    Frames,
 }
 
-fn has_moved(alloc: Global, calls: bool) -> Result<bool> {
-    let omap = OMAPTable::parse(stream_of(alloc, OMAP)?)?;
-    Ok(!calls || is_moved_so(&omap))
+/// What is made, and asked where `calls` says so.
+enum Fixture {
+    /// S1 with a directory of so many bytes, located; and streams that it refuses, with whether the directory
+    /// ends too soon for them: it has no count of streams, too few sizes, or too few page numbers. Others are
+    /// absent.
+    Directory(u8, &'static [(u32, bool)]),
+    /// A list of these pages.
+    Pages(&'static [u32]),
+    /// One section.
+    Section(&'static [u8]),
+    /// A stream of these bytes.
+    Stream(&'static [u8], Kind),
 }
 
-fn has_frames(alloc: Global, calls: bool) -> Result<bool> {
-    let frames = FrameTable::parse(None, Some(stream_of(alloc, FRAMES)?))?;
-    Ok(!calls || are_frames(&frames))
+/// The fixtures, each with a name.
+const FIXTURES: &[(&str, Fixture)] = &[
+    ("no directory", Fixture::Directory(0, &[(0, true)])),
+    (
+        "within a size",
+        Fixture::Directory(19, &[(3, true), (0, true)]),
+    ),
+    ("within page numbers", Fixture::Directory(24, &[(3, true)])),
+    (
+        "a directory",
+        Fixture::Directory(32, &[(2, false), (4, false)]),
+    ),
+    ("pages", Fixture::Pages(&[0, 1, 4, 5, 2, 2])),
+    ("a section", Fixture::Section(SECTION)),
+    ("bytes", Fixture::Stream(BYTES, Kind::Bytes)),
+    ("types", Fixture::Stream(TYPES, Kind::Types)),
+    ("ids", Fixture::Stream(IDS, Kind::Ids)),
+    ("names", Fixture::Stream(NAMES, Kind::Names)),
+    ("moved addresses", Fixture::Stream(OMAP, Kind::Moved)),
+    ("frames", Fixture::Stream(FRAMES, Kind::Frames)),
+];
+
+/// Whether ids answer as ever, where `calls` says that they are asked; and so on.
+fn are_ids(alloc: Global, ids: Result<IdInformation>, calls: bool) -> bool {
+    match &ids {
+        Ok(ids) => !calls || are_ids_read(alloc, ids),
+        Err(_) => false,
+    }
 }
 
-fn has_places(alloc: Global, calls: bool) -> Result<bool> {
-    let sections = settled!(sections(alloc))?;
+fn are_named(names: Result<StringTable>, calls: bool) -> bool {
+    match &names {
+        Ok(names) => !calls || is_named(names),
+        Err(_) => false,
+    }
+}
+
+fn are_moved(omap: Result<OMAPTable>, calls: bool) -> bool {
+    match &omap {
+        Ok(omap) => !calls || is_moved_so(omap),
+        Err(_) => false,
+    }
+}
+
+fn are_framed(frames: Result<FrameTable>, calls: bool) -> bool {
+    match &frames {
+        Ok(frames) => !calls || are_frames(frames),
+        Err(_) => false,
+    }
+}
+
+fn are_typed(alloc: Global, types: Result<TypeInformation>, calls: bool) -> Result<bool> {
+    match &types {
+        Ok(types) => are_types(alloc, types, calls),
+        Err(_) => Ok(false),
+    }
+}
+
+/// Whether a stream answers as ever, where `calls` says that it is asked.
+fn is_stream(alloc: Global, stream: Stream, kind: &Kind, calls: bool) -> Result<bool> {
+    match kind {
+        Kind::Bytes => Ok(!calls || is_stream_read(stream)),
+        Kind::Types => are_typed(alloc, TypeInformation::parse(stream), calls),
+        Kind::Ids => Ok(are_ids(alloc, IdInformation::parse(stream), calls)),
+        Kind::Names => Ok(are_named(StringTable::parse(stream), calls)),
+        Kind::Moved => Ok(are_moved(OMAPTable::parse(stream), calls)),
+        Kind::Frames => Ok(are_framed(FrameTable::parse(None, Some(stream)), calls)),
+    }
+}
+
+/// Whether each is made, and answers as ever where `calls` says that it is asked. A function each: one that makes
+/// all is long in the proof.
+fn has_directory(alloc: Global, size: u8, refused: &[(u32, bool)], calls: bool) -> Result<bool> {
+    is_located(alloc, &mut opened(alloc, size)?, size, refused, calls)
+}
+
+fn has_pages(alloc: Global, pages: &[u32], calls: bool) -> Result<bool> {
+    let list = list_of(alloc, pages)?;
+    Ok(!calls || is_list_cut(list))
+}
+
+fn has_section(alloc: Global, bytes: &[u8], calls: bool) -> Result<bool> {
+    let section = ImageSectionHeader::parse(&mut ParseBuffer::from(bytes))?;
+    let sections = Vec::from_slice(alloc, &[section])?;
     Ok(!calls || are_sections(sections))
 }
 
-/// Whether S1 refuses streams as ever, with each size of its directory.
-fn are_directories(alloc: Global, calls: bool) -> Result<bool> {
-    for size in SIZES {
-        if !is_directory(alloc, *size, calls)? {
-            return Ok(false);
-        }
+fn has_stream(alloc: Global, bytes: &[u8], kind: &Kind, calls: bool) -> Result<bool> {
+    let stream = stream_of(Vec::from_slice(alloc, bytes)?)?;
+    is_stream(alloc, stream, kind, calls)
+}
+
+/// The same of any of them.
+fn has(alloc: Global, fixture: &Fixture, calls: bool) -> Result<bool> {
+    match fixture {
+        Fixture::Directory(size, refused) => has_directory(alloc, *size, refused, calls),
+        Fixture::Pages(pages) => has_pages(alloc, pages, calls),
+        Fixture::Section(bytes) => has_section(alloc, bytes, calls),
+        Fixture::Stream(bytes, kind) => has_stream(alloc, bytes, kind, calls),
     }
-    Ok(true)
-}
-
-/// The sizes of a directory.
-const SIZES: &[u8] = &[0, 19, 24, 32];
-
-/// Whether files, pages and buffers are answered as ever. A function each: one that holds all is long in the
-/// proof.
-fn is_container(alloc: Global, calls: bool) -> Result<bool> {
-    Ok(are_directories(alloc, calls)? && has_pages(alloc, calls)? && has_bytes(alloc, calls)?)
-}
-
-/// Whether types and ids are answered as ever.
-fn are_tables(alloc: Global, calls: bool) -> Result<bool> {
-    Ok((!calls || are_parts_told()) && has_types(alloc, calls)? && has_ids(alloc, calls)?)
-}
-
-/// Whether names, addresses and frames are answered as ever.
-fn is_space(alloc: Global, calls: bool) -> Result<bool> {
-    Ok(
-        has_names(alloc, calls)?
-            && has_moved(alloc, calls)?
-            && has_frames(alloc, calls)?
-            && has_places(alloc, calls)?,
-    )
-}
-
-/// Whether all is answered as ever, where `calls` says that it is asked.
-fn is_all(alloc: Global, calls: bool) -> Result<bool> {
-    Ok(is_container(alloc, calls)? && are_tables(alloc, calls)? && is_space(alloc, calls)?)
 }
 
 #[test]
@@ -443,14 +506,23 @@ fn nothing(rt: HostRuntime) {
     let _ = rt.alloc();
 }
 
+/// The same, made once more where memory is refused.
+fn is_settled(alloc: Global, fixture: &Fixture, calls: bool) -> Result<bool> {
+    settled!(has(alloc, fixture, calls))
+}
+
 #[test]
 fn fixtures(rt: HostRuntime) -> std::result::Result<(), Fail> {
-    assert!(rt; is_all(rt.alloc(), false)?);
+    for (name, fixture) in FIXTURES {
+        assert!(rt; is_settled(rt.alloc(), fixture, false)?, "{name}");
+    }
     Ok(())
 }
 
 #[test]
 fn calls(rt: HostRuntime) -> std::result::Result<(), Fail> {
-    assert!(rt; is_all(rt.alloc(), true)?);
+    for (name, fixture) in FIXTURES {
+        assert!(rt; is_settled(rt.alloc(), fixture, true)?, "{name}");
+    }
     Ok(())
 }

@@ -1,9 +1,11 @@
 //! Channels: inputs that are slow, interrupted, refused or endless, and outputs that are slow or refused.
 
-use pdb_base::Error;
-use pdb_command::{read_all, read_within, serve};
+use super::printed::{ABSENT_2, EXAMPLE};
+use pdb_base::{Error, Result};
+use pdb_command::{Ended, read_all, read_within, serve};
 use pdb_vectors::s1;
 use std::alloc::Global;
+use std::env::Args;
 use std::io;
 use std::io::{ErrorKind, Read, Write};
 use std::test::Fail;
@@ -41,58 +43,85 @@ impl Sevens {
     }
 }
 
-/// How many sevens stand in an input, how many come at once, and with how many left a read is refused.
-const READ: &[(usize, usize, Option<(usize, ErrorKind)>)] = &[
-    (0, 1, None),
-    (100_000, 1, None),
-    (100_000, 65_536, None),
-    (100_000, 65_536, Some((100_000, ErrorKind::Interrupted))),
-    (200_000, 70_000, Some((70_000, ErrorKind::Interrupted))),
+/// How many sevens stand in an input, how many come at once, and with how many left a read is refused, and how; the
+/// most reads, if they are bounded; and how the input is refused, if it isn't read whole.
+type Input = (
+    usize,
+    usize,
+    Option<(usize, ErrorKind)>,
+    Option<u32>,
+    Option<ErrorKind>,
+);
+
+/// The kinds of refused reads.
+const INTERRUPTED: ErrorKind = ErrorKind::Interrupted;
+
+const DENIED: ErrorKind = ErrorKind::PermissionDenied;
+
+const INPUTS: &[Input] = &[
+    (0, 1, None, None, None),
+    (100_000, 1, None, None, None),
+    (100_000, 65_536, None, None, None),
+    (100_000, 65_536, Some((100_000, INTERRUPTED)), None, None),
+    (200_000, 70_000, Some((70_000, INTERRUPTED)), None, None),
+    (100_000, 10_000, Some((100_000, DENIED)), None, Some(DENIED)),
+    (100_000, 10_000, Some((30_000, DENIED)), None, Some(DENIED)),
+    (100_000, 10_000, Some((0, DENIED)), None, Some(DENIED)),
+    (
+        usize::MAX,
+        usize::MAX,
+        None,
+        Some(3),
+        Some(ErrorKind::Other),
+    ),
+    (20, 10, None, Some(2), Some(ErrorKind::Other)),
+    (20, 10, None, Some(3), None),
 ];
 
+/// Reads an input, with no more than so many reads if they are bounded.
+fn read(alloc: Global, input: &mut Sevens, most: Option<u32>) -> Result<Vec<u8>> {
+    match most {
+        Some(most) => read_within(alloc, input, most),
+        None => read_all(alloc, input),
+    }
+}
+
+/// Whether these are so many sevens.
+fn are_sevens(bytes: &[u8], count: usize) -> bool {
+    for byte in bytes {
+        if *byte != 7 {
+            return false;
+        }
+    }
+    bytes.len() == count
+}
+
+/// Whether an input was refused by an `IoError` of a kind, or is so many sevens if it wasn't to be refused.
+fn is_read(read: Result<Vec<u8>>, count: usize, refused: Option<ErrorKind>) -> bool {
+    match (&read, refused) {
+        (Ok(bytes), None) => are_sevens(bytes, count),
+        (Err(Error::IoError(error)), Some(kind)) => error.kind() == kind,
+        _ => false,
+    }
+}
+
+/// Whether an input is read as its row says.
+fn is_input(alloc: Global, row: &Input) -> bool {
+    let (left, at_once, fault, most, refused) = *row;
+    let mut input = Sevens::new(left, at_once, fault);
+    is_read(read(alloc, &mut input, most), left, refused)
+}
+
 #[test]
-fn inputs(rt: HostRuntime) -> Result<(), Fail> {
-    for (left, at_once, fault) in READ {
-        let bytes = read_all(rt.alloc(), &mut Sevens::new(*left, *at_once, *fault))?;
-        let whole = bytes.len() == *left && bytes.iter().all(|byte| *byte == 7);
-        assert!(rt; whole, "{left} sevens, {at_once} at once");
+fn inputs(rt: HostRuntime) {
+    for row in INPUTS {
+        assert!(rt;
+            is_input(rt.alloc(), row),
+            "{} sevens, {} at once",
+            row.0,
+            row.1
+        );
     }
-    Ok(())
-}
-
-/// An input that never ends.
-#[derive(Drop)]
-struct Endless;
-
-impl Read for Endless {
-    fn read(&mut self, room: &mut [u8]) -> io::Result<usize> {
-        Ok(room.len())
-    }
-}
-
-/// Whether an input was refused by an `IoError` of a kind.
-fn is_refused(read: pdb_base::Result<Vec<u8>>, kind: ErrorKind) -> bool {
-    matches!(read, Err(Error::IoError(error)) if error.kind() == kind)
-}
-
-#[test]
-fn refused_inputs(rt: HostRuntime) {
-    let alloc = rt.alloc();
-    for left in [100_000, 30_000, 0] {
-        let mut input = Sevens::new(100_000, 10_000, Some((left, ErrorKind::PermissionDenied)));
-        let refused = is_refused(read_all(alloc, &mut input), ErrorKind::PermissionDenied);
-        assert!(rt; refused, "with {left} sevens left");
-    }
-    assert!(rt; is_refused(read_within(alloc, &mut Endless, 3), ErrorKind::Other));
-    assert!(rt;
-        is_refused(
-            read_within(alloc, &mut Sevens::new(20, 10, None), 2),
-            ErrorKind::Other
-        )
-    );
-    assert!(rt;
-        matches!(read_within(alloc, &mut Sevens::new(20, 10, None), 3), Ok(bytes) if bytes.len() == 20)
-    );
 }
 
 /// An output that takes a few bytes at a time, and then as many as it has room for.
@@ -139,88 +168,166 @@ fn call(alloc: Global, words: &[&str]) -> pdb_base::Result<Vec<String>> {
     Ok(call)
 }
 
-const ABSENT_2: &[u8] = b"The requested stream (2) is not stored in this file\n";
+const IO_ERROR: &str = "IO error while reading PDB: ";
 
-const IO_ERROR: &[u8] = b"IO error while reading PDB: ";
+/// What the system hands over: words, or how it refuses them.
+type Words = std::result::Result<&'static [&'static str], ErrorKind>;
 
-/// What is asked of S1, and how many bytes the output has room for; and the status, what the output got,
-/// and how begins what the channel of errors got.
-const SERVED: &[(&[&str], usize, u8, &[u8], &[u8])] = &[
-    (&["stream", "3"], 100, 0, b"68656c6c6f\n", b""),
-    (&["stream", "2"], 100, 1, b"", ABSENT_2),
-    (&["stream"], 100, 2, b"", b"usage: pdbq "),
-    (&["stream", "3"], 10, 1, b"68656c6c6f", IO_ERROR),
-    (&["stream", "3"], 0, 1, b"", IO_ERROR),
+/// What is read.
+enum Source {
+    /// S1.
+    Example,
+    /// A hundred sevens, of which a read is refused.
+    Hundred(Option<(usize, ErrorKind)>),
+}
+
+use Source::{Example, Hundred};
+
+/// The words, and the input. The output: how many bytes it takes at once, how many it has room for, and what it gets.
+/// The channel of errors: the same, and how begins what it gets. And the status.
+type Call = (
+    Words,
+    Source,
+    (usize, usize, &'static str),
+    (usize, usize, &'static str),
+    u8,
+);
+
+const CALLS: &[Call] = &[
+    (
+        Ok(&["stream", "3"]),
+        Example,
+        (3, 100, "68656c6c6f\n"),
+        (5, 200, ""),
+        0,
+    ),
+    (
+        Ok(&["stream", "2"]),
+        Example,
+        (3, 100, ""),
+        (5, 200, ABSENT_2),
+        1,
+    ),
+    (
+        Ok(&["stream"]),
+        Example,
+        (3, 100, ""),
+        (5, 200, "usage: pdbq "),
+        2,
+    ),
+    (
+        Ok(&["stream", "3"]),
+        Example,
+        (3, 10, "68656c6c6f"),
+        (5, 200, IO_ERROR),
+        1,
+    ),
+    (
+        Ok(&["stream", "3"]),
+        Example,
+        (3, 0, ""),
+        (5, 200, IO_ERROR),
+        1,
+    ),
+    (
+        Ok(&[]),
+        Hundred(None),
+        (1000, 10_000, EXAMPLE),
+        (1000, 10_000, ""),
+        0,
+    ),
+    (
+        Err(ErrorKind::InvalidData),
+        Example,
+        (100, 100, ""),
+        (100, 200, "usage: pdbq "),
+        2,
+    ),
+    (
+        Err(ErrorKind::OutOfMemory),
+        Example,
+        (100, 100, ""),
+        (100, 200, "OutOfMemory\n"),
+        1,
+    ),
+    (
+        Err(DENIED),
+        Example,
+        (100, 100, ""),
+        (100, 200, IO_ERROR),
+        1,
+    ),
+    (
+        Ok(&["stream", "1"]),
+        Hundred(Some((50, DENIED))),
+        (100, 100, ""),
+        (100, 200, IO_ERROR),
+        1,
+    ),
+    (Ok(&["stream"]), Example, (100, 100, ""), (100, 0, ""), 2),
 ];
 
-#[test]
-fn outputs(rt: HostRuntime) -> Result<(), Fail> {
-    let alloc = rt.alloc();
-    for (words, room, status, wanted, told) in SERVED {
-        let mut out = Slow::new(alloc, 3, *room);
-        let mut err = Slow::new(alloc, 5, 200);
-        let words = call(alloc, words)?.into_iter();
-        let file = s1(alloc)?;
-        let ended = serve(alloc, Ok(words), &mut file.as_slice(), &mut out, &mut err);
-        assert!(rt;
-            ended.status == *status && ended.told.is_ok(),
-            "status {status}"
-        );
-        assert!(rt; out.taken.as_slice() == *wanted, "status {status}");
-        assert!(rt; err.taken.starts_with(told), "status {status}");
+/// What the system hands over, behind the program's name.
+fn arguments(alloc: Global, words: &Words) -> Result<io::Result<Args>> {
+    match words {
+        Ok(words) => Ok(Ok(call(alloc, words)?.into_iter())),
+        Err(kind) => Ok(Err(io::Error::from(*kind))),
     }
-    Ok(())
 }
 
-#[test]
-fn nothing_read(rt: HostRuntime) -> Result<(), Fail> {
-    let alloc = rt.alloc();
-    let mut input = Sevens::new(100, 10, None);
-    let mut out = Slow::new(alloc, 1000, 10_000);
-    let mut err = Slow::new(alloc, 1000, 10_000);
-    let words = call(alloc, &[])?.into_iter();
-    let ended = serve(alloc, Ok(words), &mut input, &mut out, &mut err);
-    assert!(rt; ended.status == 0 && input.left == 100);
-    assert!(rt; out.taken.starts_with(b"6161") && err.taken.is_empty());
-    Ok(())
+/// Whether a channel of errors got something that begins so, or nothing if nothing is wanted.
+fn begins(got: &[u8], wanted: &str) -> bool {
+    got.starts_with(wanted.as_bytes()) && got.is_empty() == wanted.is_empty()
 }
 
-/// What the system hands over in place of words; and the status, and how begins what is told.
-const NO_WORDS: &[(ErrorKind, u8, &[u8])] = &[
-    (ErrorKind::InvalidData, 2, b"usage: pdbq "),
-    (ErrorKind::OutOfMemory, 1, b"OutOfMemory\n"),
-    (ErrorKind::PermissionDenied, 1, IO_ERROR),
-];
+/// Whether a call ended so. All that is told finds room, unless there is none at all.
+fn is_ended(ended: &Ended, status: u8, room: usize) -> bool {
+    ended.status == status && ended.told.is_ok() == (room > 0)
+}
 
-#[test]
-fn refused_words(rt: HostRuntime) -> Result<(), Fail> {
-    let alloc = rt.alloc();
-    for (kind, status, told) in NO_WORDS {
-        let mut out = Slow::new(alloc, 100, 100);
-        let mut err = Slow::new(alloc, 100, 200);
-        let words = Err(io::Error::from(*kind));
-        let ended = serve(alloc, words, &mut b"".as_slice(), &mut out, &mut err);
-        assert!(rt;
-            ended.status == *status && out.taken.is_empty(),
-            "status {status}"
-        );
-        assert!(rt; err.taken.starts_with(told), "status {status}");
+/// Whether a call over an input ends, and writes, as its row says.
+fn is_served<I: Read>(alloc: Global, row: &Call, input: &mut I) -> Result<bool> {
+    let (words, _, (out_at_once, out_room, wanted), (at_once, room, told), status) = row;
+    let words = arguments(alloc, words)?;
+    let mut out = Slow::new(alloc, *out_at_once, *out_room);
+    let mut err = Slow::new(alloc, *at_once, *room);
+    let ended = serve(alloc, words, input, &mut out, &mut err);
+    Ok(
+        is_ended(&ended, *status, *room)
+            && out.taken.as_slice() == wanted.as_bytes()
+            && begins(&err.taken, told),
+    )
+}
+
+/// Whether a call over S1 ends so.
+fn is_served_of_s1(alloc: Global, row: &Call) -> Result<bool> {
+    let file = s1(alloc)?;
+    is_served(alloc, row, &mut file.as_slice())
+}
+
+/// Whether a call over sevens ends so, and reads none if there are no words.
+fn is_served_of_sevens(
+    alloc: Global,
+    row: &Call,
+    fault: Option<(usize, ErrorKind)>,
+) -> Result<bool> {
+    let mut input = Sevens::new(100, 10, fault);
+    let is_served = is_served(alloc, row, &mut input)?;
+    Ok(is_served && (input.left == 100) == matches!(row.0, Ok([])))
+}
+
+/// Whether a call ends as its row says.
+fn is_called(alloc: Global, row: &Call) -> Result<bool> {
+    match row.1 {
+        Example => is_served_of_s1(alloc, row),
+        Hundred(fault) => is_served_of_sevens(alloc, row, fault),
     }
-    Ok(())
 }
 
 #[test]
-fn refused_channels(rt: HostRuntime) -> Result<(), Fail> {
-    let alloc = rt.alloc();
-    let mut out = Slow::new(alloc, 100, 100);
-    let mut err = Slow::new(alloc, 100, 200);
-    let mut input = Sevens::new(100, 10, Some((50, ErrorKind::PermissionDenied)));
-    let words = call(alloc, &["stream", "1"])?.into_iter();
-    let ended = serve(alloc, Ok(words), &mut input, &mut out, &mut err);
-    assert!(rt; ended.status == 1 && out.taken.is_empty() && err.taken.starts_with(IO_ERROR));
-    let mut full = Slow::new(alloc, 100, 0);
-    let words = call(alloc, &["stream"])?.into_iter();
-    let ended = serve(alloc, Ok(words), &mut b"".as_slice(), &mut out, &mut full);
-    assert!(rt; ended.status == 2 && ended.told.is_err());
+fn calls(rt: HostRuntime) -> std::result::Result<(), Fail> {
+    for row in CALLS {
+        assert!(rt; is_called(rt.alloc(), row)?, "status {}, {}", row.4, row.3.2);
+    }
     Ok(())
 }

@@ -1,6 +1,6 @@
 //! Tables as lines, and records in full. Each expected text is written from the definitions.
 
-use pdb_base::Stream;
+use pdb_base::{Error, Result, Stream};
 use pdb_listing::{id_at, ids, type_at, types};
 use pdb_rows::Form;
 use pdb_vectors::item_table;
@@ -8,7 +8,7 @@ use std::alloc::Global;
 use std::test::Fail;
 
 /// The records of a table of types, from index 0x1000 on.
-const TYPES: [&[u8]; 16] = [
+const TYPES: &[&[u8]] = &[
     // a structure with a second name
     b"\x05\x15\x01\x00\x00\x02\x09\x10\x00\x00\x00\x00\x00\x00\x00\x00\x00\x00\x04\x00S\x00.?AUS@@\x00",
     // a union whose name has a line feed, a quote and a backslash
@@ -44,7 +44,7 @@ const TYPES: [&[u8]; 16] = [
 ];
 
 /// The records of a table of ids.
-const IDS: [&[u8]; 8] = [
+const IDS: &[&[u8]] = &[
     // a function
     b"\x01\x16\x00\x00\x00\x00\x05\x10\x00\x00main\x00",
     // a method
@@ -141,87 +141,113 @@ const UNION: &str =
     r#"{"index":4097,"kind":"LF_UNION","name":"a\n\"b\\","count":0,"properties":["forward_reference"],"fields":0,"size":0}
 "#;
 
-/// The stream of a table of these records.
-fn stream_of(alloc: Global, records: &[&[u8]]) -> Result<Stream, Fail> {
+/// Two records, of which the second is too short.
+const SHORT: &[&[u8]] = &[&[1, 0x10, 0, 0x10, 0, 0, 3, 0], &[7]];
+
+/// The line of the first.
+const MODIFIER: &str = "0x1000 LF_MODIFIER underlying_type=0x1000 modifiers=[constant,volatile]\n";
+
+/// What is asked of a table of these records.
+enum Asked {
+    /// The lines of all types.
+    Types,
+    /// The lines of all ids.
+    Ids,
+    /// The type of an index in full.
+    Type(u32),
+    /// The id of an index in full.
+    Id(u32),
+}
+
+/// How a listing ends.
+enum End {
+    /// With all that is asked.
+    Whole,
+    /// With a fault.
+    Refused,
+    /// With a type that is too short.
+    TooShort,
+}
+
+/// The records, what is asked of them, and in which form; what is written, and how it ends. A fault of the walk ends
+/// it behind the lines that came before, and one of the list of a type's fields behind the type.
+type Listed = (&'static [&'static [u8]], Asked, Form, &'static str, End);
+
+const LISTED: &[Listed] = &[
+    (TYPES, Asked::Types, Form::Text, TYPE_LINES, End::Whole),
+    (IDS, Asked::Ids, Form::Json, ID_OBJECTS, End::Whole),
+    (
+        TYPES,
+        Asked::Type(0x1000),
+        Form::Text,
+        STRUCTURE,
+        End::Whole,
+    ),
+    (TYPES, Asked::Type(0x100a), Form::Text, METHODS, End::Whole),
+    (TYPES, Asked::Type(0x674), Form::Text, PRIMITIVE, End::Whole),
+    (IDS, Asked::Id(0x1004), Form::Text, TEXT, End::Whole),
+    (SHORT, Asked::Types, Form::Text, MODIFIER, End::TooShort),
+    (TYPES, Asked::Type(0x1001), Form::Json, UNION, End::Refused),
+];
+
+/// The items of records: each behind its length.
+fn items_of(alloc: Global, records: &[&[u8]]) -> Result<Vec<u8>> {
     let mut items = Vec::new(alloc);
     for record in records {
-        let len = u16::try_from(record.len()).ok().unwrap_or(0);
-        items.extend_from_slice(&len.to_le_bytes())?;
+        items.extend_from_slice(&(record.len().min(0xffff) as u16).to_le_bytes())?;
         items.extend_from_slice(record)?;
     }
-    let bytes = item_table(alloc, 56, 0x1000, 0x1010, &items)?;
+    Ok(items)
+}
+
+/// The stream of a table of these records.
+fn stream_of(alloc: Global, records: &[&[u8]]) -> Result<Stream> {
+    let bytes = item_table(alloc, 56, 0x1000, 0x1010, &items_of(alloc, records)?)?;
     if bytes.len() >= 0xffff_ffff {
-        return Err("too long".into());
+        return Err(Error::UnimplementedFeature("a long table"));
     }
     Ok(Stream::new(bytes))
 }
 
-/// The lines of the types.
-fn type_lines(alloc: Global, form: Form, records: &[&[u8]]) -> Result<Vec<u8>, Fail> {
-    let mut out = Vec::new(alloc);
-    types(alloc, stream_of(alloc, records)?, form, &mut out)?;
-    Ok(out)
+/// Writes what is asked.
+fn write(
+    alloc: Global,
+    stream: Stream,
+    asked: &Asked,
+    form: Form,
+    out: &mut Vec<u8>,
+) -> Result<()> {
+    match asked {
+        Asked::Types => types(alloc, stream, form, out),
+        Asked::Ids => ids(alloc, stream, form, out),
+        Asked::Type(index) => type_at(alloc, stream, *index, form, out),
+        Asked::Id(index) => id_at(alloc, stream, *index, form, out),
+    }
 }
 
-/// The lines of the ids.
-fn id_lines(alloc: Global, form: Form, records: &[&[u8]]) -> Result<Vec<u8>, Fail> {
-    let mut out = Vec::new(alloc);
-    ids(alloc, stream_of(alloc, records)?, form, &mut out)?;
-    Ok(out)
+/// Whether a listing ended so.
+fn ends(answer: Result<()>, end: &End) -> bool {
+    match (&answer, end) {
+        (Ok(()), End::Whole) => true,
+        (Err(_), End::Refused) => true,
+        (Err(Error::TypeTooShort), End::TooShort) => true,
+        _ => false,
+    }
 }
 
-/// A type in full.
-fn shown_type(alloc: Global, form: Form, index: u32) -> Result<Vec<u8>, Fail> {
+/// Whether what is written, and how it ends, is as the row says.
+fn is_listed(alloc: Global, row: &Listed) -> Result<bool> {
+    let (records, asked, form, wanted, end) = row;
+    let stream = stream_of(alloc, records)?;
     let mut out = Vec::new(alloc);
-    type_at(alloc, stream_of(alloc, &TYPES)?, index, form, &mut out)?;
-    Ok(out)
-}
-
-/// An id in full.
-fn shown_id(alloc: Global, form: Form, index: u32) -> Result<Vec<u8>, Fail> {
-    let mut out = Vec::new(alloc);
-    id_at(alloc, stream_of(alloc, &IDS)?, index, form, &mut out)?;
-    Ok(out)
+    let is_ended = ends(write(alloc, stream, asked, *form, &mut out), end);
+    Ok(is_ended && out.as_slice() == wanted.as_bytes())
 }
 
 #[test]
-fn lines(rt: HostRuntime) -> Result<(), Fail> {
-    let all = type_lines(rt.alloc(), Form::Text, &TYPES)?;
-    assert!(rt; all.as_slice() == TYPE_LINES.as_bytes());
-    let all = id_lines(rt.alloc(), Form::Json, &IDS)?;
-    assert!(rt; all.as_slice() == ID_OBJECTS.as_bytes());
-    Ok(())
-}
-
-#[test]
-fn records(rt: HostRuntime) -> Result<(), Fail> {
-    let all = shown_type(rt.alloc(), Form::Text, 0x1000)?;
-    assert!(rt; all.as_slice() == STRUCTURE.as_bytes());
-    let all = shown_type(rt.alloc(), Form::Text, 0x100a)?;
-    assert!(rt; all.as_slice() == METHODS.as_bytes());
-    let all = shown_type(rt.alloc(), Form::Text, 0x674)?;
-    assert!(rt; all.as_slice() == PRIMITIVE.as_bytes());
-    let all = shown_id(rt.alloc(), Form::Text, 0x1004)?;
-    assert!(rt; all.as_slice() == TEXT.as_bytes());
-    Ok(())
-}
-
-/// A fault of the walk ends it behind the lines that came before, and one of the list of a type's fields
-/// behind the type.
-#[test]
-fn faults(rt: HostRuntime) -> Result<(), Fail> {
-    let mut out = Vec::new(rt.alloc());
-    let stream = stream_of(rt.alloc(), &[&[1, 0x10, 0, 0x10, 0, 0, 3, 0], &[7]])?;
-    let stopped = types(rt.alloc(), stream, Form::Text, &mut out);
-    assert!(rt;
-        out.as_slice()
-            == b"0x1000 LF_MODIFIER underlying_type=0x1000 modifiers=[constant,volatile]\n".as_slice()
-    );
-    assert!(rt; matches!(stopped, Err(pdb_base::Error::TypeTooShort)));
-    let mut out = Vec::new(rt.alloc());
-    let stream = stream_of(rt.alloc(), &TYPES)?;
-    let stopped = type_at(rt.alloc(), stream, 0x1001, Form::Json, &mut out);
-    assert!(rt; out.as_slice() == UNION.as_bytes());
-    assert!(rt; stopped.is_err());
+fn listed(rt: HostRuntime) -> std::result::Result<(), Fail> {
+    for row in LISTED {
+        assert!(rt; is_listed(rt.alloc(), row)?, "{}", row.3);
+    }
     Ok(())
 }

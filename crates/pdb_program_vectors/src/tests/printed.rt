@@ -1,9 +1,10 @@
 //! What the program prints of S1, row by row.
 
 use pdb_base::Result;
-use pdb_command::act;
+use pdb_command::{Outcome, act};
 use pdb_vectors::{item_table, s1, s1_with};
 use std::alloc::Global;
+use std::test::Fail;
 
 pub const USAGE: &str =
     "usage: pdbq stream N [LIMIT] | type S I | id S I | name S O | ranges S A B | fields S I\n";
@@ -14,100 +15,50 @@ const ABSENT_4: &str = "The requested stream (4) is not stored in this file\n";
 
 const NO_OMAP: &str = "OMAP stream has an invalid length or alignment for its records\n";
 
-/// The lines that are printed without words, as the runs of equal digits on each.
-const EXAMPLE: &[(&str, usize, usize)] = &[("61", 32, 16), ("62", 32, 2), ("62", 24, 1)];
-
-/// Adds lines of so many equal pairs of digits.
-fn push_lines(text: &mut String, pair: &str, count: usize, lines: usize) -> Result<()> {
-    for _ in 0..lines {
-        for _ in 0..count {
-            text.push_str(pair)?;
-        }
-        text.push_str("\n")?;
-    }
-    Ok(())
-}
+/// How the line of a fault of the source begins. What the system says of it stands behind.
+const IO_ERROR: &str = "IO error while reading PDB: ";
 
 /// The lines that are printed without words.
-fn example(alloc: Global) -> Result<Vec<u8>> {
-    let mut text = String::new(alloc);
-    for (pair, count, lines) in EXAMPLE {
-        push_lines(&mut text, pair, *count, *lines)?;
-    }
-    Ok(text.into_bytes())
-}
+pub const EXAMPLE: &str = "\
+6161616161616161616161616161616161616161616161616161616161616161\n\
+6161616161616161616161616161616161616161616161616161616161616161\n\
+6161616161616161616161616161616161616161616161616161616161616161\n\
+6161616161616161616161616161616161616161616161616161616161616161\n\
+6161616161616161616161616161616161616161616161616161616161616161\n\
+6161616161616161616161616161616161616161616161616161616161616161\n\
+6161616161616161616161616161616161616161616161616161616161616161\n\
+6161616161616161616161616161616161616161616161616161616161616161\n\
+6161616161616161616161616161616161616161616161616161616161616161\n\
+6161616161616161616161616161616161616161616161616161616161616161\n\
+6161616161616161616161616161616161616161616161616161616161616161\n\
+6161616161616161616161616161616161616161616161616161616161616161\n\
+6161616161616161616161616161616161616161616161616161616161616161\n\
+6161616161616161616161616161616161616161616161616161616161616161\n\
+6161616161616161616161616161616161616161616161616161616161616161\n\
+6161616161616161616161616161616161616161616161616161616161616161\n\
+6262626262626262626262626262626262626262626262626262626262626262\n\
+6262626262626262626262626262626262626262626262626262626262626262\n\
+626262626262626262626262626262626262626262626262\n";
 
-/// Whether the program, asked of a file, ends with this status and writes this.
-fn writes(
-    alloc: Global,
-    file: Vec<u8>,
-    words: &[&str],
-    status: u8,
-    out: &[u8],
-    err: &str,
-) -> Result<bool> {
-    let outcome = act(alloc, words, file)?;
-    Ok(
-        outcome.status == status
-            && outcome.out.as_slice() == out
-            && outcome.err.as_slice() == err.as_bytes(),
-    )
-}
-
-/// What is asked of S1, and what is answered: the status and both outputs.
-const STREAMS: &[(&[&str], u8, &[u8], &str)] = &[
-    (&["stream", "0"], 0, b"", ""),
-    (&["stream", "0000000003", "0x2"], 0, b"6865\n", ""),
-    (&["stream", "4"], 1, b"", ABSENT_4),
-    (&["stream", "2"], 1, b"", ABSENT_2),
-    (&["stream"], 2, b"", USAGE),
-    (&["stream", "4294967296"], 2, b"", USAGE),
-    (&["stream", "0x100000000"], 2, b"", USAGE),
-    (&["stream", "-1"], 2, b"", USAGE),
-    (&["Stream", "1"], 2, b"", USAGE),
-    (&["stream", "1", "2", "3"], 2, b"", USAGE),
-    (&["type", "3"], 2, b"", USAGE),
-    (&["ranges", "3", "0"], 2, b"", USAGE),
-    (&["name", "3", "0x"], 2, b"", USAGE),
-    (&["fields", "3"], 2, b"", USAGE),
-    (&["fields", "4", "0"], 1, b"", ABSENT_4),
-];
-
-#[test]
-fn streams(rt: HostRuntime) -> Result<()> {
-    for (words, status, out, err) in STREAMS {
-        let is = writes(rt.alloc(), s1(rt.alloc())?, words, *status, out, err)?;
-        assert!(rt; is, "{words:?}");
-    }
-    Ok(())
-}
-
-/// The words that ask for all of stream 1.
-const WHOLE: &[&[&str]] = &[
-    &[],
-    &["stream", "1"],
-    &["stream", "0x00000001", "0xFFFFFFFF"],
-];
-
-#[test]
-fn whole_stream(rt: HostRuntime) -> Result<()> {
-    let example = example(rt.alloc())?;
-    for words in WHOLE {
-        let is = writes(rt.alloc(), s1(rt.alloc())?, words, 0, &example, "")?;
-        assert!(rt; is, "{words:?}");
-    }
-    Ok(())
-}
-
-#[test]
-fn limited_stream(rt: HostRuntime) -> Result<()> {
-    let mut limited = example(rt.alloc())?;
-    limited.truncate(16 * 65);
-    limited.extend_from_slice(b"62\n")?;
-    let words = &["stream", "1", "513"];
-    assert!(rt; writes(rt.alloc(), s1(rt.alloc())?, words, 0, &limited, "")?);
-    Ok(())
-}
+/// The lines of the first 513 bytes of stream 1.
+const LIMITED: &str = "\
+6161616161616161616161616161616161616161616161616161616161616161\n\
+6161616161616161616161616161616161616161616161616161616161616161\n\
+6161616161616161616161616161616161616161616161616161616161616161\n\
+6161616161616161616161616161616161616161616161616161616161616161\n\
+6161616161616161616161616161616161616161616161616161616161616161\n\
+6161616161616161616161616161616161616161616161616161616161616161\n\
+6161616161616161616161616161616161616161616161616161616161616161\n\
+6161616161616161616161616161616161616161616161616161616161616161\n\
+6161616161616161616161616161616161616161616161616161616161616161\n\
+6161616161616161616161616161616161616161616161616161616161616161\n\
+6161616161616161616161616161616161616161616161616161616161616161\n\
+6161616161616161616161616161616161616161616161616161616161616161\n\
+6161616161616161616161616161616161616161616161616161616161616161\n\
+6161616161616161616161616161616161616161616161616161616161616161\n\
+6161616161616161616161616161616161616161616161616161616161616161\n\
+6161616161616161616161616161616161616161616161616161616161616161\n\
+62\n";
 
 const MODIFIER: &[u8] = b"\x0a\x00\x01\x10\x74\x00\x00\x00\x01\x00\xf2\xf1";
 
@@ -159,148 +110,6 @@ const NOT_BELOW: &str = "Unimplemented PDB feature: field list continuation not 
 
 const PRIMITIVE: &str = "Support for types of kind 0xffff is not implemented\n";
 
-/// The same of fields, with the one number that differs: the index of the list.
-const FIELDS: &[(&[u8], u32, &str, u8, &str, &str)] = &[
-    (LISTS, 0x1002, "0x1001", 0, "A\nB\n", ""),
-    (LISTS, 0x1002, "0x1000", 0, "B\n", ""),
-    (LISTS, 0x1002, "0x74", 1, "", PRIMITIVE),
-    (LISTS, 0x1002, "0x1002", 1, "", "Type 4098 not found\n"),
-    (THREE_LISTS, 0x1003, "0x1002", 0, "C\nA\nB\n", ""),
-    (OWN_LIST, 0x1002, "0x1001", 1, "", NOT_BELOW),
-    (NO_LIST, 0x1002, "0x1001", 1, "", PRIMITIVE),
-    (
-        FAULT_BEHIND,
-        0x1002,
-        "0x1001",
-        1,
-        "",
-        "Support for types of kind 0x1234 is not implemented\n",
-    ),
-    (FAR_LISTS, 0x1009, "0x1008", 0, "A\nB\n", ""),
-    (NAMELESS, 0x1001, "0x1000", 0, "-\n", ""),
-    (
-        MODIFIER,
-        0x1001,
-        "0x1000",
-        1,
-        "",
-        "Support for types of kind 0x1001 is not implemented\n",
-    ),
-];
-
-/// The items of a table, from index 0x1000 up to below a maximum, and what is asked of S1 with that table
-/// as stream 3; and what is answered.
-const TABLES: &[(&[u8], u32, &[&str], u8, &str, &str)] = &[
-    (
-        MODIFIER,
-        0x1001,
-        &["type", "3", "0x1000"],
-        0,
-        "0x1000 0x1001 -\n",
-        "",
-    ),
-    (
-        MODIFIER,
-        0x1001,
-        &["type", "3", "0x74"],
-        0,
-        "0x74 0xffff -\n",
-        "",
-    ),
-    (
-        MODIFIER,
-        0x1001,
-        &["type", "3", "0x1001"],
-        1,
-        "",
-        "Type 4097 not found\n",
-    ),
-    (MODIFIER, 0x1001, &["type", "2", "0x1001"], 1, "", ABSENT_2),
-    (
-        CLASS,
-        0x1001,
-        &["type", "3", "4096"],
-        0,
-        "0x1000 0x1609 H_size\n",
-        "",
-    ),
-    (
-        CUT_CLASS,
-        0x1001,
-        &["type", "3", "0x1000"],
-        1,
-        "",
-        "UnexpectedEof\n",
-    ),
-    (
-        SHORT,
-        0x2000,
-        &["type", "3", "0x1500"],
-        1,
-        "",
-        "UnexpectedEof\n",
-    ),
-    (
-        SHORT_LENGTH,
-        0x1009,
-        &["type", "3", "0x1005"],
-        1,
-        "",
-        "TypeTooShort\n",
-    ),
-    (
-        BUILD_INFO,
-        0x1001,
-        &["id", "3", "0x1000"],
-        0,
-        "0x1000 0x1603 -\n",
-        "",
-    ),
-    (
-        TEXT,
-        0x1001,
-        &["id", "3", "0x1000"],
-        0,
-        "0x1000 0x1605 a\n",
-        "",
-    ),
-    (
-        TEXT,
-        0x1001,
-        &["type", "3", "0x1000"],
-        1,
-        "",
-        "Support for types of kind 0x1605 is not implemented\n",
-    ),
-];
-
-/// S1 with a table as stream 3.
-fn file_of(alloc: Global, maximum: u32, items: &[u8]) -> Result<Vec<u8>> {
-    let table = item_table(alloc, 56, 0x1000, maximum, items)?;
-    s1_with(alloc, &table)
-}
-
-#[test]
-fn tables(rt: HostRuntime) -> Result<()> {
-    for (items, maximum, words, status, out, err) in TABLES {
-        let file = file_of(rt.alloc(), *maximum, items)?;
-        let is = writes(rt.alloc(), file, words, *status, out.as_bytes(), err)?;
-        assert!(rt; is, "{words:?}");
-    }
-    Ok(())
-}
-
-#[test]
-fn fields(rt: HostRuntime) -> Result<()> {
-    for (items, maximum, index, status, out, err) in FIELDS {
-        let file = file_of(rt.alloc(), *maximum, items)?;
-        let words = &["fields", "3", *index];
-        let is = writes(rt.alloc(), file, words, *status, out.as_bytes(), err)?;
-        assert!(rt; is, "{index} of {maximum:x}");
-    }
-    Ok(())
-}
-
 const NAMES: &[u8] = b"\xfe\xef\xfe\xef\x01\x00\x00\x00\x07\x00\x00\x00\x00foo\x00ba\x00";
 
 const BROKEN: &[u8] = b"\xfe\xef\xfe\xef\x01\x00\x00\x00\x04\x00\x00\x00f\xffo\x00";
@@ -311,25 +120,233 @@ const OMAP: &[u8] = b"\x00\x10\x00\x00\x00\x00\x00\x00\x08\x10\x00\x00\x44\x5d\x
 const LAST: &[u8] =
     b"\0\0\0\0\x38\0\0\0\xff\xff\xff\xff\xff\xff\xff\xff\0\0\0\0\0\0\0\0\0\0\0\0\0\0\0\0\0\0\0\0\0\0\0\0\0\0\0\0\0\0\0\0\0\0\0\0\0\0\0\0\x02\0\x01\x10\x02\0\x01\x10";
 
-/// What is asked of S1 with these bytes as stream 3, and what is answered.
-const NAMES_AND_RANGES: &[(&[u8], &[&str], u8, &str, &str)] = &[
-    (NAMES, &["name", "3", "1"], 0, "foo\n", ""),
-    (NAMES, &["name", "3", "0"], 0, "\n", ""),
-    (NAMES, &["name", "3", "5"], 1, "", "UnexpectedEof\n"),
-    (BROKEN, &["name", "3", "0"], 0, "f\u{fffd}o\n", ""),
+/// A file.
+enum File {
+    /// S1.
+    Example,
+    /// S1 whose last stream lies behind its end.
+    Cut,
+    /// S1 with these bytes as its stream 3.
+    With(&'static [u8]),
+    /// S1 with a table of these items as its stream 3, from index 0x1000 up to below a maximum.
+    Table(&'static [u8], u32),
+}
+
+use File::{Cut, Example, Table, With};
+
+/// A file and what is asked of it; and what is answered: the status and both outputs.
+type Row = (
+    File,
+    &'static [&'static str],
+    u8,
+    &'static str,
+    &'static str,
+);
+
+const ROWS: &[Row] = &[
+    (Example, &["stream", "0"], 0, "", ""),
+    (Example, &["stream", "0000000003", "0x2"], 0, "6865\n", ""),
+    (Example, &["stream", "4"], 1, "", ABSENT_4),
+    (Example, &["stream", "2"], 1, "", ABSENT_2),
+    (Example, &["stream"], 2, "", USAGE),
+    (Example, &["stream", "4294967296"], 2, "", USAGE),
+    (Example, &["stream", "0x100000000"], 2, "", USAGE),
+    (Example, &["stream", "-1"], 2, "", USAGE),
+    (Example, &["Stream", "1"], 2, "", USAGE),
+    (Example, &["stream", "1", "2", "3"], 2, "", USAGE),
+    (Example, &["type", "3"], 2, "", USAGE),
+    (Example, &["ranges", "3", "0"], 2, "", USAGE),
+    (Example, &["name", "3", "0x"], 2, "", USAGE),
+    (Example, &["fields", "3"], 2, "", USAGE),
+    (Example, &["fields", "4", "0"], 1, "", ABSENT_4),
+    (Example, &[], 0, EXAMPLE, ""),
+    (Example, &["stream", "1"], 0, EXAMPLE, ""),
     (
-        OMAP,
+        Example,
+        &["stream", "0x00000001", "0xFFFFFFFF"],
+        0,
+        EXAMPLE,
+        "",
+    ),
+    (Example, &["stream", "1", "513"], 0, LIMITED, ""),
+    (Cut, &["stream", "3"], 1, "", IO_ERROR),
+    (
+        Table(MODIFIER, 0x1001),
+        &["type", "3", "0x1000"],
+        0,
+        "0x1000 0x1001 -\n",
+        "",
+    ),
+    (
+        Table(MODIFIER, 0x1001),
+        &["type", "3", "0x74"],
+        0,
+        "0x74 0xffff -\n",
+        "",
+    ),
+    (
+        Table(MODIFIER, 0x1001),
+        &["type", "3", "0x1001"],
+        1,
+        "",
+        "Type 4097 not found\n",
+    ),
+    (
+        Table(MODIFIER, 0x1001),
+        &["type", "2", "0x1001"],
+        1,
+        "",
+        ABSENT_2,
+    ),
+    (
+        Table(CLASS, 0x1001),
+        &["type", "3", "4096"],
+        0,
+        "0x1000 0x1609 H_size\n",
+        "",
+    ),
+    (
+        Table(CUT_CLASS, 0x1001),
+        &["type", "3", "0x1000"],
+        1,
+        "",
+        "UnexpectedEof\n",
+    ),
+    (
+        Table(SHORT, 0x2000),
+        &["type", "3", "0x1500"],
+        1,
+        "",
+        "UnexpectedEof\n",
+    ),
+    (
+        Table(SHORT_LENGTH, 0x1009),
+        &["type", "3", "0x1005"],
+        1,
+        "",
+        "TypeTooShort\n",
+    ),
+    (
+        Table(BUILD_INFO, 0x1001),
+        &["id", "3", "0x1000"],
+        0,
+        "0x1000 0x1603 -\n",
+        "",
+    ),
+    (
+        Table(TEXT, 0x1001),
+        &["id", "3", "0x1000"],
+        0,
+        "0x1000 0x1605 a\n",
+        "",
+    ),
+    (
+        Table(TEXT, 0x1001),
+        &["type", "3", "0x1000"],
+        1,
+        "",
+        "Support for types of kind 0x1605 is not implemented\n",
+    ),
+    (
+        Table(LISTS, 0x1002),
+        &["fields", "3", "0x1001"],
+        0,
+        "A\nB\n",
+        "",
+    ),
+    (
+        Table(LISTS, 0x1002),
+        &["fields", "3", "0x1000"],
+        0,
+        "B\n",
+        "",
+    ),
+    (
+        Table(LISTS, 0x1002),
+        &["fields", "3", "0x74"],
+        1,
+        "",
+        PRIMITIVE,
+    ),
+    (
+        Table(LISTS, 0x1002),
+        &["fields", "3", "0x1002"],
+        1,
+        "",
+        "Type 4098 not found\n",
+    ),
+    (
+        Table(THREE_LISTS, 0x1003),
+        &["fields", "3", "0x1002"],
+        0,
+        "C\nA\nB\n",
+        "",
+    ),
+    (
+        Table(OWN_LIST, 0x1002),
+        &["fields", "3", "0x1001"],
+        1,
+        "",
+        NOT_BELOW,
+    ),
+    (
+        Table(NO_LIST, 0x1002),
+        &["fields", "3", "0x1001"],
+        1,
+        "",
+        PRIMITIVE,
+    ),
+    (
+        Table(FAULT_BEHIND, 0x1002),
+        &["fields", "3", "0x1001"],
+        1,
+        "",
+        "Support for types of kind 0x1234 is not implemented\n",
+    ),
+    (
+        Table(FAR_LISTS, 0x1009),
+        &["fields", "3", "0x1008"],
+        0,
+        "A\nB\n",
+        "",
+    ),
+    (
+        Table(NAMELESS, 0x1001),
+        &["fields", "3", "0x1000"],
+        0,
+        "-\n",
+        "",
+    ),
+    (
+        Table(MODIFIER, 0x1001),
+        &["fields", "3", "0x1000"],
+        1,
+        "",
+        "Support for types of kind 0x1001 is not implemented\n",
+    ),
+    (With(NAMES), &["name", "3", "1"], 0, "foo\n", ""),
+    (With(NAMES), &["name", "3", "0"], 0, "\n", ""),
+    (With(NAMES), &["name", "3", "5"], 1, "", "UnexpectedEof\n"),
+    (With(BROKEN), &["name", "3", "0"], 0, "f\u{fffd}o\n", ""),
+    (
+        With(OMAP),
         &["ranges", "3", "0", "0x1010"],
         0,
         "0x15d44..0x15d4c\n",
         "",
     ),
-    (OMAP, &["ranges", "3", "0", "0x1008"], 0, "", ""),
-    (OMAP, &["ranges", "4", "0", "0x1010"], 1, "", ABSENT_4),
-    (b"hello", &["ranges", "3", "0", "0x1010"], 1, "", NO_OMAP),
-    (&[0; 12], &["ranges", "3", "0", "1"], 1, "", NO_OMAP),
+    (With(OMAP), &["ranges", "3", "0", "0x1008"], 0, "", ""),
+    (With(OMAP), &["ranges", "4", "0", "0x1010"], 1, "", ABSENT_4),
     (
-        LAST,
+        With(b"hello"),
+        &["ranges", "3", "0", "0x1010"],
+        1,
+        "",
+        NO_OMAP,
+    ),
+    (With(&[0; 12]), &["ranges", "3", "0", "1"], 1, "", NO_OMAP),
+    (
+        With(LAST),
         &["type", "3", "0xffffffff"],
         1,
         "",
@@ -337,28 +354,61 @@ const NAMES_AND_RANGES: &[(&[u8], &[&str], u8, &str, &str)] = &[
     ),
 ];
 
-#[test]
-fn names_and_ranges(rt: HostRuntime) -> Result<()> {
-    for (stream, words, status, out, err) in NAMES_AND_RANGES {
-        let file = s1_with(rt.alloc(), stream)?;
-        let is = writes(rt.alloc(), file, words, *status, out.as_bytes(), err)?;
-        assert!(rt; is, "{words:?}");
-    }
-    Ok(())
-}
-
 /// Where the page number of the last stream of S1 stands.
 const LAST_PAGE: usize = 1052;
 
-#[test]
-fn cut_file(rt: HostRuntime) -> Result<()> {
-    let mut file = s1(rt.alloc())?;
+/// S1 whose last stream lies behind its end.
+fn cut_file(alloc: Global) -> Result<Vec<u8>> {
+    let mut file = s1(alloc)?;
     if let Some(page) = file.get_mut(LAST_PAGE) {
         *page = 8;
     }
-    let outcome = act(rt.alloc(), &["stream", "3"], file)?;
-    assert!(rt; outcome.status == 1 && outcome.out.is_empty());
-    assert!(rt; outcome.err.starts_with(b"IO error while reading PDB: "));
-    assert!(rt; outcome.err.ends_with(b"\n"));
+    Ok(file)
+}
+
+/// S1 with a table as its stream 3.
+fn with_table(alloc: Global, items: &[u8], maximum: u32) -> Result<Vec<u8>> {
+    let table = item_table(alloc, 56, 0x1000, maximum, items)?;
+    s1_with(alloc, &table)
+}
+
+/// The bytes of a file.
+fn bytes_of(alloc: Global, file: &File) -> Result<Vec<u8>> {
+    match file {
+        Example => s1(alloc),
+        Cut => cut_file(alloc),
+        With(stream) => s1_with(alloc, stream),
+        Table(items, maximum) => with_table(alloc, items, *maximum),
+    }
+}
+
+/// Whether the line of a refusal is this; what the system says of a fault is left open.
+fn is_line(line: &[u8], wanted: &str) -> bool {
+    if wanted == IO_ERROR {
+        return line.starts_with(IO_ERROR.as_bytes()) && line.ends_with(b"\n");
+    }
+    line == wanted.as_bytes()
+}
+
+/// Whether the program ended with a row's status and wrote what the row says.
+fn is_written(outcome: &Outcome, row: &Row) -> bool {
+    let (.., status, out, line) = row;
+    outcome.status == *status
+        && outcome.out.as_slice() == out.as_bytes()
+        && is_line(&outcome.err, line)
+}
+
+/// Whether the program answers a row so.
+fn is_printed(alloc: Global, row: &Row) -> Result<bool> {
+    let (file, words, ..) = row;
+    let outcome = act(alloc, words, bytes_of(alloc, file)?)?;
+    Ok(is_written(&outcome, row))
+}
+
+#[test]
+fn printed(rt: HostRuntime) -> std::result::Result<(), Fail> {
+    for row in ROWS {
+        assert!(rt; is_printed(rt.alloc(), row)?, "{}{}", row.3, row.4);
+    }
     Ok(())
 }

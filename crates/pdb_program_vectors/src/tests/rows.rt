@@ -1,21 +1,18 @@
-//! Rows of section headers, of records of OMAP tables and of frames. Each expected text is written from the
-//! definitions.
+//! Rows of section headers, of records of OMAP tables, of frames and of a class. Each expected text is written from
+//! the definitions.
 
+use pdb_base::{RawString, Result, TypeIndex};
+use pdb_flags::TypeProperties;
 use pdb_frames::{FrameData, FrameType};
-use pdb_rows::{Form, Row, frame_row, leaf_name, omap_row, push_row, section_row};
+use pdb_rows::{
+    Form, Row, frame_row, leaf_name, omap_row, push_fields, push_row, section_row, type_row,
+};
 use pdb_space::{
     ImageSectionHeader, OMAPRecord, PdbInternalRva, SectionCharacteristics, StringRef,
 };
+use pdb_values::{ClassKind, ClassType, TypeData};
 use std::alloc::Global;
 use std::test::Fail;
-
-/// The line of a row in text and in JSON.
-fn lines(alloc: Global, row: &Row<'_>) -> Result<Vec<u8>, Fail> {
-    let mut out = Vec::new(alloc);
-    push_row(Form::Text, row, &mut out)?;
-    push_row(Form::Json, row, &mut out)?;
-    Ok(out)
-}
 
 /// A section in both forms.
 const SECTION: &str =
@@ -65,35 +62,64 @@ const CODE: FrameData = FrameData {
     program: Some(StringRef(32)),
 };
 
-/// Whether a row has these lines.
-fn is_shown(alloc: Global, row: &Row<'_>, want: &str) -> Result<bool, Fail> {
-    let both = lines(alloc, row)?;
-    Ok(both.as_slice() == want.as_bytes())
+/// The structure as a line of text, as a line of JSON, and in full.
+const STRUCTURE: &str =
+    r#"0x1000 LF_STRUCTURE S\n"x" count=1 properties=[forward_reference,has_unique_name] fields=0x1001 size=4 unique_name=.?AUS@@
+{"index":4096,"kind":"LF_STRUCTURE","name":"S\n\"x\"","count":1,"properties":["forward_reference","has_unique_name"],"fields":4097,"size":4,"unique_name":".?AUS@@"}
+index: 0x1000
+kind: LF_STRUCTURE
+name: S\n"x"
+count: 1
+properties: [forward_reference,has_unique_name]
+fields: 0x1001
+size: 4
+unique_name: .?AUS@@
+"#;
+
+/// That structure.
+fn structure() -> TypeData<'static> {
+    TypeData::Class(ClassType {
+        kind: ClassKind::Struct,
+        count: 1,
+        properties: TypeProperties::new(0x280),
+        fields: Some(TypeIndex(0x1001)),
+        derived_from: None,
+        vtable_shape: None,
+        size: 4,
+        name: RawString::from("S\n\"x\""),
+        unique_name: Some(RawString::from(".?AUS@@")),
+    })
 }
 
-/// Whether a section header has its lines.
-fn is_section_shown(alloc: Global) -> Result<bool, Fail> {
-    let row = section_row(alloc, 1, &HEADER)?;
-    is_shown(alloc, &row, SECTION)
+/// Whether a row has these lines of text and of JSON, and then these in full if that is asked.
+fn has_lines(alloc: Global, row: &Row<'_>, is_full: bool, wanted: &str) -> Result<bool> {
+    let mut out = Vec::new(alloc);
+    push_row(Form::Text, row, &mut out)?;
+    push_row(Form::Json, row, &mut out)?;
+    if is_full {
+        push_fields(Form::Text, row, &mut out)?;
+    }
+    Ok(out.as_slice() == wanted.as_bytes())
 }
 
-/// Whether a record of an OMAP table has its lines.
-fn is_record_shown(alloc: Global) -> Result<bool, Fail> {
-    let row = omap_row(alloc, OMAPRecord::new(0x1000, 0x2000))?;
-    is_shown(alloc, &row, OMAP)
+/// The same of a row that is made.
+fn is_shown(alloc: Global, row: Result<Row<'_>>, is_full: bool, wanted: &str) -> bool {
+    matches!(&row, Ok(row) if matches!(has_lines(alloc, row, is_full, wanted), Ok(true)))
 }
 
-/// Whether a frame has its lines.
-fn is_frame_shown(alloc: Global) -> Result<bool, Fail> {
-    let row = frame_row(alloc, &CODE)?;
-    is_shown(alloc, &row, FRAME)
+/// Whether the row of that structure has its lines.
+fn is_structure_shown(alloc: Global) -> bool {
+    let row = type_row(alloc, 0x1000, 0x1505, &structure());
+    is_shown(alloc, row, true, STRUCTURE)
 }
 
 #[test]
-fn tables(rt: HostRuntime) -> Result<(), Fail> {
-    assert!(rt; is_section_shown(rt.alloc())?);
-    assert!(rt; is_record_shown(rt.alloc())?);
-    assert!(rt; is_frame_shown(rt.alloc())?);
+fn rows(rt: HostRuntime) {
+    let alloc = rt.alloc();
+    let omap = OMAPRecord::new(0x1000, 0x2000);
+    assert!(rt; is_shown(alloc, section_row(alloc, 1, &HEADER), false, SECTION));
+    assert!(rt; is_shown(alloc, omap_row(alloc, omap), false, OMAP));
+    assert!(rt; is_shown(alloc, frame_row(alloc, &CODE), false, FRAME));
+    assert!(rt; is_structure_shown(alloc));
     assert!(rt; leaf_name(0x151d).is_some() && leaf_name(0x0017).is_none());
-    Ok(())
 }

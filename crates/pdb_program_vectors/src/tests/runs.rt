@@ -1,10 +1,40 @@
 //! Runs: a file, and all that is asked of it, at once or one query at a time. What each other query is replied stands in the
 //! printed rows.
 
-use pdb_container::{Query, Reply, ask, run};
+use pdb_container::{Query, Reply, Result, ask, run};
 use pdb_vectors::s1;
 use std::alloc::Global;
 use std::test::Fail;
+
+/// Queries for all of stream 2, all of stream 3, and its first two bytes.
+const ABSENT: Query = Query::Stream {
+    number: 2,
+    limit: None,
+};
+
+const WHOLE: Query = Query::Stream {
+    number: 3,
+    limit: None,
+};
+
+const LIMITED: Query = Query::Stream {
+    number: 3,
+    limit: Some(2),
+};
+
+const REFUSED: &str = "The requested stream (2) is not stored in this file";
+
+/// A name, queries of S1, and what each reply says.
+const RUNS: &[(&str, &[Query], &[&str])] = &[
+    (
+        "four queries",
+        &[ABSENT, WHOLE, ABSENT, LIMITED],
+        &[REFUSED, "hello", REFUSED, "he"],
+    ),
+    ("an absent stream", &[ABSENT], &[REFUSED]),
+    ("a stream", &[WHOLE], &["hello"]),
+    ("its first bytes", &[LIMITED], &["he"]),
+];
 
 /// Whether a reply says this: bytes, or the text of an error.
 fn says(alloc: Global, reply: &Reply, want: &str) -> bool {
@@ -17,57 +47,39 @@ fn says(alloc: Global, reply: &Reply, want: &str) -> bool {
     }
 }
 
-fn stream(number: u32, limit: Option<usize>) -> Query {
-    Query::Stream { number, limit }
-}
-
-const REFUSED: &str = "The requested stream (2) is not stored in this file";
-
-/// The stream and the limit of a query, and what the reply says.
-const ROWS: &[(u32, Option<usize>, &str)] = &[
-    (2, None, REFUSED),
-    (3, None, "hello"),
-    (2, None, REFUSED),
-    (3, Some(2), "he"),
-];
-
-/// Whether replies say what the rows do, one after another.
-fn are_said(alloc: Global, replies: &[Reply]) -> bool {
-    for (place, (_, _, want)) in ROWS.iter().enumerate() {
-        match replies.get(place) {
-            Some(reply) if says(alloc, reply, want) => {}
-            _ => return false,
-        }
-    }
-    replies.len() == ROWS.len()
+/// Whether each reply says what it should.
+fn are_said(alloc: Global, replies: &[Reply], wanted: &[&str]) -> bool {
+    replies.len() == wanted.len()
+        && replies
+            .iter()
+            .zip(wanted)
+            .all(|(reply, want)| says(alloc, reply, want))
 }
 
 /// Whether a run replies so to all queries at once.
-fn is_run(alloc: Global) -> Result<bool, Fail> {
-    let queries = [
-        stream(2, None),
-        stream(3, None),
-        stream(2, None),
-        stream(3, Some(2)),
-    ];
-    let replies = run(alloc, s1(alloc)?, &queries)?;
-    Ok(are_said(alloc, &replies))
+fn is_run(alloc: Global, queries: &[Query], wanted: &[&str]) -> Result<bool> {
+    let replies = run(alloc, s1(alloc)?, queries)?;
+    Ok(are_said(alloc, &replies, wanted))
 }
 
-/// Whether one query of a file is replied so.
-fn is_asked(alloc: Global, query: Query, want: &str) -> Result<bool, Fail> {
+/// Whether a query that is asked alone is replied so.
+fn is_asked(alloc: Global, query: Query, wanted: &[&str]) -> Result<bool> {
     let reply = ask(alloc, s1(alloc)?, query);
-    Ok(says(alloc, &reply, want))
+    Ok(are_said(alloc, &[reply], wanted))
+}
+
+/// Whether queries are replied so: one is asked alone, and several at once.
+fn is_replied(alloc: Global, queries: &[Query], wanted: &[&str]) -> Result<bool> {
+    match queries {
+        [query] => is_asked(alloc, *query, wanted),
+        _ => is_run(alloc, queries, wanted),
+    }
 }
 
 #[test]
-fn runs(rt: HostRuntime) -> Result<(), Fail> {
-    assert!(rt; is_run(rt.alloc())?);
-    for (number, limit, want) in ROWS {
-        assert!(rt;
-            is_asked(rt.alloc(), stream(*number, *limit), want)?,
-            "{want}"
-        );
+fn runs(rt: HostRuntime) -> std::result::Result<(), Fail> {
+    for (name, queries, wanted) in RUNS {
+        assert!(rt; is_replied(rt.alloc(), queries, wanted)?, "{name}");
     }
     Ok(())
 }

@@ -4,8 +4,8 @@ mod file;
 
 use file::built;
 use pdb_container::{
-    FrameType, Msf, PdbInternalRva, PdbInternalSectionOffset, Rva, StringRef, TypeData, TypeFinder,
-    TypeIndex, TypeInformation, open_msf,
+    AddressMap, FrameData, FrameType, Msf, PdbInternalRva, PdbInternalSectionOffset, Result, Rva,
+    Stream, StringRef, TypeData, TypeFinder, TypeIndex, TypeInformation, open_msf,
 };
 use pdb_examples::{
     class_fields, finder_of, frames_at, map_of, name_at, stream_and_views, stream_sizes,
@@ -14,31 +14,19 @@ use pdb_examples::{
 use std::alloc::Global;
 use std::test::Fail;
 
-#[test]
-fn streams(rt: HostRuntime) -> Result<(), Fail> {
-    let sizes = stream_sizes(rt.alloc(), built(rt.alloc())?)?;
-    let wanted = [
-        (0, 0),
-        (1, 74),
-        (2, 96),
-        (3, 86),
-        (4, 17),
-        (5, 40),
-        (6, 40),
-        (7, 8),
-        (8, 8),
-        (10, 16),
-    ];
-    assert!(rt; sizes.as_slice() == wanted.as_slice(), "{sizes:?}");
-    Ok(())
-}
-
-#[test]
-fn types(rt: HostRuntime) -> Result<(), Fail> {
-    let found = types_named(rt.alloc(), built(rt.alloc())?, b"S")?;
-    assert!(rt; found.as_slice() == [TypeIndex(0x1001)].as_slice());
-    Ok(())
-}
+/// The streams, and the bytes of each.
+const SIZES: &[(u32, usize)] = &[
+    (0, 0),
+    (1, 74),
+    (2, 96),
+    (3, 86),
+    (4, 17),
+    (5, 40),
+    (6, 40),
+    (7, 8),
+    (8, 8),
+    (10, 16),
+];
 
 /// Whether a type is the member `x`, a 4-byte integer.
 fn is_x(value: &TypeData<'_>) -> bool {
@@ -50,62 +38,124 @@ fn is_x(value: &TypeData<'_>) -> bool {
     }
 }
 
+/// Whether the member `x` is the one field of the class that a finder knows.
+fn has_x(alloc: Global, finder: &TypeFinder<'_>) -> bool {
+    let fields = class_fields(alloc, finder, TypeIndex(0x1001));
+    matches!(&fields, Ok(fields) if matches!(fields.as_slice(), [field] if is_x(field)))
+}
+
 /// The types of the file.
-fn types_in(alloc: Global) -> Result<TypeInformation, Fail> {
-    let mut file = open_msf(alloc, built(alloc)?)?;
-    Ok(TypeInformation::parse(file.get(alloc, 2, None)?)?)
+fn types_in(alloc: Global, file: Vec<u8>) -> Result<TypeInformation> {
+    let mut file = open_msf(alloc, file)?;
+    TypeInformation::parse(file.get(alloc, 2, None)?)
 }
 
-/// Whether the member `x` is the one field of the class.
-fn has_x(alloc: Global, finder: &TypeFinder<'_>) -> Result<bool, Fail> {
-    let fields = class_fields(alloc, finder, TypeIndex(0x1001))?;
-    Ok(matches!(fields.as_slice(), [field] if is_x(field)))
+/// The same of a finder that knows all types.
+fn is_found(alloc: Global, finder: Result<TypeFinder<'_>>) -> bool {
+    match &finder {
+        Ok(finder) => has_x(alloc, finder),
+        Err(_) => false,
+    }
 }
 
-/// The same, by a finder that knows all types.
-fn is_class_of_x(alloc: Global, types: &TypeInformation) -> Result<bool, Fail> {
-    let finder = finder_of(alloc, types)?;
-    has_x(alloc, &finder)
+/// The same of types.
+fn is_class_of_x(alloc: Global, types: Result<TypeInformation>) -> bool {
+    match &types {
+        Ok(types) => is_found(alloc, finder_of(alloc, types)),
+        Err(_) => false,
+    }
 }
 
-#[test]
-fn fields(rt: HostRuntime) -> Result<(), Fail> {
-    let types = types_in(rt.alloc())?;
-    assert!(rt; is_class_of_x(rt.alloc(), &types)?);
-    Ok(())
+/// Whether the sizes of the streams are those.
+fn are_sizes(sizes: Result<Vec<(u32, usize)>>) -> bool {
+    matches!(&sizes, Ok(sizes) if sizes.as_slice() == SIZES)
 }
 
-#[test]
-fn addresses(rt: HostRuntime) -> Result<(), Fail> {
-    let map = map_of(rt.alloc(), built(rt.alloc())?)?;
-    let there = there_and_back(&map, Rva(0x5010));
+/// Whether the one type of a name is the structure `S`.
+fn is_s(found: Result<Vec<TypeIndex>>) -> bool {
+    matches!(&found, Ok(found) if found.as_slice() == [TypeIndex(0x1001)].as_slice())
+}
+
+/// Whether an address is moved there and back.
+fn is_moved(map: Result<AddressMap>) -> bool {
     let place = PdbInternalSectionOffset::new(1, 0x10);
-    assert!(rt; there == Some((place, Some(Rva(0x5010)))));
-    Ok(())
+    match &map {
+        Ok(map) => there_and_back(map, Rva(0x5010)) == Some((place, Some(Rva(0x5010)))),
+        Err(_) => false,
+    }
+}
+
+/// Whether a frame of the older format is of the code from 0x10 on.
+fn is_fpo(frame: &FrameData) -> bool {
+    frame.code_start == PdbInternalRva(0x10) && frame.ty == FrameType::FPO
+}
+
+/// Whether that frame alone was found.
+fn is_frame(found: Result<Vec<FrameData>>) -> bool {
+    match &found {
+        Ok(found) => matches!(found.as_slice(), [frame] if is_fpo(frame)),
+        Err(_) => false,
+    }
+}
+
+/// Whether a name is `foo`.
+fn is_foo(name: Result<Vec<u8>>) -> bool {
+    matches!(&name, Ok(name) if name.as_slice() == b"foo".as_slice())
+}
+
+/// Whether the stream of OMAP to source was read by four views.
+fn is_viewed(given: Result<(Stream, u64)>) -> bool {
+    match &given {
+        Ok((stream, views)) => {
+            stream.as_slice() == b"\0P\0\0\0\x10\0\0".as_slice() && *views == 4
+        }
+        Err(_) => false,
+    }
+}
+
+/// A use of the file.
+enum Use {
+    Streams,
+    Types,
+    Fields,
+    Addresses,
+    Frames,
+    Names,
+    Sources,
+}
+
+const USES: &[(&str, Use)] = &[
+    ("streams", Use::Streams),
+    ("types", Use::Types),
+    ("fields", Use::Fields),
+    ("addresses", Use::Addresses),
+    ("frames", Use::Frames),
+    ("names", Use::Names),
+    ("sources", Use::Sources),
+];
+
+/// Whether a use of the file answers as it should.
+fn is_answered(alloc: Global, asked: &Use, file: Vec<u8>) -> bool {
+    match asked {
+        Use::Streams => are_sizes(stream_sizes(alloc, file)),
+        Use::Types => is_s(types_named(alloc, file, b"S")),
+        Use::Fields => is_class_of_x(alloc, types_in(alloc, file)),
+        Use::Addresses => is_moved(map_of(alloc, file)),
+        Use::Frames => is_frame(frames_at(alloc, file, PdbInternalRva(0x13))),
+        Use::Names => is_foo(name_at(alloc, file, StringRef(1))),
+        Use::Sources => is_viewed(stream_and_views(alloc, file, 7)),
+    }
+}
+
+/// The same of the file that is built.
+fn is_used(alloc: Global, asked: &Use) -> Result<bool> {
+    Ok(is_answered(alloc, asked, built(alloc)?))
 }
 
 #[test]
-fn frames(rt: HostRuntime) -> Result<(), Fail> {
-    let found = frames_at(rt.alloc(), built(rt.alloc())?, PdbInternalRva(0x13))?;
-    let is = matches!(
-        found.as_slice(),
-        [frame] if frame.code_start == PdbInternalRva(0x10) && frame.ty == FrameType::FPO
-    );
-    assert!(rt; is);
-    Ok(())
-}
-
-#[test]
-fn names(rt: HostRuntime) -> Result<(), Fail> {
-    let name = name_at(rt.alloc(), built(rt.alloc())?, StringRef(1))?;
-    assert!(rt; name.as_slice() == b"foo".as_slice());
-    Ok(())
-}
-
-#[test]
-fn sources(rt: HostRuntime) -> Result<(), Fail> {
-    let (stream, views) = stream_and_views(rt.alloc(), built(rt.alloc())?, 7)?;
-    assert!(rt; stream.as_slice() == b"\0P\0\0\0\x10\0\0".as_slice());
-    assert!(rt; views == 4);
+fn uses(rt: HostRuntime) -> std::result::Result<(), Fail> {
+    for (name, asked) in USES {
+        assert!(rt; is_used(rt.alloc(), asked)?, "{name}");
+    }
     Ok(())
 }

@@ -1,22 +1,28 @@
 //! The file that the uses are tried on.
 
-use pdb_vectors::item_table;
+use pdb_container::Result;
 use std::alloc::Global;
-use std::test::Fail;
 
 /// Bytes in a page.
 const PAGE_SIZE: usize = 512;
 
-/// What a file begins with.
-const MAGIC: &[u8] = b"Microsoft C/C++ MSF 7.00\r\n\x1a\x44\x53\0\0\0";
+/// The header: pages of 512 bytes, the free page map 1, 16 pages, and a directory of 84 bytes, located by page 3.
+const HEADER: &[u8] =
+    b"Microsoft C/C++ MSF 7.00\r\n\x1a\x44\x53\0\0\0\0\x02\0\0\x01\0\0\0\x10\0\0\0\x54\0\0\0\0\0\0\0\x03\0\0\0";
+
+/// The directory: eleven streams, their sizes, of which the tenth says that the stream is absent, and the page of each
+/// that has bytes: 5 behind its number.
+const DIRECTORY: &[u8] =
+    b"\x0b\0\0\0\0\0\0\0\x4a\0\0\0\x60\0\0\0\x56\0\0\0\x11\0\0\0\x28\0\0\0\x28\0\0\0\x08\0\0\0\x08\0\0\0\xff\xff\xff\xff\x10\0\0\0\x06\0\0\0\x07\0\0\0\x08\0\0\0\x09\0\0\0\x0a\0\0\0\x0b\0\0\0\x0c\0\0\0\x0d\0\0\0\x0f\0\0\0";
 
 /// Stream 1: the name `/names` of stream 4.
 const INFORMATION: &[u8] =
     b"\x94.1\x01\0\0\0\0\x01\0\0\0\0\0\0\0\0\0\0\0\0\0\0\0\0\0\0\0\x0a\0\0\0/names\0/a\0\x02\0\0\0\x04\0\0\0\0\0\0\0\0\0\0\0\x07\0\0\0\x02\0\0\0\0\0\0\0\x04\0\0\0";
 
-/// The types of stream 2: a list of the field `x`, a 4-byte integer, and the struct `S` of that field.
+/// Stream 2: a table of the types 0x1000, a list of the field `x`, a 4-byte integer, and 0x1001, the struct `S` of
+/// that field.
 const TYPES: &[u8] =
-    b"\x0e\0\x03\x12\x0d\x15\x03\0\x74\0\0\0\0\0x\0\x16\0\x05\x15\x01\0\0\0\0\x10\0\0\0\0\0\0\0\0\0\0\x04\0S\0";
+    b"\0\0\0\0\x38\0\0\0\x00\x10\0\0\x02\x10\0\0\0\0\0\0\0\0\0\0\0\0\0\0\0\0\0\0\0\0\0\0\0\0\0\0\0\0\0\0\0\0\0\0\0\0\0\0\0\0\0\0\x0e\0\x03\x12\x0d\x15\x03\0\x74\0\0\0\0\0x\0\x16\0\x05\x15\x01\0\0\0\0\x10\0\0\0\0\0\0\0\0\0\0\x04\0S\0";
 
 /// Stream 3: frames of the older format in stream 10, OMAP to source and from source in streams 7 and 8,
 /// section headers and the original ones in streams 6 and 5, and no other role.
@@ -43,76 +49,29 @@ const FROM_SOURCE: &[u8] = b"\0\x10\0\0\0P\0\0";
 /// Stream 10: a frame of the older format, of the four bytes of code from 0x10 on.
 const FRAME: &[u8] = b"\x10\0\0\0\x04\0\0\0\0\0\0\0\0\0\0\0";
 
-/// The bytes of a stream, where `table` is stream 2. Stream 0 is empty.
-fn bytes_of(number: u32, table: &[u8]) -> &[u8] {
-    match number {
-        1 => INFORMATION,
-        2 => table,
-        3 => DEBUG,
-        4 => NAMES,
-        5 => ORIGINAL,
-        6 => SECTIONS,
-        7 => TO_SOURCE,
-        8 => FROM_SOURCE,
-        10 => FRAME,
-        _ => b"",
-    }
-}
-
-/// The size of a stream. Stream 9 is absent.
-fn size_of(number: u32, table: &[u8]) -> u32 {
-    match number {
-        9 => 0xffff_ffff,
-        _ => bytes_of(number, table).len().min(PAGE_SIZE) as u32,
-    }
-}
-
-fn push(bytes: &mut Vec<u8>, number: u32) -> Result<(), Fail> {
-    bytes.extend_from_slice(&number.to_le_bytes())?;
-    Ok(())
-}
-
-/// The directory: the sizes of the streams, and page 5 + n for each stream n that has bytes.
-fn directory(alloc: Global, table: &[u8]) -> Result<Vec<u8>, Fail> {
-    let mut bytes = Vec::new(alloc);
-    push(&mut bytes, 11)?;
-    for number in 0..11u32 {
-        push(&mut bytes, size_of(number, table))?;
-    }
-    for number in 0..11u32 {
-        if !bytes_of(number, table).is_empty() {
-            push(&mut bytes, 5 + number)?;
-        }
-    }
-    Ok(bytes)
-}
-
-/// The header of a file of 16 pages whose directory has this size and is located by page 3.
-fn header(alloc: Global, size: u32) -> Result<Vec<u8>, Fail> {
-    let mut bytes = Vec::from_slice(alloc, MAGIC)?;
-    for number in [512, 1, 16, size, 0, 3] {
-        push(&mut bytes, number)?;
-    }
-    Ok(bytes)
-}
-
-/// Adds bytes as the page of a number.
-fn push_page(file: &mut Vec<u8>, number: u32, bytes: &[u8]) -> Result<(), Fail> {
-    file.resize(PAGE_SIZE * number.min(16) as usize, 0)?;
-    file.extend_from_slice(bytes)?;
-    Ok(())
-}
+/// The numbers of pages, and the bytes that each begins with. Page 16 is the end of the file.
+const PAGES: &[(usize, &[u8])] = &[
+    (0, HEADER),
+    (3, b"\x04\0\0\0"),
+    (4, DIRECTORY),
+    (6, INFORMATION),
+    (7, TYPES),
+    (8, DEBUG),
+    (9, NAMES),
+    (10, ORIGINAL),
+    (11, SECTIONS),
+    (12, TO_SOURCE),
+    (13, FROM_SOURCE),
+    (15, FRAME),
+    (16, b""),
+];
 
 /// The file, each of whose streams has a page.
-pub fn built(alloc: Global) -> Result<Vec<u8>, Fail> {
-    let table = item_table(alloc, 56, 0x1000, 0x1002, TYPES)?;
-    let directory = directory(alloc, &table)?;
-    let mut file = header(alloc, directory.len().min(PAGE_SIZE) as u32)?;
-    push_page(&mut file, 3, b"\x04\0\0\0")?;
-    push_page(&mut file, 4, &directory)?;
-    for number in 0..11u32 {
-        push_page(&mut file, 5 + number, bytes_of(number, &table))?;
+pub fn built(alloc: Global) -> Result<Vec<u8>> {
+    let mut file = Vec::new(alloc);
+    for (number, bytes) in PAGES {
+        file.resize(PAGE_SIZE * (*number).min(16), 0)?;
+        file.extend_from_slice(bytes)?;
     }
-    push_page(&mut file, 16, b"")?;
     Ok(file)
 }
