@@ -9,13 +9,8 @@ ghost use Rattle.pdb_handles.specs.Found.{IsFound, found, not_held};
 ghost use Rattle.pdb_handles.specs.Handle.{addresses_held};
 ghost use Rattle.pdb_handles.specs.Place.{place_of, section_place};
 
-<<<<<<< HEAD
-use pdb_handles::found::tell_found;
-use pdb_handles::{Content, Fault, Handle, NOT_OPEN, Place};
-=======
 use pdb_handles::addresses::{find_by_addresses, if_internal, if_loaded};
 use pdb_handles::{Fault, Handle, Place};
->>>>>>> 2b326bacf35725d31bc0c98db6387e142f45982c
 use pdb_space::{PdbInternalRva, PdbInternalSectionOffset, Rva, SectionOffset};
 use std::alloc::Global;
 

@@ -111,12 +111,9 @@ fn listing_of(alloc: Global, value: &TypeData<'_>) -> Result<Option<Listing>>
 }
 
 /// Returns all fields that were found, for the caller.
-<<<<<<< HEAD
-=======
 ///
 /// # Errors
 /// Fails with the error that is given, and with `OutOfMemory` if memory is refused.
->>>>>>> 2b326bacf35725d31bc0c98db6387e142f45982c
 pub fn listing_found(alloc: Global, found: Result<Vec<TypeData<'_>>>) -> Result<Option<Listing>>
     ensures { (meant : Answer (List TypeValue)) → Answers (λ fields. map type_value fields.items) found.entry meant
         → Answers (option_map listing_view) result (listings (all_found meant)) }
@@ -151,12 +148,9 @@ pub fn write_found(
 
 /// Parses a record and returns the fields that it lists, for the caller, or None if it isn't a list
 /// of fields.
-<<<<<<< HEAD
-=======
 ///
 /// # Errors
 /// Fails as `type_in` does, and with `OutOfMemory` if memory is refused.
->>>>>>> 2b326bacf35725d31bc0c98db6387e142f45982c
 pub fn fields_of(alloc: Global, bytes: &[u8], index: u32) -> Result<Option<Listing>>
     ensures { Answers (option_map listing_view) result (listings (fields_of_record index bytes.now)) }
 {

@@ -12,12 +12,9 @@ use pdb_roles::{address_map, frame_table, named_stream, string_table};
 use std::alloc::Global;
 
 /// Opens a file over the caller's bytes.
-<<<<<<< HEAD
-=======
 ///
 /// # Errors
 /// Fails as `open_msf` does.
->>>>>>> 2b326bacf35725d31bc0c98db6387e142f45982c
 pub fn opened<'f>(alloc: Global, file: &'f [u8]) -> Result<BigMSF<&'f [u8]>>
     ensures head { Answers (λ file. file.head) result (opened file.now) }
     ensures bytes { IfOk result (λ opened. opened.source.now ≡ file.now) }
@@ -26,12 +23,9 @@ pub fn opened<'f>(alloc: Global, file: &'f [u8]) -> Result<BigMSF<&'f [u8]>>
 }
 
 /// Reads the first stream with this name.
-<<<<<<< HEAD
-=======
 ///
 /// # Errors
 /// Fails as `opened` and `named_stream` do.
->>>>>>> 2b326bacf35725d31bc0c98db6387e142f45982c
 pub fn named_stream_in(alloc: Global, file: &[u8], name: &[u8]) -> Result<Stream>
     ensures { Answers (λ stream. stream) result (named_stream_said name.now file.now) }
 {
@@ -40,12 +34,9 @@ pub fn named_stream_in(alloc: Global, file: &[u8], name: &[u8]) -> Result<Stream
 }
 
 /// Reads the string table of a file.
-<<<<<<< HEAD
-=======
 ///
 /// # Errors
 /// Fails as `opened` and `string_table` do.
->>>>>>> 2b326bacf35725d31bc0c98db6387e142f45982c
 pub fn names_in(alloc: Global, file: &[u8]) -> Result<Content>
     ensures { Answers (λ content. content) result (names_said file.now) }
 {
@@ -54,12 +45,9 @@ pub fn names_in(alloc: Global, file: &[u8]) -> Result<Content>
 }
 
 /// Reads the address map of a file.
-<<<<<<< HEAD
-=======
 ///
 /// # Errors
 /// Fails as `opened` and `address_map` do.
->>>>>>> 2b326bacf35725d31bc0c98db6387e142f45982c
 pub fn addresses_in(alloc: Global, file: &[u8]) -> Result<Content>
     ensures { Answers (λ content. content) result (addresses_said file.now) }
 {
@@ -68,12 +56,9 @@ pub fn addresses_in(alloc: Global, file: &[u8]) -> Result<Content>
 }
 
 /// Reads the frame table of a file.
-<<<<<<< HEAD
-=======
 ///
 /// # Errors
 /// Fails as `opened` and `frame_table` do.
->>>>>>> 2b326bacf35725d31bc0c98db6387e142f45982c
 pub fn frames_in(alloc: Global, file: &[u8]) -> Result<Content>
     ensures { Answers (λ content. content) result (frames_said file.now) }
 {

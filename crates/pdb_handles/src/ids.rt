@@ -21,12 +21,9 @@ use pdb_values::{IdData, UserDefinedTypeSourceFileRef, UserDefinedTypeSourceId};
 use std::alloc::Global;
 
 /// Parses the record of an id.
-<<<<<<< HEAD
-=======
 ///
 /// # Errors
 /// Fails as `parse_id_data` does.
->>>>>>> 2b326bacf35725d31bc0c98db6387e142f45982c
 #[tactic(auto, unfolding(pdb_tpi::specs::Record::id_of))]
 pub fn id_at<'t>(alloc: Global, bytes: &'t [u8]) -> Result<IdData<'t>>
     ensures { Answers id_value result (id_of bytes.now) }
@@ -139,12 +136,9 @@ fn list_in(alloc: Global, value: &IdData<'_>) -> Result<Option<Vec<u32>>>
 }
 
 /// Parses the record of an id and returns the indexes that it lists, or None if it isn't a list.
-<<<<<<< HEAD
-=======
 ///
 /// # Errors
 /// Fails as `id_at` does, and with `OutOfMemory` if memory is refused.
->>>>>>> 2b326bacf35725d31bc0c98db6387e142f45982c
 pub fn list_of(alloc: Global, bytes: &[u8]) -> Result<Option<Vec<u32>>>
     ensures { Answers (option_map (λ list. list.items)) result (id_list_of bytes.now) }
 {

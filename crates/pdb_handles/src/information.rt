@@ -64,12 +64,9 @@ impl Information {
 }
 
 /// Reads the information in stream 1.
-<<<<<<< HEAD
-=======
 ///
 /// # Errors
 /// Fails as `opened` and `pdb_information` do.
->>>>>>> 2b326bacf35725d31bc0c98db6387e142f45982c
 pub fn information_in(alloc: Global, file: &[u8]) -> Result<PDBInformation>
     ensures { Answers (λ information. information) result (information_said file.now) }
 {

@@ -2,10 +2,7 @@
 //! end, rows of numbers, and copies into a caller's arrays.
 #![tactic(auto)]
 
-<<<<<<< HEAD
-=======
 pub mod addresses;
->>>>>>> 2b326bacf35725d31bc0c98db6387e142f45982c
 mod content;
 pub mod copied;
 mod fault;

@@ -55,12 +55,9 @@ fn methods_in(alloc: Global, value: &TypeData<'_>) -> Result<Option<Vec<Row>>>
 }
 
 /// Parses a record and returns the methods that it lists, or None if it isn't a list of methods.
-<<<<<<< HEAD
-=======
 ///
 /// # Errors
 /// Fails as `type_in` does, and with `OutOfMemory` if memory is refused.
->>>>>>> 2b326bacf35725d31bc0c98db6387e142f45982c
 pub fn methods_of(alloc: Global, bytes: &[u8], index: u32) -> Result<Option<Vec<Row>>>
     ensures { Answers (option_map (λ rows. rows.items)) result (methods_of index bytes.now) }
 {

@@ -29,12 +29,9 @@ pub struct NamePlace {
 }
 
 /// Parses the string table in a stream, which is copied.
-<<<<<<< HEAD
-=======
 ///
 /// # Errors
 /// Fails as `StringTable::parse` does, and with `OutOfMemory` if memory is refused.
->>>>>>> 2b326bacf35725d31bc0c98db6387e142f45982c
 pub fn names_in(alloc: Global, stream: &[u8]) -> Result<Content>
     requires { length stream.now < 0xffffffff }
     ensures { Answers (λ content. content) result (held_as Names (names_of stream.now)) }

@@ -12,12 +12,9 @@ use pdb_space::OMAPTable;
 use std::alloc::Global;
 
 /// Parses the OMAP table in a stream, which is copied.
-<<<<<<< HEAD
-=======
 ///
 /// # Errors
 /// Fails as `OMAPTable::parse` does, and with `OutOfMemory` if memory is refused.
->>>>>>> 2b326bacf35725d31bc0c98db6387e142f45982c
 pub fn table_in(alloc: Global, stream: &[u8]) -> Result<Content>
     requires { length stream.now < 0xffffffff }
     ensures { Answers (λ content. content) result (held_as Omap (omap_table_of stream.now)) }

@@ -1,10 +1,7 @@
 //! Places in sections, as a caller sees them.
 
 ghost use Rattle.std.specs.Prelude.{◌≡◌};
-<<<<<<< HEAD
-=======
 ghost use Rattle.std.specs.Option.{option_map};
->>>>>>> 2b326bacf35725d31bc0c98db6387e142f45982c
 ghost use Rattle.pdb_handles.specs.Place.{place_of};
 
 use pdb_space::{PdbInternalSectionOffset, SectionOffset};

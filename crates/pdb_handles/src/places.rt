@@ -56,12 +56,9 @@ fn walked(alloc: Global, table: &TypeInformation) -> Result<Items>
 }
 
 /// Parses the table in a stream, which is copied.
-<<<<<<< HEAD
-=======
 ///
 /// # Errors
 /// Fails as `TypeInformation::parse` does, and with `OutOfMemory` if memory is refused.
->>>>>>> 2b326bacf35725d31bc0c98db6387e142f45982c
 pub fn table_in(alloc: Global, stream: &[u8]) -> Result<TypeInformation>
     requires { length stream.now < 0xffffffff }
     ensures { Answers (λ table. table) result (table_of stream.now) }

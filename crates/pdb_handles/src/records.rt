@@ -23,12 +23,9 @@ use std::alloc::Global;
 
 /// Parses the record of the type of an index. An index below 0x1000 is that of a primitive type,
 /// which needs no record.
-<<<<<<< HEAD
-=======
 ///
 /// # Errors
 /// Fails as `type_data_for_primitive` and `parse_type_data` do.
->>>>>>> 2b326bacf35725d31bc0c98db6387e142f45982c
 #[tactic(auto, unfolding(pdb_tpi::specs::Record::type_of))]
 pub fn type_in<'t>(alloc: Global, bytes: &'t [u8], index: u32) -> Result<TypeData<'t>>
     ensures { Answers type_value result (type_of index bytes.now) }
@@ -130,12 +127,9 @@ pub fn copy_type_name(parsed: Result<TypeData<'_>>, room: &mut [u8], length: &mu
 }
 
 /// Returns the numbers of type indexes.
-<<<<<<< HEAD
-=======
 ///
 /// # Errors
 /// Fails with `OutOfMemory` if memory is refused.
->>>>>>> 2b326bacf35725d31bc0c98db6387e142f45982c
 pub fn numbers_of(alloc: Global, indexes: &[TypeIndex]) -> Result<Vec<u32>>
     ensures { Answers (λ numbers. numbers.items) result (Ok (map (λ index. index.0) indexes.now)) }
 {
@@ -158,12 +152,9 @@ fn arguments_in(alloc: Global, value: &TypeData<'_>) -> Result<Option<Vec<u32>>>
 
 /// Parses a record and returns the types of the arguments that it lists, or None if it isn't a list
 /// of arguments.
-<<<<<<< HEAD
-=======
 ///
 /// # Errors
 /// Fails as `type_in` does, and with `OutOfMemory` if memory is refused.
->>>>>>> 2b326bacf35725d31bc0c98db6387e142f45982c
 pub fn arguments_of(alloc: Global, bytes: &[u8], index: u32) -> Result<Option<Vec<u32>>>
     ensures { Answers (option_map (λ list. list.items)) result (arguments_of index bytes.now) }
 {

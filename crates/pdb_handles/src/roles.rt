@@ -61,12 +61,9 @@ impl Roles {
 }
 
 /// Reads from a file the numbers of the streams in their roles.
-<<<<<<< HEAD
-=======
 ///
 /// # Errors
 /// Fails as `opened` and `extra_streams` do.
->>>>>>> 2b326bacf35725d31bc0c98db6387e142f45982c
 pub fn roles_in(alloc: Global, file: &[u8]) -> Result<DBIExtraStreams>
     ensures { Answers (λ roles. roles) result (roles_said file.now) }
 {

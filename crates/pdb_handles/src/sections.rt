@@ -65,12 +65,9 @@ fn sections_of(alloc: Global, headers: &[ImageSectionHeader]) -> Result<Vec<Sect
 }
 
 /// Reads the headers of the sections that a stream holds.
-<<<<<<< HEAD
-=======
 ///
 /// # Errors
 /// Fails as `section_headers` does, and with `OutOfMemory` if memory is refused.
->>>>>>> 2b326bacf35725d31bc0c98db6387e142f45982c
 pub fn sections_in(alloc: Global, stream: &[u8]) -> Result<Vec<Section>>
     requires { length stream.now < 0xffffffff }
     ensures { Answers (λ sections. sections.items) result (sections_in stream.now) }

@@ -9,12 +9,9 @@ use pdb_msf::Layout;
 use std::alloc::Global;
 
 /// Reads the header and the directory of a file.
-<<<<<<< HEAD
-=======
 ///
 /// # Errors
 /// Fails as `Layout::read` does.
->>>>>>> 2b326bacf35725d31bc0c98db6387e142f45982c
 pub fn layout_in(alloc: Global, file: &[u8]) -> Result<Content>
     ensures { Answers (λ content. content) result (plan_said file.now) }
 {

@@ -1,12 +1,6 @@
 -- The text of the refusal that is told.
-<<<<<<< HEAD
-use Rattle.std.proofs.Common.{◌∙◌, ap, sym, subst, Option}
-use Rattle.std.specs.Option.{option_map}
-use Rattle.pdb_base.specs.Refusal.{Refusal, refusal_of}
-=======
 use Rattle.std.proofs.Common.{subst, Option}
 use Rattle.pdb_base.specs.Refusal.{Refusal}
->>>>>>> 2b326bacf35725d31bc0c98db6387e142f45982c
 use Rattle.pdb_handles.specs.Copied.{CopiesOrLacks, text_copied}
 use Rattle.pdb_handles.specs.Told.{text_if}
 use Rattle.pdb_c.proofs.text.pdb_error_text.Goals as goal
