@@ -143,7 +143,8 @@ type Row = (
     &'static str,
 );
 
-const ROWS: &[Row] = &[
+/// Streams, and words that ask nothing. A table each for like rows: one of all is long in the proof.
+const STREAMS: &[Row] = &[
     (Example, &["stream", "0"], 0, "", ""),
     (Example, &["stream", "0000000003", "0x2"], 0, "6865\n", ""),
     (Example, &["stream", "4"], 1, "", ABSENT_4),
@@ -159,6 +160,11 @@ const ROWS: &[Row] = &[
     (Example, &["name", "3", "0x"], 2, "", USAGE),
     (Example, &["fields", "3"], 2, "", USAGE),
     (Example, &["fields", "4", "0"], 1, "", ABSENT_4),
+    (Cut, &["stream", "3"], 1, "", IO_ERROR),
+];
+
+/// All of stream 1, and its first bytes.
+const WHOLE: &[Row] = &[
     (Example, &[], 0, EXAMPLE, ""),
     (Example, &["stream", "1"], 0, EXAMPLE, ""),
     (
@@ -169,7 +175,10 @@ const ROWS: &[Row] = &[
         "",
     ),
     (Example, &["stream", "1", "513"], 0, LIMITED, ""),
-    (Cut, &["stream", "3"], 1, "", IO_ERROR),
+];
+
+/// Types, ids, and fields of lists.
+const TABLES: &[Row] = &[
     (
         Table(MODIFIER, 0x1001),
         &["type", "3", "0x1000"],
@@ -324,6 +333,10 @@ const ROWS: &[Row] = &[
         "",
         "Support for types of kind 0x1001 is not implemented\n",
     ),
+];
+
+/// Names, ranges, and a type that is not there.
+const NAMES_AND_RANGES: &[Row] = &[
     (With(NAMES), &["name", "3", "1"], 0, "foo\n", ""),
     (With(NAMES), &["name", "3", "0"], 0, "\n", ""),
     (With(NAMES), &["name", "3", "5"], 1, "", "UnexpectedEof\n"),
@@ -406,8 +419,32 @@ fn is_printed(alloc: Global, row: &Row) -> Result<bool> {
 }
 
 #[test]
-fn printed(rt: HostRuntime) -> std::result::Result<(), Fail> {
-    for row in ROWS {
+fn streams(rt: HostRuntime) -> std::result::Result<(), Fail> {
+    for row in STREAMS {
+        assert!(rt; is_printed(rt.alloc(), row)?, "{}{}", row.3, row.4);
+    }
+    Ok(())
+}
+
+#[test]
+fn whole_stream(rt: HostRuntime) -> std::result::Result<(), Fail> {
+    for row in WHOLE {
+        assert!(rt; is_printed(rt.alloc(), row)?, "{}{}", row.3, row.4);
+    }
+    Ok(())
+}
+
+#[test]
+fn tables(rt: HostRuntime) -> std::result::Result<(), Fail> {
+    for row in TABLES {
+        assert!(rt; is_printed(rt.alloc(), row)?, "{}{}", row.3, row.4);
+    }
+    Ok(())
+}
+
+#[test]
+fn names_and_ranges(rt: HostRuntime) -> std::result::Result<(), Fail> {
+    for row in NAMES_AND_RANGES {
         assert!(rt; is_printed(rt.alloc(), row)?, "{}{}", row.3, row.4);
     }
     Ok(())
