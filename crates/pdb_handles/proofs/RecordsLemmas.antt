@@ -5,7 +5,7 @@ use Rattle.pdb_base.specs.declared.index.TypeIndex.{TypeIndex}
 use Rattle.pdb_base.specs.Answer.{Answer, Answers, Gives}
 use Rattle.pdb_base.specs.Reading.{number_at}
 use Rattle.pdb_base.specs.Refusal.{Refusal, refusal_of}
-use Rattle.pdb_records.specs.Fields.{field_list_at, field_list_leaf, list_continuation_at, record_at, type_record}
+use Rattle.pdb_records.specs.Fields.{field_list_leaf, list_continuation_at, record_at, type_record}
 use Rattle.pdb_records.specs.Memory.{argument_list_leaf}
 use Rattle.pdb_records.specs.Records.{arguments_end, behind_leaf}
 use Rattle.pdb_records.proofs.lemmas.Whole.{arguments_listed, arguments_refused, list_continued, list_refused, reads_list, reads_other, says_type}

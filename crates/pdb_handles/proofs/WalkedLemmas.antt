@@ -1,5 +1,5 @@
 -- The next records of a walk, as they are written one after another.
-use Rattle.std.proofs.Common.{◌≡◌, ℕ, ◌+◌, ◌<◌, ◌≤◌, List, [], ◌∷◌, ◌++◌, length, set, take, drop, refl, sym, ap, subst, ◌∙◌, arith, Option, Some, None, Ok, Err, inl, inr}
+use Rattle.std.proofs.Common.{◌≡◌, ℕ, ◌+◌, ◌<◌, ◌≤◌, List, [], ◌∷◌, ◌++◌, length, set, take, drop, refl, sym, ap, subst, ◌∙◌, arith, Option, Some, None, Ok, inl, inr}
 use Rattle.std.proofs.lemmas.List.{drop-drop, drop-set-lt, length-take-le, take-append-drop, take_more_set}
 use Rattle.std.specs.Option.{option_map}
 use Rattle.std.proofs.lemmas.Option.{slice_get_cases}
@@ -14,9 +14,9 @@ use Rattle.pdb_tpi.proofs.StepLemmas.{step_gives, step_stops}
 use Rattle.pdb_tpi.proofs.WalkLemmas.{nth_some}
 use Rattle.pdb_handles.specs.declared.fault.Fault.{Fault}
 use Rattle.pdb_handles.specs.declared.walked.TypeRow.{TypeRow}
-use Rattle.pdb_handles.specs.Fault.{fault_of, fine, nowhere}
+use Rattle.pdb_handles.specs.Fault.{nowhere}
 use Rattle.pdb_handles.specs.Tables.{index_told}
-use Rattle.pdb_handles.specs.Walked.{AreNext, EndsWith, IsTypeRow, StopsWith, WritesNext}
+use Rattle.pdb_handles.specs.Walked.{AreNext, EndsWith, IsTypeRow, WritesNext}
 
 -- what is written of the record at a place, if a walk stands before it
 abbrev pub IsToldAt : Stand → RecordPlace → TypeRow → Type 0

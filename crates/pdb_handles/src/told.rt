@@ -5,7 +5,6 @@ ghost use Rattle.std.specs.Option.{option_map};
 ghost use Rattle.pdb_base.specs.Refusal.{refusal_of};
 ghost use Rattle.pdb_handles.specs.Told.{kind_numbered, of_source, plain, refusal_told, text_numbered};
 
-use crate::fault::Fault;
 use pdb_base::Error;
 use std::io;
 use std::io::ErrorKind;

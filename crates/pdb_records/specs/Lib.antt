@@ -6,7 +6,6 @@ pub mod InOrder
 pub mod ToEnd
 pub mod Padding
 pub mod Dimensions
-pub mod LeafNumbers
 pub mod Rows
 pub mod Lists
 pub mod Counted

@@ -2,8 +2,8 @@
 
 ghost use Rattle.std.specs.Prelude.{◌≡◌};
 
-use crate::constants::{LF_BUILDINFO, LF_SUBSTR_LIST};
 use crate::parse::id_plain::PlainIdLeaf;
+use pdb_leaves::constants::{LF_BUILDINFO, LF_SUBSTR_LIST};
 
 /// The kind of record that stands behind a leaf in the table of ids.
 #[derive(Clone, Copy, Debug, PartialEq, Eq)]

@@ -2,7 +2,6 @@
 //! `pdb_values`.
 #![tactic(auto)]
 
-pub mod constants;
 mod id_leaf;
 pub mod laws;
 mod leaf;

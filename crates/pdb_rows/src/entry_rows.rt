@@ -10,7 +10,7 @@ use crate::head::Head;
 use crate::row::Row;
 use crate::type_rows::{headed_row, listed_method_row};
 use pdb_base::{Error, Result};
-use pdb_records::constants::{
+use pdb_leaves::constants::{
     LF_ARGLIST, LF_ARRAY, LF_BCLASS, LF_BINTERFACE, LF_BITFIELD, LF_CLASS, LF_ENUM, LF_ENUMERATE,
     LF_FIELDLIST, LF_INTERFACE, LF_IVBCLASS, LF_MEMBER, LF_METHOD, LF_METHODLIST, LF_MFUNCTION,
     LF_MODIFIER, LF_NESTTYPE, LF_NULL, LF_ONEMETHOD, LF_POINTER, LF_PROCEDURE, LF_STMEMBER,

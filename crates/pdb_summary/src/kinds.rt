@@ -7,7 +7,7 @@ ghost use Rattle.pdb_summary.specs.Tally.{IsTally, IsWalked};
 ghost use Rattle.pdb_tpi.specs.Item.{bytes_of, index_of};
 
 use pdb_base::{Error, FallibleIterator, Result, TypeIndex};
-use pdb_records::constants::LF_FIELDLIST;
+use pdb_leaves::constants::LF_FIELDLIST;
 use pdb_tpi::{Item, TypeInformation};
 use pdb_values::TypeData;
 use std::alloc::Global;

@@ -17,7 +17,7 @@ ghost use Rattle.pdb_tpi.specs.Record.{type_of};
 
 use crate::item::Item;
 use pdb_base::{ParseBuffer, Result, TypeIndex};
-use pdb_records::constants::LF_FIELDLIST;
+use pdb_leaves::constants::LF_FIELDLIST;
 use pdb_records::{parse_behind_leaf, parse_field_list};
 use pdb_values::{FIRST_RECORD, TypeData, type_data_for_primitive};
 use std::alloc::Global;

@@ -10,9 +10,9 @@ ghost use Rattle.pdb_values.specs.Array.{array_value};
 ghost use Rattle.pdb_records.specs.Arrays.{array_at, dimensions_to_end};
 ghost use Rattle.pdb_records.specs.Memory.{HoldsDimension, HoldsArray};
 
-use crate::constants::LF_PAD0;
 use crate::parse::shape::parse_type_index;
 use pdb_base::{Error, ParseBuffer, Result};
+use pdb_leaves::constants::LF_PAD0;
 use pdb_values::ArrayType;
 use std::alloc::Global;
 

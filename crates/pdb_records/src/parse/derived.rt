@@ -6,11 +6,11 @@ ghost use Rattle.pdb_values.specs.TypeView.{type_value};
 ghost use Rattle.pdb_records.specs.Records.{plain_at};
 ghost use Rattle.pdb_records.specs.Rows.{pointer_row, modifier_row, bitfield_row};
 
-use crate::constants::LF_POINTER;
 use crate::parse::shape::parse_type_index;
 use pdb_base::{Error, ParseBuffer, Result};
 use pdb_bits::is_set;
 use pdb_flags::PointerAttributes;
+use pdb_leaves::constants::LF_POINTER;
 use pdb_values::{BitfieldType, ModifierType, PointerType, TypeData};
 
 /// Reads a pointer.

@@ -11,11 +11,11 @@ ghost use Rattle.pdb_records.specs.Fields.{field_list_at};
 ghost use Rattle.pdb_records.specs.Rows.{continuation_row};
 ghost use Rattle.pdb_records.specs.Memory.{HoldsField};
 
-use crate::constants::LF_INDEX;
 use crate::parse::array::skip_padding;
 use crate::parse::record::parse_behind_leaf;
 use crate::parse::shape::parse_type_index;
 use pdb_base::{ParseBuffer, Result, TypeIndex};
+use pdb_leaves::constants::LF_INDEX;
 use pdb_values::{FieldList, TypeData};
 use std::alloc::Global;
 

@@ -7,11 +7,11 @@ ghost use Rattle.pdb_values.specs.IdValue.{id_value};
 ghost use Rattle.pdb_records.specs.Ids.{id_row_of, plain_id_at, plain_id_leaf};
 ghost use Rattle.pdb_records.specs.IdRows.{function_id_row, member_function_id_row, string_id_row, source_row, remote_source_row};
 
-use crate::constants::{
-    LF_FUNC_ID, LF_MFUNC_ID, LF_STRING_ID, LF_UDT_MOD_SRC_LINE, LF_UDT_SRC_LINE,
-};
 use crate::parse::shape::{parse_id_index, parse_some_id, parse_text, parse_type_index};
 use pdb_base::{ParseBuffer, Result};
+use pdb_leaves::constants::{
+    LF_FUNC_ID, LF_MFUNC_ID, LF_STRING_ID, LF_UDT_MOD_SRC_LINE, LF_UDT_SRC_LINE,
+};
 use pdb_space::StringRef;
 use pdb_values::{
     FunctionId, IdData, MemberFunctionId, StringId, UserDefinedTypeSourceFileRef,

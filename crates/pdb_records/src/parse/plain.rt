@@ -7,14 +7,6 @@ ghost use Rattle.pdb_values.specs.TypeView.{type_value};
 ghost use Rattle.pdb_records.specs.Leaves.{plain_leaf, row_of};
 ghost use Rattle.pdb_records.specs.Records.{plain_at};
 
-use crate::constants::{
-    LF_BCLASS, LF_BINTERFACE, LF_BITFIELD, LF_CLASS, LF_CLASS_ST, LF_ENUM, LF_ENUM_ST,
-    LF_ENUMERATE, LF_ENUMERATE_ST, LF_INTERFACE, LF_IVBCLASS, LF_MEMBER, LF_MEMBER_ST, LF_METHOD,
-    LF_METHOD_ST, LF_MFUNCTION, LF_MODIFIER, LF_NESTTYPE, LF_NESTTYPE_ST, LF_NESTTYPEEX,
-    LF_NESTTYPEEX_ST, LF_ONEMETHOD, LF_ONEMETHOD_ST, LF_POINTER, LF_PROCEDURE, LF_STMEMBER,
-    LF_STMEMBER_ST, LF_STRUCTURE, LF_STRUCTURE_ST, LF_STRUCTURE19, LF_UNION, LF_UNION_ST,
-    LF_VBCLASS, LF_VFUNCTAB, LF_VTSHAPE,
-};
 use crate::parse::class::{parse_class, parse_union, parse_wide_class};
 use crate::parse::derived::{parse_bitfield, parse_modifier, parse_pointer};
 use crate::parse::enumeration::{parse_enumerate, parse_enumeration};
@@ -27,6 +19,14 @@ use crate::parse::member::{
 };
 use crate::parse::table_shape::parse_table_shape;
 use pdb_base::{ParseBuffer, Result};
+use pdb_leaves::constants::{
+    LF_BCLASS, LF_BINTERFACE, LF_BITFIELD, LF_CLASS, LF_CLASS_ST, LF_ENUM, LF_ENUM_ST,
+    LF_ENUMERATE, LF_ENUMERATE_ST, LF_INTERFACE, LF_IVBCLASS, LF_MEMBER, LF_MEMBER_ST, LF_METHOD,
+    LF_METHOD_ST, LF_MFUNCTION, LF_MODIFIER, LF_NESTTYPE, LF_NESTTYPE_ST, LF_NESTTYPEEX,
+    LF_NESTTYPEEX_ST, LF_ONEMETHOD, LF_ONEMETHOD_ST, LF_POINTER, LF_PROCEDURE, LF_STMEMBER,
+    LF_STMEMBER_ST, LF_STRUCTURE, LF_STRUCTURE_ST, LF_STRUCTURE19, LF_UNION, LF_UNION_ST,
+    LF_VBCLASS, LF_VFUNCTAB, LF_VTSHAPE,
+};
 use pdb_values::{ClassKind, TypeData};
 
 /// The kind of record without a list that stands behind a leaf.

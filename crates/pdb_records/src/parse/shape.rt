@@ -7,9 +7,9 @@ ghost use Rattle.pdb_base.specs.Place.{left};
 ghost use Rattle.pdb_records.specs.Shape.{read_shape, type_index, id_index, some_type, some_id, text, when};
 ghost use Rattle.pdb_records.specs.Rows.{low_16, low_32};
 
-use crate::constants::LF_ST_MAX;
 use crate::parse::index::parse_index;
 use pdb_base::{IdIndex, ParseBuffer, RawString, Result, TypeIndex};
+use pdb_leaves::constants::LF_ST_MAX;
 
 /// Reads the index of a type.
 #[inline(always)]

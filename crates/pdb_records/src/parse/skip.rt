@@ -7,11 +7,11 @@ ghost use Rattle.pdb_records.specs.Fields.{list_continuation_at};
 ghost use Rattle.pdb_records.specs.Memory.{HoldsField};
 ghost use Rattle.pdb_records.specs.Records.{arguments_end};
 
-use crate::constants::LF_INDEX;
 use crate::parse::array::skip_padding;
 use crate::parse::fields::parse_continuation;
 use crate::parse::record::parse_behind_leaf;
 use pdb_base::{ParseBuffer, Result, TypeIndex};
+use pdb_leaves::constants::LF_INDEX;
 use std::alloc::Global;
 
 /// Reads entries to the end of the bytes and keeps none of them. Returns the index of the list that

@@ -14,10 +14,10 @@ ghost use Rattle.pdb_records.specs.Memory.{NeedsMemory, IsFalseCount};
 ghost use Rattle.pdb_records.specs.Short.{IsShort};
 ghost use Rattle.pdb_records.specs.Assigned.{SaysAssigned, ShowsOrLacks, RefusesOrLacks};
 
-use crate::constants::LF_FIELDLIST;
 use crate::parse::fields::parse_field_list;
 use crate::parse::record::parse_behind_leaf;
 use pdb_base::{ParseBuffer, Result};
+use pdb_leaves::constants::LF_FIELDLIST;
 use pdb_values::TypeData;
 use std::alloc::Global;
 

@@ -1,4 +1,4 @@
-use Rattle.std.proofs.Common.{arith, refl, ap, ◌∙◌}
+use Rattle.std.proofs.Common.{arith, refl}
 use Rattle.pdb_handles.proofs.WalkedLemmas.{told_behind, written_all, written_more}
 use Rattle.pdb_handles.proofs.walked.write_next.Goals as goal
 
