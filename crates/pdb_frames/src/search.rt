@@ -38,7 +38,8 @@ const NEAR: usize = 256;
 /// The number of parts into which records are split when the starts of several are read at once.
 const PARTS: usize = 8;
 
-/// Returns of how many records, in a table of so many, the starts of several are read at once.
+/// Returns the most records among which a search reads several starts at once, in a table of this
+/// many records.
 fn most_near(records: usize) -> usize
     ensures { 0 < result }
 {

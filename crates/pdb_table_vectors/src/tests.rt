@@ -23,10 +23,15 @@ use pdb_base::{Error, Stream};
 use std::alloc::Global;
 use std::test::Fail;
 
-/// A stream of these bytes, of which there are at most 512.
+/// A stream of these bytes.
+///
+/// # Errors
+/// A failure if there are more than 512.
 fn stream(alloc: Global, bytes: &[u8]) -> Result<Stream, Fail> {
-    let len = bytes.len().min(512);
-    Ok(Stream::new(Vec::from_slice(alloc, &bytes[..len])?))
+    if bytes.len() > 512 {
+        return Err(Fail::new("a long stream"));
+    }
+    Ok(Stream::new(Vec::from_slice(alloc, bytes)?))
 }
 
 /// Whether these bytes are the text of an error.

@@ -165,7 +165,7 @@ fn are_said(replies: &[Reply], wanted: &[Says]) -> bool {
 /// Whether a run replies so, or is refused by the fault where no reply is wanted.
 fn is_replied(replies: Result<Vec<Reply>>, wanted: &[Says]) -> bool {
     match &replies {
-        Ok(replies) => are_said(replies, wanted),
+        Ok(replies) => !wanted.is_empty() && are_said(replies, wanted),
         Err(error) => wanted.is_empty() && is_fault(error),
     }
 }

@@ -182,8 +182,8 @@ const EXAMPLE: &str = "\
 6262626262626262626262626262626262626262626262626262626262626262\n\
 626262626262626262626262626262626262626262626262\n";
 
-/// The rows, each with a name.
-const ASKED: &[(&str, Asked)] = &[
+/// Records of types, each with a name.
+const TYPES: &[(&str, Asked)] = &[
     (
         "a pointer",
         Asked::Type(
@@ -251,6 +251,10 @@ const ASKED: &[(&str, Asked)] = &[
             Says::Continued(0x1234),
         ),
     ),
+];
+
+/// Records of ids, each with a name.
+const IDS: &[(&str, Asked)] = &[
     (
         "two ids",
         Asked::Build(
@@ -272,8 +276,10 @@ const ASKED: &[(&str, Asked)] = &[
             false,
         ),
     ),
-    ("a finder", Asked::Nine),
-    ("a run", Asked::Run),
+];
+
+/// What the program is asked, each with a name.
+const PROGRAMS: &[(&str, Asked)] = &[
     (
         "ranges",
         Asked::Act(
@@ -327,6 +333,10 @@ const ASKED: &[(&str, Asked)] = &[
         ),
     ),
     ("no words", Asked::Act(b"hello", &[], 0, EXAMPLE, "")),
+];
+
+/// Inputs, each with a name.
+const INPUTS: &[(&str, Asked)] = &[
     ("no input", Asked::Input(0)),
     ("a short input", Asked::Input(5)),
     ("a long input", Asked::Input(100_000)),
@@ -437,16 +447,17 @@ fn is_learned<'t>(table: &'t TypeInformation, mut finder: TypeFinder<'t>) -> boo
 {
     let first = is_found(&finder, 0x1007, 0x1007) && !is_found(&finder, 0x1008, 0x1008);
     let mut walk = table.iter();
+    let mut stepped = true;
     for _ in 0..8u8 {
-        let _ = walk.next();
+        stepped &= walk.next().is_ok();
         finder.update(&walk);
     }
-    first && is_found(&finder, 0x1008, 0x1008)
+    first && stepped && is_found(&finder, 0x1008, 0x1008)
 }
 
 /// Whether a finder of a table of nine items finds them.
 fn is_indexed(alloc: Global, table: &TypeInformation) -> Result<bool> {
-    Ok(is_learned(table, table.finder(alloc)?))
+    Ok(is_learned(table, settled!(table.finder(alloc))?))
 }
 
 /// A stream that is a table whose items have indexes from 0x1000 up to below a maximum.
@@ -613,8 +624,44 @@ fn is_settled(alloc: Global, asked: &Asked) -> Result<bool> {
 }
 
 #[test]
-fn rows(rt: HostRuntime) -> std::result::Result<(), Fail> {
-    for (name, asked) in ASKED {
+fn types(rt: HostRuntime) -> std::result::Result<(), Fail> {
+    for (name, asked) in TYPES {
+        assert!(rt; is_settled(rt.alloc(), asked)?, "{name}");
+    }
+    Ok(())
+}
+
+#[test]
+fn ids(rt: HostRuntime) -> std::result::Result<(), Fail> {
+    for (name, asked) in IDS {
+        assert!(rt; is_settled(rt.alloc(), asked)?, "{name}");
+    }
+    Ok(())
+}
+
+#[test]
+fn finders(rt: HostRuntime) -> std::result::Result<(), Fail> {
+    assert!(rt; is_settled(rt.alloc(), &Asked::Nine)?);
+    Ok(())
+}
+
+#[test]
+fn runs(rt: HostRuntime) -> std::result::Result<(), Fail> {
+    assert!(rt; is_settled(rt.alloc(), &Asked::Run)?);
+    Ok(())
+}
+
+#[test]
+fn programs(rt: HostRuntime) -> std::result::Result<(), Fail> {
+    for (name, asked) in PROGRAMS {
+        assert!(rt; is_settled(rt.alloc(), asked)?, "{name}");
+    }
+    Ok(())
+}
+
+#[test]
+fn inputs(rt: HostRuntime) -> std::result::Result<(), Fail> {
+    for (name, asked) in INPUTS {
         assert!(rt; is_settled(rt.alloc(), asked)?, "{name}");
     }
     Ok(())

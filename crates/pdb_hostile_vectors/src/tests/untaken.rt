@@ -163,7 +163,8 @@ fn is_file(alloc: Global, file: &mut BigMSF<Vec<u8>>, size: u8, refused: &[(u32,
     told
 }
 
-/// The same where `calls` says that it is asked, once it is located.
+/// The same where `calls` says that it is asked, once it is located. Where memory is refused to locate it, the same file
+/// is asked again.
 fn is_located(
     alloc: Global,
     file: &mut BigMSF<Vec<u8>>,
@@ -171,7 +172,7 @@ fn is_located(
     refused: &[(u32, bool)],
     calls: bool,
 ) -> Result<bool> {
-    locate(alloc, file)?;
+    settled!(locate(alloc, file))?;
     Ok(!calls || is_file(alloc, file, size, refused))
 }
 
@@ -185,7 +186,7 @@ const IDS: &[u8] =
 
 /// Whether a name is that of the structure.
 fn is_h_size(name: Option<RawString<'_>>) -> bool {
-    matches!(name, Some(name) if name.as_bytes() == b"H_size".as_slice())
+    name == Some(RawString::from("H_size"))
 }
 
 /// Whether a type is as ever: at 0x1000 the pointer, at 0x74 a primitive type, and at 0x1002 the structure.
@@ -271,7 +272,7 @@ fn is_header_told(table: &TypeInformation) -> bool {
 
 /// Whether a table of types answers as ever, where `calls` says that it is asked.
 fn are_types(alloc: Global, table: &TypeInformation, calls: bool) -> Result<bool> {
-    let mut finder = table.finder(alloc)?;
+    let mut finder = settled!(table.finder(alloc))?;
     Ok(
         !calls
             || (is_header_told(table)
@@ -359,14 +360,6 @@ fn are_frames(frames: &FrameTable) -> bool {
     let mut all = frames.iter();
     let mut behind = frames.iter_at_rva(PdbInternalRva(0x40));
     has_next(&mut all) && !has_next(&mut behind) && !frames.is_empty()
-}
-
-/// One section.
-fn sections(alloc: Global) -> Result<Vec<ImageSectionHeader>> {
-    let section = ImageSectionHeader::parse(&mut ParseBuffer::from(SECTION))?;
-    let mut sections = Vec::new(alloc);
-    sections.push(section)?;
-    Ok(sections)
 }
 
 /// Whether a section is named, and places in it are found, as ever.
@@ -491,7 +484,7 @@ fn has_stream(alloc: Global, bytes: &[u8], kind: &Kind, calls: bool) -> Result<b
     is_stream(alloc, stream, kind, calls)
 }
 
-/// The same of any of them.
+/// Whether a fixture is made, and answers as ever where `calls` says that it is asked.
 fn has(alloc: Global, fixture: &Fixture, calls: bool) -> Result<bool> {
     match fixture {
         Fixture::Directory(size, refused) => has_directory(alloc, *size, refused, calls),
@@ -501,14 +494,14 @@ fn has(alloc: Global, fixture: &Fixture, calls: bool) -> Result<bool> {
     }
 }
 
+/// The same of a fixture that is made once more where memory is refused.
+fn is_settled(alloc: Global, fixture: &Fixture, calls: bool) -> Result<bool> {
+    settled!(has(alloc, fixture, calls))
+}
+
 #[test]
 fn nothing(rt: HostRuntime) {
     let _ = rt.alloc();
-}
-
-/// The same, made once more where memory is refused.
-fn is_settled(alloc: Global, fixture: &Fixture, calls: bool) -> Result<bool> {
-    settled!(has(alloc, fixture, calls))
 }
 
 #[test]

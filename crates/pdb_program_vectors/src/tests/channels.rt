@@ -1,4 +1,4 @@
-//! Channels: inputs that are slow, interrupted, refused or endless, and outputs that are slow or refused.
+//! Channels: inputs that are slow, interrupted, refused or too long, and outputs that are slow or refused.
 
 use super::printed::{ABSENT_2, EXAMPLE};
 use pdb_base::{Error, Result};
@@ -175,13 +175,15 @@ type Words = std::result::Result<&'static [&'static str], ErrorKind>;
 
 /// What is read.
 enum Source {
+    /// No byte.
+    Empty,
     /// S1.
     Example,
     /// A hundred sevens, of which a read is refused.
     Hundred(Option<(usize, ErrorKind)>),
 }
 
-use Source::{Example, Hundred};
+use Source::{Empty, Example, Hundred};
 
 /// The words, and the input. The output: how many bytes it takes at once, how many it has room for, and what it gets.
 /// The channel of errors: the same, and how begins what it gets. And the status.
@@ -238,25 +240,19 @@ const CALLS: &[Call] = &[
     ),
     (
         Err(ErrorKind::InvalidData),
-        Example,
+        Empty,
         (100, 100, ""),
         (100, 200, "usage: pdbq "),
         2,
     ),
     (
         Err(ErrorKind::OutOfMemory),
-        Example,
+        Empty,
         (100, 100, ""),
         (100, 200, "OutOfMemory\n"),
         1,
     ),
-    (
-        Err(DENIED),
-        Example,
-        (100, 100, ""),
-        (100, 200, IO_ERROR),
-        1,
-    ),
+    (Err(DENIED), Empty, (100, 100, ""), (100, 200, IO_ERROR), 1),
     (
         Ok(&["stream", "1"]),
         Hundred(Some((50, DENIED))),
@@ -264,7 +260,7 @@ const CALLS: &[Call] = &[
         (100, 200, IO_ERROR),
         1,
     ),
-    (Ok(&["stream"]), Example, (100, 100, ""), (100, 0, ""), 2),
+    (Ok(&["stream"]), Empty, (100, 100, ""), (100, 0, ""), 2),
 ];
 
 /// What the system hands over, behind the program's name.
@@ -319,6 +315,7 @@ fn is_served_of_sevens(
 /// Whether a call ends as its row says.
 fn is_called(alloc: Global, row: &Call) -> Result<bool> {
     match row.1 {
+        Empty => is_served(alloc, row, &mut b"".as_slice()),
         Example => is_served_of_s1(alloc, row),
         Hundred(fault) => is_served_of_sevens(alloc, row, fault),
     }

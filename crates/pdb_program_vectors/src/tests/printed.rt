@@ -421,7 +421,7 @@ fn is_printed(alloc: Global, row: &Row) -> Result<bool> {
 #[test]
 fn streams(rt: HostRuntime) -> std::result::Result<(), Fail> {
     for row in STREAMS {
-        assert!(rt; is_printed(rt.alloc(), row)?, "{}{}", row.3, row.4);
+        assert!(rt; is_printed(rt.alloc(), row)?, "{:?}", row.1);
     }
     Ok(())
 }
@@ -429,7 +429,7 @@ fn streams(rt: HostRuntime) -> std::result::Result<(), Fail> {
 #[test]
 fn whole_stream(rt: HostRuntime) -> std::result::Result<(), Fail> {
     for row in WHOLE {
-        assert!(rt; is_printed(rt.alloc(), row)?, "{}{}", row.3, row.4);
+        assert!(rt; is_printed(rt.alloc(), row)?, "{:?}", row.1);
     }
     Ok(())
 }
@@ -437,7 +437,7 @@ fn whole_stream(rt: HostRuntime) -> std::result::Result<(), Fail> {
 #[test]
 fn tables(rt: HostRuntime) -> std::result::Result<(), Fail> {
     for row in TABLES {
-        assert!(rt; is_printed(rt.alloc(), row)?, "{}{}", row.3, row.4);
+        assert!(rt; is_printed(rt.alloc(), row)?, "{:?}", row.1);
     }
     Ok(())
 }
@@ -445,7 +445,7 @@ fn tables(rt: HostRuntime) -> std::result::Result<(), Fail> {
 #[test]
 fn names_and_ranges(rt: HostRuntime) -> std::result::Result<(), Fail> {
     for row in NAMES_AND_RANGES {
-        assert!(rt; is_printed(rt.alloc(), row)?, "{}{}", row.3, row.4);
+        assert!(rt; is_printed(rt.alloc(), row)?, "{:?}", row.1);
     }
     Ok(())
 }

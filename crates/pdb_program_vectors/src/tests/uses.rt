@@ -44,12 +44,6 @@ fn has_x(alloc: Global, finder: &TypeFinder<'_>) -> bool {
     matches!(&fields, Ok(fields) if matches!(fields.as_slice(), [field] if is_x(field)))
 }
 
-/// The types of the file.
-fn types_in(alloc: Global, file: Vec<u8>) -> Result<TypeInformation> {
-    let mut file = open_msf(alloc, file)?;
-    TypeInformation::parse(file.get(alloc, 2, None)?)
-}
-
 /// The same of a finder that knows all types.
 fn is_found(alloc: Global, finder: Result<TypeFinder<'_>>) -> bool {
     match &finder {
@@ -64,6 +58,12 @@ fn is_class_of_x(alloc: Global, types: Result<TypeInformation>) -> bool {
         Ok(types) => is_found(alloc, finder_of(alloc, types)),
         Err(_) => false,
     }
+}
+
+/// The types of the file.
+fn types_in(alloc: Global, file: Vec<u8>) -> Result<TypeInformation> {
+    let mut file = open_msf(alloc, file)?;
+    TypeInformation::parse(file.get(alloc, 2, None)?)
 }
 
 /// Whether the sizes of the streams are those.

@@ -145,9 +145,15 @@ fn is_copied(alloc: Global, data: &IdData<'_>) -> bool {
     matches!(data.clone(alloc), Ok(copy) if copy == *data) && is_list_copied(alloc, data)
 }
 
-/// Whether what a record says is copied.
-fn is_record_copied(alloc: Global, record: &[u8]) -> Result<bool> {
-    Ok(is_copied(alloc, &parse_id_data(alloc, record)?))
+/// Whether an id is equal to what its record says when it is read again, and is copied.
+fn is_id(alloc: Global, data: &IdData<'_>, again: &IdData<'_>) -> bool {
+    *data == *again && is_copied(alloc, data)
+}
+
+/// The same of what a record says that stands in no table.
+fn is_read(alloc: Global, record: &[u8]) -> Result<bool> {
+    let data = parse_id_data(alloc, record)?;
+    Ok(is_id(alloc, &data, &parse_id_data(alloc, record)?))
 }
 
 /// Whether a record says this text with padding behind it too, and with another byte behind that, and
@@ -160,7 +166,7 @@ fn is_told(alloc: Global, record: &[u8], want: &str) -> std::result::Result<bool
 
 /// Whether a record says its row, and what it says is copied.
 fn is_row(alloc: Global, record: &[u8], want: &str) -> std::result::Result<bool, Fail> {
-    Ok(is_told(alloc, record, want)? && is_record_copied(alloc, record)?)
+    Ok(is_told(alloc, record, want)? && is_read(alloc, record)?)
 }
 
 #[test]

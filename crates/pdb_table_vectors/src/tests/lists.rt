@@ -1,6 +1,6 @@
 //! Records with a list: arrays, arguments, methods and fields.
 
-use super::read::{ends_soon, is_said, is_said_with, is_value_copied};
+use super::read::{ends_soon, is_said, is_said_with, is_value_copied, text_of};
 use pdb_base::{ParseBuffer, Result, TypeIndex};
 use pdb_records::{parse_type_data, skip_arguments, skip_field_list};
 use pdb_values::TypeData;
@@ -103,8 +103,8 @@ const ROWS: &[Row] = &[
         Also::Left(1),
     ),
 
-    // Lists of methods, of which the first introduces a place in the table of virtual functions, and the
-    // second is not virtual.
+    // Lists of no method, of one that introduces a place in the table of virtual functions, and of that one
+    // and one that is not virtual.
     (
         b"\x06\x12",
         "MethodList(MethodList { methods: [] })",
@@ -217,9 +217,22 @@ fn is_copied(alloc: Global, data: &TypeData<'_>) -> Result<bool> {
     Ok(is_list_copied(alloc, data) && is_value_copied(alloc, data)?)
 }
 
-/// Whether what a record says is copied.
-fn is_record_copied(alloc: Global, record: &[u8]) -> Result<bool> {
-    is_copied(alloc, &parse_type_data(alloc, record)?)
+/// Whether this text is what `Debug` writes of a list, the list is equal to what its record says when it is read
+/// again, and is copied.
+fn is_list<'t>(
+    alloc: Global,
+    data: &TypeData<'t>,
+    again: &TypeData<'t>,
+    want: &str,
+) -> Result<bool> {
+    let text = text_of(alloc, data)?;
+    Ok(text.as_str() == want && *data == *again && is_copied(alloc, data)?)
+}
+
+/// The same of what a record says that stands in no table.
+fn is_read(alloc: Global, record: &[u8], want: &str) -> Result<bool> {
+    let data = parse_type_data(alloc, record)?;
+    is_list(alloc, &data, &parse_type_data(alloc, record)?, want)
 }
 
 /// Whether a record says the same with padding behind it, and is refused with another byte behind
@@ -260,10 +273,10 @@ fn does_hold(
     }
 }
 
-/// Whether a record says its row, and what it says is copied.
+/// Whether a record says its row, in a table and by itself, and what it says is copied.
 fn is_row(alloc: Global, row: &Row) -> std::result::Result<bool, Fail> {
     let (record, want, also) = row;
-    let is_said = is_said(alloc, record, want)? && is_record_copied(alloc, record)?;
+    let is_said = is_said(alloc, record, want)? && is_read(alloc, record, want)?;
     Ok(is_said && does_hold(alloc, record, want, also)?)
 }
 

@@ -302,7 +302,7 @@ const ROWS: &[Row] = &[
         Want::Procedure(None),
     ),
 
-    // Base classes. Of their offsets the low 32 bits are kept.
+    // Base classes, of whose offsets the low 32 bits are kept, and a pointer to a table of virtual functions.
     (
         0x1400,
         b"\x02\x01\x27\x10\x00\x00\x0a\x80\x04\x00\x00\x00\x01\x00\x00\x00",

@@ -27,7 +27,7 @@ enum Answer {
     Refused(&'static [u8]),
     /// The name at an offset, and the same as text.
     Name(u32, &'static [u8], &'static str),
-    /// That the name at an offset ends too soon: `UnexpectedEof`.
+    /// That no NUL stands at an offset or behind it among the names: `UnexpectedEof`.
     Ends(u32),
 }
 

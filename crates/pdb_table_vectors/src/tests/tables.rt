@@ -2,7 +2,7 @@
 
 ghost use Rattle.std.specs.Prelude.{◌≡◌, IfOk};
 
-use super::says;
+use super::{says, stream};
 use pdb_base::{
     Count, Error, FallibleIterator, IdIndex, Result as Answer, Stream, TypeIndex, Variant,
 };
@@ -355,6 +355,18 @@ const TABLES: &[(&str, Source, Ask)] = &[
             FinderAsk::ShownBoth(8, 16),
             FinderAsk::Last(0x1013),
             FinderAsk::Len(0x1008, 2),
+        ]),
+    ),
+    (
+        "each of sixteen steps",
+        Source::Table(56, 0x1000, 0x1014, TWENTY),
+        Ask::Finder(&[
+            FinderAsk::Shown(&[1, 2, 3, 4, 5, 6, 7, 8]),
+            FinderAsk::Last(0x100f),
+            FinderAsk::Shown(&[9, 10, 11, 12, 13, 14, 15, 16]),
+            FinderAsk::Last(0x1013),
+            FinderAsk::Find(0x1008, "0x1008 1008", 1),
+            FinderAsk::Find(0x1013, "0x1013 1013", 4),
         ]),
     ),
     (
@@ -744,6 +756,18 @@ fn has_none(alloc: Global, empty: &IdInformation) -> Answer<bool> {
 fn is_empty_table(alloc: Global) -> Answer<bool> {
     let empty = IdInformation::parse(Stream::new(Vec::new(alloc)))?;
     has_none(alloc, &empty)
+}
+
+/// Whether a table of ids is headed as one of types is.
+fn is_table_of_ids(alloc: Global) -> Result<bool, Fail> {
+    let ids = IdInformation::parse(stream(alloc, &FIELDS)?)?;
+    Ok(ids.header() == HEADER && ids.len() == 0xff0f0eff - 0x0c0b0a09 && !ids.is_empty())
+}
+
+#[test]
+fn ids(rt: HostRuntime) -> Result<(), Fail> {
+    assert!(rt; is_table_of_ids(rt.alloc())?);
+    Ok(())
 }
 
 #[test]

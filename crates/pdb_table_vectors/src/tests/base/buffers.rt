@@ -48,7 +48,7 @@ enum Call {
 /// and how many bytes are left.
 type Row = (&'static str, &'static [u8], &'static [(Call, usize, usize)]);
 
-/// Numbers of so many bytes, and those of variable width without a sign.
+/// Numbers of so many bytes, and whole ones of variable width without a sign.
 const NUMBERS: &[Row] = &[
     (
         "numbers of one byte",
@@ -151,7 +151,7 @@ const NUMBERS: &[Row] = &[
         &[(Call::Num(Some(u64::MAX)), 10, 0)],
     ),
     (
-        "a number with a sign, of two bytes",
+        "the prefix of a number with a sign, of two bytes",
         b"\x01\x80",
         &[(Call::RefusedNum(0x8001), 0, 2)],
     ),

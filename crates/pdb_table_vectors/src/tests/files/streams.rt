@@ -50,7 +50,7 @@ const ASKED: &[(&[(usize, u8)], u32, Option<usize>, Answer)] = &[
     (&[(PAGE_OF_3, 9)], 3, Some(0), OUT_OF_RANGE),
     (&[(DIRECTORY_SIZE, 0)], 0, None, BYTES_END),
     (&[(DIRECTORY_SIZE, 0)], 1, Some(1), BYTES_END),
-    // The directory ends behind the size of stream 1, of stream 2, and so on.
+    // The directory ends behind the size of stream 1, behind that of stream 2, and within that of stream 3.
     (&[(DIRECTORY_SIZE, 12)], 2, None, BYTES_END),
     (&[(DIRECTORY_SIZE, 12)], 0, None, BYTES_END),
     (&[(DIRECTORY_SIZE, 16)], 2, None, STREAM_2_ABSENT),

@@ -133,7 +133,11 @@ const ROWS: &[(&str, Roles, Ask)] = &[
         Roles::Map([NONE, NONE, NONE, NONE]),
         Ask::Map,
     ),
-    ("sections alone", Roles::Map([6, NONE, 99, 99]), Ask::Map),
+    (
+        "sections, and OMAP tables that are not asked for",
+        Roles::Map([6, NONE, 99, 99]),
+        Ask::Map,
+    ),
     (
         "sections, and original ones",
         Roles::Map([6, 5, NONE, NONE]),
@@ -263,27 +267,22 @@ const ROWS: &[(&str, Roles, Ask)] = &[
         Roles::Frames([4, 99]),
         Ask::NoFrames(NOT_STORED_99),
     ),
+];
+
+/// What one file without roles is asked in turn. The first two refusals leave it as it is.
+const IN_TURN: &[(&str, Ask)] = &[
     (
         "an absent stream's name",
-        Roles::Frames([NONE, NONE]),
         Ask::Stream(
             b"/a",
             b"The requested stream (2) is not stored in this file",
         ),
     ),
-    (
-        "no such name",
-        Roles::Frames([NONE, NONE]),
-        Ask::Stream(b"/b", b"StreamNameNotFound"),
-    ),
-    (
-        "a name",
-        Roles::Frames([NONE, NONE]),
-        Ask::Stream(b"/names", NAMES),
-    ),
-    ("the string table", Roles::Frames([NONE, NONE]), Ask::Foo),
-    ("the age", Roles::Frames([NONE, NONE]), Ask::Age(1)),
-    ("the roles", Roles::Frames([NONE, NONE]), Ask::NoOldFrames),
+    ("no such name", Ask::Stream(b"/b", b"StreamNameNotFound")),
+    ("a name", Ask::Stream(b"/names", NAMES)),
+    ("the string table", Ask::Foo),
+    ("the age", Ask::Age(1)),
+    ("the roles", Ask::NoOldFrames),
 ];
 
 /// The streams of all roles in the order of the debug header.
@@ -439,6 +438,15 @@ fn is_row(alloc: Global, roles: &Roles, ask: &Ask) -> Result<bool, Fail> {
 fn files(rt: HostRuntime) -> Result<(), Fail> {
     for (name, roles, ask) in ROWS {
         assert!(rt; is_row(rt.alloc(), roles, ask)?, "{name}");
+    }
+    Ok(())
+}
+
+#[test]
+fn in_turn(rt: HostRuntime) -> Result<(), Fail> {
+    let mut file = file(rt.alloc(), &Roles::Frames([NONE, NONE]))?;
+    for (name, ask) in IN_TURN {
+        assert!(rt; is_answered(rt.alloc(), &mut file, ask)?, "{name}");
     }
     Ok(())
 }
