@@ -20,7 +20,7 @@
  * array, and the items after it are left unchanged. If a call is refused, arrays and structures are left
  * unchanged, except `fault` and the structure that pdb_table_next describes, and lengths are set to 0. Only
  * pdb_names_places and pdb_table_next_types differ: what they write for the offsets or the records before the one
- * that is refused stays.
+ * that is refused stays, and they set the length to its number of items.
  */
 #ifndef PDB_CONTAINER_H
 #define PDB_CONTAINER_H
@@ -97,7 +97,8 @@ void pdb_close(pdb_handle *handle);
 /* ---- the streams of a file
  *
  * Opening a file reads its header and its directory, and the handle keeps them. The bytes stay with the caller
- * and are not copied. They must be given to pdb_file_stream again, unchanged. */
+ * and are not copied. They are given to pdb_file_stream again, unchanged, if the streams are to be those of the file;
+ * other bytes do no harm. */
 
 /* Opens a file: reads its header and its directory, and keeps them. */
 uint32_t pdb_file_open(const uint8_t *bytes, size_t bytes_length, pdb_handle *file, pdb_fault *fault);
@@ -315,8 +316,8 @@ typedef struct pdb_frame {
     uint32_t program; /* the offset of that program in the string table, or 0 if there is none */
 } pdb_frame;
 
-/* Writes the frame at an address of the original image, which is the first frame from that address on. The
- * status is PDB_NOWHERE if there is none. */
+/* Writes the first frame from an address of the original image on: the one at the address, or else the first above
+ * it, which code_start tells. The status is PDB_NOWHERE if there is none. */
 uint32_t pdb_frames_at(pdb_handle *frames, uint32_t address, pdb_frame *frame, pdb_fault *fault);
 
 /* ---- tables of types and of ids */
@@ -339,7 +340,7 @@ typedef struct pdb_record {
 } pdb_record;
 
 /* Writes where the record of an index stands, wherever in the table that is. Calls walk along the table until
- * they have reached the index once, and each later call reads at most eight lengths. An index below the first
+ * they have reached the index once, and later calls start at its block of eight items. An index below the first
  * one is that of a primitive type, which has no record in the stream, so the status is PDB_NOWHERE. */
 uint32_t pdb_table_find(pdb_handle *table, uint32_t index, pdb_record *record, pdb_fault *fault);
 
@@ -494,7 +495,7 @@ uint32_t pdb_type_fields(const uint8_t *record, size_t record_length, uint32_t i
 
 /* Writes the fields of the list of an index in an open table, and of the lists in which it continues, as
  * pdb_type_fields writes those of one list. Each of these lists has an index below that of the list before
- * it. */
+ * it. The status is PDB_UNIMPLEMENTED_TYPE_KIND, with the kind, if a type that should be a list of fields is none. */
 uint32_t pdb_fields(pdb_handle *table, uint32_t index, pdb_field *rows, size_t rows_length, size_t *count, uint8_t *names, size_t names_length, size_t *size, pdb_fault *fault);
 
 /* Writes the numbers in the record of an id, given the record's bytes. */
