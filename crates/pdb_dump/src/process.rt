@@ -39,7 +39,7 @@ fn tell_misuse<P: Eprint + AllocGlobal>(process: &P, misuse: Misuse, words: &[&s
     }
     match misuse {
         Misuse::NoCommand => {
-            eprintln!(process; "pdbdump: no command is called so:{told}\n\n{HELP}")?;
+            eprint!(process; "pdbdump: no command is called so:{told}\n\n{HELP}")?;
         }
         Misuse::Arguments(verb) => {
             let usage = usage_of(verb);
