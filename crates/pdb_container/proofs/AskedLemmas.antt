@@ -20,12 +20,12 @@ use Rattle.pdb_tpi.specs.declared.item.Item.{Item}
 use Rattle.pdb_tpi.specs.Item.{bytes_of, index_of}
 use Rattle.pdb_tpi.specs.Table.{table_of}
 use Rattle.pdb_space.specs.StringTable.{names_of}
-use Rattle.pdb_space.specs.Omap.{Mapping}
+use Rattle.pdb_space.specs.Omap.{OmapValue}
 use Rattle.pdb_space.specs.Omap as omap
 use Rattle.pdb_base.specs.Refusal.{Refusal, refusal_of}
 use Rattle.pdb_container.specs.Lookup.{Walked}
 use Rattle.pdb_container.specs.Reply as reply
-use Rattle.pdb_container.specs.Reply.{Said, IsReply, AreReplies, reply_of, stream_asked, said_within, type_within, id_within, fields_within, name_within, moved_within}
+use Rattle.pdb_container.specs.Reply.{ReplyValue, IsReply, AreReplies, reply_of, stream_asked, said_within, type_within, id_within, fields_within, name_within, moved_within}
 use Rattle.pdb_container.specs.Asked.{Progress, query_at, is_answered, said_by, IsAhead, IsAnsweredIf, IsAnsweredRightly, IsAnsweredWith, AreRight, IsAnsweredOn, MeansTable, MeansStream, AsksTypes, AsksIds, AsksNames, AsksOmap, AnswersAt, IsAnsweredFrom, AnswersFrom}
 use Rattle.pdb_container.proofs.ReplyLemmas.{IsReply-weaker}
 
@@ -38,10 +38,10 @@ below_other a b reached other = elim (cases_lt a b) [
 -- ---- one after another
 
 -- where none is answered any more, all stays right
-pub on_itself : (means : (Query → Answer Said) → Type 0) (asked : Progress) → IsAnsweredOn means asked asked
+pub on_itself : (means : (Query → Answer ReplyValue) → Type 0) (asked : Progress) → IsAnsweredOn means asked asked
 on_itself means asked = record { queries = refl; stays = λ i is. is; right = λ sound meant m are. are }
 
-pub on_then : (means : (Query → Answer Said) → Type 0) (old mid new : Progress) → IsAnsweredOn means old mid → IsAnsweredOn means mid new → IsAnsweredOn means old new
+pub on_then : (means : (Query → Answer ReplyValue) → Type 0) (old mid new : Progress) → IsAnsweredOn means old mid → IsAnsweredOn means mid new → IsAnsweredOn means old new
 on_then means old mid new first then = record {
   queries = then.queries ∙ first.queries;
   stays = λ i is. then.stays i (first.stays i is);
@@ -55,7 +55,7 @@ stays_with at reply old new with i is = elim (cases_eq i at) [
 ]
 
 -- one right reply more
-right_with : (sound : Bool) (meant : Query → Answer Said) (at : ℕ) (reply : Reply) (old new : Progress) → IsAnsweredWith at reply old new → IsReply (¬ IsTrue sound) reply (meant (query_at old at))
+right_with : (sound : Bool) (meant : Query → Answer ReplyValue) (at : ℕ) (reply : Reply) (old new : Progress) → IsAnsweredWith at reply old new → IsReply (¬ IsTrue sound) reply (meant (query_at old at))
     → AreRight sound meant old → AreRight sound meant new
 right_with sound meant at reply old new with is are i d answered = elim (cases_eq i at) [
   | inl here ↦
@@ -66,8 +66,8 @@ right_with sound meant at reply old new with is are i d answered = elim (cases_e
 ]
 
 -- a reply that no source was read for
-pub on_with : (means : (Query → Answer Said) → Type 0) (at : ℕ) (reply : Reply) (old new : Progress) → IsAnsweredWith at reply old new
-    → ((meant : Query → Answer Said) → means meant → IsReply ⊥ reply (meant (query_at old at))) → IsAnsweredOn means old new
+pub on_with : (means : (Query → Answer ReplyValue) → Type 0) (at : ℕ) (reply : Reply) (old new : Progress) → IsAnsweredWith at reply old new
+    → ((meant : Query → Answer ReplyValue) → means meant → IsReply ⊥ reply (meant (query_at old at))) → IsAnsweredOn means old new
 on_with means at reply old new with is = record {
   queries = with.queries;
   stays = stays_with at reply old new with;
@@ -79,19 +79,19 @@ pair_is {A} {B} (a, b) (c, d) first second = ap (λ (x : A). (x, b)) first ∙ a
 
 -- ---- by a table
 
-offered_if : (number : ℕ) (opened : Opened) (at : ℕ) (query : Query) (said : Option (Answer Said)) (old new : Progress) → said ≡ said_by opened query → query ≡ query_at old at → (stream_asked query).0 ≡ number
+offered_if : (number : ℕ) (opened : Opened) (at : ℕ) (query : Query) (said : Option (Answer ReplyValue)) (old new : Progress) → said ≡ said_by opened query → query ≡ query_at old at → (stream_asked query).0 ≡ number
     → IsAnsweredIf at said old new → IsAnsweredOn (MeansTable number opened) old new
 offered_if number opened at query None old new says is asks answers = subst (λ (p : Progress). IsAnsweredOn (MeansTable number opened) old p) (sym answers) (on_itself (MeansTable number opened) old)
 offered_if number opened at query (Some said) old new says is asks answers =
     let reply = answers.0 in
     on_with (MeansTable number opened) at reply old new answers.2
-    (λ meant means. subst (λ (q : Query). IsReply ⊥ reply (meant q)) is (subst (λ (meant_so : Answer Said). IsReply ⊥ reply meant_so) (sym (means query said asks (sym says))) answers.1))
+    (λ meant means. subst (λ (q : Query). IsReply ⊥ reply (meant q)) is (subst (λ (meant_so : Answer ReplyValue). IsReply ⊥ reply meant_so) (sym (means query said asks (sym says))) answers.1))
 
 -- what a table says to a query at a place is a right reply
 pub offered : (number : ℕ) (opened : Opened) (at : ℕ) (query : Query) (old new : Progress) → query ≡ query_at old at → (stream_asked query).0 ≡ number → IsAnsweredIf at (said_by opened query) old new → IsAnsweredOn (MeansTable number opened) old new
 offered number opened at query old new is asks answers = offered_if number opened at query (said_by opened query) old new refl is asks answers
 
-answered_some : (at : ℕ) (said : Option (Answer Said)) (old new : Progress) → IsAnsweredIf at said old new → IsSome said → is_answered new at ≡ true
+answered_some : (at : ℕ) (said : Option (Answer ReplyValue)) (old new : Progress) → IsAnsweredIf at said old new → IsSome said → is_answered new at ≡ true
 answered_some at None old new answers some = absurd cc
 answered_some at (Some said) old new answers some = answers.2.here
 
@@ -119,7 +119,7 @@ ahead_found number opened query asked (Some item) is asks found = subst (λ (q :
 pub ahead_answered : (number : ℕ) (opened : Opened) (at : ℕ) (query : Query) (item : Item TypeIndex) (old new : Progress) → query ≡ query_at old at → IsAhead number opened query (Some item)
     → IsAnsweredRightly at (reply.type_said (index_of item).0 (bytes_of item)) old new → IsAnsweredOn (MeansTable number opened) old new
 ahead_answered number opened at query item old new is ahead rightly =
-    offered number opened at query old new is ahead.0 (subst (λ (said : Option (Answer Said)). IsAnsweredIf at said old new) (sym ahead.1) rightly)
+    offered number opened at query old new is ahead.0 (subst (λ (said : Option (Answer ReplyValue)). IsAnsweredIf at said old new) (sym ahead.1) rightly)
 
 nothing_said : {A : Type 0} (x : A) → None ≡ Some x → ⊥
 nothing_said x is = cc
@@ -132,11 +132,11 @@ all_said x y is = cc
 pub record Fits (bytes : List ℕ) (opened : Opened) (asking : Query) : Type 0 where
   pub whole : stream_asked asking ≡ ((stream_asked asking).0, None)
   pub says : IsSome (said_by opened asking)
-  pub means : (query : Query) (said : Answer Said) → said_by opened query ≡ Some said → ((stream_asked query).1 ≡ None) × (said_within query bytes ≡ said)
+  pub means : (query : Query) (said : Answer ReplyValue) → said_by opened query ≡ Some said → ((stream_asked query).1 ≡ None) × (said_within query bytes ≡ said)
 
 -- ---- types
 
-types_mean : (bytes : List ℕ) (types : Walked) → table_of bytes ≡ Ok types.table → (query : Query) (said : Answer Said) → said_by (tables.Types types) query ≡ Some said → ((stream_asked query).1 ≡ None) × (said_within query bytes ≡ said)
+types_mean : (bytes : List ℕ) (types : Walked) → table_of bytes ≡ Ok types.table → (query : Query) (said : Answer ReplyValue) → said_by (tables.Types types) query ≡ Some said → ((stream_asked query).1 ≡ None) × (said_within query bytes ≡ said)
 unfolding type_within fields_within
 types_mean bytes types is (queries.Stream stream limit) said says = absurd (nothing_said said says)
 types_mean bytes types is (queries.TypeRecord stream index) said says = (refl, rw is (all_said _ _ says))
@@ -158,7 +158,7 @@ types_refuse bytes e is other asks = absurd asks
 
 -- ---- ids
 
-ids_mean : (bytes : List ℕ) (ids : Walked) → table_of bytes ≡ Ok ids.table → (query : Query) (said : Answer Said) → said_by (tables.Ids ids) query ≡ Some said → ((stream_asked query).1 ≡ None) × (said_within query bytes ≡ said)
+ids_mean : (bytes : List ℕ) (ids : Walked) → table_of bytes ≡ Ok ids.table → (query : Query) (said : Answer ReplyValue) → said_by (tables.Ids ids) query ≡ Some said → ((stream_asked query).1 ≡ None) × (said_within query bytes ≡ said)
 unfolding id_within
 ids_mean bytes ids is (queries.Stream stream limit) said says = absurd (nothing_said said says)
 ids_mean bytes ids is (queries.TypeRecord stream index) said says = absurd (nothing_said said says)
@@ -178,7 +178,7 @@ ids_refuse bytes e is other asks = absurd asks
 
 -- ---- names
 
-names_mean : (bytes : List ℕ) (names : List ℕ) → names_of bytes ≡ Ok names → (query : Query) (said : Answer Said) → said_by (tables.Names names) query ≡ Some said → ((stream_asked query).1 ≡ None) × (said_within query bytes ≡ said)
+names_mean : (bytes : List ℕ) (names : List ℕ) → names_of bytes ≡ Ok names → (query : Query) (said : Answer ReplyValue) → said_by (tables.Names names) query ≡ Some said → ((stream_asked query).1 ≡ None) × (said_within query bytes ≡ said)
 unfolding name_within
 names_mean bytes names is (queries.Stream stream limit) said says = absurd (nothing_said said says)
 names_mean bytes names is (queries.TypeRecord stream index) said says = absurd (nothing_said said says)
@@ -198,7 +198,7 @@ names_refuse bytes e is other asks = absurd asks
 
 -- ---- omap
 
-omap_mean : (bytes : List ℕ) (table : List Mapping) → omap.omap_table_of bytes ≡ Ok table → (query : Query) (said : Answer Said) → said_by (tables.Omap table) query ≡ Some said → ((stream_asked query).1 ≡ None) × (said_within query bytes ≡ said)
+omap_mean : (bytes : List ℕ) (table : List OmapValue) → omap.omap_table_of bytes ≡ Ok table → (query : Query) (said : Answer ReplyValue) → said_by (tables.Omap table) query ≡ Some said → ((stream_asked query).1 ≡ None) × (said_within query bytes ≡ said)
 unfolding moved_within
 omap_mean bytes table is (queries.Stream stream limit) said says = absurd (nothing_said said says)
 omap_mean bytes table is (queries.TypeRecord stream index) said says = absurd (nothing_said said says)
@@ -207,7 +207,7 @@ omap_mean bytes table is (queries.IdRecord stream index) said says = absurd (not
 omap_mean bytes table is (queries.Name stream offset) said says = absurd (nothing_said said says)
 omap_mean bytes table is (queries.Ranges stream start end) said says = (refl, rw is (all_said _ _ says))
 
-pub omap_fit : (bytes : List ℕ) (table : List Mapping) → omap.omap_table_of bytes ≡ Ok table → (asking : Query) → AsksOmap asking → Fits bytes (tables.Omap table) asking
+pub omap_fit : (bytes : List ℕ) (table : List OmapValue) → omap.omap_table_of bytes ≡ Ok table → (asking : Query) → AsksOmap asking → Fits bytes (tables.Omap table) asking
 omap_fit bytes table is (queries.Ranges stream start end) asks = record { whole = refl; says = refl; means = omap_mean bytes table is }
 omap_fit bytes table is other asks = absurd asks
 
@@ -229,7 +229,7 @@ pub reached_on : (number : ℕ) (one other : Opened) (start old new : Progress) 
 reached_on number one other start old new from at next least on same so_far here stays reached asks there = elim (cases_eq from at) [
   | inl last ↦
       let query : query_at old at ≡ query_at start from = rw (on.queries, last) refl in
-      let answered = here (ap (λ (q : Query). (stream_asked q).0) query ∙ asks) (subst (λ (said : Option (Answer Said)). IsSome said) (sym (same (query_at old at) ∙ ap (λ (q : Query). said_by one q) query)) there) in
+      let answered = here (ap (λ (q : Query). (stream_asked q).0) query ∙ asks) (subst (λ (said : Option (Answer ReplyValue)). IsSome said) (sym (same (query_at old at) ∙ ap (λ (q : Query). said_by one q) query)) there) in
       subst (λ (n : ℕ). is_answered new n ≡ true) (sym last) answered
   | inr before ↦
       let below : from < at = below_other from at (omega (arith, least)) before in
@@ -295,7 +295,7 @@ refuses_from failed file head at asked e (inl is) = (inl (rw is refl), refl)
 refuses_from failed file head at asked e (inr other) = (inr other, refl)
 
 -- a refusal is the reply to the query at a place
-pub refusal_replies : (failed : Type 0) (meant : Query → Answer Said) (at : ℕ) (e : Error) (old mid new : Progress) → AnswersFrom failed meant at old (Err e) mid → IsAnsweredWith at (replies.Refused e) mid new → IsAnsweredFrom failed meant at old new
+pub refusal_replies : (failed : Type 0) (meant : Query → Answer ReplyValue) (at : ℕ) (e : Error) (old mid new : Progress) → AnswersFrom failed meant at old (Err e) mid → IsAnsweredWith at (replies.Refused e) mid new → IsAnsweredFrom failed meant at old new
 refusal_replies failed meant at e old mid new refuses with =
     let first = subst (λ (p : Progress). IsAnsweredWith at (replies.Refused e) p new) refuses.1 with in
     record {

@@ -10,7 +10,7 @@ use Rattle.pdb_tpi.specs.Chain.Step.{goes_below, goes_up, fields_step}
 use Rattle.pdb_base.specs.Refusal.{type_not_found}
 use Rattle.pdb_tpi.specs.Finder.{FinderState, find_of, item_of}
 use Rattle.pdb_tpi.specs.Table.{Table}
-use Rattle.pdb_tpi.specs.Steps.{Stand}
+use Rattle.pdb_tpi.specs.Steps.{WalkPosition}
 use Rattle.pdb_container.specs.Lookup.{IsShown, is_known}
 use Rattle.pdb_container.proofs.LookupLemmas.{found_known, known_below, known_uncounted, item_past}
 
@@ -61,6 +61,6 @@ found_fields table known index is = elim (cases_lt index table.header.maximum_in
 ]
 
 -- the same of a finder that is shown a walk
-pub fields_shown : (table : Table) (stand : Stand) (finder : FinderState) (index : ℕ) → IsShown table stand finder → is_known table finder.known index ≡ true
+pub fields_shown : (table : Table) (stand : WalkPosition) (finder : FinderState) (index : ℕ) → IsShown table stand finder → is_known table finder.known index ≡ true
     → fields_of (find_of finder.table finder.known) index ≡ fields_of (item_of table) index
 fields_shown table stand finder index shown is = ap (λ (t : Table). fields_of (find_of t finder.known) index) shown.knows.same ∙ found_fields table finder.known index is

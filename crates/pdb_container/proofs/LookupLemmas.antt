@@ -8,7 +8,7 @@ use Rattle.pdb_base.specs.Reading.{number_at, front_at}
 use Rattle.pdb_base.proofs.lemmas.Collected.{ok_is}
 use Rattle.pdb_tpi.specs.Table.{Table}
 use Rattle.pdb_tpi.specs.Walk.{first_item, fault_of}
-use Rattle.pdb_tpi.specs.Steps.{Stand, walk, walk_rest, steps_taken, step_of, IsStep}
+use Rattle.pdb_tpi.specs.Steps.{WalkPosition, walk, walk_rest, steps_taken, step_of, IsStep}
 use Rattle.pdb_tpi.specs.Finder.{FinderState, first_of, block_of, known_when_new, known_after, has_index, item_of, find_of}
 use Rattle.pdb_tpi.proofs.WalkLemmas.{nth_none}
 use Rattle.pdb_tpi.proofs.StepLemmas.{step_some, step_none}
@@ -63,9 +63,9 @@ knows_fewer table fewer walked finder le knows = record {
 }
 
 -- an iterator before the first item and a new finder
-pub shown_first : (table : Table) (stand : Stand) (finder : FinderState) → stand ≡ record { table = table; index = table.header.minimum_index } → finder ≡ record { table = table; known = known_when_new table } → IsShown table stand finder
+pub shown_first : (table : Table) (stand : WalkPosition) (finder : FinderState) → stand ≡ record { table = table; index = table.header.minimum_index } → finder ≡ record { table = table; known = known_when_new table } → IsShown table stand finder
 shown_first table stand finder stands is =
-    let first : Stand = record { table = table; index = table.header.minimum_index } in
+    let first : WalkPosition = record { table = table; index = table.header.minimum_index } in
     let new : FinderState = record { table = table; known = known_when_new table } in
     let none : 0 ≡ table.header.minimum_index - table.header.minimum_index = omega arith in
     let shown : IsShown table first new = record {
@@ -73,14 +73,14 @@ shown_first table stand finder stands is =
       least = omega arith;
       knows = subst (λ (walked : ℕ). KnowsWalked table walked new) none (knows_first table);
     } in
-    subst (λ (s : Stand). IsShown table s finder) (sym stands) (subst (IsShown table first) (sym is) shown)
+    subst (λ (s : WalkPosition). IsShown table s finder) (sym stands) (subst (IsShown table first) (sym is) shown)
 
 -- and what holds after another step, whose end the finder is shown
-steps_on : {X : Type 0} (seen : X → ℕ × List ℕ) (old new : Stand) (x : X) (finder : FinderState) → IsShown old.table old finder → IsStep seen old (Ok (Some x)) new
+steps_on : {X : Type 0} (seen : X → ℕ × List ℕ) (old new : WalkPosition) (x : X) (finder : FinderState) → IsShown old.table old finder → IsStep seen old (Ok (Some x)) new
     → IsShown old.table new (record { table = finder.table; known = known_after finder.table finder.known new.index })
 steps_on {X} seen old new x finder shown step =
     let moved = step_some seen old x new step in
-    let next : new.index ≡ old.index + 1 = ap (λ (s : Stand). s.index) moved.1 in
+    let next : new.index ≡ old.index + 1 = ap (λ (s : WalkPosition). s.index) moved.1 in
     let least = shown.least in
     let walked : old.index - old.table.header.minimum_index + 1 ≡ new.index - old.table.header.minimum_index = omega arith in
     let at : new.index ≡ old.table.header.minimum_index + (old.index - old.table.header.minimum_index + 1) = omega arith in
@@ -92,7 +92,7 @@ steps_on {X} seen old new x finder shown step =
     (subst (λ (k : ℕ). KnowsWalked old.table (old.index - old.table.header.minimum_index + 1) (record finder { known = k })) same knows) in
     record { same = step.stays; least = omega arith; knows = learned }
 
-pub shown_more : {X : Type 0} (seen : X → ℕ × List ℕ) (table : Table) (old new : Stand) (x : X) (finder updated : FinderState) → IsShown table old finder → IsStep seen old (Ok (Some x)) new
+pub shown_more : {X : Type 0} (seen : X → ℕ × List ℕ) (table : Table) (old new : WalkPosition) (x : X) (finder updated : FinderState) → IsShown table old finder → IsStep seen old (Ok (Some x)) new
     → updated ≡ record { table = finder.table; known = known_after finder.table finder.known new.index } → IsShown table new updated
 shown_more {X} seen table old new x finder updated shown step is =
     let after : FinderState = record { table = finder.table; known = known_after finder.table finder.known new.index } in
@@ -100,28 +100,28 @@ shown_more {X} seen table old new x finder updated shown step is =
     subst (IsShown table new) (sym is) here
 
 -- behind the last item the finder knows the whole walk
-pub shown_whole : (table : Table) (stand : Stand) (finder : FinderState) → IsShown table stand finder → length (walk stand.table) ≤ steps_taken stand → KnowsWalked table (length (walk table)) finder
+pub shown_whole : (table : Table) (stand : WalkPosition) (finder : FinderState) → IsShown table stand finder → length (walk stand.table) ≤ steps_taken stand → KnowsWalked table (length (walk table)) finder
 shown_whole table stand finder shown past =
     let here = subst (λ (t : Table). length (walk t) ≤ stand.index - t.header.minimum_index) shown.same past in
     knows_fewer table (length (walk table)) (stand.index - table.header.minimum_index) finder here shown.knows
 
 -- a step behind the last item moves nothing
-pub ends_there : {X : Type 0} (seen : X → ℕ × List ℕ) (old new : Stand) → IsStep seen old (Ok None) new → new ≡ old
+pub ends_there : {X : Type 0} (seen : X → ℕ × List ℕ) (old new : WalkPosition) → IsStep seen old (Ok None) new → new ≡ old
 unfolding step_of
 ends_there {X} seen old new step =
     let over = step_none seen old new step in
     let none = slice_get_past (walk old.table) (steps_taken old) over.0 in
-    let given : Option (ℕ × List ℕ) × Stand = (None, new) in
-    let stands : Option (ℕ × List ℕ) × Stand = (None, old) in
+    let given : Option (ℕ × List ℕ) × WalkPosition = (None, new) in
+    let stands : Option (ℕ × List ℕ) × WalkPosition = (None, old) in
     let is : given ≡ stands = ok_is given stands (sym step.gives ∙ rw (none, over.1) refl) in
-    ap (λ (p : Option (ℕ × List ℕ) × Stand). p.1) is
+    ap (λ (p : Option (ℕ × List ℕ) × WalkPosition). p.1) is
 
 -- and neither does a refused one
-pub stays_shown : (table : Table) (old new : Stand) (finder : FinderState) → IsShown table old finder → new ≡ old → IsShown table new finder
-stays_shown table old new finder shown is = subst (λ (s : Stand). IsShown table s finder) (sym is) shown
+pub stays_shown : (table : Table) (old new : WalkPosition) (finder : FinderState) → IsShown table old finder → new ≡ old → IsShown table new finder
+stays_shown table old new finder shown is = subst (λ (s : WalkPosition). IsShown table s finder) (sym is) shown
 
 -- the fault behind a walk that ends
-pub end_fault : (table : Table) (stand : Stand) (finder : FinderState) → IsShown table stand finder → walk_rest stand.table ≡ [] → unexpected_eof ≡ fault_of (walk_rest table)
+pub end_fault : (table : Table) (stand : WalkPosition) (finder : FinderState) → IsShown table stand finder → walk_rest stand.table ≡ [] → unexpected_eof ≡ fault_of (walk_rest table)
 end_fault table stand finder shown ends = sym (ap (λ (t : Table). fault_of (walk_rest t)) (sym shown.same) ∙ ap fault_of ends ∙ fault_of_none)
 
 -- ---- what is found
@@ -165,11 +165,11 @@ found_known table known i is =
     rw test refl
 
 -- the same of a finder that is shown a walk
-pub found_shown : (table : Table) (stand : Stand) (finder : FinderState) (i : ℕ) → IsShown table stand finder → is_known table finder.known i ≡ true → find_of finder.table finder.known i ≡ item_of table i
+pub found_shown : (table : Table) (stand : WalkPosition) (finder : FinderState) (i : ℕ) → IsShown table stand finder → is_known table finder.known i ≡ true → find_of finder.table finder.known i ≡ item_of table i
 found_shown table stand finder i shown is = ap (λ (t : Table). find_of t finder.known i) shown.knows.same ∙ found_known table finder.known i is
 
 -- an index that is not known has no item, if the walk is over
-pub missed : (table : Table) (stand : Stand) (finder : FinderState) (i : ℕ) → IsShown table stand finder → is_known table finder.known i ≡ false → length (walk stand.table) ≤ steps_taken stand
+pub missed : (table : Table) (stand : WalkPosition) (finder : FinderState) (i : ℕ) → IsShown table stand finder → is_known table finder.known i ≡ false → length (walk stand.table) ≤ steps_taken stand
     → item_of table i ≡ Err (fault_of (walk_rest table))
 missed table stand finder i shown unknown past =
     let both = both_true (has_index table i) (leb finder.known (block_of table i)) (not_false (has_index table i && leb finder.known (block_of table i)) unknown) in

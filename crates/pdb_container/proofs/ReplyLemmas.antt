@@ -13,11 +13,11 @@ use Rattle.pdb_container.specs.declared.query.Query.{Query}
 use Rattle.pdb_container.specs.declared.query.Query.TheVariants as queries
 use Rattle.pdb_container.specs.declared.query.Reply.{Reply}
 use Rattle.pdb_container.specs.declared.query.Reply.TheVariants as replies
-use Rattle.pdb_container.specs.Reply.{Said, IsReply, AreReplies, IsRun, answer_of, reply_of}
+use Rattle.pdb_container.specs.Reply.{ReplyValue, IsReply, AreReplies, IsRun, answer_of, reply_of}
 use Rattle.pdb_container.specs.Asked.{Progress, AnswersFrom, IsAnsweredFrom, IsUnanswered, is_answered, query_at}
 
 -- a reply of a source that fails less often is one of a source that fails more often
-pub IsReply-weaker : (failed unsound : Type 0) (reply : Reply) (meant : Answer Said) → (failed → unsound) → IsReply failed reply meant → IsReply unsound reply meant
+pub IsReply-weaker : (failed unsound : Type 0) (reply : Reply) (meant : Answer ReplyValue) → (failed → unsound) → IsReply failed reply meant → IsReply unsound reply meant
 IsReply-weaker failed unsound (replies.Bytes stream) meant weaker is = is
 IsReply-weaker failed unsound (replies.Record index kind name) meant weaker is = is
 IsReply-weaker failed unsound (replies.Name name) meant weaker is = is

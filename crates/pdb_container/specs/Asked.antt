@@ -10,10 +10,10 @@ use Rattle.pdb_container.specs.declared.opened.Opened.TheVariants as tables
 use Rattle.pdb_base.specs.declared.index.TypeIndex.{TypeIndex}
 use Rattle.pdb_tpi.specs.declared.item.Item.{Item}
 use Rattle.pdb_tpi.specs.Item.{bytes_of, index_of}
-use Rattle.pdb_container.specs.Reply.{Said, IsReply, moved, type_in, type_said, id_in, fields_in, name_in, stream_asked, said_within}
+use Rattle.pdb_container.specs.Reply.{ReplyValue, IsReply, moved, type_in, type_said, id_in, fields_in, name_in, stream_asked, said_within}
 
 -- What a stream that is opened as a table answers to a query, if the query asks such a table.
-abbrev pub said_by : Opened → Query → Option (Answer Said)
+abbrev pub said_by : Opened → Query → Option (Answer ReplyValue)
 said_by (tables.Types types) (queries.TypeRecord stream index) = Some (type_in index types.table)
 said_by (tables.Types types) (queries.Fields stream index) = Some (fields_in index types.table)
 said_by (tables.Ids ids) (queries.IdRecord stream index) = Some (id_in index ids.table)
@@ -72,32 +72,32 @@ pub record IsAnsweredWith (at : ℕ) (reply : Reply) (old new : Progress) : Type
 
 -- The query at an index is answered with a reply that gives this answer. Which others are answered, and their
 -- replies, stay.
-abbrev pub IsAnsweredRightly : ℕ → Answer Said → Progress → Progress → Type 0
+abbrev pub IsAnsweredRightly : ℕ → Answer ReplyValue → Progress → Progress → Type 0
 IsAnsweredRightly at said old new = (reply : Reply) × IsReply ⊥ reply said × IsAnsweredWith at reply old new
 
 -- If there is an answer, the query at an index is answered with a reply that gives it. Otherwise nothing
 -- changes.
-abbrev pub IsAnsweredIf : ℕ → Option (Answer Said) → Progress → Progress → Type 0
+abbrev pub IsAnsweredIf : ℕ → Option (Answer ReplyValue) → Progress → Progress → Type 0
 IsAnsweredIf at None old new = new ≡ old
 IsAnsweredIf at (Some said) old new = IsAnsweredRightly at said old new
 
 -- The reply to each query that is answered gives the answer that is meant. If the source is not sound,
 -- the reply may be a refusal for a fault of the source instead.
-abbrev pub AreRight : Bool → (Query → Answer Said) → Progress → Type 0
+abbrev pub AreRight : Bool → (Query → Answer ReplyValue) → Progress → Type 0
 AreRight sound meant asked = (i : ℕ) (d : Reply) → is_answered asked i ≡ true → IsReply (¬ IsTrue sound) (get_or asked.replies i d) (meant (query_at asked i))
 
 -- The queries that were answered still are, and others may be; all rightly, if those before were.
-pub record IsAnsweredOn (means : (Query → Answer Said) → Type 0) (old new : Progress) : Type 0 where
+pub record IsAnsweredOn (means : (Query → Answer ReplyValue) → Type 0) (old new : Progress) : Type 0 where
   pub queries : new.queries ≡ old.queries
   pub stays : (i : ℕ) → is_answered old i ≡ true → is_answered new i ≡ true
-  pub right : (sound : Bool) (meant : Query → Answer Said) → means meant → AreRight sound meant old → AreRight sound meant new
+  pub right : (sound : Bool) (meant : Query → Answer ReplyValue) → means meant → AreRight sound meant old → AreRight sound meant new
 
 -- the answer that is meant for a query of this stream is what the stream, opened as a table, answers
-abbrev pub MeansTable : ℕ → Opened → (Query → Answer Said) → Type 0
-MeansTable number opened meant = (query : Query) (said : Answer Said) → (stream_asked query).0 ≡ number → said_by opened query ≡ Some said → meant query ≡ said
+abbrev pub MeansTable : ℕ → Opened → (Query → Answer ReplyValue) → Type 0
+MeansTable number opened meant = (query : Query) (said : Answer ReplyValue) → (stream_asked query).0 ≡ number → said_by opened query ≡ Some said → meant query ≡ said
 
 -- the answer that is meant for a query of this stream, up to this limit, is what these bytes answer
-abbrev pub MeansStream : ℕ × Option ℕ → List ℕ → (Query → Answer Said) → Type 0
+abbrev pub MeansStream : ℕ × Option ℕ → List ℕ → (Query → Answer ReplyValue) → Type 0
 MeansStream stream bytes meant = (query : Query) → stream_asked query ≡ stream → meant query ≡ said_within query bytes
 
 -- a query of a table of types
@@ -129,13 +129,13 @@ AnswersAt bytes at old (Err e) new = RefusesUnless ⊥ e (said_within (query_at 
 
 -- A file answers the query at an index, and maybe others. If the source fails, it refuses that query
 -- alone.
-pub record IsAnsweredFrom (failed : Type 0) (meant : Query → Answer Said) (at : ℕ) (old new : Progress) : Type 0 where
+pub record IsAnsweredFrom (failed : Type 0) (meant : Query → Answer ReplyValue) (at : ℕ) (old new : Progress) : Type 0 where
   pub queries : new.queries ≡ old.queries
   pub stays : (i : ℕ) → is_answered old i ≡ true → is_answered new i ≡ true
   pub answered : is_answered new at ≡ true
   pub right : (sound : Bool) → (failed → ¬ IsTrue sound) → AreRight sound meant old → AreRight sound meant new
 
 -- A file answers the query at an index, and maybe others. If it refuses that query, nothing is answered.
-abbrev pub AnswersFrom : Type 0 → (Query → Answer Said) → ℕ → Progress → Result (Unit {0}) Error → Progress → Type 0
+abbrev pub AnswersFrom : Type 0 → (Query → Answer ReplyValue) → ℕ → Progress → Result (Unit {0}) Error → Progress → Type 0
 AnswersFrom failed meant at old (Ok done) new = IsAnsweredFrom failed meant at old new
 AnswersFrom failed meant at old (Err e) new = RefusesUnless failed e (meant (query_at old at)) × (new ≡ old)

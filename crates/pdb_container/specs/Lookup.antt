@@ -1,7 +1,7 @@
 -- What a finder knows after a walk along its table was shown to it.
 use Rattle.std.specs.Prelude.{◌≡◌, ℕ, ◌-◌, ◌*◌, ◌<◌, ◌≤◌, Bool, ◌&&◌, nat_le, not}
 use Rattle.pdb_tpi.specs.Table.{Table}
-use Rattle.pdb_tpi.specs.Steps.{Stand}
+use Rattle.pdb_tpi.specs.Steps.{WalkPosition}
 use Rattle.pdb_tpi.specs.Finder.{FinderState, first_of, block_of, has_index}
 
 -- A finder of the table knows each block of counted indexes whose first item is among the first `walked`
@@ -11,7 +11,7 @@ pub record KnowsWalked (table : Table) (walked : ℕ) (finder : FinderState) : T
   pub blocks : (block : ℕ) → first_of table block < table.header.maximum_index → 8 * block ≤ walked → block < finder.known
 
 -- The finder was shown an iterator over its table as it walked up to this stand.
-pub record IsShown (table : Table) (stand : Stand) (finder : FinderState) : Type 0 where
+pub record IsShown (table : Table) (stand : WalkPosition) (finder : FinderState) : Type 0 where
   pub same : stand.table ≡ table
   pub least : table.header.minimum_index ≤ stand.index
   pub knows : KnowsWalked table (stand.index - table.header.minimum_index) finder

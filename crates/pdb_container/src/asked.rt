@@ -1,6 +1,7 @@
 //! Queries, and the replies to those that are answered so far.
 
-ghost use Rattle.std.specs.Prelude.{◌≡◌, ◌≢◌, ◌+◌, ◌<◌, ◌≤◌, ℕ, true, get_or, length, vec_capacity, IfOk, IfErr};
+ghost use Rattle.std.specs.Prelude.{◌≡◌, ◌≢◌, ◌+◌, ◌<◌, ◌≤◌, ℕ, true, get_or, length, vec_capacity, IfOk};
+ghost use Rattle.pdb_base.specs.Memory.{FailsOnlyForMemory};
 ghost use Rattle.pdb_container.specs.declared.query.Reply.{Reply};
 ghost use Rattle.pdb_container.specs.Asked.{query_at, is_answered, IsAnsweredWith, IsPut, IsUnanswered};
 
@@ -90,7 +91,7 @@ impl<'q> Asked<'q> {
     /// Returns `OutOfMemory` if there is no room for the replies.
     pub fn new(alloc: Global, queries: &'q [Query]) -> Result<Self>
         ensures ok { IfOk result (IsUnanswered queries.now) }
-        ensures want { IfErr result (λ e. e ≡ Error.OutOfMemory) }
+        ensures memory { FailsOnlyForMemory result }
     {
         let replies = Vec::with_capacity(alloc, queries.len())?;
         let answered = vec![in alloc; false; queries.len()]?;

@@ -1,7 +1,8 @@
 //! The fields of a list, by their names.
 
-ghost use Rattle.std.specs.Prelude.{◌≡◌, map, IfOk, IfErr};
+ghost use Rattle.std.specs.Prelude.{◌≡◌, map, IfOk};
 ghost use Rattle.std.specs.Option.{option_map};
+ghost use Rattle.pdb_base.specs.Memory.{FailsOnlyForMemory};
 ghost use Rattle.pdb_values.specs.TypeValue.{name_of};
 ghost use Rattle.pdb_values.specs.TypeView.{type_value};
 ghost use Rattle.pdb_container.specs.Reply.{Replies, fields_in};
@@ -18,7 +19,7 @@ fn names_of(alloc: Global, fields: &[TypeData<'_>]) -> Result<Vec<Option<Vec<u8>
     ensures ok { IfOk result (λ names.
         map (λ name. option_map (λ copy. copy.items) name) names.items ≡
         map (λ field. name_of (type_value field)) fields.now) }
-    ensures want { IfErr result (λ e. e ≡ Error.OutOfMemory) }
+    ensures memory { FailsOnlyForMemory result }
 {
     let mut names = Vec::with_capacity(alloc, fields.len())?;
     for field in fields {

@@ -1,7 +1,8 @@
 //! Names: copies of them, and those in a string table.
 
-ghost use Rattle.std.specs.Prelude.{◌≡◌, IfOk, IfErr};
+ghost use Rattle.std.specs.Prelude.{◌≡◌, IfOk};
 ghost use Rattle.std.specs.Option.{option_map};
+ghost use Rattle.pdb_base.specs.Memory.{FailsOnlyForMemory};
 ghost use Rattle.pdb_values.specs.Text.{text_bytes};
 ghost use Rattle.pdb_container.specs.Reply.{Replies, name_in};
 
@@ -13,7 +14,7 @@ use std::alloc::Global;
 /// Copies a name, if there is one.
 pub fn copied(alloc: Global, name: Option<RawString<'_>>) -> Result<Option<Vec<u8>>>
     ensures ok { IfOk result (λ copy. option_map (λ bytes. bytes.items) copy ≡ option_map text_bytes name.entry) }
-    ensures want { IfErr result (λ e. e ≡ Error.OutOfMemory) }
+    ensures memory { FailsOnlyForMemory result }
 {
     match name {
         Some(name) => Ok(Some(Vec::from_slice(alloc, name.as_bytes())?)),

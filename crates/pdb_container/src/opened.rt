@@ -3,7 +3,7 @@
 ghost use Rattle.std.specs.Prelude.{◌≡◌, ◌<◌, length, Some, Ok, IfSome};
 ghost use Rattle.pdb_base.specs.Answer.{Answer};
 ghost use Rattle.pdb_tpi.specs.Item.{bytes_of, index_of};
-ghost use Rattle.pdb_container.specs.Reply.{Said, Replies, fields_in, id_in, moved, name_in, type_said};
+ghost use Rattle.pdb_container.specs.Reply.{ReplyValue, Replies, fields_in, id_in, moved, name_in, type_said};
 ghost use Rattle.pdb_container.specs.declared.query.Query.{Query};
 ghost use Rattle.pdb_container.specs.Asked.{said_by, IsAnsweredIf, IsAnsweredRightly};
 
@@ -40,7 +40,7 @@ pub enum Opened<'t> {
 /// reply.
 fn answer_by(replied: Result<Reply>, at: usize, asked: &mut Asked<'_>)
     requires { at < length asked.old.queries }
-    ensures { (meant : Answer Said) → Replies replied meant → IsAnsweredRightly at meant asked.old asked.new }
+    ensures { (meant : Answer ReplyValue) → Replies replied meant → IsAnsweredRightly at meant asked.old asked.new }
 {
     match replied {
         Ok(reply) => asked.answer(at, reply),

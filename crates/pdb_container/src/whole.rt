@@ -1,6 +1,7 @@
 //! Whole runs: a file, and all that is asked of it.
 
-ghost use Rattle.std.specs.Prelude.{◌≡◌, ◌<◌, ◌≤◌, IsTrue, IsSome, IfOk, IfErr, OnErr, length, true};
+ghost use Rattle.std.specs.Prelude.{◌≡◌, ◌<◌, ◌≤◌, IsTrue, IsSome, IfOk, OnErr, length, true};
+ghost use Rattle.pdb_base.specs.Memory.{FailsOnlyForMemory};
 ghost use Rattle.pdb_msf.specs.Source.{HasFailed, IsKept};
 ghost use Rattle.pdb_container.specs.Reply.{AreReplies, IsReply, IsRun, Replies, answer_of, reply_of, stream_asked};
 ghost use Rattle.pdb_container.specs.Asked.{AnswersAt, AnswersFrom, AreAhead, AsksIds, AsksNames, AsksOmap, AsksTypes, IsAhead, IsAnsweredFrom, IsAnsweredOn, MeansTable, is_answered, query_at, said_by};
@@ -272,7 +273,7 @@ fn answer<S: Source>(alloc: Global, file: &mut BigMSF<S>, at: usize, asked: &mut
 fn ask_all<S: Source>(alloc: Global, file: &mut BigMSF<S>, queries: &[Query]) -> Result<Vec<Reply>>
     ensures replies { IfOk result (λ replies. AreReplies (¬ IsTrue (S.state file.old.source).is_sound)
         (S.state file.old.source).bytes file.old.head queries.now replies.items) }
-    ensures want { IfErr result (λ e. e ≡ Error.OutOfMemory) }
+    ensures memory { FailsOnlyForMemory result }
     ensures unasked { OnErr result (file.new ≡ file.old) }
 {
     let mut asked = Asked::new(alloc, queries)?;

@@ -4,7 +4,7 @@ use Rattle.pdb_base.specs.Answer.{Answer, ◌>>=◌}
 use Rattle.pdb_msf.specs.Header.{Head, opened}
 use Rattle.pdb_msf.specs.File.{stream_of}
 use Rattle.pdb_msf.specs.Layout.{plan_of}
-use Rattle.pdb_roles.specs.File.{file_address_map, file_frame_table, file_named_stream, file_string_table}
+use Rattle.pdb_file.specs.File.{file_address_map, file_frame_table, file_named_stream, file_string_table}
 use Rattle.pdb_handles.specs.declared.content.Content.{Content}
 use Rattle.pdb_handles.specs.declared.content.Content.TheVariants as contents
 use Rattle.pdb_handles.specs.Handle.{held_as}

@@ -4,9 +4,9 @@ use Rattle.pdb_base.specs.Answer.{Answer}
 use Rattle.pdb_base.specs.Refusal.{out_of_memory}
 use Rattle.pdb_frames.specs.Table.{Frames}
 use Rattle.pdb_msf.specs.Layout.{Plan}
-use Rattle.pdb_space.specs.Conversions.{Arrangement}
-use Rattle.pdb_space.specs.Omap.{Mapping}
-use Rattle.pdb_tpi.specs.Steps.{Stand}
+use Rattle.pdb_space.specs.Conversions.{AddressMapValue}
+use Rattle.pdb_space.specs.Omap.{OmapValue}
+use Rattle.pdb_tpi.specs.Steps.{WalkPosition}
 use Rattle.pdb_handles.specs.declared.content.Content.{Content}
 use Rattle.pdb_handles.specs.declared.content.Content.TheVariants as contents
 use Rattle.pdb_handles.specs.declared.fault.Fault.{Fault}
@@ -56,12 +56,12 @@ names_held (Some (contents.Names names)) = Some names
 names_held held = None
 
 -- the OMAP table that a handle holds, if it holds one
-abbrev pub omap_held : Option Content → Option (List Mapping)
+abbrev pub omap_held : Option Content → Option (List OmapValue)
 omap_held (Some (contents.Omap table)) = Some table
 omap_held held = None
 
 -- the address map that a handle holds, if it holds one
-abbrev pub addresses_held : Option Content → Option Arrangement
+abbrev pub addresses_held : Option Content → Option AddressMapValue
 addresses_held (Some (contents.Addresses map)) = Some map
 addresses_held held = None
 
@@ -76,6 +76,6 @@ frames_held (Some (contents.Frames table)) = Some table
 frames_held held = None
 
 -- the table of types or of ids that a handle holds, if it holds one, and where the walk along it stands
-abbrev pub table_held : Option Content → Option Stand
+abbrev pub table_held : Option Content → Option WalkPosition
 table_held (Some (contents.Table table)) = Some table
 table_held held = None

@@ -1,6 +1,7 @@
 //! The directory of a file: which streams it holds, and where the page numbers of each begin.
 
-ghost use Rattle.std.specs.Prelude.{◌≡◌, ◌*◌, ◌^◌, ◌<◌, ◌≤◌, false, length, vec_capacity, IfOk, IfErr};
+ghost use Rattle.std.specs.Prelude.{◌≡◌, ◌*◌, ◌^◌, ◌<◌, ◌≤◌, false, length, vec_capacity, IfOk};
+ghost use Rattle.pdb_base.specs.Memory.{FailsOnlyForMemory};
 ghost use Rattle.pdb_base.specs.Answer.{Answers, AnswersUnless, Gives};
 ghost use Rattle.pdb_msf.specs.Source.{HasFailed, IsKept, KeepsKind};
 ghost use Rattle.pdb_msf.specs.Header.{header_view, IsHeader};
@@ -92,7 +93,7 @@ fn starts_of(alloc: Global, geometry: Geometry, directory: &[u8]) -> Result<Vec<
     requires short { length directory.now < 2 ^ 32 }
     ensures starts { IfOk result (λ starts. starts.items ≡ starts_of geometry.page_size directory.now) }
     ensures small { IfOk result (λ starts. 4 * vec_capacity starts ≤ length directory.now) }
-    ensures want { IfErr result (λ e. e ≡ Error.OutOfMemory) }
+    ensures memory { FailsOnlyForMemory result }
 {
     let mut buffer = ParseBuffer::from(directory);
     let Ok(count) = buffer.parse_u32() else {

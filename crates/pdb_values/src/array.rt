@@ -32,7 +32,7 @@ impl ArrayType {
     /// Returns `OutOfMemory` if memory is refused, which is asked for only if there is a dimension.
     pub fn clone(&self, alloc: Global) -> Result<Self>
         ensures copied { Answers array_value result (Ok (array_value self.now)) }
-        ensures want { LacksOnlyIf result (HasItem (array_value self.now).dimensions) }
+        ensures memory { LacksOnlyIf result (HasItem (array_value self.now).dimensions) }
     {
         let dimensions = copy_items(alloc, self.dimensions.as_slice())?;
         Ok(ArrayType {

@@ -10,7 +10,7 @@ use std::alloc::Global;
 /// Copies items into memory of their own. Asks for no memory if there are none.
 pub(crate) fn copy_items<T: Copy>(alloc: Global, items: &[T]) -> Result<Vec<T>>
     ensures copied { Answers (λ copies. copies.items) result (Ok items.now) }
-    ensures want { LacksOnlyIf result (HasItem items.now) }
+    ensures memory { LacksOnlyIf result (HasItem items.now) }
 {
     let mut copies = Vec::with_capacity(alloc, items.len())?;
     for item in items {

@@ -65,7 +65,7 @@ impl ArgumentList {
     /// Returns `OutOfMemory` if memory is refused, which is asked for only if the list has an item.
     pub fn clone(&self, alloc: Global) -> Result<Self>
         ensures copied { Answers argument_types result (Ok (argument_types self.now)) }
-        ensures want { LacksOnlyIf result (HasItem (argument_types self.now)) }
+        ensures memory { LacksOnlyIf result (HasItem (argument_types self.now)) }
     {
         let arguments = copy_items(alloc, self.arguments.as_slice())?;
         Ok(ArgumentList { arguments })

@@ -41,7 +41,7 @@ impl BuildInfoId {
     /// Returns `OutOfMemory` if memory is refused, which is asked for only if the list has an item.
     pub fn clone(&self, alloc: Global) -> Result<Self>
         ensures copied { Answers build_arguments result (Ok (build_arguments self.now)) }
-        ensures want { LacksOnlyIf result (HasItem (build_arguments self.now)) }
+        ensures memory { LacksOnlyIf result (HasItem (build_arguments self.now)) }
     {
         let arguments = copy_items(alloc, self.arguments.as_slice())?;
         Ok(BuildInfoId { arguments })
@@ -55,7 +55,7 @@ impl StringListId {
     /// Returns `OutOfMemory` if memory is refused, which is asked for only if the list has an item.
     pub fn clone(&self, alloc: Global) -> Result<Self>
         ensures copied { Answers text_parts result (Ok (text_parts self.now)) }
-        ensures want { LacksOnlyIf result (HasItem (text_parts self.now)) }
+        ensures memory { LacksOnlyIf result (HasItem (text_parts self.now)) }
     {
         let substrings = copy_items(alloc, self.substrings.as_slice())?;
         Ok(StringListId { substrings })

@@ -67,7 +67,7 @@ impl MethodList {
     /// Returns `OutOfMemory` if memory is refused, which is asked for only if the list has an item.
     pub fn clone(&self, alloc: Global) -> Result<Self>
         ensures copied { Answers listed_methods result (Ok (listed_methods self.now)) }
-        ensures want { LacksOnlyIf result (HasItem (listed_methods self.now)) }
+        ensures memory { LacksOnlyIf result (HasItem (listed_methods self.now)) }
     {
         let methods = copy_items(alloc, self.methods.as_slice())?;
         Ok(MethodList { methods })

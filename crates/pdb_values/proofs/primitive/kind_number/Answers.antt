@@ -1,6 +1,6 @@
 -- What a mask leaves is the low byte.
 use Rattle.std.proofs.Common.{◌≡◌, ◌/◌, ◌^◌, sym, ap, ◌∙◌, arith, bit_and}
-use Rattle.pdb_bits.proofs.lemmas.Shifts.{shifted_and_masked}
+use Rattle.pdb_base.proofs.lemmas.Shifts.{shifted_and_masked}
 use Rattle.pdb_values.proofs.primitive.kind_number.Goals as goal
 
 pub returns : goal.returns
