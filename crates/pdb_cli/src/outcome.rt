@@ -3,13 +3,13 @@
 ghost use Rattle.std.specs.Prelude.{◌≡◌, ◌⊎◌, map, IfOk};
 ghost use Rattle.pdb_base.specs.Memory.{FailsOnlyForMemory};
 ghost use Rattle.pdb_container.specs.Refusal.{refusal_of, out_of_memory};
-ghost use Rattle.pdb_container.specs.Reply.{answer_of};
+ghost use Rattle.pdb_container.specs.Reply.{IsReply, answer_of};
 ghost use Rattle.pdb_cli.specs.Printed.{IsAnsweredBy, IsRefused, IsUsage, IsOutcomeOf, ShowsReply, asked, Shows};
 
 use crate::lines::reply_lines;
 use crate::refusal::error_line;
 use crate::words;
-use pdb_container::{Error, Query, Reply, Result, ask};
+use pdb_container::{Error, Query, Reply, Result, run};
 use pdb_vectors::s1;
 use std::alloc::Global;
 
@@ -77,13 +77,26 @@ fn shown(alloc: Global, reply: &Reply) -> Result<Outcome>
     }
 }
 
+/// Returns the reply of a run with one query. If the file can't be opened, that error is the reply.
+fn reply_to(alloc: Global, file: Vec<u8>, query: Query) -> Reply
+    ensures { IsReply ⊥ result (answer_of file.items query) }
+{
+    match run(alloc, file, &[query]) {
+        Ok(mut replies) => match replies.pop() {
+            Some(reply) => reply,
+            None => unreachable!(),
+        },
+        Err(error) => Reply::Refused(error),
+    }
+}
+
 /// Asks a file a query and returns the outcome: status 0 with the reply on standard output, or
 /// status 1.
 fn answer(alloc: Global, file: Vec<u8>, query: Query) -> Result<Outcome>
     ensures ok { IfOk result (λ o. IsOutcomeOf (answer_of file.items query) o ⊎ IsRefused out_of_memory o) }
     ensures memory { FailsOnlyForMemory result }
 {
-    shown(alloc, &ask(alloc, file, query))
+    shown(alloc, &reply_to(alloc, file, query))
 }
 
 /// Does what the program does, apart from input and output: parses the words as a query, asks the

@@ -1,8 +1,7 @@
 pub mod Reply
-pub mod Asked
-pub mod Lookup
+pub mod ReadStreams
+pub mod OpenTables
 -- the definitions that the contracts of what this crate re-exports cite
-pub use Rattle.pdb_base.specs.Bits
 pub use Rattle.pdb_base.specs.Bits
 pub use Rattle.pdb_base.specs.Refusal
 pub use Rattle.pdb_base.specs.ErrorText

@@ -34,15 +34,12 @@ pub data ReplyValue : Type 0 where
 
 -- ---- the answers that are meant
 
--- the index, kind and name of an item that holds the type of an index
-abbrev pub type_said : ℕ → List ℕ → Answer ReplyValue
-type_said index item = do
-  value ← type_of index item
-  Ok (item_record index (kind_of item) (types.name_of value))
-
 -- the type of an index in a table, whose item is looked up in the whole walk
 unfoldable pub type_in : ℕ → Table → Answer ReplyValue
-type_in index table = item_of table index >>= type_said index
+type_in index table = do
+  item ← item_of table index
+  value ← type_of index item
+  Ok (item_record index (kind_of item) (types.name_of value))
 
 -- the id of an index in a table
 unfoldable pub id_in : ℕ → Table → Answer ReplyValue
@@ -103,10 +100,14 @@ said_within (queries.Name number offset) stream = name_within offset stream
 said_within (queries.Ranges number start end) stream = moved_within (record { start = start; end = end }) stream
 said_within (queries.Fields number index) stream = fields_within index stream
 
--- The reply to a query of an open file: what the stream that it asks answers. The first fault is that of
--- the stream, then of the table in it, then of the look-up, then of the record that was looked up.
+-- The reply to a query: what the stream that it asks answers. The first fault is that of the stream, then of
+-- the table in it, then of the look-up, then of the record that was looked up.
+abbrev pub reply_by : (ℕ → Option ℕ → Answer (List ℕ)) → Query → Answer ReplyValue
+reply_by streams query = streams (stream_asked query).0 (stream_asked query).1 >>= said_within query
+
+-- the same of an open file
 abbrev pub reply_of : List ℕ → Head → Query → Answer ReplyValue
-reply_of file head query = stream_of file head (stream_asked query).0 (stream_asked query).1 >>= said_within query
+reply_of file head query = reply_by (stream_of file head) query
 
 -- the answer of a file to a query; the first fault is that of its header
 unfoldable pub answer_of : List ℕ → Query → Answer ReplyValue

@@ -2,19 +2,12 @@
 //! records, names, addresses and their translation, frames, and the roles of streams.
 #![tactic(auto)]
 
-mod asked;
-mod fields;
-mod lookup;
-mod name;
-mod opened;
+mod open_tables;
+mod queries;
 mod query;
-mod ranges;
-mod record;
-mod whole;
+mod read_streams;
+mod replies;
 
-pub use lookup::Lookup;
-pub use lookup::look_up;
-pub use lookup::look_up_fields;
 pub use pdb_base::Count;
 pub use pdb_base::Error;
 pub use pdb_base::FallibleIterator;
@@ -136,7 +129,6 @@ pub use pdb_values::VirtualBaseClassType;
 pub use pdb_values::VirtualFunctionTablePointerType;
 pub use pdb_values::VirtualTableShapeType;
 pub use pdb_values::type_data_for_primitive;
+pub use queries::run;
 pub use query::Query;
 pub use query::Reply;
-pub use whole::ask;
-pub use whole::run;
