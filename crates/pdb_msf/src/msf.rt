@@ -11,7 +11,7 @@ ghost use Rattle.pdb_msf.specs.File.{Opened, IsFresh, described, limited, locati
 
 use crate::directory::Directory;
 use crate::header::{Header, read_header};
-use crate::scattered::{CountedSource, view};
+use crate::scattered::{CountedSource, source_error};
 use crate::source::{ReadView, Source, SourceSlice, SourceView};
 use pdb_base::{Error, Result, Stream};
 use std::alloc::Global;
@@ -186,11 +186,12 @@ impl<S: Source> Msf<S> for BigMSF<S> {
     }
 }
 
-impl BigMSF<Vec<u8>> {
-    /// Returns the bytes of a stream as `get` does, and gives the file up.
+impl<S: Source + Drop> BigMSF<S> {
+    /// Returns the bytes of a stream as `get` does, and consumes the file.
     ///
-    /// If the stream's pages stand in the file in increasing order, as most programs write them, its
-    /// bytes are moved together in the file's own memory, and no memory is asked for to hold them.
+    /// If the file is a `Vec<u8>` in which the stream's pages have increasing numbers, as most
+    /// programs write them, the stream's bytes are moved together in the file's own memory, and no
+    /// memory is asked for to hold them.
     ///
     /// # Errors
     /// Fails as `get` does.
@@ -201,10 +202,10 @@ impl BigMSF<Vec<u8>> {
         stream_number: u32,
         limit: Option<usize>,
     ) -> Result<Stream>
-        ensures answer { Answers (λ stream. stream) result
-            (stream_of self.source.items self.head stream_number limit) }
+        ensures answer { AnswersUnless (¬ IsTrue (S.state self.source).is_sound) (λ stream. stream) result
+            (stream_of (S.state self.source).bytes self.head stream_number limit) }
         ensures exact { IsTrue self.located → RefusesExactly result
-            (placed self.source.items self.head stream_number) }
+            (placed (S.state self.source).bytes self.head stream_number) }
     {
         self.locate(alloc)?;
         let BigMSF {
@@ -241,15 +242,15 @@ pub(crate) fn view_front<S: Source>(source: &mut S, alloc: Global, size: usize) 
     ensures bytes { AnswersUnless (HasFailed (S.state source.old) (S.state source.new)) (λ v. v) result
         (opening size (S.state source.old).bytes) }
     ensures kept { IsKept (S.state source.old) (S.state source.new) }
+    ensures kind { KeepsKind (S.state source.new) result }
 {
     let slices = [SourceSlice { offset: 0, size }];
-    match view(source, alloc, &slices) {
+    match source.view(alloc, &slices) {
         Ok(view) => Ok(view),
-        Err(Error::IoError(error)) => match error.kind() {
+        Err(error) => match error.kind() {
             ErrorKind::UnexpectedEof => Err(Error::UnrecognizedFileFormat),
-            _ => Err(Error::IoError(error)),
+            _ => Err(source_error(error)),
         },
-        Err(error) => Err(error),
     }
 }
 
@@ -257,7 +258,7 @@ pub(crate) fn view_front<S: Source>(source: &mut S, alloc: Global, size: usize) 
 ///
 /// # Errors
 /// Fails with the first of these, in this order: `UnrecognizedFileFormat` if the source has fewer
-/// bytes; `IoError` if the source fails otherwise; `UnimplementedFeature` if the format is MSF
+/// bytes; `IoError` with the source's own error if the source fails otherwise; `UnimplementedFeature` if the format is MSF
 /// 2.00; `UnrecognizedFileFormat` if the magic is any other than that of MSF 7.00;
 /// `InvalidPageSize` if the page size is not a power of two from 256 to 8,388,608; `UnexpectedEof`
 /// or `PageReferenceOutOfRange` for the first number of the pages that locate the directory that is
