@@ -78,7 +78,7 @@ impl PointerAttributes {
         is_bit_set(self.0, 8)
     }
 
-    /// Returns whether what the pointer points to may change by itself (bit 9).
+    /// Returns whether the pointer is volatile (bit 9).
     pub fn is_volatile(self) -> bool
         ensures { result ≡ is_volatile self }
     {

@@ -24,7 +24,6 @@ use crate::section_offset::SectionOffset;
 use crate::string_ref::StringRef;
 
 pub mod derived;
-pub mod flags;
 
 /// Each way to add gives the plain sum if that fits in 32 bits, and a start and the distance from
 /// it to a number add up to that number.

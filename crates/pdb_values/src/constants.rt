@@ -10,7 +10,7 @@ pub use pdb_base::numeric_leaf::{
     LF_VARSTRING,
 };
 
-// Leaves of the types that symbols refer to, as they first were.
+// Types that symbols refer to. Their indexes have 16 bits.
 pub const LF_MODIFIER_16t: u16 = 0x0001;
 
 pub const LF_POINTER_16t: u16 = 0x0002;
@@ -55,7 +55,7 @@ pub const LF_OEM_16t: u16 = 0x0015;
 
 pub const LF_TYPESERVER_ST: u16 = 0x0016;
 
-// Leaves that other types alone refer to, as they first were.
+// Types that only other types refer to. Their indexes have 16 bits.
 pub const LF_SKIP_16t: u16 = 0x0200;
 
 pub const LF_ARGLIST_16t: u16 = 0x0201;
@@ -82,7 +82,7 @@ pub const LF_DIMVARLU_16t: u16 = 0x020b;
 
 pub const LF_REFSYM: u16 = 0x020c;
 
-// Leaves of the entries of a field list, as they first were.
+// Entries of a field list. Their indexes have 16 bits.
 pub const LF_BCLASS_16t: u16 = 0x0400;
 
 pub const LF_VBCLASS_16t: u16 = 0x0401;
@@ -111,7 +111,7 @@ pub const LF_ONEMETHOD_16t: u16 = 0x040c;
 
 pub const LF_VFUNCOFF_16t: u16 = 0x040d;
 
-// Leaves of the types that symbols refer to, with indexes of 32 bits.
+// Types that symbols refer to. Their indexes have 32 bits.
 pub const LF_TI16_MAX: u16 = 0x1000;
 
 pub const LF_MODIFIER: u16 = 0x1001;
@@ -148,7 +148,7 @@ pub const LF_ALIAS_ST: u16 = 0x1010;
 
 pub const LF_OEM2: u16 = 0x1011;
 
-// Leaves that other types alone refer to, with indexes of 32 bits.
+// Types that only other types refer to. Their indexes have 32 bits.
 pub const LF_SKIP: u16 = 0x1200;
 
 pub const LF_ARGLIST: u16 = 0x1201;
@@ -171,7 +171,7 @@ pub const LF_DIMVARU: u16 = 0x1209;
 
 pub const LF_DIMVARLU: u16 = 0x120a;
 
-// Leaves of the entries of a field list, with indexes of 32 bits.
+// Entries of a field list. Their indexes have 32 bits.
 pub const LF_BCLASS: u16 = 0x1400;
 
 pub const LF_VBCLASS: u16 = 0x1401;
@@ -204,7 +204,7 @@ pub const LF_MEMBERMODIFY_ST: u16 = 0x140e;
 
 pub const LF_MANAGED_ST: u16 = 0x140f;
 
-// Leaves of types and of entries whose names end at a NUL.
+// Types and entries whose names end at a NUL.
 pub const LF_ST_MAX: u16 = 0x1500;
 
 pub const LF_TYPESERVER: u16 = 0x1501;
@@ -265,14 +265,14 @@ pub const LF_MATRIX: u16 = 0x151c;
 
 pub const LF_VFTABLE: u16 = 0x151d;
 
-// The last leaf of a type, and the number behind it.
+// The last of these, and the number after it.
 pub const LF_ENDOFLEAFRECORD: u16 = 0x151d;
 
 pub const LF_TYPE_MAX: u16 = 0x151d;
 
 pub const LF_TYPE_LAST: u16 = 0x151e;
 
-// Leaves of ids, the last of them and the number behind it, and a later leaf of a type.
+// Ids, the last of them and the number after it, and a type that was added later.
 pub const LF_FUNC_ID: u16 = 0x1601;
 
 pub const LF_MFUNC_ID: u16 = 0x1602;
@@ -293,7 +293,7 @@ pub const LF_ID_LAST: u16 = 0x1608;
 
 pub const LF_STRUCTURE19: u16 = 0x1609;
 
-// Padding: the low four bits say how many bytes it takes from here on.
+// Padding. The low four bits are its length in bytes, this byte included.
 pub const LF_PAD0: u16 = 0x00f0;
 
 pub const LF_PAD1: u16 = 0x00f1;

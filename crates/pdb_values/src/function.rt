@@ -5,7 +5,6 @@ ghost use Rattle.pdb_base.specs.Answer.{Answers};
 ghost use Rattle.pdb_base.specs.Memory.{LacksOnlyIf, HasItem};
 ghost use Rattle.pdb_values.specs.Function.{argument_types};
 
-use crate::copy_items::copy_items;
 use pdb_base::{Result, TypeIndex};
 use pdb_flags::FunctionAttributes;
 use std::alloc::Global;
@@ -67,7 +66,8 @@ impl ArgumentList {
         ensures copied { Answers argument_types result (Ok (argument_types self.now)) }
         ensures memory { LacksOnlyIf result (HasItem (argument_types self.now)) }
     {
-        let arguments = copy_items(alloc, self.arguments.as_slice())?;
+        let mut arguments = Vec::new(alloc);
+        arguments.extend_from_slice(&self.arguments)?;
         Ok(ArgumentList { arguments })
     }
 }

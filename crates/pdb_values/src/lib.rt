@@ -8,7 +8,6 @@ mod base_class;
 mod bitfield;
 mod class;
 pub mod constants;
-mod copy_items;
 mod enumeration;
 mod field_list;
 mod function;
