@@ -3,7 +3,7 @@ use Rattle.std.specs.Prelude.{◌≡◌, ◌⊎◌, ◌<◌, ◌≤◌, ℕ, Lis
 use Rattle.pdb_base.specs.Answer.{Answer}
 use Rattle.pdb_base.specs.Refusal.{out_of_memory}
 use Rattle.pdb_frames.specs.Table.{Frames}
-use Rattle.pdb_msf.specs.Layout.{Plan}
+use Rattle.pdb_msf.specs.Layout.{LayoutValue}
 use Rattle.pdb_space.specs.Conversions.{AddressMapValue}
 use Rattle.pdb_space.specs.Omap.{OmapValue}
 use Rattle.pdb_tpi.specs.Steps.{WalkPosition}
@@ -19,7 +19,7 @@ kind_of (Some (contents.Names names)) = 1
 kind_of (Some (contents.Omap table)) = 2
 kind_of (Some (contents.Addresses map)) = 3
 kind_of (Some (contents.Frames table)) = 4
-kind_of (Some (contents.File plan)) = 5
+kind_of (Some (contents.File layout)) = 5
 kind_of (Some (contents.Table table)) = 6
 
 -- the value of an answer, as the contents of a handle
@@ -65,9 +65,9 @@ abbrev pub addresses_held : Option Content → Option AddressMapValue
 addresses_held (Some (contents.Addresses map)) = Some map
 addresses_held held = None
 
--- the plan of a file that a handle holds, if it holds one
-abbrev pub file_held : Option Content → Option Plan
-file_held (Some (contents.File plan)) = Some plan
+-- the layout of a file that a handle holds, if it holds one
+abbrev pub file_held : Option Content → Option LayoutValue
+file_held (Some (contents.File layout)) = Some layout
 file_held held = None
 
 -- the frame table that a handle holds, if it holds one
