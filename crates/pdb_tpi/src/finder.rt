@@ -57,9 +57,10 @@ impl<I: ItemIndex> ItemInformation<I> {
         ensures places { IfOk result (λ positions. ArePlaces self.now positions.items (vec_capacity positions)) }
         ensures uncounted { count_of self.now ≡ 0 → IsOk result }
     {
+        let header = self.header();
         let mut positions = Vec::with_capacity(alloc, self.most_blocks())?;
         if !self.is_empty() {
-            positions.push_reserved(self.header().header_size);
+            positions.push_reserved(header.header_size);
         }
         Ok(positions)
     }
@@ -168,6 +169,7 @@ impl<'t, I: ItemIndex> ItemFinder<'t, I> {
     /// Fails with `TypeNotFound` for an index from the maximum on, with `TypeNotIndexed` if the
     /// index is in no block that is known, with the fault at which the walk stops if that is before
     /// the item, and with `UnexpectedEof` if the walk ends before the item.
+    #[tactic(auto, unfolding(crate::specs::Finder::find_of, crate::specs::Finder::item_of, crate::specs::Finder::reads_of))]
     pub fn find_counted(&self, index: I, count: &mut Count) -> Result<Item<'t, I>>
         ensures item { Gives bytes_of result (find_of self.now.table self.now.known (I.number index)) }
         ensures index { IfOk result (λ item. index_of item ≡ index) }

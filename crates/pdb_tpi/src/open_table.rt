@@ -1,6 +1,6 @@
 //! Tables that stay open between look-ups and steps of a walk.
 
-ghost use Rattle.std.specs.Prelude.{◌≡◌, ◌-◌, ◌≤◌, ◌<◌, Ok, IfOk, OnErr};
+ghost use Rattle.std.specs.Prelude.{◌≡◌, ◌-◌, ◌≤◌, ◌<◌, Ok, IfOk, OnErr, length};
 ghost use Rattle.pdb_base.specs.Answer.{Answers, Gives};
 ghost use Rattle.pdb_tpi.specs.Finder.{item_of};
 ghost use Rattle.pdb_tpi.specs.Item.{bytes_of, index_of};
@@ -171,7 +171,12 @@ impl<I: ItemIndex> OpenTable<I> {
         let (index, end) = items.place();
         self.index = index;
         self.position = end;
-        Ok(given.map(|item| record_before(end, item.len())))
+        Ok(given.map(|item|
+            requires before { length item.bytes.now ≤ end }
+            requires short { end < 0xffffffff }
+        {
+            record_before(end, item.len())
+        }))
     }
 
     /// Returns the bytes of the stream at a place, such as that of a record, as many of them as
