@@ -125,9 +125,13 @@ few_in_block table place known calls within =
     let block : min (place / 8) (known - 1) ≡ place / 8 = omega arith in
     let place_in = within_block place in
     rw block
-    (omega (arith, place_in.0, place_in.1,
+    (omega (
+      arith,
+      place_in.0,
+      place_in.1,
       few_between table (8 * (place / 8)) place (omega (arith, place_in.0)),
-      few_calls (reads_between table (8 * (place / 8)) place) calls))
+      few_calls (reads_between table (8 * (place / 8)) place) calls,
+    ))
 
 -- ---- several iterators
 

@@ -19,7 +19,7 @@ use Rattle.pdb_tpi.specs.Finder.{item_of}
 use Rattle.pdb_tpi.specs.OpenTable.{bytes_at, located, size_of, position_of, record_at, step_located}
 use Rattle.pdb_tpi.proofs.FrontLemmas.{front_item}
 use Rattle.pdb_tpi.proofs.WalkLemmas.{items_more, rest_more, items_none, rest_none, items_full, rest_full, nth_some, nth_none}
-use Rattle.pdb_tpi.proofs.StepLemmas.{nth_ok, step_some}
+use Rattle.pdb_tpi.proofs.StepLemmas.{nth_ok, step_none, step_some}
 
 -- items from the front of bytes on, and what is left behind them, take all of the bytes
 sized_from : (limit : ℕ) (bytes : List ℕ) (answer : Answer (List ℕ)) → first_item bytes ≡ answer → ((further : List ℕ) → sum_by size_of (items limit further) + length (rest limit further) ≡ length further)
@@ -189,3 +189,28 @@ step_placed seen old new x end least step place =
     omega (arith, ap (λ (s : WalkPosition). s.index) given.moved, least) in
     record_placed old.table (steps_taken old) new.index end (seen x).1 here next
     (nth_some old.table (steps_taken old) (seen x).1 given.there)
+
+-- a step that returns no item leaves the walk where it stands
+pub step_stays : {X : Type 0} (seen : X → ℕ × List ℕ) (start old new : WalkPosition) → old ≡ start
+    → IsStep seen old (Ok None) new → step_located start ≡ Ok (None, start)
+step_stays seen start old new is step =
+    let goes = subst (λ (s : WalkPosition). IsStep seen s (Ok None) new) is step in
+    let none : Option RecordPlace = None in
+    step_told seen start new None goes ∙ ap (λ (s : WalkPosition). ok (none, s)) (step_none seen start new goes).2
+
+-- one that returns an item tells the place of its record, and the walk stands behind it
+pub step_goes : {X : Type 0} (seen : X → ℕ × List ℕ) (start old new : WalkPosition) (x : X) (index len end : ℕ)
+    (place : RecordPlace) → old ≡ start → start.table.header.minimum_index ≤ start.index
+    → IsStep seen old (Ok (Some x)) new → IsPlace new.table new.index end → index ≡ new.index → len ≡ length (seen x).1
+    → place ≡ record { offset = end - len; length = len }
+    → step_located start ≡ Ok (Some place, record start { index = index })
+step_goes seen start old new x index len end place is least step stands behind long placed =
+    let goes = subst (λ (s : WalkPosition). IsStep seen s (Ok (Some x)) new) is step in
+    let moved = (step_some seen start x new goes).moved in
+    let at : ℕ → RecordPlace = λ n. record { offset = end - n; length = n } in
+    let same = sym (placed ∙ ap at long ∙ (step_placed seen start new x end least goes stands).place) in
+    let next : index ≡ start.index + 1 = behind ∙ ap (λ (s : WalkPosition). s.index) moved in
+    step_told seen start new (Some x) goes
+    ∙ ap (λ (p : RecordPlace). ok {A = Option RecordPlace × WalkPosition} (Some p, new)) same
+    ∙ ap (λ (s : WalkPosition). ok {A = Option RecordPlace × WalkPosition} (Some place, s))
+    (moved ∙ ap (λ (i : ℕ). record start { index = i }) (sym next))

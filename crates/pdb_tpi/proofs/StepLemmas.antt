@@ -147,16 +147,23 @@ step_some seen old x new step = elim ((slice_get_cases (walk old.table) (steps_t
   | inr past ↦ absurd (no_item old (walk_rest old.table) (seen x) new (sym (step_stops old past.1) ∙ step.gives))
 ]
 
--- at the end every item of the walk was given, and no byte is left
-pub step_none : {X : Type 0} (seen : X → ℕ × List ℕ) (old new : WalkPosition) → IsStep seen old (Ok None) new → (length (walk old.table) ≤ steps_taken old) × (walk_rest old.table ≡ [])
+-- at the end every item of the walk was given, no byte is left, and the iterator stays
+pub step_none : {X : Type 0} (seen : X → ℕ × List ℕ) (old new : WalkPosition) → IsStep seen old (Ok None) new
+    → (length (walk old.table) ≤ steps_taken old) × (walk_rest old.table ≡ []) × (new ≡ old)
 step_none seen old new step = elim ((slice_get_cases (walk old.table) (steps_taken old)).1) [
   | inl here ↦
       let moved : WalkPosition = record old { index = old.index + 1 } in
       let given : Option (ℕ × List ℕ) × WalkPosition = (Some (old.index, here.0), moved) in
       let ended : Option (ℕ × List ℕ) × WalkPosition = (None, new) in
-      let is : given ≡ ended = ok_is given ended (sym (step_gives old here.0 (nth_some old.table (steps_taken old) here.0 here.2)) ∙ step.gives) in
+      let gives = step_gives old here.0 (nth_some old.table (steps_taken old) here.0 here.2) in
+      let is : given ≡ ended = ok_is given ended (sym gives ∙ step.gives) in
       absurd (some_is_none (old.index, here.0) (ap (λ (p : Option (ℕ × List ℕ) × WalkPosition). p.0) is))
-  | inr past ↦ (past.0, at_end old (walk_rest old.table) new (sym (step_stops old past.1) ∙ step.gives))
+  | inr past ↦
+      let is : stopped old (walk_rest old.table) ≡ Ok (None, new) = sym (step_stops old past.1) ∙ step.gives in
+      let rest = at_end old (walk_rest old.table) new is in
+      let stays : (None, old) ≡ (None, new) =
+      ok_is {A = Option (ℕ × List ℕ) × WalkPosition} (None, old) (None, new) (sym (ap (stopped old) rest) ∙ is) in
+      (past.0, rest, sym (ap (λ (p : Option (ℕ × List ℕ) × WalkPosition). p.1) stays))
 ]
 
 -- A fault comes behind every item of the walk, where bytes are left that begin with no item.

@@ -43,11 +43,9 @@ one_step seen table n (Ok None) next step =
     let there = place_there table n in
     let ended = step_none seen old next step in
     let past : length (walk table) ≤ n = let h = ended.0 in omega (arith, there) in
-    let none : slice_get (walk table) (steps_taken old) ≡ None = rw there (slice_get_past (walk table) n past) in
-    let kept : (None, old) ≡ (None, next) = ok_is {A = Option (ℕ × List ℕ) × WalkPosition} (None, old) (None, next) (sym (step_stops old none ∙ ap (stopped old) ended.1) ∙ step.gives) in
     record {
       at_place = inr (past, inl (ended.1, refl));
-      goes_on = inr (past, sym (ap (λ (p : Option (ℕ × List ℕ) × WalkPosition). p.1) kept));
+      goes_on = inr (past, ended.2);
     }
 one_step seen table n (Err e) next step =
     let old = stand_at table n in

@@ -1,6 +1,6 @@
 //! Tables that stay open between look-ups and steps of a walk.
 
-ghost use Rattle.std.specs.Prelude.{◌≡◌, ◌-◌, ◌≤◌, ◌<◌, Ok, IfOk, OnErr, length};
+ghost use Rattle.std.specs.Prelude.{◌≡◌, ◌-◌, ◌≤◌, ◌<◌, Ok, IfOk, OnErr};
 ghost use Rattle.pdb_base.specs.Answer.{Answers, Gives};
 ghost use Rattle.pdb_tpi.specs.Finder.{item_of};
 ghost use Rattle.pdb_tpi.specs.Item.{bytes_of, index_of};
@@ -110,7 +110,10 @@ impl<I: ItemIndex> OpenTable<I> {
         let last = (number - header.minimum_index) / BLOCK_LEN;
         for block in self.positions.len() as u32..last + 1 {
             let behind = block * BLOCK_LEN - 1;
-            let Ok((_, end)) = self.items.item_at(&self.positions, behind, &mut Count::new()) else {
+            let Ok((_, end)) = self
+                .items
+                .item_at(&self.positions, behind, &mut Count::new())
+            else {
                 return;
             };
             self.positions.push_reserved(end as u32);
@@ -137,7 +140,9 @@ impl<I: ItemIndex> OpenTable<I> {
             return Err(Error::TypeNotFound(number));
         }
         let place = number - header.minimum_index;
-        let (item, end) = self.items.item_at(&self.positions, place, &mut Count::new())?;
+        let (item, end) = self
+            .items
+            .item_at(&self.positions, place, &mut Count::new())?;
         Ok(Some(record_before(end, item.len())))
     }
 
@@ -167,16 +172,13 @@ impl<I: ItemIndex> OpenTable<I> {
         ensures kept { OnErr result (self.new ≡ self.old) }
     {
         let mut items = ItemIter::at(&self.items, self.index, self.position);
-        let given = items.next()?;
+        let Some(item) = items.next()? else {
+            return Ok(None);
+        };
         let (index, end) = items.place();
         self.index = index;
         self.position = end;
-        Ok(given.map(|item|
-            requires before { length item.bytes.now ≤ end }
-            requires short { end < 0xffffffff }
-        {
-            record_before(end, item.len())
-        }))
+        Ok(Some(record_before(end, item.len())))
     }
 
     /// Returns the bytes of the stream at a place, such as that of a record, as many of them as
