@@ -12,6 +12,7 @@ use Rattle.pdb_space.specs.StringTable.{names_of}
 use Rattle.pdb_space.specs.declared.section_header.ImageSectionHeader.{ImageSectionHeader}
 use Rattle.pdb_frames.specs.Table.{Frames}
 use Rattle.pdb_frames.specs.Table as frames
+use Rattle.pdb_tpi.specs.Table.{Table, table_of}
 use Rattle.pdb_file.specs.DebugHeader.{extra_streams_of}
 use Rattle.pdb_file.specs.Information.{information_of}
 use Rattle.pdb_file.specs.StreamNames.{number_named, stream_names_of}
@@ -19,13 +20,19 @@ use Rattle.pdb_file.specs.SectionHeaders.{section_headers_of}
 use Rattle.pdb_file.specs.declared.debug_header.DBIExtraStreams.{DBIExtraStreams}
 use Rattle.pdb_file.specs.declared.information.PDBInformation.{PDBInformation}
 
--- the number of the stream that identifies the file and names streams, and that of
--- the stream of debug information
+-- the numbers of the stream that identifies the file and names streams, of the table of types, of the stream of
+-- debug information, and of the table of ids
 abbrev pub information_stream : ℕ
 information_stream = 1
 
+abbrev pub type_stream : ℕ
+type_stream = 2
+
 abbrev pub debug_stream : ℕ
 debug_stream = 3
+
+abbrev pub id_stream : ℕ
+id_stream = 4
 
 -- ---- one stream
 
@@ -38,14 +45,22 @@ stream_numbered file head (Some number) = stream_of file head number None >>= λ
 unfoldable pub stream_at : List ℕ → Head → StreamIndex → Answer (Option (List ℕ))
 stream_at file head index = stream_numbered file head (stream_number index.0)
 
--- what a stream says, or None if there is no stream
-abbrev pub said_by : {A : Type 0} → (List ℕ → Answer A) → Option (List ℕ) → Answer (Option A)
-said_by means None = Ok None
-said_by means (Some stream) = means stream >>= λ value. Ok (Some value)
+-- what the bytes of a stream mean, or None if there is no stream
+abbrev pub answer_if_present : {A : Type 0} → (List ℕ → Answer A) → Option (List ℕ) → Answer (Option A)
+answer_if_present means None = Ok None
+answer_if_present means (Some stream) = means stream >>= λ value. Ok (Some value)
 
 -- the information in stream 1 of a file
 unfoldable pub file_information : List ℕ → Head → Answer PDBInformation
 file_information file head = stream_of file head information_stream None >>= information_of
+
+-- the table of types in stream 2 of a file
+unfoldable pub file_types : List ℕ → Head → Answer Table
+file_types file head = stream_of file head type_stream None >>= table_of
+
+-- the table of ids in stream 4 of a file
+unfoldable pub file_ids : List ℕ → Head → Answer Table
+file_ids file head = stream_of file head id_stream None >>= table_of
 
 -- the streams of the roles in stream 3 of a file
 unfoldable pub file_roles : List ℕ → Head → Answer DBIExtraStreams
@@ -53,11 +68,11 @@ file_roles file head = stream_of file head debug_stream None >>= extra_streams_o
 
 -- the section headers in the stream that an index names, or None if it names none
 unfoldable pub sections_at : List ℕ → Head → StreamIndex → Answer (Option (List ImageSectionHeader))
-sections_at file head index = stream_at file head index >>= said_by section_headers_of
+sections_at file head index = stream_at file head index >>= answer_if_present section_headers_of
 
 -- the OMAP table in the stream that an index names, or None if it names none
 unfoldable pub omap_at : List ℕ → Head → StreamIndex → Answer (Option (List OmapValue))
-omap_at file head index = stream_at file head index >>= said_by omap.omap_table_of
+omap_at file head index = stream_at file head index >>= answer_if_present omap.omap_table_of
 
 -- ---- several streams
 
