@@ -42,7 +42,7 @@ stream_numbered file head None = Ok None
 stream_numbered file head (Some number) = stream_of file head number None >>= λ stream. Ok (Some stream)
 
 -- the stream that an index names, or None if it names none
-unfoldable pub stream_at : List ℕ → Head → StreamIndex → Answer (Option (List ℕ))
+abbrev pub stream_at : List ℕ → Head → StreamIndex → Answer (Option (List ℕ))
 stream_at file head index = stream_numbered file head (stream_number index.0)
 
 -- what the bytes of a stream mean, or None if there is no stream
@@ -66,13 +66,13 @@ file_ids file head = stream_of file head id_stream None >>= table_of
 unfoldable pub file_roles : List ℕ → Head → Answer DBIExtraStreams
 file_roles file head = stream_of file head debug_stream None >>= extra_streams_of
 
--- the section headers in the stream that an index names, or None if it names none
-unfoldable pub sections_at : List ℕ → Head → StreamIndex → Answer (Option (List ImageSectionHeader))
-sections_at file head index = stream_at file head index >>= answer_if_present section_headers_of
+-- the section headers in the stream with a number, or None if there is no number
+unfoldable pub sections_numbered : List ℕ → Head → Option ℕ → Answer (Option (List ImageSectionHeader))
+sections_numbered file head number = stream_numbered file head number >>= answer_if_present section_headers_of
 
--- the OMAP table in the stream that an index names, or None if it names none
-unfoldable pub omap_at : List ℕ → Head → StreamIndex → Answer (Option (List OmapValue))
-omap_at file head index = stream_at file head index >>= answer_if_present omap.omap_table_of
+-- the OMAP table in the stream with a number, or None if there is no number
+unfoldable pub omap_numbered : List ℕ → Head → Option ℕ → Answer (Option (List OmapValue))
+omap_numbered file head number = stream_numbered file head number >>= answer_if_present omap.omap_table_of
 
 -- ---- several streams
 
@@ -80,8 +80,8 @@ omap_at file head index = stream_at file head index >>= answer_if_present omap.o
 -- source leads from the original image to this one, and OMAP to source leads back.
 unfoldable pub rearranged : List ℕ → Head → DBIExtraStreams → List ImageSectionHeader → List ImageSectionHeader → Answer AddressMapValue
 rearranged file head roles sections original = do
-  to_source ← omap_at file head roles.omap_to_src
-  from_source ← omap_at file head roles.omap_from_src
+  to_source ← omap_numbered file head (stream_number roles.omap_to_src.0)
+  from_source ← omap_numbered file head (stream_number roles.omap_from_src.0)
   Ok (record { original_sections = original; transformed_sections = Some sections; transformed_to_original = to_source; original_to_transformed = from_source })
 
 -- an image with these sections, which was rearranged if there are original sections
@@ -94,8 +94,8 @@ arranged file head roles sections None =
 unfoldable pub file_address_map : List ℕ → Head → Answer AddressMapValue
 file_address_map file head = do
   roles ← file_roles file head
-  sections ← sections_at file head roles.section_headers
-  original ← sections_at file head roles.original_section_headers
+  sections ← sections_numbered file head (stream_number roles.section_headers.0)
+  original ← sections_numbered file head (stream_number roles.original_section_headers.0)
   arranged file head roles (unwrap_or sections []) original
 
 -- the frame table of a file, made from its FPO stream and its frame data

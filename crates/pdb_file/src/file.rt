@@ -10,7 +10,7 @@ ghost use Rattle.pdb_space.specs.Omap.{omap_table_of};
 ghost use Rattle.pdb_file.specs.SectionHeaders.{section_headers_of};
 ghost use Rattle.pdb_file.specs.File.{answer_if_present, file_address_map, file_frame_table, file_ids, file_information};
 ghost use Rattle.pdb_file.specs.File.{file_named_stream, file_number, file_roles, file_string_table, file_types};
-ghost use Rattle.pdb_file.specs.File.{omap_at, rearranged, sections_at, stream_at};
+ghost use Rattle.pdb_file.specs.File.{omap_numbered, rearranged, sections_numbered, stream_at, stream_numbered};
 
 use crate::debug_header::DBIExtraStreams;
 use crate::information::PDBInformation;
@@ -100,19 +100,29 @@ impl<S: Source> PDB<S> {
         msf
     }
 
+    /// Returns the stream of a number, or None if there is no number.
+    ///
+    /// # Errors
+    /// Fails as `get` does for the number.
+    pub fn numbered_stream(&mut self, alloc: Global, number: Option<u32>) -> Result<Option<Stream>>
+        ensures { ReadsFile S.state self.old self.new (λ stream. stream) result
+            (λ file head. stream_numbered file head number) }
+    {
+        match number {
+            Some(number) => Ok(Some(self.msf.get(alloc, number, None)?)),
+            None => Ok(None),
+        }
+    }
+
     /// Returns the stream that an index names, or None if it names none.
     ///
     /// # Errors
     /// Fails as `get` does for the number of the stream.
-    #[tactic(auto, unfolding(crate::specs::File::stream_at))]
     pub fn raw_stream(&mut self, alloc: Global, index: StreamIndex) -> Result<Option<Stream>>
         ensures { ReadsFile S.state self.old self.new (λ stream. stream) result
             (λ file head. stream_at file head index) }
     {
-        match index.msf_number() {
-            Some(number) => Ok(Some(self.msf.get(alloc, number, None)?)),
-            None => Ok(None),
-        }
+        self.numbered_stream(alloc, index.msf_number())
     }
 
     /// Reads the information in stream 1.
@@ -160,27 +170,33 @@ impl<S: Source> PDB<S> {
         DBIExtraStreams::new(&stream)
     }
 
-    /// Reads the section headers in the stream that an index names, or returns None if it names
-    /// none.
-    #[tactic(auto, unfolding(crate::specs::File::sections_at))]
-    fn sections_at(
+    /// Reads the section headers in the stream of a number, or returns None if there is no number.
+    ///
+    /// # Errors
+    /// Fails as `get` does for the number, and then as `section_headers` does.
+    #[tactic(auto, unfolding(crate::specs::File::sections_numbered))]
+    pub fn numbered_sections(
         &mut self,
         alloc: Global,
-        index: StreamIndex,
+        number: Option<u32>,
     ) -> Result<Option<Vec<ImageSectionHeader>>>
         ensures { ReadsFile S.state self.old self.new (option_map (λ sections. sections.items)) result
-            (λ file head. sections_at file head index) }
+            (λ file head. sections_numbered file head number) }
     {
-        let stream = self.raw_stream(alloc, index)?;
+        let stream = self.numbered_stream(alloc, number)?;
         sections_in(alloc, stream)
     }
 
-    /// Reads the OMAP table in the stream that an index names, or returns None if it names none.
-    #[tactic(auto, unfolding(crate::specs::File::omap_at))]
-    fn omap_at(&mut self, alloc: Global, index: StreamIndex) -> Result<Option<OMAPTable>>
-        ensures { ReadsFile S.state self.old self.new (λ table. table) result (λ file head. omap_at file head index) }
+    /// Reads the OMAP table in the stream of a number, or returns None if there is no number.
+    ///
+    /// # Errors
+    /// Fails as `get` does for the number, and then as `OMAPTable::parse` does.
+    #[tactic(auto, unfolding(crate::specs::File::omap_numbered))]
+    pub fn numbered_omap(&mut self, alloc: Global, number: Option<u32>) -> Result<Option<OMAPTable>>
+        ensures { ReadsFile S.state self.old self.new (λ table. table) result
+            (λ file head. omap_numbered file head number) }
     {
-        let stream = self.raw_stream(alloc, index)?;
+        let stream = self.numbered_stream(alloc, number)?;
         omap_in(stream)
     }
 
@@ -197,8 +213,8 @@ impl<S: Source> PDB<S> {
         ensures { ReadsFile S.state self.old self.new (λ map. map) result
             (λ file head. rearranged file head roles.now sections.items original.items) }
     {
-        let to_original = self.omap_at(alloc, roles.omap_to_src)?;
-        let to_transformed = self.omap_at(alloc, roles.omap_from_src)?;
+        let to_original = self.numbered_omap(alloc, roles.omap_to_src.msf_number())?;
+        let to_transformed = self.numbered_omap(alloc, roles.omap_from_src.msf_number())?;
         Ok(AddressMap::new(original, Some(sections), to_original, to_transformed))
     }
 
@@ -226,9 +242,10 @@ impl<S: Source> PDB<S> {
         ensures { ReadsFile S.state self.old self.new (λ map. map) result file_address_map }
     {
         let roles = self.extra_streams(alloc)?;
-        let sections = self.sections_at(alloc, roles.section_headers)?;
+        let sections = self.numbered_sections(alloc, roles.section_headers.msf_number())?;
         let sections = sections.unwrap_or(Vec::new(alloc));
-        match self.sections_at(alloc, roles.original_section_headers)? {
+        let original = roles.original_section_headers.msf_number();
+        match self.numbered_sections(alloc, original)? {
             Some(original) => self.rearranged(alloc, &roles, sections, original),
             None => Ok(AddressMap::new(sections, None, None, None)),
         }
