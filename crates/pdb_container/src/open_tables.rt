@@ -10,9 +10,9 @@ ghost use Rattle.pdb_space.specs.StringTable.{names_of};
 use crate::query::{Query, Reply};
 use crate::read_streams::ReadStreams;
 use crate::replies::{fields_reply, id_reply, name_reply, ranges_reply, type_reply};
-use pdb_base::{IdIndex, Result, Stream, TypeIndex};
+use pdb_base::{IdIndex, ItemIndex, Result, Stream, TypeIndex};
 use pdb_space::{OMAPTable, StringTable};
-use pdb_tpi::{IdInformation, OpenTable, TypeInformation};
+use pdb_tpi::{ItemInformation, OpenTable};
 use std::alloc::Global;
 
 /// A table that a stream holds.
@@ -25,21 +25,12 @@ pub trait Table: Sized + Drop {
         ensures { Answers (λ table. table) result (table_in stream) };
 }
 
-impl Table for OpenTable<TypeIndex> {
+impl<I: ItemIndex> Table for OpenTable<I> {
     ghost table_in = { items_in };
 
     #[tactic(auto, unfolding(crate::specs::OpenTables::items_in))]
     fn parse_in(alloc: Global, stream: Stream) -> Result<Self> {
-        OpenTable::new(alloc, TypeInformation::parse(stream)?)
-    }
-}
-
-impl Table for OpenTable<IdIndex> {
-    ghost table_in = { items_in };
-
-    #[tactic(auto, unfolding(crate::specs::OpenTables::items_in))]
-    fn parse_in(alloc: Global, stream: Stream) -> Result<Self> {
-        OpenTable::new(alloc, IdInformation::parse(stream)?)
+        OpenTable::new(alloc, ItemInformation::parse(stream)?)
     }
 }
 

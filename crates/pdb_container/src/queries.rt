@@ -5,7 +5,6 @@ ghost use Rattle.pdb_container.specs.Reply.{AreReplies, IsRun};
 
 use crate::open_tables::OpenTables;
 use crate::query::{Query, Reply};
-use crate::read_streams::LastRead;
 use pdb_base::Result;
 use pdb_msf::{BigMSF, Source, open_msf};
 use std::alloc::Global;
@@ -30,7 +29,7 @@ fn answer_all<S: Source + Drop>(
     for query in first {
         replies.push_reserved(tables.reply(alloc, &mut file, *query));
     }
-    replies.push_reserved(tables.reply(alloc, &mut LastRead::new(file), *last));
+    replies.push_reserved(tables.reply(alloc, &mut Some(file), *last));
     replies
 }
 

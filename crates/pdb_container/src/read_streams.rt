@@ -50,33 +50,19 @@ impl<S: Source> ReadStreams for BigMSF<S> {
 }
 
 /// A file that the next read consumes.
-#[derive(Drop)]
-pub struct LastRead<S: Source + Drop> {
-    file: Option<BigMSF<S>>,
-}
+impl<S: Source + Drop> ReadStreams for Option<BigMSF<S>> {
+    ghost stream = { λ file. stream_once S.state file };
 
-impl<S: Source + Drop> LastRead<S> {
-    /// Wraps a file.
-    pub fn new(file: BigMSF<S>) -> Self
-        ensures { result.file ≡ Some file }
-    {
-        LastRead { file: Some(file) }
-    }
-}
+    ghost can_read = { λ file. IsSome file };
 
-impl<S: Source + Drop> ReadStreams for LastRead<S> {
-    ghost stream = { λ last. stream_once S.state last.file };
-
-    ghost can_read = { λ last. IsSome last.file };
-
-    ghost failed = { λ old new. ¬ WasSound S.state old.file };
+    ghost failed = { λ old new. ¬ WasSound S.state old };
 
     ghost kept = { λ old new. Unit {0} };
 
     ghost stays = { λ _. tt };
 
     fn read(&mut self, alloc: Global, number: u32, limit: Option<usize>) -> Result<Stream> {
-        match self.file.take() {
+        match self.take() {
             Some(file) => file.into_stream(alloc, number, limit),
             None => Err(Error::StreamNotFound(number)),
         }

@@ -78,7 +78,7 @@ pub fn id_reply(alloc: Global, ids: &mut OpenTable<IdIndex>, index: u32) -> Resu
 fn names_of(alloc: Global, fields: &[TypeData<'_>]) -> Result<Vec<Option<Vec<u8>>>>
     ensures ok { IfOk result (λ names.
         map (λ name. option_map (λ copy. copy.items) name) names.items ≡
-        map (λ field. name_of (type_value field)) fields.now) }
+        map name_of (map type_value fields.now)) }
     ensures memory { FailsOnlyForMemory result }
 {
     let mut names = Vec::with_capacity(alloc, fields.len())?;

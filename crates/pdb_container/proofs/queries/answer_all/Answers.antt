@@ -17,7 +17,7 @@ loop-query-preserved g c =
     let place = c.loop-query.query-index in
     let query : Query = get_or first place (queries.Stream 0 None) in
     let reply = reply_of_first (state c.args.file.source) (state c.loop-query.file.source) (state c.reply.new.file.source) c.args.file.head c.loop-query.file.head query c.reply.result
-      before.kept before.head next.source c.reply.ensures.reply in
+    before.kept before.head next.source c.reply.ensures.reply in
     let pushed = c.push_reserved.ensures.items in
     record {
       kept = kept_then _ _ _ before.kept next.source;
@@ -33,8 +33,7 @@ returns g c =
     let state = g.S.Source.state in
     let before = c.loop-query.invariant in
     let first = c.in-Some.first.now in
-    let read = rw c.new.ensures at c.reply-2.ensures.reply in
-    let reply = last_reply_of_first (state c.args.file.source) (state c.loop-query.file.source) c.args.file.head c.loop-query.file.head c.in-Some.last.now c.reply-2.result before.kept before.head read in
+    let reply = last_reply_of_first (state c.args.file.source) (state c.loop-query.file.source) c.args.file.head c.loop-query.file.head c.in-Some.last.now c.reply-2.result before.kept before.head c.reply-2.ensures.reply in
     let reached : c.loop-query.query-index ≡ length first = omega arith in
     let all : take c.loop-query.query-index first ≡ first = ap (λ (n : ℕ). take n first) reached ∙ take-length first in
     rw (c.in-Some.ensures.cases.0, c.push_reserved-2.ensures.items) (one_more _ _ _ _ _ _ _ (rw all at before.replied) reply)

@@ -16,5 +16,5 @@ invariant-loop-query g l =
       room : vec_capacity l.replies ≡ vec_capacity l.fn.replies;
       count : length l.replies.items ≡ l.query-index;
       replied : AreReplies (¬ IsTrue (state l.fn.file.source).is_sound) (state l.fn.file.source).bytes l.fn.file.head
-        (take l.query-index l.first) l.replies.items;
+          (take l.query-index l.first) l.replies.items;
     }
