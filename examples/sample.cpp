@@ -21,6 +21,8 @@ namespace shapes {
 enum class Colour : unsigned char { Red, Green = 7, Blue = 255 };
 enum Limit { Least = -5, Most = 70000 };
 
+} // namespace shapes
+
 struct Point {
     int x, y;
 };
@@ -91,8 +93,6 @@ Derived *Derived::make(const Point &at, Payload &&payload) {
     return &only;
 }
 
-} // namespace shapes
-
 // Its 800 values take more than one list of fields.
 #define TEN(name) name##0, name##1, name##2, name##3, name##4, name##5, name##6, name##7, name##8, name##9
 #define HALF(name) TEN(name##0), TEN(name##1), TEN(name##2), TEN(name##3), TEN(name##4)
@@ -114,20 +114,20 @@ template <class T, int N> struct Array {
 };
 
 Code code;
-Array<shapes::Point, 4> points;
+Array<Point, 4> points;
 
 static int compare(const char *text, int length) { return text[length]; }
 
-int __stdcall measure(shapes::Base &base, shapes::Colour colour, shapes::Limit limit) {
+int __stdcall measure(Base &base, shapes::Colour colour, shapes::Limit limit) {
     return base.area((int)colour) + limit;
 }
 
 int mainCRTStartup() {
-    shapes::Point at = {3, 4};
-    shapes::Derived *it = shapes::Derived::make(at, shapes::Payload{7});
+    Point at = {3, 4};
+    Derived *it = Derived::make(at, Payload{7});
     it->compare = compare;
-    it->measure = &shapes::Base::area;
-    it->axis = &shapes::Point::y;
+    it->measure = &Base::area;
+    it->axis = &Point::y;
     int scaled = it->scale(1) + it->scale(2, 'c');
     return measure(*it, shapes::Colour::Green, shapes::Least) + checksum(scaled) + points[0].x + code;
 }
