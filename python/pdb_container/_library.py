@@ -57,7 +57,9 @@ def _places():
     return [*(str(path) for path in beside if path.exists()), NAME]
 
 
-def _has_version(path: str, loaded: ctypes.PyDLL) -> bool:
+def _has_version(loaded: ctypes.PyDLL) -> bool:
+    if not all(hasattr(loaded, name) for name in _sys.FUNCTIONS):
+        return False
     for name in (None, "libdl.so.2"):
         try:
             find = ctypes.CDLL(name).dlvsym
@@ -75,7 +77,7 @@ def _load() -> ctypes.PyDLL:
         loaded = ctypes.PyDLL(path)
     except OSError as error:
         raise LibraryError(f"the shared library can't be loaded, which PDB_CONTAINER may name: {error}") from None
-    if not _has_version(path, loaded):
+    if not _has_version(loaded):
         raise LibraryError(f"{path} is no {NAME} with the calls of {VERSION}")
     for name, (result, parameters) in _sys.FUNCTIONS.items():
         function = getattr(loaded, name)
