@@ -26,7 +26,7 @@ fn header_and_streams() {
     assert_eq!(pdb.named_stream("/names").unwrap(), pdb.stream(14).unwrap());
     assert_eq!(pdb.named_stream("/none"), Err(Error::StreamNameNotFound));
     let named: Vec<_> = pdb.named_streams().unwrap().iter().map(|it| (it.name().to_string(), it.number)).collect();
-    assert_eq!(named, [("/LinkInfo".to_string(), Some(5)), ("/names".to_string(), Some(14))]);
+    assert_eq!(named, [("/names".to_string(), Some(14)), ("/LinkInfo".to_string(), Some(5))]);
     let roles = pdb.roles().unwrap();
     assert_eq!((roles.framedata, roles.fpo, roles.pdata), (Some(11), Some(19), None));
     let about = pdb.information().unwrap();
@@ -57,7 +57,8 @@ fn types_and_their_fields() {
     assert_eq!(types.get(grid.row.type_index().unwrap()).unwrap().dimensions().unwrap(), Some(vec![48]));
     let limit = types.find("shapes::Limit").unwrap().unwrap();
     let values: Vec<_> = types.fields(limit.row.list_index().unwrap()).unwrap().iter().map(|it| it.row.value()).collect();
-    assert_eq!(values, [Some(-5), Some(70000)]);
+    // Clang writes the number -5 without its sign.
+    assert_eq!(values, [Some(0xffff_fffb), Some(70000)]);
     let code = types.find("Code").unwrap().unwrap();
     assert_eq!(types.fields(code.row.list_index().unwrap()).unwrap().len(), 800);
     assert_eq!(types.get(0x74).unwrap().shape(), Shape::Primitive);
