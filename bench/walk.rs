@@ -15,7 +15,10 @@ fn by_iterator(types: &Types) -> (u64, u64) {
     for ty in types.iter() {
         count += 1;
         if let Ok(ty) = ty {
-            sum = sum.wrapping_add(ty.row.0.number).wrapping_add(ty.index.into()).wrapping_add(ty.record.len() as u64);
+            sum = sum
+                .wrapping_add(ty.row.0.number)
+                .wrapping_add(ty.index.into())
+                .wrapping_add(ty.record.len() as u64);
         }
     }
     (count, sum)
@@ -30,11 +33,22 @@ fn by_calls(table: &mut sys::Handle) -> (u64, u64) {
     unsafe { sys::pdb_table_rewind(table, &mut fault) };
     loop {
         // SAFETY: the same.
-        let status = unsafe { sys::pdb_table_next_types(table, batch.as_mut_ptr(), batch.len(), &mut filled, &mut fault) };
+        let status = unsafe {
+            sys::pdb_table_next_types(
+                table,
+                batch.as_mut_ptr(),
+                batch.len(),
+                &mut filled,
+                &mut fault,
+            )
+        };
         for it in &batch[..filled] {
             count += 1;
             if it.fault.status == sys::PDB_OK {
-                sum = sum.wrapping_add(it.row.number).wrapping_add(it.place.index.into()).wrapping_add(it.place.length.into());
+                sum = sum
+                    .wrapping_add(it.row.number)
+                    .wrapping_add(it.place.index.into())
+                    .wrapping_add(it.place.length.into());
             }
         }
         if status != sys::PDB_OK {
@@ -49,15 +63,27 @@ fn median(mut of: Vec<f64>) -> f64 {
 }
 
 fn main() -> Result<(), Box<dyn Error>> {
-    let path = std::env::args_os().nth(1).ok_or("usage: walk FILE [TURNS]")?;
+    let path = std::env::args_os()
+        .nth(1)
+        .ok_or("usage: walk FILE [TURNS]")?;
     let turns: usize = std::env::args().nth(2).map_or(Ok(15), |it| it.parse())?;
     let bytes = std::fs::read(path)?;
     let pdb = Pdb::parse(&bytes)?;
     let types = pdb.types()?;
     let stream = pdb.stream(2)?;
-    let mut table = sys::Handle { held: std::ptr::null_mut(), kind: 0 };
+    let mut table = sys::Handle {
+        held: std::ptr::null_mut(),
+        kind: 0,
+    };
     // SAFETY: the handle is all zero, and the stream is as long as it says.
-    unsafe { sys::pdb_table_open(stream.as_ptr(), stream.len(), &mut table, &mut sys::Fault::default()) };
+    unsafe {
+        sys::pdb_table_open(
+            stream.as_ptr(),
+            stream.len(),
+            &mut table,
+            &mut sys::Fault::default(),
+        )
+    };
     let (mut ours, mut theirs, mut ratios) = (Vec::new(), Vec::new(), Vec::new());
     for _ in 0..turns {
         let start = Instant::now();
@@ -75,6 +101,11 @@ fn main() -> Result<(), Box<dyn Error>> {
     // SAFETY: the table is open, and this is its last call.
     unsafe { sys::pdb_close(&mut table) };
     let count = types.iter().count();
-    println!("{count} types: {:.1} ms by the iterator, {:.1} ms by the calls, ratio {:.3}", median(ours), median(theirs), median(ratios));
+    println!(
+        "{count} types: {:.1} ms by the iterator, {:.1} ms by the calls, ratio {:.3}",
+        median(ours),
+        median(theirs),
+        median(ratios)
+    );
     Ok(())
 }

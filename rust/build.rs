@@ -15,7 +15,10 @@ fn main() {
     if !is_known {
         println!("cargo::error=pdb-container has a library for Linux on x86-64 alone");
     } else if !library.is_file() {
-        println!("cargo::error={} is missing: `git checkout dist` brings it back, or PDB_CONTAINER_LIB_DIR names its folder", library.display());
+        println!(
+            "cargo::error={} is missing: `git checkout dist` brings it back, or PDB_CONTAINER_LIB_DIR names its folder",
+            library.display()
+        );
     }
     println!("cargo::rustc-link-search=native={}", folder.display());
     println!("cargo::rustc-link-lib=static=pdb_container");

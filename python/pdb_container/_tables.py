@@ -182,7 +182,8 @@ class Types:
         self._kept, self._at, self._size = room, addressof(room), len(stream)
         self._room = (c_uint8 * LONGEST)()
         self._table = self._open()
-        self._walks: List[Opened] = []
+        # A look-up leaves the walk along the same table where it is.
+        self._walks: List[Opened] = [self._table]
         self._names: Optional[dict] = None
         call = library().pdb_table_first_index
         self.first_index: int = value(c_uint32, call, self._table.handle).value

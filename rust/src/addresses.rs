@@ -94,7 +94,8 @@ macro_rules! to_place {
 
 impl AddressMap {
     pub(crate) fn open(file: &[u8]) -> Result<AddressMap> {
-        Handle::open(|map, fault| unsafe { sys::pdb_file_addresses(file.as_ptr(), file.len(), map, fault) }).map(AddressMap)
+        Handle::open(|map, fault| unsafe { sys::pdb_file_addresses(file.as_ptr(), file.len(), map, fault) })
+            .map(AddressMap)
     }
 
     to_address! {

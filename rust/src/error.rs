@@ -31,6 +31,8 @@ macro_rules! errors {
                 }
             }
 
+            // A variant of two numbers leaves none to the default.
+            #[allow(clippy::needless_update)]
             fn fault(self) -> sys::Fault {
                 match self {
                     $( Error::$name $({ $($field),* })? => sys::Fault {

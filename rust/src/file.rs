@@ -29,7 +29,12 @@ impl<'f> Pdb<'f> {
         let file = Handle::open(|file, fault| unsafe { sys::pdb_file_open(bytes.as_ptr(), bytes.len(), file, fault) })?;
         let page_size = value(|size, fault| unsafe { sys::pdb_file_page_size(file.get(), size, fault) })?;
         let stream_count = value(|count, fault| unsafe { sys::pdb_file_stream_count(file.get(), count, fault) })?;
-        Ok(Pdb { bytes, file, page_size: page_size.unwrap_or_default(), stream_count: stream_count.unwrap_or_default() })
+        Ok(Pdb {
+            bytes,
+            file,
+            page_size: page_size.unwrap_or_default(),
+            stream_count: stream_count.unwrap_or_default(),
+        })
     }
 
     /// The bytes of the file.
@@ -79,7 +84,17 @@ impl<'f> Pdb<'f> {
     /// The streams that have names, in the order in which the file lists them.
     pub fn named_streams(&self) -> Result<Vec<NamedStream>> {
         let found = named_items(|rows: *mut sys::NamedStream, length, count, names, room, size, fault| unsafe {
-            sys::pdb_file_stream_names(self.bytes.as_ptr(), self.bytes.len(), rows, length, count, names, room, size, fault)
+            sys::pdb_file_stream_names(
+                self.bytes.as_ptr(),
+                self.bytes.len(),
+                rows,
+                length,
+                count,
+                names,
+                room,
+                size,
+                fault,
+            )
         })?;
         let (rows, names) = found.unwrap_or_default();
         let mut from = 0;
@@ -96,7 +111,14 @@ impl<'f> Pdb<'f> {
         let name = name.as_ref();
         let bytes = items(|room, size, count, fault| unsafe {
             sys::pdb_file_named_stream(
-                self.bytes.as_ptr(), self.bytes.len(), name.as_ptr(), name.len(), room, size, count, fault,
+                self.bytes.as_ptr(),
+                self.bytes.len(),
+                name.as_ptr(),
+                name.len(),
+                room,
+                size,
+                count,
+                fault,
             )
         })?;
         Ok(bytes.unwrap_or_default())

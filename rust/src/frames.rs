@@ -12,7 +12,8 @@ pub struct Frames(Handle);
 impl Frames {
     pub(crate) fn open(file: &[u8]) -> Result<Frames> {
         // SAFETY: the slice is as long as it says, and the handle is all zero.
-        Handle::open(|frames, fault| unsafe { sys::pdb_file_frames(file.as_ptr(), file.len(), frames, fault) }).map(Frames)
+        Handle::open(|frames, fault| unsafe { sys::pdb_file_frames(file.as_ptr(), file.len(), frames, fault) })
+            .map(Frames)
     }
 
     /// The first frame from an address of the original image on: the one at the address, or else the first above it.

@@ -33,6 +33,7 @@ mod handle;
 mod ids;
 mod names;
 mod row;
+#[rustfmt::skip]
 pub mod sys;
 mod types;
 

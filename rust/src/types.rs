@@ -142,6 +142,7 @@ impl TypeIter<'_> {
     }
 
     /// Takes the next records from the library, and says whether there are any.
+    #[inline(never)]
     fn fill(&mut self) -> bool {
         let table = match &self.walk {
             Walk::Shared => self.types.table.get(),
@@ -149,7 +150,8 @@ impl TypeIter<'_> {
             Walk::Ended => return false,
         };
         let (mut count, mut fault) = (0, sys::Fault::default());
-        let status = unsafe { sys::pdb_table_next_types(table, self.batch.as_mut_ptr(), BATCH, &mut count, &mut fault) };
+        let status =
+            unsafe { sys::pdb_table_next_types(table, self.batch.as_mut_ptr(), BATCH, &mut count, &mut fault) };
         (self.at, self.filled) = (0, count);
         if status != sys::PDB_OK {
             self.stop = (status != sys::PDB_NOWHERE).then(|| Error::of(&fault));
@@ -178,10 +180,17 @@ impl<'t> Iterator for TypeIter<'t> {
         self.at += 1;
         self.index = it.place.index;
         if it.fault.status != sys::PDB_OK {
-            return Some(Err(Error::of(&it.fault)));
+            return Some(Err(failed(&it.fault)));
         }
         Some(Ok(Type { index: it.place.index, record: self.types.record(&it.place), row: Row(it.row) }))
     }
+}
+
+/// The error of a record, out of the way of the others.
+#[cold]
+#[inline(never)]
+fn failed(fault: &sys::Fault) -> Error {
+    Error::of(fault)
 }
 
 impl std::iter::FusedIterator for TypeIter<'_> {}

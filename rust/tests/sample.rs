@@ -49,14 +49,16 @@ fn types_and_their_fields() {
     assert_eq!(derived.name().unwrap().unwrap(), "Derived");
     assert_eq!(derived.unique_name().unwrap().unwrap(), ".?AVDerived@@");
     let fields = types.fields(derived.row.list_index().unwrap()).unwrap();
-    let members: Vec<_> = fields.iter().filter(|it| it.shape() == Shape::Member).map(|it| it.name.unwrap().to_string()).collect();
+    let members: Vec<_> =
+        fields.iter().filter(|it| it.shape() == Shape::Member).map(|it| it.name.unwrap().to_string()).collect();
     assert_eq!(members, ["grid", "flags", "compare", "measure", "axis", "watched", "inner", "state"]);
     let scale = fields.iter().find(|it| it.name.is_some_and(|it| it == "scale")).unwrap();
     assert_eq!(types.get(scale.row.list_index().unwrap()).unwrap().methods().unwrap().unwrap().len(), 2);
     let grid = fields.iter().find(|it| it.name.is_some_and(|it| it == "grid")).unwrap();
     assert_eq!(types.get(grid.row.type_index().unwrap()).unwrap().dimensions().unwrap(), Some(vec![48]));
     let limit = types.find("shapes::Limit").unwrap().unwrap();
-    let values: Vec<_> = types.fields(limit.row.list_index().unwrap()).unwrap().iter().map(|it| it.row.value()).collect();
+    let values: Vec<_> =
+        types.fields(limit.row.list_index().unwrap()).unwrap().iter().map(|it| it.row.value()).collect();
     // Clang writes the number -5 without its sign.
     assert_eq!(values, [Some(0xffff_fffb), Some(70000)]);
     let code = types.find("Code").unwrap().unwrap();
