@@ -6,7 +6,7 @@ use Rattle.std.specs.List.{cons_option, filter_map, flat_map}
 use Rattle.pdb_container.specs.declared.query.Query.{Query}
 use Rattle.pdb_container.specs.declared.query.Reply.{Reply}
 use Rattle.pdb_container.specs.declared.query.Reply.TheVariants as replies
-use Rattle.pdb_container.specs.Reply.{Said, IsReply, AreReplies, reply_of}
+use Rattle.pdb_container.specs.Reply.{ReplyValue, IsReply, AreReplies, reply_of}
 use Rattle.pdb_base.specs.Answer.{Answer, RefusesUnless}
 use Rattle.pdb_base.specs.declared.error.Error.{Error}
 use Rattle.pdb_msf.specs.Header.{Head}
@@ -27,7 +27,7 @@ refuses e meant (inr (inl want)) = inr (inl want)
 refuses e meant (inr (inr other)) = absurd (other.1 refl)
 
 -- what a sound source replies
-sound_reply : (reply : Reply) (meant : Answer Said) → IsReply Never reply meant → IsReply ⊥ reply meant
+sound_reply : (reply : Reply) (meant : Answer ReplyValue) → IsReply Never reply meant → IsReply ⊥ reply meant
 sound_reply (replies.Bytes stream) meant is = is
 sound_reply (replies.Record index kind text) meant is = is
 sound_reply (replies.Fields names) meant is = is

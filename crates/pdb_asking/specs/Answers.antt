@@ -8,7 +8,7 @@ use Rattle.pdb_base.specs.Refusal.{refusal_of}
 use Rattle.pdb_container.specs.declared.query.Query.{Query}
 use Rattle.pdb_container.specs.declared.query.Reply.{Reply}
 use Rattle.pdb_container.specs.declared.query.Reply.TheVariants as replies
-use Rattle.pdb_command.specs.Lines.{reply_lines}
+use Rattle.pdb_cli.specs.Lines.{reply_lines}
 use Rattle.pdb_rows.specs.declared.form.Form.{Form}
 use Rattle.pdb_rows.specs.declared.form.Form.TheVariants.{Text, Json}
 use Rattle.pdb_rows.specs.Fields.{optional_text}

@@ -8,7 +8,7 @@ use Rattle.pdb_container.specs.declared.query.Reply.{Reply}
 use Rattle.pdb_container.specs.Reply.{IsReply, reply_of}
 use Rattle.pdb_msf.specs.Header.{Head, opened}
 use Rattle.pdb_rows.specs.declared.form.Form.{Form}
-use Rattle.pdb_rows.specs.Written.{IsCut, IsFront}
+use Rattle.pdb_rows.specs.Written.{IsOutputFailure, IsPrefix}
 use Rattle.pdb_asking.specs.Answers.{answered_text, is_answer}
 use Rattle.pdb_asking.specs.Questions.{Asking, questions_in}
 
@@ -44,10 +44,10 @@ pub record AreLinesOf (form : Form) (file questions : List ℕ) (lines : List �
 -- nothing was written, or a front of the lines of all answers
 pub data IsPart (form : Form) (file questions : List ℕ) (old new : Option (List ℕ)) : Type 0 where
   nothing : Keeps old new → IsPart form file questions old new
-  front : (lines : List ℕ) (all : Bool) → AreLinesOf form file questions lines all → IsFront lines old new → IsPart form file questions old new
+  front : (lines : List ℕ) (all : Bool) → AreLinesOf form file questions lines all → IsPrefix lines old new → IsPart form file questions old new
 
 -- A file was asked the questions in a text: the lines of all answers were written, and the result is
 -- whether all are answered. Or the file is refused, and nothing was written; or the lines were cut short.
 abbrev pub IsAsked : Form → List ℕ → List ℕ → Option (List ℕ) → Option (List ℕ) → Result Bool Error → Type 0
 IsAsked form file questions old new (Ok all) = (lines : List ℕ) × AreLinesOf form file questions lines all × Appends old new lines
-IsAsked form file questions old new (Err e) = ((opened file ≡ Err (refusal_of e)) × Keeps old new) ⊎ (IsCut e × IsPart form file questions old new)
+IsAsked form file questions old new (Err e) = ((opened file ≡ Err (refusal_of e)) × Keeps old new) ⊎ (IsOutputFailure e × IsPart form file questions old new)

@@ -2,7 +2,7 @@
 use Rattle.std.specs.Prelude.{ℕ, Bool, ◌==◌, ◌||◌, if◌then◌else◌, not, filter, List, [], ◌∷◌, length, map, Option, Some, None, option_and_then}
 use Rattle.std.specs.List.{filter_map, list_all, slice_split}
 use Rattle.std.specs.Str.{is_utf8}
-use Rattle.pdb_command.specs.Words.{query_of}
+use Rattle.pdb_cli.specs.Words.{query_of}
 use Rattle.pdb_container.specs.declared.query.Query.{Query}
 use Rattle.pdb_asking.specs.declared.question.Question.{Question}
 

@@ -1,8 +1,9 @@
 //! Answers as lines.
 
-ghost use Rattle.std.specs.Prelude.{◌≡◌, ◌∷◌, ◌&&◌, Some, codes, map, string_bytes, IfErr, IfOk, OnOk, []};
+ghost use Rattle.std.specs.Prelude.{◌≡◌, ◌∷◌, ◌&&◌, Some, codes, map, string_bytes, IfOk, OnOk, []};
 ghost use Rattle.std.specs.List.{flat_map};
 ghost use Rattle.std.specs.Option.{option_copied, option_map};
+ghost use Rattle.pdb_base.specs.Memory.{FailsOnlyForMemory};
 ghost use Rattle.pdb_base.specs.Refusal.{refusal_of};
 ghost use Rattle.hex.specs.Hex.{encode_lower};
 ghost use Rattle.pdb_rows.specs.Fields.{optional_text};
@@ -11,11 +12,11 @@ ghost use Rattle.pdb_rows.specs.Row.{field_shown, row_shown, value_shown};
 ghost use Rattle.pdb_rows.specs.Refused.{refusal_shown, refusal_text};
 ghost use Rattle.pdb_rows.specs.Row.{text as shown_text};
 ghost use Rattle.pdb_rows.specs.Written.{Writes};
-ghost use Rattle.pdb_command.specs.Lines.{reply_lines};
+ghost use Rattle.pdb_cli.specs.Lines.{reply_lines};
 ghost use Rattle.pdb_asking.specs.Answers.{answer_text, answered_text, bytes_shown, is_answer, json_text, name_field, no_query, question_shown, range_shown, record_shown, reply_text, unasked_shown};
 
 use pdb_base::RawString;
-use pdb_command::reply_lines;
+use pdb_cli::reply_lines;
 use pdb_container::{Error, Reply, Result};
 use pdb_rows::{Field, Form, Row, Value, error_field, error_text, field, write_bytes, write_row};
 use std::alloc::Global;
@@ -29,7 +30,7 @@ const NO_QUERY: &[u8] =
 /// Returns a row of one field.
 fn row_of<'t>(alloc: Global, field: Field<'t>) -> Result<Row<'t>>
     ensures ok { IfOk result (λ row. row_shown row ≡ field_shown field.entry ∷ []) }
-    ensures want { IfErr result (λ e. e ≡ Error.OutOfMemory) }
+    ensures memory { FailsOnlyForMemory result }
 {
     let fields = vec![in alloc; field]?;
     Ok(Row { fields })
@@ -56,7 +57,7 @@ fn name_field<'t>(name: Option<&'t [u8]>) -> Field<'t>
 fn record_row<'t>(alloc: Global, index: u32, leaf: u16, name: Option<&'t [u8]>) -> Result<Row<'t>>
     ensures ok { IfOk result (λ row. row_shown row ≡
         record_shown index leaf (option_map (λ name. name.now) name.entry)) }
-    ensures want { IfErr result (λ e. e ≡ Error.OutOfMemory) }
+    ensures memory { FailsOnlyForMemory result }
 {
     let fields = vec![in alloc;
         field("index", Value::Hexadecimal(index)),
@@ -69,7 +70,7 @@ fn record_row<'t>(alloc: Global, index: u32, leaf: u16, name: Option<&'t [u8]>) 
 /// Returns the row of a range: its start and its end.
 fn range_row<'t>(alloc: Global, range: &Range<u32>) -> Result<Row<'t>>
     ensures ok { IfOk result (λ row. row_shown row ≡ range_shown range.now) }
-    ensures want { IfErr result (λ e. e ≡ Error.OutOfMemory) }
+    ensures memory { FailsOnlyForMemory result }
 {
     let fields = vec![in alloc;
         field("start", Value::Hexadecimal(range.start)),
@@ -126,7 +127,7 @@ fn write_refused<W: Write>(
 /// Returns bytes as hexadecimal digits.
 fn hexadecimal(alloc: Global, bytes: &[u8]) -> Result<String>
     ensures ok { IfOk result (λ text. string_bytes text ≡ encode_lower bytes.now) }
-    ensures want { IfErr result (λ e. e ≡ Error.OutOfMemory) }
+    ensures memory { FailsOnlyForMemory result }
 {
     let digits = hex::encode(alloc, bytes)?;
     Ok(digits)

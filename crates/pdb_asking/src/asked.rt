@@ -1,10 +1,11 @@
 //! Asking a file all questions of a text.
 
-ghost use Rattle.std.specs.Prelude.{◌≡◌, map, IfErr, IfOk};
+ghost use Rattle.std.specs.Prelude.{◌≡◌, map, IfOk};
 ghost use Rattle.pdb_asking.specs.Answers.{answers_text, are_answers, next_reply};
 ghost use Rattle.pdb_asking.specs.Asked.{IsAsked};
 ghost use Rattle.pdb_asking.specs.Questions.{asked, queries_in};
 ghost use Rattle.std.specs.Option.{option_copied};
+ghost use Rattle.pdb_base.specs.Memory.{FailsOnlyForMemory};
 ghost use Rattle.pdb_rows.specs.Written.{Writes, done_of};
 
 use crate::answer::{is_answered_too, write_answered};
@@ -17,7 +18,7 @@ use std::io::Write;
 /// Returns the queries that questions ask, in order.
 fn queries_in(alloc: Global, questions: &[Question<'_>]) -> Result<Vec<Query>>
     ensures queries { IfOk result (λ queries. queries.items ≡ queries_in (map asked questions.now)) }
-    ensures want { IfErr result (λ e. e ≡ Error.OutOfMemory) }
+    ensures memory { FailsOnlyForMemory result }
 {
     let queries = questions
         .iter()

@@ -1,10 +1,11 @@
 //! Questions: lines, and the query that the words of each spell.
 
-ghost use Rattle.std.specs.Prelude.{◌≡◌, map, IfErr, IfOk};
+ghost use Rattle.std.specs.Prelude.{◌≡◌, map, IfOk};
 ghost use Rattle.std.specs.Option.{option_map};
+ghost use Rattle.pdb_base.specs.Memory.{FailsOnlyForMemory};
 ghost use Rattle.pdb_asking.specs.Questions.{asked, lines_of, query_in, questions_in, texts_of, words_of};
 
-use pdb_command::query;
+use pdb_cli::query;
 use pdb_container::{Error, Query, Result};
 use std::alloc::Global;
 
@@ -21,7 +22,7 @@ pub struct Question<'t> {
 /// Returns the lines of a text, without the empty ones.
 fn lines_of<'t>(alloc: Global, text: &'t [u8]) -> Result<Vec<&'t [u8]>>
     ensures lines { IfOk result (λ lines. map (λ line. line.now) lines.items ≡ lines_of text.now) }
-    ensures want { IfErr result (λ e. e ≡ Error.OutOfMemory) }
+    ensures memory { FailsOnlyForMemory result }
 {
     let lines = text
         .split(|byte| *byte == b'\n' || *byte == b'\r')
@@ -33,7 +34,7 @@ fn lines_of<'t>(alloc: Global, text: &'t [u8]) -> Result<Vec<&'t [u8]>>
 /// Returns the words of a line, between its blanks and tabs.
 fn words_of<'t>(alloc: Global, line: &'t [u8]) -> Result<Vec<&'t [u8]>>
     ensures words { IfOk result (λ words. map (λ word. word.now) words.items ≡ words_of line.now) }
-    ensures want { IfErr result (λ e. e ≡ Error.OutOfMemory) }
+    ensures memory { FailsOnlyForMemory result }
 {
     let words = line
         .split(|byte| *byte == b' ' || *byte == b'\t')
@@ -46,7 +47,7 @@ fn words_of<'t>(alloc: Global, line: &'t [u8]) -> Result<Vec<&'t [u8]>>
 fn texts_of<'t>(alloc: Global, words: &[&'t [u8]]) -> Result<Option<Vec<&'t str>>>
     ensures texts { IfOk result (λ texts. option_map (λ texts. map (λ text. text.now) texts.items) texts ≡
         texts_of (map (λ word. word.now) words.now)) }
-    ensures want { IfErr result (λ e. e ≡ Error.OutOfMemory) }
+    ensures memory { FailsOnlyForMemory result }
 {
     let mut texts = Vec::with_capacity(alloc, words.len())?;
     for word in words {
@@ -62,7 +63,7 @@ fn texts_of<'t>(alloc: Global, words: &[&'t [u8]]) -> Result<Option<Vec<&'t str>
 #[tactic(auto, unfolding(crate::specs::Questions::query_in))]
 fn query_in(alloc: Global, line: &[u8]) -> Result<Option<Query>>
     ensures query { IfOk result (λ query. query ≡ query_in line.now) }
-    ensures want { IfErr result (λ e. e ≡ Error.OutOfMemory) }
+    ensures memory { FailsOnlyForMemory result }
 {
     let words = words_of(alloc, line)?;
     match texts_of(alloc, &words)? {
@@ -78,7 +79,7 @@ fn query_in(alloc: Global, line: &[u8]) -> Result<Option<Query>>
 #[tactic(auto, unfolding(crate::specs::Questions::questions_in))]
 pub fn questions_in<'t>(alloc: Global, text: &'t [u8]) -> Result<Vec<Question<'t>>>
     ensures questions { IfOk result (λ questions. map asked questions.items ≡ questions_in text.now) }
-    ensures want { IfErr result (λ e. e ≡ Error.OutOfMemory) }
+    ensures memory { FailsOnlyForMemory result }
 {
     let lines = lines_of(alloc, text)?;
     let mut questions = Vec::with_capacity(alloc, lines.len())?;

@@ -1,5 +1,6 @@
 -- The lemmas that proofs here and in the crates above want again and again: on answers, bytes, records, counts
 -- and searches by halving. They are public, as those of std are.
+pub mod BitFields
 pub mod Collected
 pub mod Count
 pub mod Derived
@@ -10,4 +11,5 @@ pub mod Padding
 pub mod Reading
 pub mod Records
 pub mod Refused
+pub mod Shifts
 pub mod Spelling

@@ -1,3 +1,5 @@
+pub mod Bits
+pub mod BitLaws
 pub mod Refusal
 pub mod ErrorText
 pub mod Answer

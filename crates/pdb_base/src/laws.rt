@@ -3,6 +3,7 @@
 
 ghost use Rattle.std.specs.Prelude.{◌≡◌, ◌≢◌, ◌+◌, ◌-◌, ◌^◌, ◌<◌, min, ℕ, List};
 ghost use Rattle.pdb_base.specs.Answer.{Answer};
+ghost use Rattle.pdb_base.specs.BitLaws.{ArePutTogether, IsAllItsBits, TellsOneBit};
 ghost use Rattle.std.specs.Int.{Width};
 ghost use Rattle.pdb_base.specs.Count.{after_calls};
 ghost use Rattle.pdb_base.specs.Halving.{binary_digits};
@@ -86,4 +87,13 @@ pub fn digits()
 /// before it ends.
 pub fn records<A>()
     ensures { (size : ℕ) (value : List ℕ → A) (bytes : List ℕ) → AreReadInTurn size value bytes }
+{}
+
+/// A bit field is composed of its lower and its higher bits, all bits of a number are the number,
+/// and a field of one bit tells whether that bit is set.
+#[tactic(auto, using(crate::proofs::lemmas::BitFields::put_together, crate::proofs::lemmas::BitFields::all_bits, crate::proofs::lemmas::BitFields::one_bit))]
+pub fn bit_fields()
+    ensures together { (word place low high : ℕ) → ArePutTogether word place low high }
+    ensures all { (word count : ℕ) → IsAllItsBits word count }
+    ensures one { (word place : ℕ) → TellsOneBit word place }
 {}

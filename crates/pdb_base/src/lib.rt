@@ -2,6 +2,7 @@
 //! numbers, text and indexes.
 #![tactic(auto)]
 
+mod bits;
 mod buffer;
 mod buffer_text;
 mod count;
@@ -19,6 +20,7 @@ mod raw_string;
 mod stream;
 mod variant;
 
+pub use bits::{bit_field, is_bit_set};
 pub use buffer::ParseBuffer;
 pub use count::Count;
 pub use error::{Error, IO_ERROR_FRONT, Result};

@@ -48,7 +48,7 @@ impl<'b> RawString<'b> {
         ensures text { IfOk result (λ text. cow_str_bytes text ≡ lossy self.now.0.now) }
         ensures borrowed { IsUtf8 self.now.0.now → IfOk result (λ text. ¬ IsOwnedStr text) }
         ensures owned { ¬ IsUtf8 self.now.0.now → IfOk result IsOwnedStr }
-        ensures want { IfErr result (λ e. (e ≡ OutOfMemory) × ¬ IsUtf8 self.now.0.now) }
+        ensures memory { IfErr result (λ e. (e ≡ OutOfMemory) × ¬ IsUtf8 self.now.0.now) }
     {
         match self.0.to_str() {
             Ok(text) => Ok(CowStr::Borrowed(text)),

@@ -27,7 +27,7 @@ pub extern "C" fn pdb_rva_to_internal_rva(
     ensures exact { IfSome (addresses_held addresses.old.held.content) (λ map.
         IfSome map.transformed_to_original IsSortedBySource
         → record { fault = fault.new; value = answer.new } ≡ found answer.old (rva_to_internal_rva map address)) }
-    ensures somehow { IfSome (addresses_held addresses.old.held.content) (λ map.
+    ensures unsorted { IfSome (addresses_held addresses.old.held.content) (λ map.
         IfSome map.transformed_to_original (λ table. fault.new ≡ fine → MovesSomehow table address answer.new)) }
     ensures found { IfSome (addresses_held addresses.old.held.content) (λ _.
         IsFound answer.old (record { fault = fault.new; value = answer.new })) }
@@ -85,7 +85,7 @@ pub extern "C" fn pdb_rva_to_internal_offset(
         IfSome map.transformed_to_original IsSortedBySource
         → record { fault = fault.new; value = place.new } ≡
         found place.old (option_map place_of (rva_to_internal_offset map address))) }
-    ensures somehow { IfSome (addresses_held addresses.old.held.content) (λ map.
+    ensures unsorted { IfSome (addresses_held addresses.old.held.content) (λ map.
         IfSome map.transformed_to_original (λ table. fault.new ≡ fine →
         ComesSomehow (Some address) (internal_rva_to_internal_offset map) table (section_place place.new))) }
     ensures found { IfSome (addresses_held addresses.old.held.content) (λ _.
@@ -117,7 +117,7 @@ pub extern "C" fn pdb_internal_rva_to_rva(
     ensures exact { IfSome (addresses_held addresses.old.held.content) (λ map.
         IfSome map.original_to_transformed IsSortedBySource
         → record { fault = fault.new; value = answer.new } ≡ found answer.old (internal_rva_to_rva map address)) }
-    ensures somehow { IfSome (addresses_held addresses.old.held.content) (λ map.
+    ensures unsorted { IfSome (addresses_held addresses.old.held.content) (λ map.
         IfSome map.original_to_transformed (λ table. fault.new ≡ fine → MovesSomehow table address answer.new)) }
     ensures found { IfSome (addresses_held addresses.old.held.content) (λ _.
         IsFound answer.old (record { fault = fault.new; value = answer.new })) }
@@ -149,7 +149,7 @@ pub extern "C" fn pdb_internal_rva_to_section_offset(
         IfSome map.original_to_transformed IsSortedBySource
         → record { fault = fault.new; value = place.new } ≡
         found place.old (option_map place_of (internal_rva_to_section_offset map address))) }
-    ensures somehow { IfSome (addresses_held addresses.old.held.content) (λ map.
+    ensures unsorted { IfSome (addresses_held addresses.old.held.content) (λ map.
         IfSome map.original_to_transformed (λ table. fault.new ≡ fine →
         ComesSomehow (Some address) (rva_to_section_offset map) table (section_place place.new))) }
     ensures found { IfSome (addresses_held addresses.old.held.content) (λ _.
@@ -235,7 +235,7 @@ pub extern "C" fn pdb_section_offset_to_internal_rva(
         IfSome map.transformed_to_original IsSortedBySource
         → record { fault = fault.new; value = answer.new } ≡
         found answer.old (section_offset_to_internal_rva map (record { section = section; offset = offset }))) }
-    ensures somehow { IfSome (addresses_held addresses.old.held.content) (λ map.
+    ensures unsorted { IfSome (addresses_held addresses.old.held.content) (λ map.
         IfSome map.transformed_to_original (λ table. fault.new ≡ fine →
         ComesSomehow (section_offset_to_rva map
         (record { section = section; offset = offset })) Some table answer.new)) }
@@ -271,7 +271,7 @@ pub extern "C" fn pdb_section_offset_to_internal_offset(
         → record { fault = fault.new; value = place.new } ≡
         found place.old (option_map place_of
         (section_offset_to_internal_offset map (record { section = section; offset = offset })))) }
-    ensures somehow { IfSome (addresses_held addresses.old.held.content) (λ map.
+    ensures unsorted { IfSome (addresses_held addresses.old.held.content) (λ map.
         IfSome map.transformed_sections (λ _. IfSome map.transformed_to_original (λ table. fault.new ≡ fine →
         ComesSomehow (section_offset_to_rva map (record { section = section; offset = offset }))
         (internal_rva_to_internal_offset map) table (section_place place.new)))) }
@@ -335,7 +335,7 @@ pub extern "C" fn pdb_internal_offset_to_rva(
         IfSome map.original_to_transformed IsSortedBySource
         → record { fault = fault.new; value = answer.new } ≡
         found answer.old (internal_offset_to_rva map (record { section = section; offset = offset }))) }
-    ensures somehow { IfSome (addresses_held addresses.old.held.content) (λ map.
+    ensures unsorted { IfSome (addresses_held addresses.old.held.content) (λ map.
         IfSome map.original_to_transformed (λ table. fault.new ≡ fine →
         ComesSomehow (internal_offset_to_internal_rva map
         (record { section = section; offset = offset })) Some table answer.new)) }
@@ -371,7 +371,7 @@ pub extern "C" fn pdb_internal_offset_to_section_offset(
         → record { fault = fault.new; value = place.new } ≡
         found place.old (option_map place_of
         (internal_offset_to_section_offset map (record { section = section; offset = offset })))) }
-    ensures somehow { IfSome (addresses_held addresses.old.held.content) (λ map.
+    ensures unsorted { IfSome (addresses_held addresses.old.held.content) (λ map.
         IfSome map.transformed_sections (λ _. IfSome map.original_to_transformed (λ table. fault.new ≡ fine →
         ComesSomehow (internal_offset_to_internal_rva map (record { section = section; offset = offset }))
         (rva_to_section_offset map) table (section_place place.new)))) }

@@ -30,7 +30,7 @@ pub extern "C" fn pdb_rva_ranges(
         IfSome map.original_to_transformed IsSortedBySource
         → CopiesOrLacks (record { fault = fault.new; length = length.new; room = room.new }) room.old
         (spans_written room.old (translated_parts map.original_to_transformed (record { start = start; end = end })))) }
-    ensures somehow { IfSome (addresses_held addresses.old.held.content) (λ map.
+    ensures unsorted { IfSome (addresses_held addresses.old.held.content) (λ map.
         IfSome map.original_to_transformed (λ table.
         WritesSome table room.old (record { fault = fault.new; length = length.new; room = room.new }))) }
     ensures closed { IfNone (addresses_held addresses.old.held.content)
@@ -67,7 +67,7 @@ pub extern "C" fn pdb_internal_rva_ranges(
         IfSome map.transformed_to_original IsSortedBySource
         → CopiesOrLacks (record { fault = fault.new; length = length.new; room = room.new }) room.old
         (spans_written room.old (translated_parts map.transformed_to_original (record { start = start; end = end })))) }
-    ensures somehow { IfSome (addresses_held addresses.old.held.content) (λ map.
+    ensures unsorted { IfSome (addresses_held addresses.old.held.content) (λ map.
         IfSome map.transformed_to_original (λ table.
         WritesSome table room.old (record { fault = fault.new; length = length.new; room = room.new }))) }
     ensures closed { IfNone (addresses_held addresses.old.held.content)

@@ -45,7 +45,7 @@ pub extern "C" fn pdb_omap_lookup(
 ) -> u32
     ensures exact { IfSome (omap_held omap.old.held.content) (λ table. IsSortedBySource table
         → record { fault = fault.new; value = target.new } ≡ found target.old (shift table address)) }
-    ensures somehow { IfSome (omap_held omap.old.held.content) (λ table. fault.new ≡ fine →
+    ensures unsorted { IfSome (omap_held omap.old.held.content) (λ table. fault.new ≡ fine →
         MovesSomehow table address target.new) }
     ensures found { IfSome (omap_held omap.old.held.content) (λ _.
         IsFound target.old (record { fault = fault.new; value = target.new })) }

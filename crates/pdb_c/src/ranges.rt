@@ -29,7 +29,7 @@ pub extern "C" fn pdb_omap_ranges(
     ensures exact { IfSome (omap_held omap.old.held.content) (λ table. IsSortedBySource table
         → CopiesOrLacks (record { fault = fault.new; length = length.new; room = room.new }) room.old
         (spans_written room.old (parts table (record { start = start; end = end })))) }
-    ensures somehow { IfSome (omap_held omap.old.held.content) (λ table.
+    ensures unsorted { IfSome (omap_held omap.old.held.content) (λ table.
         WritesSome table room.old (record { fault = fault.new; length = length.new; room = room.new })) }
     ensures closed { IfNone (omap_held omap.old.held.content)
         (record { fault = fault.new; length = length.new; room = room.new } ≡ untouched not_open room.old) }

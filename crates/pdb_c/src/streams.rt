@@ -1,9 +1,10 @@
 //! The streams of a file whose header and directory are kept.
 
 ghost use Rattle.std.specs.Prelude.{◌≡◌, Some};
-ghost use Rattle.pdb_msf.specs.Layout.{size_by, stream_by, stream_count_in};
+ghost use Rattle.pdb_msf.specs.Directory.{stream_count_in};
+ghost use Rattle.pdb_msf.specs.Layout.{size_by, stream_by};
 ghost use Rattle.pdb_handles.specs.Copied.{CopiesOrLacks, copied_of};
-ghost use Rattle.pdb_handles.specs.File.{plan_said};
+ghost use Rattle.pdb_handles.specs.File.{layout_said};
 ghost use Rattle.pdb_handles.specs.Found.{answered_of, found_of};
 ghost use Rattle.pdb_handles.specs.Handle.{Opens, file_held};
 
@@ -21,7 +22,7 @@ pub extern "C" fn pdb_file_open(
     file: &mut Handle,
     fault: &mut Fault,
 ) -> u32
-    ensures opens { Opens file.old.held.content (plan_said bytes.now) fault.new file.new.held.content }
+    ensures opens { Opens file.old.held.content (layout_said bytes.now) fault.new file.new.held.content }
     ensures status { result ≡ fault.new.status }
 {
     if file.is_open() {
@@ -40,7 +41,7 @@ pub extern "C" fn pdb_file_page_size(
     fault: &mut Fault,
 ) -> u32
     ensures answer { record { fault = fault.new; value = page_size.new }
-        ≡ found_of page_size.old (λ plan. plan.head.geometry.page_size) (file_held file.old.held.content) }
+        ≡ found_of page_size.old (λ layout. layout.head.geometry.page_size) (file_held file.old.held.content) }
     ensures kept { file.new.held.content ≡ file.old.held.content }
     ensures status { result ≡ fault.new.status }
 {
@@ -64,7 +65,7 @@ pub extern "C" fn pdb_file_stream_count(
     fault: &mut Fault,
 ) -> u32
     ensures answer { record { fault = fault.new; value = count.new }
-        ≡ answered_of count.old (λ plan. stream_count_in plan.directory) (file_held file.old.held.content) }
+        ≡ answered_of count.old (λ layout. stream_count_in layout.directory) (file_held file.old.held.content) }
     ensures kept { file.new.held.content ≡ file.old.held.content }
     ensures status { result ≡ fault.new.status }
 {
@@ -89,7 +90,7 @@ pub extern "C" fn pdb_file_stream_size(
     fault: &mut Fault,
 ) -> u32
     ensures answer { record { fault = fault.new; value = size.new }
-        ≡ answered_of size.old (λ plan. size_by plan number) (file_held file.old.held.content) }
+        ≡ answered_of size.old (λ layout. size_by layout number) (file_held file.old.held.content) }
     ensures kept { file.new.held.content ≡ file.old.held.content }
     ensures status { result ≡ fault.new.status }
 {
@@ -119,7 +120,8 @@ pub extern "C" fn pdb_file_stream(
     fault: &mut Fault,
 ) -> u32
     ensures answer { CopiesOrLacks (record { fault = fault.new; length = length.new; room = room.new }) room.old
-        (copied_of room.old (λ plan. stream_by plan bytes.now number (Some limit)) (file_held file.old.held.content)) }
+        (copied_of room.old (λ layout. stream_by layout bytes.now number (Some limit))
+        (file_held file.old.held.content)) }
     ensures kept { file.new.held.content ≡ file.old.held.content }
     ensures status { result ≡ fault.new.status }
 {

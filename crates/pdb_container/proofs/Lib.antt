@@ -1,4 +1,3 @@
-pub mod ReplyLemmas
-pub mod LookupLemmas
-pub mod FieldsLemmas
-pub mod AskedLemmas
+pub mod lemmas
+pub mod RunLemmas
+pub mod TableLemmas

@@ -1,9 +1,8 @@
 pub mod Reply
-pub mod Asked
-pub mod Lookup
+pub mod ReadStreams
+pub mod OpenTables
 -- the definitions that the contracts of what this crate re-exports cite
-pub use Rattle.pdb_bits.specs.Bits
-pub use Rattle.pdb_bits.specs.Parts
+pub use Rattle.pdb_base.specs.Bits
 pub use Rattle.pdb_base.specs.Refusal
 pub use Rattle.pdb_base.specs.ErrorText
 pub use Rattle.pdb_base.specs.Answer
@@ -42,11 +41,11 @@ pub use Rattle.pdb_frames.specs.Stored
 pub use Rattle.pdb_frames.specs.Frames
 pub use Rattle.pdb_frames.specs.Merge
 pub use Rattle.pdb_frames.specs.Table
-pub use Rattle.pdb_roles.specs.DbiHeader
-pub use Rattle.pdb_roles.specs.DebugHeader
-pub use Rattle.pdb_roles.specs.Information
-pub use Rattle.pdb_roles.specs.StreamNames
-pub use Rattle.pdb_roles.specs.File as RoleFile
+pub use Rattle.pdb_file.specs.DbiHeader
+pub use Rattle.pdb_file.specs.DebugHeader
+pub use Rattle.pdb_file.specs.Information
+pub use Rattle.pdb_file.specs.StreamNames
+pub use Rattle.pdb_file.specs.File as RoleFile
 pub use Rattle.pdb_values.specs.Text as ValueText
 pub use Rattle.pdb_values.specs.Method
 pub use Rattle.pdb_values.specs.Function

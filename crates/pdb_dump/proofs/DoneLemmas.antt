@@ -5,12 +5,12 @@ use Rattle.pdb_base.specs.declared.error.Error.TheVariants.{OutOfMemory}
 use Rattle.pdb_base.specs.Answer.{Answer, RefusesUnless}
 use Rattle.pdb_base.specs.Refusal.{Refusal, refusal_of}
 use Rattle.pdb_base.proofs.lemmas.Collected.{err, err_is, ok_is_no_err}
-use Rattle.pdb_rows.specs.Written.{IsCut}
+use Rattle.pdb_rows.specs.Written.{IsOutputFailure}
 use Rattle.pdb_tables.specs.Listing.{whole}
 use Rattle.pdb_tables.proofs.ListedLemmas.{refused_listed}
 
 -- the refusal that is meant, or a fault of a channel or want of memory
-pub told_or_cut : {A failed : Type 0} (meant : Answer A) (e : Error) → RefusesUnless failed e meant → (meant ≡ Err (refusal_of e)) ⊎ IsCut e
+pub told_or_cut : {A failed : Type 0} (meant : Answer A) (e : Error) → RefusesUnless failed e meant → (meant ≡ Err (refusal_of e)) ⊎ IsOutputFailure e
 told_or_cut {A} (Ok x) e refuses = elim (refused_listed (λ (value : A). whole []) (Ok x) e None refuses) [
   | inl told ↦ absurd (ok_is_no_err (tt {0}) (refusal_of e) told.0)
   | inr cut ↦ inr cut.0
@@ -21,6 +21,6 @@ told_or_cut {A} (Err fault) e refuses = elim (refused_listed (λ (value : A). wh
 ]
 
 -- the same where no channel was used
-pub told_or_want : {A : Type 0} (meant : Answer A) (e : Error) → (meant ≡ Err (refusal_of e)) ⊎ (e ≡ OutOfMemory) → (meant ≡ Err (refusal_of e)) ⊎ IsCut e
+pub told_or_want : {A : Type 0} (meant : Answer A) (e : Error) → (meant ≡ Err (refusal_of e)) ⊎ (e ≡ OutOfMemory) → (meant ≡ Err (refusal_of e)) ⊎ IsOutputFailure e
 told_or_want meant e (inl told) = inl told
 told_or_want meant e (inr want) = told_or_cut {failed = ⊥} meant e (inr (inl want))

@@ -3,7 +3,7 @@ use Rattle.std.specs.Prelude.{◌≡◌, ◌⊎◌, ℕ, Bool, true, false, not,
 use Rattle.std.specs.Io.KnownBytes.{Keeps}
 use Rattle.std.specs.declared.io.Error as io
 use Rattle.pdb_base.specs.declared.error.Error.{Error}
-use Rattle.pdb_command.specs.declared.channels.Ended.{Ended}
+use Rattle.pdb_cli.specs.declared.channels.Ended.{Ended}
 use Rattle.pdb_rows.specs.declared.form.Form.{Form}
 use Rattle.pdb_asking.specs.Asked.{IsAsked}
 use Rattle.pdb_dump.specs.Served.{IsEnded, IsNotRead, joined}

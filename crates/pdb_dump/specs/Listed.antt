@@ -12,7 +12,7 @@ use Rattle.pdb_msf.specs.Header.{Head, opened}
 use Rattle.pdb_rows.specs.declared.form.Form.{Form}
 use Rattle.pdb_summary.specs.Summary.{summary_listing}
 use Rattle.pdb_tables.specs.Files.{file_frames, file_names, file_omap, file_sections, frames_in}
-use Rattle.pdb_rows.specs.Written.{IsCut}
+use Rattle.pdb_rows.specs.Written.{IsOutputFailure}
 use Rattle.pdb_tables.specs.Listing.{IsListed}
 use Rattle.pdb_dump.specs.declared.words.Command.{Command}
 use Rattle.pdb_dump.specs.declared.words.Command.TheVariants as commands
@@ -28,7 +28,7 @@ id_stream = 4
 -- can't be read, and nothing is written.
 pub data IsListedIn (listed : List ℕ → Option (List ℕ) → Option (List ℕ) → Result (Unit {0}) Error → Type 0) (file : List ℕ) (head : Head) (n : ℕ) (out out' : Option (List ℕ)) (result : Result (Unit {0}) Error) : Type 0 where
   read : (stream : List ℕ) → stream_of file head n None ≡ Ok stream → listed stream out out' result → IsListedIn listed file head n out out' result
-  unread : (fault : Error) → result ≡ Err fault → (stream_of file head n None ≡ Err (refusal_of fault)) ⊎ IsCut fault → Keeps out out' → IsListedIn listed file head n out out' result
+  unread : (fault : Error) → result ≡ Err fault → (stream_of file head n None ≡ Err (refusal_of fault)) ⊎ IsOutputFailure fault → Keeps out out' → IsListedIn listed file head n out out' result
 
 -- the types of a table, or the one of an index
 abbrev pub AreTypes : Form → Option ℕ → List ℕ → Option (List ℕ) → Option (List ℕ) → Result (Unit {0}) Error → Type 0
@@ -55,4 +55,4 @@ DoesIn form (commands.Map address streams) file head = IsMapped form (map_in fil
 -- What a command does with a file; or the header is refused or can't be read, and nothing is written.
 pub data Does (form : Form) (command : Command) (file : List ℕ) (out out' : Option (List ℕ)) (result : Result (Unit {0}) Error) : Type 0 where
   listed : (head : Head) → opened file ≡ Ok head → DoesIn form command file head out out' result → Does form command file out out' result
-  refused : (fault : Error) → result ≡ Err fault → (opened file ≡ Err (refusal_of fault)) ⊎ IsCut fault → Keeps out out' → Does form command file out out' result
+  refused : (fault : Error) → result ≡ Err fault → (opened file ≡ Err (refusal_of fault)) ⊎ IsOutputFailure fault → Keeps out out' → Does form command file out out' result

@@ -6,8 +6,8 @@ use Rattle.std.specs.declared.io.ErrorKind.TheVariants as kinds
 use Rattle.std.specs.IoError.{error_kind}
 use Rattle.pdb_base.specs.declared.error.Error.{Error}
 use Rattle.pdb_base.specs.declared.error.Error.TheVariants.{IoError}
-use Rattle.pdb_command.specs.Channels.{IsTold, IsUnread}
-use Rattle.pdb_command.specs.declared.channels.Ended.{Ended}
+use Rattle.pdb_cli.specs.Channels.{IsTold, IsUnread}
+use Rattle.pdb_cli.specs.declared.channels.Ended.{Ended}
 use Rattle.pdb_rows.specs.declared.form.Form.{Form}
 use Rattle.pdb_dump.specs.Listed.{Does}
 use Rattle.pdb_dump.specs.declared.words.Command.{Command}

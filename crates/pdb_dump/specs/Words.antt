@@ -1,7 +1,7 @@
 -- The words that the program takes.
 use Rattle.std.specs.Prelude.{ℕ, not, filter, if◌then◌else◌, List, [], ◌∷◌, codes, Option, Some, None, option_and_then, Result, Ok, Err}
 use Rattle.std.specs.Option.{option_map, option_map_or}
-use Rattle.pdb_command.specs.Words.{number_of, same}
+use Rattle.pdb_cli.specs.Words.{number_of, same}
 use Rattle.pdb_mapping.specs.declared.given.MapStreams.{MapStreams}
 use Rattle.pdb_dump.specs.declared.words.Verb.{Verb}
 use Rattle.pdb_dump.specs.declared.words.Verb.TheVariants as verbs

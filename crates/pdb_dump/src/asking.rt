@@ -5,7 +5,7 @@ ghost use Rattle.pdb_dump.specs.Asking.{AreServed, IsAskedOf, IsUnasked, done_of
 
 use crate::served::{end, joined};
 use pdb_asking::ask;
-use pdb_command::{Ended, read_all};
+use pdb_cli::{Ended, read_all};
 use pdb_container::Result;
 use pdb_rows::Form;
 use std::alloc::Global;

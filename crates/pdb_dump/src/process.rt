@@ -4,7 +4,7 @@ use crate::asking::serve_questions;
 use crate::help::{HELP, meaning_of, usage_of};
 use crate::served::serve;
 use crate::words::{Command, Misuse, Task, Verb, any_is, asked_of_file, first_verb, plain_words};
-use pdb_command::{Ended, Errors, tell, texts_of, words_of};
+use pdb_cli::{Ended, Errors, tell, texts_of, words_of};
 use pdb_container::{Error, Result};
 use pdb_rows::Form;
 use std::io::{BufWriter, ErrorKind};

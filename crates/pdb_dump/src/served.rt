@@ -5,7 +5,7 @@ ghost use Rattle.pdb_dump.specs.Served.{IsClosed, IsEnded, IsListedOf, IsNotRead
 
 use crate::listed::list;
 use crate::words::Command;
-use pdb_command::{Ended, read_all, tell};
+use pdb_cli::{Ended, read_all, tell};
 use pdb_container::{Error, Result};
 use pdb_rows::Form;
 use std::alloc::Global;

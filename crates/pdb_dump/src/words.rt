@@ -1,11 +1,12 @@
 //! The words that the program takes.
 
-ghost use Rattle.std.specs.Prelude.{◌≡◌, map, IfErr, IfOk};
+ghost use Rattle.std.specs.Prelude.{◌≡◌, map, IfOk};
 ghost use Rattle.std.specs.List.{list_any};
-ghost use Rattle.pdb_command.specs.Words.{same};
+ghost use Rattle.pdb_base.specs.Memory.{FailsOnlyForMemory};
+ghost use Rattle.pdb_cli.specs.Words.{same};
 ghost use Rattle.pdb_dump.specs.Words.{argument_of, asked, command_of, first_verb, frames_asked, listed_by, map_asked, no_streams, one_stream, plain_words, records_asked, streams_asked, task_of, verb_of, with_stream};
 
-use pdb_command::number;
+use pdb_cli::number;
 use pdb_container::Error;
 use pdb_mapping::MapStreams;
 use std::alloc::Global;
@@ -121,7 +122,7 @@ pub fn any_is(words: &[&str], wanted: &str) -> bool
 pub fn plain_words<'w>(alloc: Global, words: &[&'w str]) -> pdb_container::Result<Vec<&'w str>>
     ensures plain { IfOk result (λ plain. map (λ word. word.now) plain.items ≡
         plain_words (map (λ word. word.now) words.now)) }
-    ensures want { IfErr result (λ e. e ≡ Error.OutOfMemory) }
+    ensures memory { FailsOnlyForMemory result }
 {
     let mut plain = Vec::new(alloc);
     for word in words {

@@ -6,7 +6,7 @@ use Rattle.std.specs.Str.{bytes_eq}
 use Rattle.pdb_container.specs.Answer.{Answer, ◌>>=◌}
 use Rattle.pdb_container.specs.Header.{Head, opened}
 use Rattle.pdb_container.specs.File.{stream_of}
-use Rattle.pdb_container.specs.Conversions.{Arrangement, internal_offset_to_rva, rva_to_internal_offset}
+use Rattle.pdb_container.specs.Conversions.{AddressMapValue, internal_offset_to_rva, rva_to_internal_offset}
 use Rattle.pdb_container.specs.Omap.{IsSortedBySource}
 use Rattle.pdb_container.specs.SectionPlace.{SectionPlace}
 use Rattle.pdb_container.specs.StringTable.{name_of}
@@ -92,18 +92,18 @@ name_in file offset = do
   name_of names offset
 
 -- the address map of a file
-abbrev pub map_in : List ℕ → Answer Arrangement
+abbrev pub map_in : List ℕ → Answer AddressMapValue
 map_in file = do
   head ← opened file
   file_address_map file head
 
 -- both tables of a map go up, as those that tools write do
-pub record AreSorted (map : Arrangement) : Type 0 where
+pub record AreSorted (map : AddressMapValue) : Type 0 where
   pub to_original : IfSome map.transformed_to_original IsSortedBySource
   pub to_transformed : IfSome map.original_to_transformed IsSortedBySource
 
 -- the place in the original image from which an address comes, and where the map moves it
-abbrev pub there_and_back : Arrangement → ℕ → Option (SectionPlace × Option ℕ)
+abbrev pub there_and_back : AddressMapValue → ℕ → Option (SectionPlace × Option ℕ)
 there_and_back map address = option_map (λ place. (place, internal_offset_to_rva map place)) (rva_to_internal_offset map address)
 
 -- whether the code of a frame is at an address

@@ -1,7 +1,7 @@
 -- The word of 16 bits that says who may access a member, and how a method is called. Its parts are in this
 -- order from the lowest bit on, as in `CV_fldattr_t` of Microsoft's cvinfo.h.
 use Rattle.std.specs.Prelude.{ℕ, Bool, ◌==◌, ◌||◌}
-use Rattle.pdb_bits.specs.Bits.{bits}
+use Rattle.pdb_base.specs.Bits.{bits}
 
 -- who may access the member, 2 bits
 abbrev pub access : ℕ → ℕ

@@ -5,5 +5,5 @@ pub mod FunctionAttributes
 pub mod PointerAttributes
 pub mod Laws
 -- definitions of lower libraries that the contracts of this one use
-pub use Rattle.pdb_bits.specs.Bits
-pub use Rattle.pdb_bits.specs.Parts
+pub use Rattle.pdb_base.specs.Bits
+pub use Rattle.pdb_base.specs.Bits

@@ -1,8 +1,8 @@
 -- The word of 32 bits that says what a pointer is. Its parts are in this order from the lowest bit on, as in
 -- `lfPointerAttr` of Microsoft's cvinfo.h.
 use Rattle.std.specs.Prelude.{ℕ, Bool, ◌==◌, ◌||◌, ◌&&◌, nat_le, if◌then◌else◌, Option, Some, None}
-use Rattle.pdb_bits.specs.Bits.{bits}
-use Rattle.pdb_bits.specs.Parts.{is_set}
+use Rattle.pdb_base.specs.Bits.{bits}
+use Rattle.pdb_base.specs.Bits.{is_bit_set}
 use Rattle.pdb_flags.specs.declared.pointer_kind.PointerKind.TheVariants.{Near32, Far32, Ptr64}
 use Rattle.pdb_flags.specs.declared.pointer_mode.PointerMode.TheVariants.{LValueReference, Member, MemberFunction, RValueReference}
 use Rattle.pdb_flags.specs.PointerNumbers.{kind_number, mode_number}
@@ -17,23 +17,23 @@ mode_in word = bits word 5 3
 
 -- whether the pointer is of the flat model of 32 bits
 abbrev pub is_flat_32 : ℕ → Bool
-is_flat_32 word = is_set word 8
+is_flat_32 word = is_bit_set word 8
 
 -- whether what the pointer points to may change by itself
 abbrev pub is_volatile : ℕ → Bool
-is_volatile word = is_set word 9
+is_volatile word = is_bit_set word 9
 
 -- whether the pointer is const
 abbrev pub is_const : ℕ → Bool
-is_const word = is_set word 10
+is_const word = is_bit_set word 10
 
 -- whether the pointer need not be aligned
 abbrev pub is_unaligned : ℕ → Bool
-is_unaligned word = is_set word 11
+is_unaligned word = is_bit_set word 11
 
 -- whether the pointer is the only way to reach what it points to
 abbrev pub is_restrict : ℕ → Bool
-is_restrict word = is_set word 12
+is_restrict word = is_bit_set word 12
 
 -- the size in bytes that the word states, 6 bits
 abbrev pub stated_size : ℕ → ℕ
@@ -41,7 +41,7 @@ stated_size word = bits word 13 6
 
 -- whether the pointer is one of the component model
 abbrev pub is_mocom : ℕ → Bool
-is_mocom word = is_set word 19
+is_mocom word = is_bit_set word 19
 
 -- the highest number of a kind
 abbrev pub last_kind : ℕ

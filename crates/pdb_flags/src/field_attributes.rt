@@ -3,7 +3,7 @@
 ghost use Rattle.std.specs.Prelude.{◌≡◌};
 ghost use Rattle.pdb_flags.specs.FieldAttributes.{access, method_property, is_virtual, is_static, is_pure_virtual, is_intro_virtual};
 
-use pdb_bits::part;
+use pdb_base::bit_field;
 use std::marker::Model;
 
 // The numbers of `CV_methodprop_e`.
@@ -50,14 +50,14 @@ impl FieldAttributes {
     pub fn access(self) -> u8
         ensures { result ≡ access self }
     {
-        part(self.0 as u32, 0, 2) as u8
+        bit_field(self.0 as u32, 0, 2) as u8
     }
 
     /// Returns how the method is called, as a number of `CV_methodprop_e` (bits 2 to 4).
     fn method_property(self) -> u32
         ensures { result ≡ method_property self }
     {
-        part(self.0 as u32, 2, 3)
+        bit_field(self.0 as u32, 2, 3)
     }
 
     /// Returns whether the method is virtual, but neither pure nor one that introduces an entry in

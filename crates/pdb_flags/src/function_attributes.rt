@@ -3,7 +3,7 @@
 ghost use Rattle.std.specs.Prelude.{◌≡◌};
 ghost use Rattle.pdb_flags.specs.FunctionAttributes.{calling_convention, cxx_return_udt, is_constructor, is_constructor_with_virtual_bases};
 
-use pdb_bits::{is_set, part};
+use pdb_base::{bit_field, is_bit_set};
 use std::marker::Model;
 
 /// Attributes of a function or a method: the calling convention of `CV_call_e` in the low byte, and
@@ -40,27 +40,27 @@ impl FunctionAttributes {
     pub fn calling_convention(self) -> u8
         ensures { result ≡ calling_convention self }
     {
-        part(self.0 as u32, 0, 8) as u8
+        bit_field(self.0 as u32, 0, 8) as u8
     }
 
     /// Returns whether the function returns a user-defined type as C++ does (bit 8).
     pub fn cxx_return_udt(self) -> bool
         ensures { result ≡ cxx_return_udt self }
     {
-        is_set(self.0 as u32, 8)
+        is_bit_set(self.0 as u32, 8)
     }
 
     /// Returns whether the function is a constructor (bit 9).
     pub fn is_constructor(self) -> bool
         ensures { result ≡ is_constructor self }
     {
-        is_set(self.0 as u32, 9)
+        is_bit_set(self.0 as u32, 9)
     }
 
     /// Returns whether the function is a constructor of a class with virtual bases (bit 10).
     pub fn is_constructor_with_virtual_bases(self) -> bool
         ensures { result ≡ is_constructor_with_virtual_bases self }
     {
-        is_set(self.0 as u32, 10)
+        is_bit_set(self.0 as u32, 10)
     }
 }

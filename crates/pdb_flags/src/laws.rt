@@ -1,6 +1,6 @@
 //! Laws that say in other words what the definitions cited by contracts mean. The function does
 //! nothing: its contract is the law. That the parts of a word lie side by side is a law of
-//! `pdb_bits::laws`.
+//! `pdb_base::laws`.
 
 ghost use Rattle.pdb_flags.specs.Laws.{AreToldApart};
 ghost use Rattle.pdb_flags.specs.PointerNumbers.{kind_number, mode_number};

@@ -6,7 +6,7 @@ ghost use Rattle.pdb_flags.specs.PointerNumbers.{kind_number, mode_number};
 
 use crate::pointer_kind::PointerKind;
 use crate::pointer_mode::PointerMode;
-use pdb_bits::{is_set, part};
+use pdb_base::{bit_field, is_bit_set};
 use std::marker::Model;
 
 /// Attributes of a pointer: the bits of `lfPointerAttr` in Microsoft's cvinfo.h. The kind and the
@@ -34,8 +34,8 @@ impl PointerAttributes {
     pub fn new(word: u32) -> Option<Self>
         ensures { result ≡ pointer_word word }
     {
-        let kind = PointerKind::from_number(part(word, 0, 5));
-        let mode = PointerMode::from_number(part(word, 5, 3));
+        let kind = PointerKind::from_number(bit_field(word, 0, 5));
+        let mode = PointerMode::from_number(bit_field(word, 5, 3));
         if kind.is_some() && mode.is_some() {
             Some(PointerAttributes(word))
         } else {
@@ -55,7 +55,7 @@ impl PointerAttributes {
     pub fn pointer_kind(self) -> PointerKind
         ensures { kind_number result ≡ kind_in self }
     {
-        match PointerKind::from_number(part(self.0, 0, 5)) {
+        match PointerKind::from_number(bit_field(self.0, 0, 5)) {
             Some(kind) => kind,
             None => unreachable!(),
         }
@@ -65,7 +65,7 @@ impl PointerAttributes {
     pub fn pointer_mode(self) -> PointerMode
         ensures { mode_number result ≡ mode_in self }
     {
-        match PointerMode::from_number(part(self.0, 5, 3)) {
+        match PointerMode::from_number(bit_field(self.0, 5, 3)) {
             Some(mode) => mode,
             None => unreachable!(),
         }
@@ -75,35 +75,35 @@ impl PointerAttributes {
     pub fn is_flat_32(self) -> bool
         ensures { result ≡ is_flat_32 self }
     {
-        is_set(self.0, 8)
+        is_bit_set(self.0, 8)
     }
 
-    /// Returns whether what the pointer points to may change by itself (bit 9).
+    /// Returns whether the pointer is volatile (bit 9).
     pub fn is_volatile(self) -> bool
         ensures { result ≡ is_volatile self }
     {
-        is_set(self.0, 9)
+        is_bit_set(self.0, 9)
     }
 
     /// Returns whether the pointer is const (bit 10).
     pub fn is_const(self) -> bool
         ensures { result ≡ is_const self }
     {
-        is_set(self.0, 10)
+        is_bit_set(self.0, 10)
     }
 
     /// Returns whether the pointer need not be aligned (bit 11).
     pub fn is_unaligned(self) -> bool
         ensures { result ≡ is_unaligned self }
     {
-        is_set(self.0, 11)
+        is_bit_set(self.0, 11)
     }
 
     /// Returns whether the pointer is the only way to reach what it points to (bit 12).
     pub fn is_restrict(self) -> bool
         ensures { result ≡ is_restrict self }
     {
-        is_set(self.0, 12)
+        is_bit_set(self.0, 12)
     }
 
     /// Returns the size of the pointer in bytes (bits 13 to 18). If these bits are 0, that is the
@@ -111,7 +111,7 @@ impl PointerAttributes {
     pub fn size(self) -> u8
         ensures { result ≡ pointer_size self }
     {
-        match part(self.0, 13, 6) {
+        match bit_field(self.0, 13, 6) {
             0 => match self.pointer_kind() {
                 PointerKind::Near32 | PointerKind::Far32 => 4,
                 PointerKind::Ptr64 => 8,
@@ -125,7 +125,7 @@ impl PointerAttributes {
     pub fn is_mocom(self) -> bool
         ensures { result ≡ is_mocom self }
     {
-        is_set(self.0, 19)
+        is_bit_set(self.0, 19)
     }
 
     /// Returns whether the pointer points to a data member or a method of a class.

@@ -1,7 +1,7 @@
 -- What the records of both formats say about a frame.
 use Rattle.std.specs.Prelude.{◌*◌, ◌%◌, ◌^◌, false, Some, None}
-use Rattle.pdb_bits.specs.Bits.{bits}
-use Rattle.pdb_bits.specs.Parts.{is_set}
+use Rattle.pdb_base.specs.Bits.{bits}
+use Rattle.pdb_base.specs.Bits.{is_bit_set}
 use Rattle.pdb_frames.specs.FrameNumbers.{frame_type_of}
 use Rattle.pdb_frames.specs.declared.frame_type.FrameType.TheVariants as kinds
 use Rattle.pdb_frames.specs.declared.frame_data.FrameData.{FrameData}
@@ -20,10 +20,10 @@ of_old frame = record {
   prolog_size = bits frame.flags 0 8;
   saved_regs_size = bits frame.flags 8 3 * 4;
   max_stack_size = None;
-  has_structured_eh = is_set frame.flags 11;
+  has_structured_eh = is_bit_set frame.flags 11;
   has_cpp_eh = false;
   is_function_start = false;
-  uses_base_pointer = is_set frame.flags 12;
+  uses_base_pointer = is_bit_set frame.flags 12;
   program = None;
 }
 
@@ -38,9 +38,9 @@ of_new frame = record {
   prolog_size = frame.prolog_size;
   saved_regs_size = frame.saved_regs_size;
   max_stack_size = Some frame.max_stack_size;
-  has_structured_eh = is_set frame.flags 0;
-  has_cpp_eh = is_set frame.flags 1;
-  is_function_start = is_set frame.flags 2;
+  has_structured_eh = is_bit_set frame.flags 0;
+  has_cpp_eh = is_bit_set frame.flags 1;
+  is_function_start = is_bit_set frame.flags 2;
   uses_base_pointer = false;
   program = Some frame.frame_func;
 }

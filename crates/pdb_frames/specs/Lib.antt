@@ -9,5 +9,5 @@ pub mod Laws
 pub use Rattle.pdb_base.specs.Refusal
 pub use Rattle.pdb_base.specs.Answer
 pub use Rattle.pdb_base.specs.Reading
-pub use Rattle.pdb_bits.specs.Bits
-pub use Rattle.pdb_bits.specs.Parts
+pub use Rattle.pdb_base.specs.Bits
+pub use Rattle.pdb_base.specs.Bits

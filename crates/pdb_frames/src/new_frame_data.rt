@@ -2,7 +2,7 @@
 
 ghost use Rattle.std.specs.Prelude.{◌≡◌};
 ghost use Rattle.std.proofs.Common.{lit<};
-ghost use Rattle.pdb_bits.specs.Parts.{is_set};
+ghost use Rattle.pdb_base.specs.Bits.{is_bit_set};
 ghost use Rattle.pdb_base.specs.Reading.{front_at, read_as};
 ghost use Rattle.pdb_frames.specs.Stored.{new_frame, new_span};
 ghost use Rattle.pdb_frames.specs.declared.new_frame_data.TheConstants.{NEW_SIZE};
@@ -10,8 +10,7 @@ ghost use Rattle.pdb_frames.specs.declared.new_frame_data.TheConstants.{NEW_SIZE
 use crate::addr_range::AddrRange;
 use crate::frame_record::FrameRecord;
 use byteorder::{ByteOrder, LittleEndian};
-use pdb_base::{Le, Parse, ParseBuffer, Result};
-use pdb_bits::is_set;
+use pdb_base::{Le, Parse, ParseBuffer, Result, is_bit_set};
 
 /// The size of a record of the newer format in bytes.
 pub(crate) const NEW_SIZE: usize = 32;
@@ -50,23 +49,23 @@ pub struct NewFrameData {
 impl NewFrameData {
     /// Returns whether the code handles structured exceptions (bit 0 of the flags).
     pub fn has_seh(&self) -> bool
-        ensures { result ≡ is_set self.now.flags 0 }
+        ensures { result ≡ is_bit_set self.now.flags 0 }
     {
-        is_set(self.flags, 0)
+        is_bit_set(self.flags, 0)
     }
 
     /// Returns whether the code handles C++ exceptions (bit 1 of the flags).
     pub fn has_eh(&self) -> bool
-        ensures { result ≡ is_set self.now.flags 1 }
+        ensures { result ≡ is_bit_set self.now.flags 1 }
     {
-        is_set(self.flags, 1)
+        is_bit_set(self.flags, 1)
     }
 
     /// Returns whether a function starts with this code (bit 2 of the flags).
     pub fn is_function_start(&self) -> bool
-        ensures { result ≡ is_set self.now.flags 2 }
+        ensures { result ≡ is_bit_set self.now.flags 2 }
     {
-        is_set(self.flags, 2)
+        is_bit_set(self.flags, 2)
     }
 }
 

@@ -2,8 +2,8 @@
 
 ghost use Rattle.std.specs.Prelude.{◌≡◌, ◌≤◌};
 ghost use Rattle.std.proofs.Common.{lit<};
-ghost use Rattle.pdb_bits.specs.Bits.{bits};
-ghost use Rattle.pdb_bits.specs.Parts.{is_set};
+ghost use Rattle.pdb_base.specs.Bits.{bits};
+ghost use Rattle.pdb_base.specs.Bits.{is_bit_set};
 ghost use Rattle.pdb_base.specs.Reading.{front_at, read_as};
 ghost use Rattle.pdb_frames.specs.FrameNumbers.{frame_type_of};
 ghost use Rattle.pdb_frames.specs.Stored.{old_frame, old_span};
@@ -13,8 +13,7 @@ use crate::addr_range::AddrRange;
 use crate::frame_record::FrameRecord;
 use crate::frame_type::FrameType;
 use byteorder::{ByteOrder, LittleEndian};
-use pdb_base::{Le, Parse, ParseBuffer, Result};
-use pdb_bits::{is_set, part};
+use pdb_base::{Le, Parse, ParseBuffer, Result, bit_field, is_bit_set};
 
 /// The size of a record of the older format in bytes.
 pub(crate) const OLD_SIZE: usize = 16;
@@ -43,7 +42,7 @@ impl OldFrameData {
     pub fn prolog_size(&self) -> u16
         ensures { result ≡ bits self.now.flags 0 8 }
     {
-        part(self.flags as u32, 0, 8) as u16
+        bit_field(self.flags as u32, 0, 8) as u16
     }
 
     /// Returns the size of the saved registers in units of 4 bytes, which is at most 7 (bits 8 to
@@ -52,28 +51,28 @@ impl OldFrameData {
         ensures size { result ≡ bits self.now.flags 8 3 }
         ensures few { result ≤ 7 }
     {
-        part(self.flags as u32, 8, 3) as u16
+        bit_field(self.flags as u32, 8, 3) as u16
     }
 
     /// Returns whether the code handles structured exceptions (bit 11 of the flags).
     pub fn has_seh(&self) -> bool
-        ensures { result ≡ is_set self.now.flags 11 }
+        ensures { result ≡ is_bit_set self.now.flags 11 }
     {
-        is_set(self.flags as u32, 11)
+        is_bit_set(self.flags as u32, 11)
     }
 
     /// Returns whether the base pointer holds something other than the frame (bit 12 of the flags).
     pub fn uses_base_pointer(&self) -> bool
-        ensures { result ≡ is_set self.now.flags 12 }
+        ensures { result ≡ is_bit_set self.now.flags 12 }
     {
-        is_set(self.flags as u32, 12)
+        is_bit_set(self.flags as u32, 12)
     }
 
     /// Returns the kind of frame (bits 14 and 15 of the flags).
     pub fn frame_type(&self) -> FrameType
         ensures { result ≡ frame_type_of (bits self.now.flags 14 2) }
     {
-        match part(self.flags as u32, 14, 2) {
+        match bit_field(self.flags as u32, 14, 2) {
             0 => FrameType::FPO,
             1 => FrameType::Trap,
             2 => FrameType::TSS,

@@ -3,8 +3,8 @@ use Rattle.std.specs.Prelude.{ℕ, List, Some}
 use Rattle.pdb_base.specs.Answer.{Answer, ◌>>=◌}
 use Rattle.pdb_msf.specs.Header.{Head, opened}
 use Rattle.pdb_msf.specs.File.{stream_of}
-use Rattle.pdb_msf.specs.Layout.{plan_of}
-use Rattle.pdb_roles.specs.File.{file_address_map, file_frame_table, file_named_stream, file_string_table}
+use Rattle.pdb_msf.specs.Layout.{layout_of}
+use Rattle.pdb_file.specs.File.{file_address_map, file_frame_table, file_named_stream, file_string_table}
 use Rattle.pdb_handles.specs.declared.content.Content.{Content}
 use Rattle.pdb_handles.specs.declared.content.Content.TheVariants as contents
 use Rattle.pdb_handles.specs.Handle.{held_as}
@@ -21,9 +21,9 @@ stream_said number limit file = said (λ bytes head. stream_of bytes head number
 abbrev pub named_stream_said : List ℕ → List ℕ → Answer (List ℕ)
 named_stream_said name file = said (λ bytes head. file_named_stream bytes head name) file
 
--- the plan of a file, as the contents of a handle
-abbrev pub plan_said : List ℕ → Answer Content
-plan_said file = held_as contents.File (plan_of file)
+-- the layout of a file, as the contents of a handle
+abbrev pub layout_said : List ℕ → Answer Content
+layout_said file = held_as contents.File (layout_of file)
 
 -- its string table, its address map and its frame table, as the contents of a handle
 abbrev pub names_said : List ℕ → Answer Content

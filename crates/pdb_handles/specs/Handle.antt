@@ -3,10 +3,10 @@ use Rattle.std.specs.Prelude.{◌≡◌, ◌⊎◌, ◌<◌, ◌≤◌, ℕ, Lis
 use Rattle.pdb_base.specs.Answer.{Answer}
 use Rattle.pdb_base.specs.Refusal.{out_of_memory}
 use Rattle.pdb_frames.specs.Table.{Frames}
-use Rattle.pdb_msf.specs.Layout.{Plan}
-use Rattle.pdb_space.specs.Conversions.{Arrangement}
-use Rattle.pdb_space.specs.Omap.{Mapping}
-use Rattle.pdb_tpi.specs.Steps.{Stand}
+use Rattle.pdb_msf.specs.Layout.{LayoutValue}
+use Rattle.pdb_space.specs.Conversions.{AddressMapValue}
+use Rattle.pdb_space.specs.Omap.{OmapValue}
+use Rattle.pdb_tpi.specs.Steps.{WalkPosition}
 use Rattle.pdb_handles.specs.declared.content.Content.{Content}
 use Rattle.pdb_handles.specs.declared.content.Content.TheVariants as contents
 use Rattle.pdb_handles.specs.declared.fault.Fault.{Fault}
@@ -19,7 +19,7 @@ kind_of (Some (contents.Names names)) = 1
 kind_of (Some (contents.Omap table)) = 2
 kind_of (Some (contents.Addresses map)) = 3
 kind_of (Some (contents.Frames table)) = 4
-kind_of (Some (contents.File plan)) = 5
+kind_of (Some (contents.File layout)) = 5
 kind_of (Some (contents.Table table)) = 6
 
 -- the value of an answer, as the contents of a handle
@@ -56,18 +56,18 @@ names_held (Some (contents.Names names)) = Some names
 names_held held = None
 
 -- the OMAP table that a handle holds, if it holds one
-abbrev pub omap_held : Option Content → Option (List Mapping)
+abbrev pub omap_held : Option Content → Option (List OmapValue)
 omap_held (Some (contents.Omap table)) = Some table
 omap_held held = None
 
 -- the address map that a handle holds, if it holds one
-abbrev pub addresses_held : Option Content → Option Arrangement
+abbrev pub addresses_held : Option Content → Option AddressMapValue
 addresses_held (Some (contents.Addresses map)) = Some map
 addresses_held held = None
 
--- the plan of a file that a handle holds, if it holds one
-abbrev pub file_held : Option Content → Option Plan
-file_held (Some (contents.File plan)) = Some plan
+-- the layout of a file that a handle holds, if it holds one
+abbrev pub file_held : Option Content → Option LayoutValue
+file_held (Some (contents.File layout)) = Some layout
 file_held held = None
 
 -- the frame table that a handle holds, if it holds one
@@ -76,6 +76,6 @@ frames_held (Some (contents.Frames table)) = Some table
 frames_held held = None
 
 -- the table of types or of ids that a handle holds, if it holds one, and where the walk along it stands
-abbrev pub table_held : Option Content → Option Stand
+abbrev pub table_held : Option Content → Option WalkPosition
 table_held (Some (contents.Table table)) = Some table
 table_held held = None

@@ -2,9 +2,9 @@
 use Rattle.std.specs.Prelude.{ℕ, List, length, map, Ok, Err}
 use Rattle.std.specs.List.{flat_map}
 use Rattle.pdb_base.specs.Answer.{Answer, ◌>>=◌}
-use Rattle.pdb_roles.specs.File.{file_information}
-use Rattle.pdb_roles.specs.StreamNames.{Named, stream_names_of}
-use Rattle.pdb_roles.specs.declared.information.PDBInformation.{PDBInformation}
+use Rattle.pdb_file.specs.File.{file_information}
+use Rattle.pdb_file.specs.StreamNames.{Named, stream_names_of}
+use Rattle.pdb_file.specs.declared.information.PDBInformation.{PDBInformation}
 use Rattle.pdb_handles.specs.declared.information.Information.{Information}
 use Rattle.pdb_handles.specs.declared.information.NamedStream.{NamedStream}
 use Rattle.pdb_handles.specs.Fault.{fault_of}

@@ -1,7 +1,7 @@
 -- Ranges of addresses, as a caller sees them.
 use Rattle.std.specs.Prelude.{◌≤◌, ℕ, List, All, length, map}
 use Rattle.std.specs.declared.ops.Range.{Range}
-use Rattle.pdb_space.specs.Omap.{Mapping}
+use Rattle.pdb_space.specs.Omap.{OmapValue}
 use Rattle.pdb_space.specs.Ranges.{IsNotEmpty}
 use Rattle.pdb_handles.specs.declared.ranges.Span.{Span}
 use Rattle.pdb_handles.specs.Copied.{Copied, CopiesOrLacks, written}
@@ -15,7 +15,7 @@ abbrev pub spans_written : List Span → List (Range ℕ) → Copied Span
 spans_written room ranges = written room (map span_of ranges)
 
 -- Some ranges were written, none of them empty and at most one for each record; or memory was refused.
-pub record WritesSome (table : List Mapping) (room : List Span) (told : Copied Span) : Type 0 where
+pub record WritesSome (table : List OmapValue) (room : List Span) (told : Copied Span) : Type 0 where
   pub ranges : List (Range ℕ)
   pub few : length ranges ≤ length table
   pub not_empty : All IsNotEmpty ranges

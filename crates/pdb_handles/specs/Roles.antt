@@ -2,8 +2,8 @@
 use Rattle.std.specs.Prelude.{◌≡◌, ◌⊎◌, ℕ, List, Ok, Err}
 use Rattle.pdb_base.specs.Answer.{Answer}
 use Rattle.pdb_base.specs.Refusal.{out_of_memory}
-use Rattle.pdb_roles.specs.File.{file_roles}
-use Rattle.pdb_roles.specs.declared.debug_header.DBIExtraStreams.{DBIExtraStreams}
+use Rattle.pdb_file.specs.File.{file_roles}
+use Rattle.pdb_file.specs.declared.debug_header.DBIExtraStreams.{DBIExtraStreams}
 use Rattle.pdb_handles.specs.declared.fault.Fault.{Fault}
 use Rattle.pdb_handles.specs.declared.roles.Roles.{Roles}
 use Rattle.pdb_handles.specs.Fault.{fine, fault_of}

@@ -1,7 +1,7 @@
 -- Sections, as a caller sees them.
 use Rattle.std.specs.Prelude.{List, map, Ok}
 use Rattle.pdb_base.specs.Answer.{Answer, ◌>>=◌}
-use Rattle.pdb_roles.specs.SectionHeaders.{section_headers_of}
+use Rattle.pdb_file.specs.SectionHeaders.{section_headers_of}
 use Rattle.pdb_space.specs.declared.section_header.ImageSectionHeader.{ImageSectionHeader}
 use Rattle.pdb_handles.specs.declared.sections.Section.{Section}
 use Rattle.std.specs.Prelude.{ℕ}

@@ -2,7 +2,7 @@
 use Rattle.std.specs.Prelude.{ℕ, List, Option, Some, None}
 use Rattle.pdb_tpi.specs.StepLaws.{first_stand}
 use Rattle.pdb_tpi.specs.OpenTable.{step_located}
-use Rattle.pdb_tpi.specs.Steps.{Stand}
+use Rattle.pdb_tpi.specs.Steps.{WalkPosition}
 use Rattle.pdb_handles.specs.declared.content.Content.{Content}
 use Rattle.pdb_handles.specs.declared.content.Content.TheVariants as contents
 use Rattle.pdb_handles.specs.declared.fault.Fault.{Fault}
@@ -35,6 +35,6 @@ rewound (Some (contents.Table table)) = record { fault = fine; held = Some (cont
 rewound held = record { fault = not_open; held = held }
 
 -- the fields of a field list in the table that a handle holds
-abbrev pub fields_asked : List FieldRow → List ℕ → ℕ → Option Stand → Fielded FieldRow
+abbrev pub fields_asked : List FieldRow → List ℕ → ℕ → Option WalkPosition → Fielded FieldRow
 fields_asked rows names index (Some table) = fields_told rows names (fields_in_table index table)
 fields_asked rows names index None = unfielded not_open rows names

@@ -6,7 +6,7 @@ use Rattle.pdb_values.specs.TypeValue.{TypeValue}
 use Rattle.pdb_tpi.specs.declared.open_table.RecordPlace.{RecordPlace}
 use Rattle.pdb_tpi.specs.OpenTable.{bytes_at, step_located}
 use Rattle.pdb_tpi.specs.Record.{type_of}
-use Rattle.pdb_tpi.specs.Steps.{Stand}
+use Rattle.pdb_tpi.specs.Steps.{WalkPosition}
 use Rattle.pdb_handles.specs.declared.content.Content.{Content}
 use Rattle.pdb_handles.specs.declared.content.Content.TheVariants as contents
 use Rattle.pdb_handles.specs.declared.fault.Fault.{Fault}
@@ -33,25 +33,25 @@ IsTypeRow index place meant told = (told ≡ type_row index place meant) ⊎ (to
 
 -- These are the next records of a walk: each step returns the place of one, and its row is that of the bytes of
 -- the stream there. Behind the last one, the walk stands at `end`.
-abbrev pub AreNext : Stand → List TypeRow → Stand → Type 0
+abbrev pub AreNext : WalkPosition → List TypeRow → WalkPosition → Type 0
 AreNext stand [] end = end ≡ stand
 AreNext stand (told ∷ more) end =
-    (place : RecordPlace) × (next : Stand) × (step_located stand ≡ Ok (Some place, next))
+    (place : RecordPlace) × (next : WalkPosition) × (step_located stand ≡ Ok (Some place, next))
     × IsTypeRow (index_told stand.index) place (type_of (index_told stand.index) (bytes_at stand.table place)) told × AreNext next more end
 
 -- No record is left, or the fault is that of the next one.
-abbrev pub StopsWith : Answer (Option RecordPlace × Stand) → Fault → Type 0
+abbrev pub StopsWith : Answer (Option RecordPlace × WalkPosition) → Fault → Type 0
 StopsWith (Ok (Some place, next)) fault = ⊥
 StopsWith (Ok (None, next)) fault = fault ≡ nowhere
 StopsWith (Err refusal) fault = fault ≡ fault_of refusal
 
 -- Why no more records are written: the array has no room for more, or the walk stops there.
-abbrev pub EndsWith : ℕ → ℕ → Stand → Fault → Type 0
+abbrev pub EndsWith : ℕ → ℕ → WalkPosition → Fault → Type 0
 EndsWith count room end fault = ((count ≡ room) × (fault ≡ fine)) ⊎ ((count < room) × StopsWith (step_located end) fault)
 
 -- The next records of a walk are written at the front of an array, as many as it has room for or as are left
 -- before the walk stops, and the items behind them stay as they were. The walk stands behind the last one.
-pub record WritesNext (old : List TypeRow) (stand : Stand) (told : Copied TypeRow) (end : Stand) : Type 0 where
+pub record WritesNext (old : List TypeRow) (stand : WalkPosition) (told : Copied TypeRow) (end : WalkPosition) : Type 0 where
   pub rows : List TypeRow
   pub are : AreNext stand rows end
   pub count : told.length ≡ length rows
@@ -60,5 +60,5 @@ pub record WritesNext (old : List TypeRow) (stand : Stand) (told : Copied TypeRo
 
 -- The same for the table that a handle holds; nothing is written if it holds none.
 abbrev pub WritesNextOf : List TypeRow → Option Content → Copied TypeRow → Option Content → Type 0
-WritesNextOf old (Some (contents.Table stand)) told held = (end : Stand) × (held ≡ Some (contents.Table end)) × WritesNext old stand told end
+WritesNextOf old (Some (contents.Table stand)) told held = (end : WalkPosition) × (held ≡ Some (contents.Table end)) × WritesNext old stand told end
 WritesNextOf old before told held = (told ≡ untouched not_open old) × (held ≡ before)

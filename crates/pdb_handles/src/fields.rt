@@ -1,8 +1,9 @@
 //! Lists of fields.
 
-ghost use Rattle.std.specs.Prelude.{◌≡◌, List, Option, map, Ok, IfOk, IfErr};
+ghost use Rattle.std.specs.Prelude.{◌≡◌, List, Option, map, Ok, IfOk};
 ghost use Rattle.std.specs.List.{flat_map};
 ghost use Rattle.std.specs.Option.{option_map};
+ghost use Rattle.pdb_base.specs.Memory.{FailsOnlyForMemory};
 ghost use Rattle.pdb_base.specs.Answer.{Answer, Answers};
 ghost use Rattle.pdb_values.specs.TypeValue.{TypeValue};
 ghost use Rattle.pdb_values.specs.TypeView.{type_value};
@@ -63,7 +64,7 @@ fn shown(alloc: Global, fields: &[TypeData<'_>]) -> Result<Listing>
     ensures rows { IfOk result (λ shown. shown.rows.items ≡ map (λ field. field_row (type_value field)) fields.now) }
     ensures names { IfOk result (λ shown. shown.names.items ≡
         flat_map (λ field. name_bytes (type_value field)) fields.now) }
-    ensures want { IfErr result (λ e. e ≡ Error.OutOfMemory) }
+    ensures memory { FailsOnlyForMemory result }
 {
     let mut rows = Vec::with_capacity(alloc, fields.len())?;
     let mut names = Vec::new(alloc);

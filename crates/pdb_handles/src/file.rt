@@ -7,8 +7,8 @@ ghost use Rattle.pdb_handles.specs.File.{addresses_said, frames_said, named_stre
 
 use crate::content::Content;
 use pdb_base::{Result, Stream};
+use pdb_file::{address_map, frame_table, named_stream, string_table};
 use pdb_msf::{BigMSF, open_msf};
-use pdb_roles::{address_map, frame_table, named_stream, string_table};
 use std::alloc::Global;
 
 /// Opens a file over the caller's bytes.

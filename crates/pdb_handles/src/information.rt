@@ -1,11 +1,12 @@
 //! The information in stream 1 of a file: the numbers that identify it, and the streams that it
 //! names.
 
-ghost use Rattle.std.specs.Prelude.{◌≡◌, map, IfOk, IfErr};
+ghost use Rattle.std.specs.Prelude.{◌≡◌, map, IfOk};
 ghost use Rattle.std.specs.List.{flat_map};
+ghost use Rattle.pdb_base.specs.Memory.{FailsOnlyForMemory};
 ghost use Rattle.pdb_base.specs.Answer.{Answer, Answers};
-ghost use Rattle.pdb_roles.specs.StreamNames.{named_view};
-ghost use Rattle.pdb_roles.specs.declared.information.PDBInformation.{PDBInformation};
+ghost use Rattle.pdb_file.specs.StreamNames.{named_view};
+ghost use Rattle.pdb_file.specs.declared.information.PDBInformation.{PDBInformation};
 ghost use Rattle.pdb_handles.specs.Information.{information_of, information_said, named_row, named_told, names_by};
 ghost use Rattle.pdb_handles.specs.Records.{FieldsOrLacks, fielded};
 ghost use Rattle.pdb_handles.specs.Roles.{IsAnswered};
@@ -15,7 +16,7 @@ use crate::fault::{FINE, Fault};
 use crate::fields::write_nothing;
 use crate::file::opened;
 use pdb_base::{Error, Result};
-use pdb_roles::{PDBInformation, StreamName, StreamNames, pdb_information};
+use pdb_file::{PDBInformation, StreamName, StreamNames, pdb_information};
 use std::alloc::Global;
 
 /// The numbers that identify a file.
@@ -89,7 +90,7 @@ fn listed(alloc: Global, streams: &[StreamName<'_>]) -> Result<NameListing>
     ensures rows { IfOk result (λ listed. listed.rows.items ≡ map (λ named. named_row (named_view named)) streams.now) }
     ensures names { IfOk result (λ listed. listed.names.items ≡
         flat_map (λ named. (named_view named).name) streams.now) }
-    ensures want { IfErr result (λ e. e ≡ Error.OutOfMemory) }
+    ensures memory { FailsOnlyForMemory result }
 {
     let mut rows = Vec::with_capacity(alloc, streams.len())?;
     let mut names = Vec::new(alloc);
@@ -104,7 +105,7 @@ fn listed(alloc: Global, streams: &[StreamName<'_>]) -> Result<NameListing>
 fn listing_of(alloc: Global, streams: &StreamNames<'_>) -> Result<NameListing>
     ensures rows { IfOk result (λ listed. listed.rows.items ≡ map named_row streams.now) }
     ensures names { IfOk result (λ listed. listed.names.items ≡ flat_map (λ named. named.name) streams.now) }
-    ensures want { IfErr result (λ e. e ≡ Error.OutOfMemory) }
+    ensures memory { FailsOnlyForMemory result }
 {
     let listed = listed(alloc, streams.as_slice())?;
     Ok(listed)

@@ -2,7 +2,7 @@
 
 ghost use Rattle.std.specs.Prelude.{◌≡◌, ℕ, List, Ok, Some};
 ghost use Rattle.pdb_base.specs.Refusal.{Refusal};
-ghost use Rattle.pdb_msf.specs.Layout.{Plan, plan_of, stream_by};
+ghost use Rattle.pdb_msf.specs.Layout.{LayoutValue, layout_of, stream_by};
 ghost use Rattle.pdb_handles.specs.declared.fault.Fault.{Fault};
 ghost use Rattle.pdb_handles.specs.File.{stream_said};
 ghost use Rattle.pdb_handles.specs.Names.{StandsAtItsPlace, WritesNamedFront};
@@ -17,11 +17,11 @@ pub fn statuses()
     ensures back { (fault : Fault) (refusal : Refusal) → TellsBack fault refusal }
 {}
 
-/// If the plan of a file is kept, each stream read by it from the file's bytes is the one that is
+/// If the layout of a file is kept, each stream read by it from the file's bytes is the one that is
 /// read from the file anew.
-pub fn kept_plans()
-    ensures { (file : List ℕ) (plan : Plan) (number limit : ℕ) → plan_of file ≡ Ok plan
-        → stream_by plan file number (Some limit) ≡ stream_said number limit file }
+pub fn kept_layouts()
+    ensures { (file : List ℕ) (layout : LayoutValue) (number limit : ℕ) → layout_of file ≡ Ok layout
+        → stream_by layout file number (Some limit) ≡ stream_said number limit file }
 {}
 
 /// The bytes of a string table's stream at the place of a name are the name.

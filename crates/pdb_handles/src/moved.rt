@@ -67,7 +67,7 @@ pub fn write_loaded(
     ensures exact { IfSome map.now.original_to_transformed IsSortedBySource
         → CopiesOrLacks (record { fault = result; length = length.new; room = room.new }) room.old
         (spans_written room.old (translated_parts map.now.original_to_transformed asked)) }
-    ensures somehow { IfSome map.now.original_to_transformed (λ table.
+    ensures unsorted { IfSome map.now.original_to_transformed (λ table.
         WritesSome table room.old (record { fault = result; length = length.new; room = room.new })) }
 {
     match loaded_spans_in(alloc, map.rva_ranges(asked)) {
@@ -87,7 +87,7 @@ pub fn write_internal(
     ensures exact { IfSome map.now.transformed_to_original IsSortedBySource
         → CopiesOrLacks (record { fault = result; length = length.new; room = room.new }) room.old
         (spans_written room.old (translated_parts map.now.transformed_to_original asked)) }
-    ensures somehow { IfSome map.now.transformed_to_original (λ table.
+    ensures unsorted { IfSome map.now.transformed_to_original (λ table.
         WritesSome table room.old (record { fault = result; length = length.new; room = room.new })) }
 {
     match internal_spans_in(alloc, map.internal_rva_ranges(asked)) {

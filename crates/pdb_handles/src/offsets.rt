@@ -1,6 +1,7 @@
 //! The offsets of all names of a string table.
 
-ghost use Rattle.std.specs.Prelude.{◌≡◌, IfOk, IfErr};
+ghost use Rattle.std.specs.Prelude.{◌≡◌, IfOk};
+ghost use Rattle.pdb_base.specs.Memory.{FailsOnlyForMemory};
 ghost use Rattle.pdb_handles.specs.Offsets.{AreOffsets, WritesOffsets};
 
 use crate::copied::{copy_nothing, copy_out};
@@ -12,7 +13,7 @@ use std::alloc::Global;
 /// Returns the offsets of all names, which stand one after another from offset 0 on.
 fn offsets_of(alloc: Global, names: &StringTable) -> Result<Vec<u32>>
     ensures offsets { IfOk result (λ offsets. AreOffsets names.now offsets.items) }
-    ensures want { IfErr result (λ e. e ≡ Error.OutOfMemory) }
+    ensures memory { FailsOnlyForMemory result }
 {
     let mut offsets = Vec::new(alloc);
     let mut offset = 0u64;

@@ -1,6 +1,7 @@
 //! Where the items of a table stand in the caller's stream.
 
-ghost use Rattle.std.specs.Prelude.{◌≡◌, ◌<◌, length, Ok, IfOk, IfErr};
+ghost use Rattle.std.specs.Prelude.{◌≡◌, ◌<◌, length, Ok, IfOk};
+ghost use Rattle.pdb_base.specs.Memory.{FailsOnlyForMemory};
 ghost use Rattle.pdb_base.specs.Answer.{Answer, Answers};
 ghost use Rattle.pdb_tpi.specs.Table.{Table, table_of};
 ghost use Rattle.pdb_tpi.specs.Steps.{walk_rest};
@@ -35,7 +36,7 @@ struct Items {
 fn walked(alloc: Global, table: &TypeInformation) -> Result<Items>
     ensures positions { IfOk result (λ walked. AreAllPositions table.now walked.positions.items) }
     ensures stop { IfOk result (λ walked. walked.stop ≡ stop_fault (walk_rest table.now)) }
-    ensures want { IfErr result (λ e. e ≡ Error.OutOfMemory) }
+    ensures memory { FailsOnlyForMemory result }
 {
     let mut positions = Vec::new(alloc);
     let mut items = table.iter();

@@ -66,7 +66,7 @@ pub fn write_moved(
     ensures exact { IsSortedBySource table.now
         → CopiesOrLacks (record { fault = result; length = length.new; room = room.new }) room.old
         (spans_written room.old (parts table.now asked)) }
-    ensures somehow { WritesSome table.now room.old (record { fault = result; length = length.new; room = room.new }) }
+    ensures unsorted { WritesSome table.now room.old (record { fault = result; length = length.new; room = room.new }) }
 {
     write_spans(alloc, table.lookup_range(asked), room, length)
 }

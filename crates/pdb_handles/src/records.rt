@@ -16,8 +16,8 @@ use crate::copied::{copy_name, copy_nothing};
 use crate::fault::{FINE, Fault};
 use crate::row::{Row, argument_list_row, field_list_row};
 use pdb_base::{ParseBuffer, Result, TypeIndex};
-use pdb_leaves::constants::{LF_ARGLIST, LF_FIELDLIST};
 use pdb_records::{parse_behind_leaf, parse_type_data, skip_arguments, skip_field_list};
+use pdb_values::constants::{LF_ARGLIST, LF_FIELDLIST};
 use pdb_values::{FIRST_RECORD, TypeData, type_data_for_primitive};
 use std::alloc::Global;
 

@@ -2,13 +2,13 @@
 
 ghost use Rattle.std.specs.Prelude.{◌≡◌};
 ghost use Rattle.pdb_base.specs.Answer.{Answer, Answers};
-ghost use Rattle.pdb_roles.specs.declared.debug_header.DBIExtraStreams.{DBIExtraStreams};
+ghost use Rattle.pdb_file.specs.declared.debug_header.DBIExtraStreams.{DBIExtraStreams};
 ghost use Rattle.pdb_handles.specs.Roles.{IsAnswered, roles_of, roles_said};
 
 use crate::fault::{FINE, Fault};
 use crate::file::opened;
 use pdb_base::Result;
-use pdb_roles::{DBIExtraStreams, extra_streams};
+use pdb_file::{DBIExtraStreams, extra_streams};
 use std::alloc::Global;
 
 /// The numbers of the streams in eleven roles, each 0xffff if the file has no such stream.

@@ -5,7 +5,7 @@ ghost use Rattle.pdb_base.specs.Answer.{Answers};
 ghost use Rattle.pdb_handles.specs.Sections.{section_of, sections_in};
 
 use pdb_base::{Result, Stream};
-use pdb_roles::section_headers::section_headers;
+use pdb_file::section_headers::section_headers;
 use pdb_space::ImageSectionHeader;
 use std::alloc::Global;
 

@@ -1,7 +1,7 @@
 //! The streams of a file whose header and directory are kept.
 
 ghost use Rattle.pdb_base.specs.Answer.{Answers};
-ghost use Rattle.pdb_handles.specs.File.{plan_said};
+ghost use Rattle.pdb_handles.specs.File.{layout_said};
 
 use crate::content::Content;
 use pdb_base::Result;
@@ -13,7 +13,7 @@ use std::alloc::Global;
 /// # Errors
 /// Fails as `Layout::read` does.
 pub fn layout_in(alloc: Global, file: &[u8]) -> Result<Content>
-    ensures { Answers (λ content. content) result (plan_said file.now) }
+    ensures { Answers (λ content. content) result (layout_said file.now) }
 {
     Ok(Content::File(Layout::read(alloc, file)?))
 }

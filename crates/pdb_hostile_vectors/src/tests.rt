@@ -14,4 +14,5 @@ mod claims;
 mod failing;
 mod refused;
 mod rows;
+mod sweep;
 mod untaken;

@@ -10,11 +10,11 @@ use Rattle.pdb_base.specs.declared.error.Error.{Error}
 use Rattle.std.specs.declared.io.Error as io
 use Rattle.pdb_base.specs.declared.error.Error.TheVariants.{IoError, OutOfMemory}
 use Rattle.pdb_listing.specs.Listed.{IsWalked, all_lines, cut, lacking, lines_of, stopped, whole}
-use Rattle.pdb_rows.specs.Written.{IsFront}
+use Rattle.pdb_rows.specs.Written.{IsPrefix}
 use Rattle.pdb_rows.proofs.lemmas.Written.{front_more}
 use Rattle.pdb_tpi.proofs.StepLemmas.{step_err, step_gives, step_none, step_some}
 use Rattle.pdb_tpi.proofs.WalkLemmas.{nth_some}
-use Rattle.pdb_tpi.specs.Steps.{Stand, walk, walk_rest, steps_taken, IsStep}
+use Rattle.pdb_tpi.specs.Steps.{WalkPosition, walk, walk_rest, steps_taken, IsStep}
 use Rattle.pdb_tpi.specs.Walk.{fault_of}
 use Rattle.pdb_tpi.specs.Table.{Table}
 
@@ -32,44 +32,44 @@ lines_more line index (first ∷ items) item =
     ∙ ap (λ (i : ℕ). (line index first ++ lines_from line (suc index) items) ++ line i item) at
 
 -- an iterator stands in a table, and the lines of the items before it stand behind what stood there
-pub record IsSoFar (line : Line) (table : Table) (stand : Stand) (out out' : Option (List ℕ)) : Type 0 where
+pub record IsSoFar (line : Line) (table : Table) (stand : WalkPosition) (out out' : Option (List ℕ)) : Type 0 where
   pub same : stand.table ≡ table
   pub least : table.header.minimum_index ≤ stand.index
   pub lines : Appends out out' (lines_of line table (stand.index - table.header.minimum_index))
 
 -- before the first item nothing was written
-pub so_far_first : (line : Line) (table : Table) (stand : Stand) (out : Option (List ℕ)) → stand ≡ record { table = table; index = table.header.minimum_index } → IsSoFar line table stand out out
+pub so_far_first : (line : Line) (table : Table) (stand : WalkPosition) (out : Option (List ℕ)) → stand ≡ record { table = table; index = table.header.minimum_index } → IsSoFar line table stand out out
 so_far_first line table stand out is =
-    let first : Stand = record { table = table; index = table.header.minimum_index } in
+    let first : WalkPosition = record { table = table; index = table.header.minimum_index } in
     let none : 0 ≡ table.header.minimum_index - table.header.minimum_index = omega arith in
     let here : IsSoFar line table first out out = record {
       same = refl;
       least = omega arith;
       lines = subst (λ (count : ℕ). Appends out out (lines_of line table count)) none (Appends-nil out);
     } in
-    subst (λ (s : Stand). IsSoFar line table s out out) (sym is) here
+    subst (λ (s : WalkPosition). IsSoFar line table s out out) (sym is) here
 
 some_is : {A : Type 0} (x y : A) → Some x ≡ Some y → x ≡ y
 some_is x y e = cc
 
 -- the item that a step gives is the next of the walk
-step_item : {X : Type 0} (seen : X → ℕ × List ℕ) (old : Stand) (x : X) (new : Stand) → IsStep seen old (Ok (Some x)) new
+step_item : {X : Type 0} (seen : X → ℕ × List ℕ) (old : WalkPosition) (x : X) (new : WalkPosition) → IsStep seen old (Ok (Some x)) new
     → (steps_taken old < length (walk old.table)) × (get_or (walk old.table) (steps_taken old) (seen x).1 ≡ (seen x).1) × ((seen x).0 ≡ old.index)
 step_item {X} seen old x new step = elim ((slice_get_cases (walk old.table) (steps_taken old)).1) [
   | inl here ↦
-      let moved : Stand = record old { index = old.index + 1 } in
+      let moved : WalkPosition = record old { index = old.index + 1 } in
       let next : ℕ × List ℕ = (old.index, here.0) in
-      let given : Option (ℕ × List ℕ) × Stand = (Some next, moved) in
-      let taken : Option (ℕ × List ℕ) × Stand = (Some (seen x), new) in
+      let given : Option (ℕ × List ℕ) × WalkPosition = (Some next, moved) in
+      let taken : Option (ℕ × List ℕ) × WalkPosition = (Some (seen x), new) in
       let is : given ≡ taken = ok_is given taken (sym (step_gives old here.0 (nth_some old.table (steps_taken old) here.0 here.2)) ∙ step.gives) in
-      let pair : next ≡ seen x = some_is next (seen x) (ap (λ (p : Option (ℕ × List ℕ) × Stand). p.0) is) in
+      let pair : next ≡ seen x = some_is next (seen x) (ap (λ (p : Option (ℕ × List ℕ) × WalkPosition). p.0) is) in
       let item : here.0 ≡ (seen x).1 = ap (λ (p : ℕ × List ℕ). p.1) pair in
       (here.1, subst (λ (bytes : List ℕ). get_or (walk old.table) (steps_taken old) bytes ≡ bytes) item here.3, sym (ap (λ (p : ℕ × List ℕ). p.0) pair))
   | inr past ↦ let within = (step_some seen old x new step).0 in let beyond = past.0 in absurd (omega arith)
 ]
 
 -- one item more stands there
-more_here : {X : Type 0} (seen : X → ℕ × List ℕ) (line : Line) (old new : Stand) (x : X) (out mid out' : Option (List ℕ)) → IsSoFar line old.table old out mid → IsStep seen old (Ok (Some x)) new
+more_here : {X : Type 0} (seen : X → ℕ × List ℕ) (line : Line) (old new : WalkPosition) (x : X) (out mid out' : Option (List ℕ)) → IsSoFar line old.table old out mid → IsStep seen old (Ok (Some x)) new
     → Appends mid out' (line (seen x).0 (seen x).1) → IsSoFar line old.table new out out'
 more_here {X} seen line old new x out mid out' so step appends =
     let table = old.table in
@@ -78,7 +78,7 @@ more_here {X} seen line old new x out mid out' so step appends =
     let count = steps_taken old in
     let given = step_item seen old x new step in
     let moved = step_some seen old x new step in
-    let next : new.index ≡ old.index + 1 = ap (λ (s : Stand). s.index) moved.1 in
+    let next : new.index ≡ old.index + 1 = ap (λ (s : WalkPosition). s.index) moved.1 in
     let least = so.least in
     let counted : count + 1 ≡ new.index - minimum = omega arith in
     let within : count < length items = given.0 in
@@ -96,13 +96,13 @@ more_here {X} seen line old new x out mid out' so step appends =
       lines = subst (λ (n : ℕ). Appends out out' (lines_of line table n)) counted (subst (Appends out out') (sym all) whole);
     }
 
-pub so_far_more : {X : Type 0} (seen : X → ℕ × List ℕ) (line : Line) (table : Table) (old new : Stand) (x : X) (out mid out' : Option (List ℕ)) → IsSoFar line table old out mid → IsStep seen old (Ok (Some x)) new
+pub so_far_more : {X : Type 0} (seen : X → ℕ × List ℕ) (line : Line) (table : Table) (old new : WalkPosition) (x : X) (out mid out' : Option (List ℕ)) → IsSoFar line table old out mid → IsStep seen old (Ok (Some x)) new
     → Appends mid out' (line (seen x).0 (seen x).1) → IsSoFar line table new out out'
 so_far_more {X} seen line table old new x out mid out' so step appends =
     subst (λ (t : Table). IsSoFar line t old out mid → IsSoFar line t new out out') so.same (λ here. more_here seen line old new x out mid out' here step appends) so
 
 -- where no item is left, the lines of all stand there
-pub so_far_whole : (line : Line) (table : Table) (stand : Stand) (out out' : Option (List ℕ)) → IsSoFar line table stand out out' → length (walk stand.table) ≤ steps_taken stand → Appends out out' (all_lines line table)
+pub so_far_whole : (line : Line) (table : Table) (stand : WalkPosition) (out out' : Option (List ℕ)) → IsSoFar line table stand out out' → length (walk stand.table) ≤ steps_taken stand → Appends out out' (all_lines line table)
 so_far_whole line table stand out out' so past =
     let here = subst (λ (t : Table). length (walk t) ≤ stand.index - t.header.minimum_index) so.same past in
     subst (λ (items : List (List ℕ)). Appends out out' (lines_from line table.header.minimum_index items)) (take_all (stand.index - table.header.minimum_index) (walk table) here) so.lines
@@ -118,8 +118,8 @@ lines_append line index (first ∷ items) others =
     ∙ ap (λ (i : ℕ). lines_from line index (first ∷ items) ++ lines_from line i others) at
 
 -- a front of the next line stands there
-cut_here : {X : Type 0} (seen : X → ℕ × List ℕ) (line : Line) (old new : Stand) (x : X) (out mid out' : Option (List ℕ)) → IsSoFar line old.table old out mid → IsStep seen old (Ok (Some x)) new
-    → IsFront (line (seen x).0 (seen x).1) mid out' → IsFront (all_lines line old.table) out out'
+cut_here : {X : Type 0} (seen : X → ℕ × List ℕ) (line : Line) (old new : WalkPosition) (x : X) (out mid out' : Option (List ℕ)) → IsSoFar line old.table old out mid → IsStep seen old (Ok (Some x)) new
+    → IsPrefix (line (seen x).0 (seen x).1) mid out' → IsPrefix (all_lines line old.table) out out'
 cut_here {X} seen line old new x out mid out' so step front =
     let table = old.table in
     let items = walk table in
@@ -140,31 +140,31 @@ cut_here {X} seen line old new x out mid out' so step front =
     front_more out mid out' (all_lines line table) (line (seen x).0 (seen x).1) (lines_from line (suc (seen x).0) (drop (suc count) items)) rest next (record { done = lines_of line table count; got = so.lines; left = split }) front
 
 -- where the writer fails within the next line
-pub ends_cut : {X : Type 0} (seen : X → ℕ × List ℕ) (line : Line) (table : Table) (old new : Stand) (x : X) (cause : io.Error) (out mid out' : Option (List ℕ)) → IsSoFar line table old out mid → IsStep seen old (Ok (Some x)) new
-    → IsFront (line (seen x).0 (seen x).1) mid out' → IsWalked line table out out' (Err (IoError cause))
+pub ends_cut : {X : Type 0} (seen : X → ℕ × List ℕ) (line : Line) (table : Table) (old new : WalkPosition) (x : X) (cause : io.Error) (out mid out' : Option (List ℕ)) → IsSoFar line table old out mid → IsStep seen old (Ok (Some x)) new
+    → IsPrefix (line (seen x).0 (seen x).1) mid out' → IsWalked line table out out' (Err (IoError cause))
 ends_cut {X} seen line table old new x cause out mid out' so step front =
     subst (λ (t : Table). IsSoFar line t old out mid → IsWalked line t out out' (Err (IoError cause))) so.same (λ here. cut cause (cut_here seen line old new x out mid out' here step front)) so
 
 -- a front of what was put together in a cleared buffer is one of the line
-pub front_written : (mid out' : Option (List ℕ)) (cleared filled written text : List ℕ) → cleared ≡ [] → filled ≡ cleared ++ text → written ≡ filled → IsFront written mid out' → IsFront text mid out'
-front_written mid out' cleared filled written text none fill write front = subst (λ (bytes : List ℕ). IsFront bytes mid out') (write ∙ fill ∙ ap (λ (before : List ℕ). before ++ text) none) front
+pub front_written : (mid out' : Option (List ℕ)) (cleared filled written text : List ℕ) → cleared ≡ [] → filled ≡ cleared ++ text → written ≡ filled → IsPrefix written mid out' → IsPrefix text mid out'
+front_written mid out' cleared filled written text none fill write front = subst (λ (bytes : List ℕ). IsPrefix bytes mid out') (write ∙ fill ∙ ap (λ (before : List ℕ). before ++ text) none) front
 
 -- ---- how a walk ends
 
 -- at the end of the table all lines stand there
-pub ends_whole : {X : Type 0} (seen : X → ℕ × List ℕ) (line : Line) (table : Table) (old new : Stand) (out out' : Option (List ℕ)) → IsSoFar line table old out out' → IsStep seen old (Ok None) new → IsWalked line table out out' (Ok tt)
+pub ends_whole : {X : Type 0} (seen : X → ℕ × List ℕ) (line : Line) (table : Table) (old new : WalkPosition) (out out' : Option (List ℕ)) → IsSoFar line table old out out' → IsStep seen old (Ok None) new → IsWalked line table out out' (Ok tt)
 ends_whole seen line table old new out out' so step =
     let ended = step_none seen old new step in
     whole (ap walk_rest (sym so.same) ∙ ended.1) (so_far_whole line table old out out' so ended.0)
 
 -- and at the fault at which it stops
-pub ends_stopped : {X : Type 0} (seen : X → ℕ × List ℕ) (line : Line) (table : Table) (old new : Stand) (fault : Error) (out out' : Option (List ℕ)) → IsSoFar line table old out out' → IsStep seen old (Err fault) new → IsWalked line table out out' (Err fault)
+pub ends_stopped : {X : Type 0} (seen : X → ℕ × List ℕ) (line : Line) (table : Table) (old new : WalkPosition) (fault : Error) (out out' : Option (List ℕ)) → IsSoFar line table old out out' → IsStep seen old (Err fault) new → IsWalked line table out out' (Err fault)
 ends_stopped seen line table old new fault out out' so step =
     let ended = step_err seen old new fault step in
     stopped fault (ap (λ (t : Table). fault_of (walk_rest t)) (sym so.same) ∙ ended.1) (so_far_whole line table old out out' so ended.0)
 
 -- where memory is refused, the lines so far stand there
-pub ends_lacking : (line : Line) (table : Table) (stand : Stand) (fault : Error) (out out' : Option (List ℕ)) → IsSoFar line table stand out out' → fault ≡ OutOfMemory → IsWalked line table out out' (Err fault)
+pub ends_lacking : (line : Line) (table : Table) (stand : WalkPosition) (fault : Error) (out out' : Option (List ℕ)) → IsSoFar line table stand out out' → fault ≡ OutOfMemory → IsWalked line table out out' (Err fault)
 ends_lacking line table stand fault out out' so want =
     let all : IsWalked line table out out' (Err OutOfMemory) = lacking (stand.index - table.header.minimum_index) so.lines in
     subst (λ (e : Error). IsWalked line table out out' (Err e)) (sym want) all

@@ -13,7 +13,7 @@ use Rattle.pdb_listing.specs.Lines.{id_shown, member_lines, type_shown}
 use Rattle.pdb_listing.specs.Listed.{IsShown, cut_shown, lacking_shown, members_text, refused_shown, stopped_shown, unread_shown, whole_shown}
 use Rattle.pdb_rows.specs.declared.form.Form.{Form}
 use Rattle.pdb_listing.proofs.ListingLemmas.{front_written, line_written}
-use Rattle.pdb_rows.specs.Written.{IsFront}
+use Rattle.pdb_rows.specs.Written.{IsPrefix}
 use Rattle.pdb_rows.proofs.lemmas.Written.{front_first, front_second}
 use Rattle.pdb_rows.specs.IdRows.{id_row}
 use Rattle.pdb_rows.specs.Lines.{full_text}
@@ -61,16 +61,16 @@ full_written form row leaf told shown out mid new filled written is same none fi
 
 -- a front of the record in full
 pub full_cut : (form : Form) (row : ℕ → ShownRow) (leaf told : ℕ) (shown : ShownRow) (out mid : Option (List ℕ)) (new filled written : List ℕ) → shown ≡ row told → told ≡ leaf
-    → new ≡ [] → filled ≡ new ++ full_text form shown → written ≡ filled → IsFront written out mid → IsFront (full_text form (row leaf)) out mid
+    → new ≡ [] → filled ≡ new ++ full_text form shown → written ≡ filled → IsPrefix written out mid → IsPrefix (full_text form (row leaf)) out mid
 full_cut form row leaf told shown out mid new filled written is same none fill write front =
     front_written out mid new filled written (full_text form (row leaf)) none (fill ∙ ap (λ (r : ShownRow). new ++ full_text form r) (is ∙ ap row same)) write front
 
 -- the writer fails within the record
-pub cut_record : (meant : Meant) (out out' : Option (List ℕ)) (text : List ℕ) (members : Answer (List ℕ)) (cause : io.Error) → meant ≡ Ok (text, members) → IsFront text out out' → IsShown meant out out' (Err (IoError cause))
+pub cut_record : (meant : Meant) (out out' : Option (List ℕ)) (text : List ℕ) (members : Answer (List ℕ)) (cause : io.Error) → meant ≡ Ok (text, members) → IsPrefix text out out' → IsShown meant out out' (Err (IoError cause))
 cut_record meant out out' text members cause is front = cut_shown text members cause is (front_first out out' text (members_text members) front)
 
 -- or within its members
-pub cut_members : (meant : Meant) (out mid out' : Option (List ℕ)) (text added : List ℕ) (members : Answer (List ℕ)) (cause : io.Error) → meant ≡ Ok (text, members) → members ≡ Ok added → Appends out mid text → IsFront added mid out'
+pub cut_members : (meant : Meant) (out mid out' : Option (List ℕ)) (text added : List ℕ) (members : Answer (List ℕ)) (cause : io.Error) → meant ≡ Ok (text, members) → members ≡ Ok added → Appends out mid text → IsPrefix added mid out'
     → IsShown meant out out' (Err (IoError cause))
 cut_members meant out mid out' text added members cause is all got front =
     cut_shown text (Ok added) cause (is ∙ ap (λ (more : Answer (List ℕ)). ok (text, more)) all) (front_second out mid out' text added got front)

@@ -7,7 +7,7 @@ use Rattle.pdb_base.specs.Refusal.{refusal_of}
 use Rattle.pdb_base.specs.declared.error.Error.{Error}
 use Rattle.pdb_base.specs.declared.error.Error.TheVariants.{IoError, OutOfMemory}
 use Rattle.pdb_listing.specs.Lines.{lines_from}
-use Rattle.pdb_rows.specs.Written.{IsFront}
+use Rattle.pdb_rows.specs.Written.{IsPrefix}
 use Rattle.pdb_tpi.specs.Steps.{walk, walk_rest}
 use Rattle.pdb_tpi.specs.Table.{Table, table_of}
 use Rattle.pdb_tpi.specs.Walk.{fault_of}
@@ -35,7 +35,7 @@ pub data IsWalked (line : ℕ → List ℕ → List ℕ) (table : Table) (out ou
   whole : walk_rest table ≡ [] → Appends out out' (all_lines line table) → IsWalked line table out out' (Ok tt)
   stopped : (fault : Error) → fault_of (walk_rest table) ≡ refusal_of fault → Appends out out' (all_lines line table) → IsWalked line table out out' (Err fault)
   lacking : (count : ℕ) → Appends out out' (lines_of line table count) → IsWalked line table out out' (Err OutOfMemory)
-  cut : (cause : io.Error) → IsFront (all_lines line table) out out' → IsWalked line table out out' (Err (IoError cause))
+  cut : (cause : io.Error) → IsPrefix (all_lines line table) out out' → IsWalked line table out out' (Err (IoError cause))
 
 -- The table that a stream holds was listed; or the stream is refused as a table, and nothing was written.
 pub data IsListed (line : ℕ → List ℕ → List ℕ) (stream : List ℕ) (out out' : Option (List ℕ)) (result : Result (Unit {0}) Error) : Type 0 where
@@ -60,4 +60,4 @@ pub data IsShown (meant : Answer (List ℕ × Answer (List ℕ))) (out out' : Op
   refused_shown : (fault : Error) → meant ≡ Err (refusal_of fault) → Keeps out out' → IsShown meant out out' (Err fault)
   unread_shown : Keeps out out' → IsShown meant out out' (Err OutOfMemory)
   lacking_shown : (text : List ℕ) (members : Answer (List ℕ)) → meant ≡ Ok (text, members) → Appends out out' text → IsShown meant out out' (Err OutOfMemory)
-  cut_shown : (text : List ℕ) (members : Answer (List ℕ)) (cause : io.Error) → meant ≡ Ok (text, members) → IsFront (text ++ members_text members) out out' → IsShown meant out out' (Err (IoError cause))
+  cut_shown : (text : List ℕ) (members : Answer (List ℕ)) (cause : io.Error) → meant ≡ Ok (text, members) → IsPrefix (text ++ members_text members) out out' → IsShown meant out out' (Err (IoError cause))

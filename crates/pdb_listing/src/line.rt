@@ -1,6 +1,7 @@
 //! The line of an item of a table.
 
-ghost use Rattle.std.specs.Prelude.{◌≡◌, ◌++◌, IfErr, OnOk};
+ghost use Rattle.std.specs.Prelude.{◌≡◌, ◌++◌, OnOk};
+ghost use Rattle.pdb_base.specs.Memory.{FailsOnlyForMemory};
 ghost use Rattle.pdb_listing.specs.Lines.{id_line, type_line};
 ghost use Rattle.pdb_tpi.specs.Item.{bytes_of, index_of};
 
@@ -23,7 +24,7 @@ pub(crate) fn push_type(
 ) -> Result<()>
     ensures ok { OnOk result
         (line.new.items ≡ line.old.items ++ type_line form (index_of item.now).0 (bytes_of item.now)) }
-    ensures want { IfErr result (λ e. e ≡ Error.OutOfMemory) }
+    ensures memory { FailsOnlyForMemory result }
 {
     let index = item.index().0;
     let leaf = item.raw_kind();
@@ -50,7 +51,7 @@ pub(crate) fn push_id(
 ) -> Result<()>
     ensures ok { OnOk result
         (line.new.items ≡ line.old.items ++ id_line form (index_of item.now).0 (bytes_of item.now)) }
-    ensures want { IfErr result (λ e. e ≡ Error.OutOfMemory) }
+    ensures memory { FailsOnlyForMemory result }
 {
     let index = item.index().0;
     let leaf = item.raw_kind();

@@ -1,9 +1,10 @@
 //! The members of a type: the fields of a class, a union or an enumeration, through all lists in
 //! which they stand, and the methods of a list.
 
-ghost use Rattle.std.specs.Prelude.{◌≡◌, ◌++◌, IfErr, OnOk};
+ghost use Rattle.std.specs.Prelude.{◌≡◌, ◌++◌, OnOk};
 ghost use Rattle.std.specs.List.{flat_map};
 ghost use Rattle.std.specs.Option.{option_map};
+ghost use Rattle.pdb_base.specs.Memory.{FailsOnlyForMemory};
 ghost use Rattle.pdb_listing.specs.Lines.{field_lines, list_of_fields, member_lines};
 ghost use Rattle.pdb_listing.specs.Listed.{Pushes};
 ghost use Rattle.pdb_rows.specs.EntryRows.{field_row};
@@ -28,7 +29,7 @@ fn push_entries(
 ) -> Result<()>
     ensures ok { OnOk result (lines.new.items ≡ lines.old.items ++
         flat_map (λ field. row_text form (field_row (type_value field))) fields.now) }
-    ensures want { IfErr result (λ e. e ≡ Error.OutOfMemory) }
+    ensures memory { FailsOnlyForMemory result }
 {
     for field in fields {
         let row = field_row(alloc, field)?;
@@ -47,7 +48,7 @@ fn push_methods(
 ) -> Result<()>
     ensures ok { OnOk result (lines.new.items ≡ lines.old.items ++
         flat_map (λ method. row_text form (listed_method_fields method)) methods.now) }
-    ensures want { IfErr result (λ e. e ≡ Error.OutOfMemory) }
+    ensures memory { FailsOnlyForMemory result }
 {
     for method in methods {
         let row = method_row(alloc, *method)?;

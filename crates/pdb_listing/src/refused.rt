@@ -1,6 +1,7 @@
 //! The row of a record that is refused.
 
-ghost use Rattle.std.specs.Prelude.{◌≡◌, ◌++◌, IfErr, OnOk};
+ghost use Rattle.std.specs.Prelude.{◌≡◌, ◌++◌, OnOk};
+ghost use Rattle.pdb_base.specs.Memory.{FailsOnlyForMemory};
 ghost use Rattle.pdb_base.specs.Refusal.{refusal_of};
 ghost use Rattle.pdb_listing.specs.Lines.{refused_row};
 ghost use Rattle.pdb_rows.specs.Lines.{row_text};
@@ -24,7 +25,7 @@ pub(crate) fn push_refused(
 ) -> Result<()>
     ensures ok { OnOk result
         (line.new.items ≡ line.old.items ++ row_text form (refused_row index leaf (refusal_of fault.now))) }
-    ensures want { IfErr result (λ e. e ≡ Error.OutOfMemory) }
+    ensures memory { FailsOnlyForMemory result }
 {
     let text = error_text(alloc, fault)?;
     let fields = vec![in alloc;

@@ -3,10 +3,10 @@ use Rattle.std.specs.Prelude.{ℕ, ◌&&◌, if◌then◌else◌, Bool, List, []
 use Rattle.std.specs.Option.{is_none}
 use Rattle.pdb_base.specs.Answer.{Answer, ◌>>=◌}
 use Rattle.pdb_msf.specs.Header.{Head}
-use Rattle.pdb_roles.specs.File.{file_address_map, said_by, stream_numbered}
-use Rattle.pdb_roles.specs.SectionHeaders.{section_headers_of}
-use Rattle.pdb_space.specs.Conversions.{Arrangement}
-use Rattle.pdb_space.specs.Omap.{Mapping, omap_table_of}
+use Rattle.pdb_file.specs.File.{file_address_map, said_by, stream_numbered}
+use Rattle.pdb_file.specs.SectionHeaders.{section_headers_of}
+use Rattle.pdb_space.specs.Conversions.{AddressMapValue}
+use Rattle.pdb_space.specs.Omap.{OmapValue, omap_table_of}
 use Rattle.pdb_space.specs.declared.section_header.ImageSectionHeader.{ImageSectionHeader}
 use Rattle.pdb_mapping.specs.declared.given.MapStreams.{MapStreams}
 
@@ -15,11 +15,11 @@ unfoldable pub sections_in : List ℕ → Head → Option ℕ → Answer (Option
 sections_in file head number = stream_numbered file head number >>= said_by section_headers_of
 
 -- the OMAP table in the stream with this number, if a number is given
-unfoldable pub omap_in : List ℕ → Head → Option ℕ → Answer (Option (List Mapping))
+unfoldable pub omap_in : List ℕ → Head → Option ℕ → Answer (Option (List OmapValue))
 omap_in file head number = stream_numbered file head number >>= said_by omap_table_of
 
 -- the address map made from given streams
-unfoldable pub given_map : List ℕ → Head → MapStreams → Answer Arrangement
+unfoldable pub given_map : List ℕ → Head → MapStreams → Answer AddressMapValue
 given_map file head streams = do
   sections ← sections_in file head streams.sections
   transformed ← sections_in file head streams.transformed
@@ -32,5 +32,5 @@ abbrev pub gives_none : MapStreams → Bool
 gives_none streams = is_none streams.sections && is_none streams.transformed && is_none streams.to_original && is_none streams.to_transformed
 
 -- the address map made from given streams, or the file's own if none is given
-unfoldable pub map_in : List ℕ → Head → MapStreams → Answer Arrangement
+unfoldable pub map_in : List ℕ → Head → MapStreams → Answer AddressMapValue
 map_in file head streams = if gives_none streams then file_address_map file head else given_map file head streams

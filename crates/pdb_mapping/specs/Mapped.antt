@@ -9,9 +9,9 @@ use Rattle.pdb_rows.specs.declared.form.Form.{Form}
 use Rattle.pdb_rows.specs.Fields.{optional_hexadecimal, optional_number}
 use Rattle.pdb_rows.specs.Lines.{row_text}
 use Rattle.pdb_rows.specs.Row.{ShownRow, flag, text}
-use Rattle.pdb_space.specs.Conversions.{Arrangement}
+use Rattle.pdb_space.specs.Conversions.{AddressMapValue}
 use Rattle.pdb_space.specs.SectionPlace.{SectionPlace}
-use Rattle.pdb_rows.specs.Written.{IsCut, IsFront}
+use Rattle.pdb_rows.specs.Written.{IsOutputFailure, IsPrefix}
 use Rattle.pdb_mapping.specs.Made.{IsMadeOfInternal, IsMadeOfLoaded}
 use Rattle.pdb_mapping.specs.declared.made.OfInternal.{OfInternal}
 use Rattle.pdb_mapping.specs.declared.made.OfLoaded.{OfLoaded}
@@ -54,7 +54,7 @@ internal_text form made =
 
 -- The lines for a number: for it as an address in the image as it is loaded, and then as one in the
 -- original image.
-pub record AreLinesOf (form : Form) (map : Arrangement) (address : ℕ) (lines : List ℕ) : Type 0 where
+pub record AreLinesOf (form : Form) (map : AddressMapValue) (address : ℕ) (lines : List ℕ) : Type 0 where
   pub loaded : OfLoaded
   pub is_loaded : IsMadeOfLoaded map address loaded
   pub internal : OfInternal
@@ -62,12 +62,12 @@ pub record AreLinesOf (form : Form) (map : Arrangement) (address : ℕ) (lines :
   pub are_lines : lines ≡ loaded_text form loaded ++ internal_text form internal
 
 -- nothing was written, or a front of these lines
-pub data IsPart (form : Form) (meant : Answer Arrangement) (address : ℕ) (old new : Option (List ℕ)) : Type 0 where
+pub data IsPart (form : Form) (meant : Answer AddressMapValue) (address : ℕ) (old new : Option (List ℕ)) : Type 0 where
   nothing : Keeps old new → IsPart form meant address old new
-  front : (map : Arrangement) (lines : List ℕ) → meant ≡ Ok map → AreLinesOf form map address lines → IsFront lines old new → IsPart form meant address old new
+  front : (map : AddressMapValue) (lines : List ℕ) → meant ≡ Ok map → AreLinesOf form map address lines → IsPrefix lines old new → IsPart form meant address old new
 
 -- The lines for an address by the map that is meant were written. Or the map is refused, and nothing was
 -- written; or the lines were cut short.
-abbrev pub IsMapped : Form → Answer Arrangement → ℕ → Option (List ℕ) → Option (List ℕ) → Result (Unit {0}) Error → Type 0
-IsMapped form meant address old new (Ok done) = (map : Arrangement) × (lines : List ℕ) × (meant ≡ Ok map) × AreLinesOf form map address lines × Appends old new lines
-IsMapped form meant address old new (Err e) = ((meant ≡ Err (refusal_of e)) × Keeps old new) ⊎ (IsCut e × IsPart form meant address old new)
+abbrev pub IsMapped : Form → Answer AddressMapValue → ℕ → Option (List ℕ) → Option (List ℕ) → Result (Unit {0}) Error → Type 0
+IsMapped form meant address old new (Ok done) = (map : AddressMapValue) × (lines : List ℕ) × (meant ≡ Ok map) × AreLinesOf form map address lines × Appends old new lines
+IsMapped form meant address old new (Err e) = ((meant ≡ Err (refusal_of e)) × Keeps old new) ⊎ (IsOutputFailure e × IsPart form meant address old new)

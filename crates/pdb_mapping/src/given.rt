@@ -7,9 +7,9 @@ ghost use Rattle.pdb_msf.specs.Source.{HasFailed, IsKept};
 ghost use Rattle.pdb_mapping.specs.Given.{given_map, gives_none, map_in, omap_in, sections_in};
 
 use pdb_base::Result;
+use pdb_file::address_map;
+use pdb_file::section_headers::section_headers;
 use pdb_msf::{BigMSF, Msf, Source};
-use pdb_roles::address_map;
-use pdb_roles::section_headers::section_headers;
 use pdb_space::{AddressMap, ImageSectionHeader, OMAPTable};
 use std::alloc::Global;
 

@@ -1,7 +1,8 @@
 //! The lines of what is made of an address, one for each conversion.
 
-ghost use Rattle.std.specs.Prelude.{◌≡◌, ◌++◌, codes, IfErr, IfOk};
+ghost use Rattle.std.specs.Prelude.{◌≡◌, ◌++◌, codes, IfOk};
 ghost use Rattle.std.specs.Option.{option_map};
+ghost use Rattle.pdb_base.specs.Memory.{FailsOnlyForMemory};
 ghost use Rattle.pdb_mapping.specs.Mapped.{address_shown, crossed_text, internal_text, loaded_text, place_shown};
 ghost use Rattle.pdb_rows.specs.Lines.{row_text};
 ghost use Rattle.pdb_rows.specs.Row.{row_shown, value_shown};
@@ -53,7 +54,7 @@ fn address_row<'t>(
     address: Option<u32>,
 ) -> Result<Row<'t>>
     ensures ok { IfOk result (λ row. row_shown row ≡ address_shown from.now to.now address) }
-    ensures want { IfErr result (λ e. e ≡ Error.OutOfMemory) }
+    ensures memory { FailsOnlyForMemory result }
 {
     let fields = vec![in alloc;
         field("from", Value::Word(from)),
@@ -72,7 +73,7 @@ fn place_row<'t>(
     place: Option<SectionOffset>,
 ) -> Result<Row<'t>>
     ensures ok { IfOk result (λ row. row_shown row ≡ place_shown from.now to.now place) }
-    ensures want { IfErr result (λ e. e ≡ Error.OutOfMemory) }
+    ensures memory { FailsOnlyForMemory result }
 {
     let fields = vec![in alloc;
         field("from", Value::Word(from)),

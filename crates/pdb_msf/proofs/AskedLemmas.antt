@@ -4,7 +4,7 @@ use Rattle.pdb_base.specs.declared.error.Error.{Error}
 use Rattle.pdb_msf.specs.Asked.{Asks, raised_by}
 use Rattle.pdb_msf.specs.Header.{Head}
 use Rattle.pdb_msf.specs.Directory.{Entry, directory_of, entry_of}
-use Rattle.pdb_msf.specs.File.{described, limited, wanted}
+use Rattle.pdb_msf.specs.File.{described, wanted}
 
 -- nothing more is asked
 pub asks_nothing : (asked : ℕ) → asked < 2 ^ 64 → asked ≡ raised_by 0 asked
@@ -20,7 +20,8 @@ asks_refused X old middle new part rest e fits first second = let low = second.0
 
 -- of a stream that the directory describes its size is wanted, cut to the limit
 pub wanted_is : (old file : List ℕ) (before head : Head) (n : ℕ) (limit : Option ℕ) (directory : List ℕ) (entry : Entry) → file ≡ old → head ≡ before
-    → directory_of file head ≡ Ok directory → entry_of head.geometry n directory ≡ Ok entry → wanted (described old before n) limit ≡ limited entry.size limit
+    → directory_of file head ≡ Ok directory → entry_of head.geometry n limit directory ≡ Ok entry
+    → wanted (described old before n limit) ≡ entry.size
 wanted_is old file before head n limit directory entry same_file same_head read is =
-    let here : wanted (described file head n) limit ≡ limited entry.size limit = rw (read, is) refl in
-    ap (λ (f : List ℕ). wanted (described f before n) limit) (sym same_file) ∙ ap (λ (h : Head). wanted (described file h n) limit) (sym same_head) ∙ here
+    let here : wanted (described file head n limit) ≡ entry.size = rw (read, is) refl in
+    ap (λ (f : List ℕ). wanted (described f before n limit)) (sym same_file) ∙ ap (λ (h : Head). wanted (described file h n limit)) (sym same_head) ∙ here

@@ -10,7 +10,7 @@ use Rattle.pdb_msf.specs.declared.header.Geometry.{Geometry}
 use Rattle.pdb_msf.specs.declared.directory.StreamPlace.{StreamPlace}
 use Rattle.pdb_msf.specs.Source.{State, TellsKind}
 use Rattle.pdb_msf.specs.Pages.{pages, present, judged, page_numbers, words}
-use Rattle.pdb_msf.specs.Directory.{Entry, absent, entry_of, place_in, sizes_of, start_of}
+use Rattle.pdb_msf.specs.Directory.{Entry, absent, entry_of, limited, place_in, sizes_of, start_of}
 use Rattle.pdb_msf.proofs.LawLemmas.{first_fault}
 
 -- answers that refuse with no error of a source
@@ -58,12 +58,12 @@ plain_place page_size n d =
     plain_then _ _ (plain_required (leb (start_of page_size count d n) (length d)) unexpected_eof (λ state. tt)) (λ reached.
     let place : StreamPlace = record { size = size; start = start_of page_size count d n } in plain_ok place)))))
 
-plain_entry : (g : Geometry) (n : ℕ) (d : List ℕ) → Plain (entry_of g n d)
+plain_entry : (g : Geometry) (n : ℕ) (limit : Option ℕ) (d : List ℕ) → Plain (entry_of g n limit d)
 unfolding entry_of
-plain_entry g n d =
+plain_entry g n limit d =
     plain_then _ _ (plain_place g.page_size n d) (λ place.
     plain_then _ _ (plain_numbers g.pages_used (pages g.page_size place.size) (words (drop place.start d))) (λ numbers.
-    let entry : Entry = record { size = place.size; pages = numbers } in plain_ok entry))
+    let entry : Entry = record { size = limited place.size limit; pages = numbers } in plain_ok entry))
 
 -- so a call that reads no source passes no error of one on
 tells_answers : {X A : Type 0} (state : State) (view : X → A) (e : Error) (meant : Answer A) → Plain meant → Answers view (Err e) meant → TellsKind state (refusal_of e)
@@ -73,5 +73,7 @@ tells_answers state view e meant plain (inr want) = rw want tt
 pub tells_numbers : {X : Type 0} (state : State) (view : X → List ℕ) (e : Error) (pages_used count : ℕ) (words : List ℕ) → Answers view (Err e) (page_numbers pages_used count words) → TellsKind state (refusal_of e)
 tells_numbers state view e pages_used count words answered = tells_answers state view e (page_numbers pages_used count words) (plain_numbers pages_used count words) answered
 
-pub tells_entry : {X : Type 0} (state : State) (view : X → Entry) (e : Error) (g : Geometry) (n : ℕ) (d : List ℕ) → Answers view (Err e) (entry_of g n d) → TellsKind state (refusal_of e)
-tells_entry state view e g n d answered = tells_answers state view e (entry_of g n d) (plain_entry g n d) answered
+pub tells_entry : {X : Type 0} (state : State) (view : X → Entry) (e : Error) (g : Geometry) (n : ℕ) (limit : Option ℕ) (d : List ℕ)
+    → Answers view (Err e) (entry_of g n limit d) → TellsKind state (refusal_of e)
+tells_entry state view e g n limit d answered =
+    tells_answers state view e (entry_of g n limit d) (plain_entry g n limit d) answered

@@ -13,10 +13,11 @@ use Rattle.pdb_base.specs.Answer.{Answer, collected}
 use Rattle.pdb_base.specs.Reading.{number_at, word_at}
 use Rattle.pdb_base.proofs.lemmas.Reading.{front_whole, number_whole}
 use Rattle.pdb_base.proofs.lemmas.Collected.{ok, err, ok_is, err_is, ok_is_no_err, bind_ok, collects_all, collected_more, collected_stops}
+use Rattle.pdb_msf.specs.declared.header.Geometry.{Geometry}
 use Rattle.pdb_msf.specs.Source.{bytes_at, found}
 use Rattle.pdb_msf.specs.Pages.{pages, position_of, scatter, words, present, judged, page_number, page_numbers}
 use Rattle.pdb_msf.specs.Header.{Head, fields_of}
-use Rattle.pdb_msf.specs.Directory.{entry_of, directory_of}
+use Rattle.pdb_msf.specs.Directory.{Entry, directory_of, entry_of, place_in}
 use Rattle.pdb_msf.specs.File.{stream_of}
 use Rattle.pdb_msf.specs.Laws.{IsLeast, Scatters, StandAtOffsets, AreGood, FirstFault, CutsOnly}
 use Rattle.pdb_msf.proofs.PageLemmas.{pages_reach, pages_tight}
@@ -211,10 +212,21 @@ cut_is file page_size numbers size limit bytes e =
       each = λ i lt. are.each i (omega arith) ∙ ap (λ (x : ℕ). Some x) (sym (get_or-take limit bytes i 0 (omega arith)));
     })
 
+-- under a limit an entry differs only in how many bytes are requested
+limited_entry : (g : Geometry) (n limit : ℕ) (d : List ℕ) (entry : Entry) → entry_of g n None d ≡ Ok entry
+    → entry_of g n (Some limit) d ≡ Ok (record { size = min entry.size limit; pages = entry.pages })
+unfolding entry_of
+limited_entry g n limit d entry e =
+    let place = bind_ok (place_in g.page_size n d) _ entry e in
+    let numbers = bind_ok (page_numbers g.pages_used (pages g.page_size place.0.size) (words (drop place.0.start d))) _ entry place.2 in
+    let meant : Entry = record { size = place.0.size; pages = numbers.0 } in
+    let same : meant ≡ entry = ok_is meant entry numbers.2 in
+    rw (place.1, numbers.1) (ap (λ (other : Entry). Ok (let cut : Entry = record { size = min other.size limit; pages = other.pages } in cut)) same)
+
 pub cuts_only : (file : List ℕ) (head : Head) (n limit : ℕ) → CutsOnly file head n limit
 unfolding stream_of
 cuts_only file head n limit bytes e =
     let directory = bind_ok (directory_of file head) _ bytes e in
-    let entry = bind_ok (entry_of head.geometry n directory.0) _ bytes directory.2 in
+    let entry = bind_ok (entry_of head.geometry n None directory.0) _ bytes directory.2 in
     let whole = found_there (scatter file head.geometry.page_size entry.0.pages entry.0.size) bytes entry.2 in
-    rw (directory.1, entry.1, cut_is file head.geometry.page_size entry.0.pages entry.0.size limit bytes whole) refl
+    rw (directory.1, limited_entry head.geometry n limit directory.0 entry.0 entry.1, cut_is file head.geometry.page_size entry.0.pages entry.0.size limit bytes whole) refl

@@ -85,17 +85,16 @@ pub page_size_bounds : (size : ℕ) → IsTrue (is_page_size size) → (256 ≤ 
 page_size_bounds size good = (grind (arith, nat_tests), grind (arith, nat_tests))
 
 -- the pages of a stream hold what is read of it
-pub stream_held : (page_size size count read : ℕ) → IsTrue (is_page_size page_size) → count ≡ pages page_size size → read ≤ size → read ≤ count * page_size
-stream_held page_size size count read sized whole cut =
-    let bounds = page_size_bounds page_size sized in
+pub stream_held : (page_size size count read : ℕ) → 256 ≤ page_size → count ≡ pages page_size size → read ≤ size
+    → read ≤ count * page_size
+stream_held page_size size count read large whole cut =
     let reach = pages_reach page_size size (omega arith) in
     rw whole (omega (arith, reach, cut))
 
 -- and are few
-pub stream_few : (page_size size count : ℕ) → IsTrue (is_page_size page_size) → count ≡ pages page_size size → size < absent → count ≤ 2 ^ 40
-stream_few page_size size count sized whole there =
-    let bounds = page_size_bounds page_size sized in
-    let few = pages_few page_size size (omega arith) (omega (arith, there)) in
+pub stream_few : (page_size size count : ℕ) → 256 ≤ page_size → count ≡ pages page_size size → size < absent → count ≤ 2 ^ 40
+stream_few page_size size count large whole there =
+    let few = pages_few page_size size large (omega (arith, there)) in
     omega (arith, whole, few)
 
 -- no more pages than bytes

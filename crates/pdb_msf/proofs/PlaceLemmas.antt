@@ -1,5 +1,5 @@
 -- Where a stream stands in a directory, step by step, and the places that are kept.
-use Rattle.std.proofs.Common.{◌≡◌, ℕ, suc, ◌+◌, ◌*◌, ◌/◌, ◌<◌, ◌≤◌, min, List, [], length, get_or, drop, map, refl, sym, ap, ◌∙◌, arith, Some, None, Ok, Err}
+use Rattle.std.proofs.Common.{◌≡◌, ℕ, suc, ◌+◌, ◌*◌, ◌/◌, ◌<◌, ◌≤◌, min, List, [], length, get_or, drop, map, refl, sym, ap, ◌∙◌, arith, Option, Some, None, Ok, Err}
 use Rattle.std.proofs.lemmas.Bool.{lt-ltb, le-ltb, le-leb, lt-leb, ne_eqb, eq-eqb}
 use Rattle.std.proofs.lemmas.List.{drop-drop, drop_min, length-drop}
 use Rattle.std.proofs.lemmas.List.FromFn.{get_or-map-range_with_len, length-map-range_with_len}
@@ -12,7 +12,7 @@ use Rattle.pdb_base.specs.Answer.{Answer}
 use Rattle.pdb_msf.specs.Pages.{pages, page_numbers, words}
 use Rattle.pdb_msf.specs.declared.header.Geometry.{Geometry}
 use Rattle.pdb_msf.specs.declared.directory.StreamPlace.{StreamPlace}
-use Rattle.pdb_msf.specs.Directory.{absent, count_of, entry_of, pages_taken, place_in, sizes_of, start_of, starts_of}
+use Rattle.pdb_msf.specs.Directory.{absent, count_of, entry_of, limited, pages_taken, place_in, sizes_of, start_of, starts_of}
 use Rattle.pdb_msf.proofs.WordLemmas.{length-words, next_word, no_word, word_past, words-drop, total_more}
 
 pub no_count : (page_size n : ℕ) (d : List ℕ) → slice_get (words d) 0 ≡ None → place_in page_size n d ≡ Err unexpected_eof
@@ -163,15 +163,17 @@ numbers_left at d slice start place whole begins sought =
     let same : start.slice ≡ d = ap (λ (p : Place). p.slice) begins ∙ whole in
     ap (λ (p : Place). words (left p)) sought ∙ ap (λ (s : List ℕ). words (drop (min at (length s)) s)) same ∙ ap words (drop_min at d)
 
-pub entry_found : (g : Geometry) (n : ℕ) (d : List ℕ) (place : StreamPlace) (numbers : List ℕ) → place_in g.page_size n d ≡ Ok place
-    → page_numbers g.pages_used (pages g.page_size place.size) (words (drop place.start d)) ≡ Ok numbers → entry_of g n d ≡ Ok (record { size = place.size; pages = numbers })
+pub entry_found : (g : Geometry) (n : ℕ) (limit : Option ℕ) (d : List ℕ) (place : StreamPlace) (numbers : List ℕ) → place_in g.page_size n d ≡ Ok place
+    → page_numbers g.pages_used (pages g.page_size place.size) (words (drop place.start d)) ≡ Ok numbers
+    → entry_of g n limit d ≡ Ok (record { size = limited place.size limit; pages = numbers })
 unfolding entry_of
-entry_found g n d place numbers here good = rw (here, good) refl
+entry_found g n limit d place numbers here good = rw (here, good) refl
 
-pub entry_refused : (g : Geometry) (n : ℕ) (d : List ℕ) (place : StreamPlace) (e : Refusal) → place_in g.page_size n d ≡ Ok place
-    → page_numbers g.pages_used (pages g.page_size place.size) (words (drop place.start d)) ≡ Err e → entry_of g n d ≡ Err e
+pub entry_refused : (g : Geometry) (n : ℕ) (limit : Option ℕ) (d : List ℕ) (place : StreamPlace) (e : Refusal) → place_in g.page_size n d ≡ Ok place
+    → page_numbers g.pages_used (pages g.page_size place.size) (words (drop place.start d)) ≡ Err e
+    → entry_of g n limit d ≡ Err e
 unfolding entry_of
-entry_refused g n d place e here bad = rw (here, bad) refl
+entry_refused g n limit d place e here bad = rw (here, bad) refl
 
 -- the page numbers that are read at the place of a stream
 pub numbers_read : (g : Geometry) (size at count : ℕ) (d slice : List ℕ) (start place : Place) (answer : Answer (List ℕ)) → slice ≡ d → start ≡ record { slice = slice; pos = 0 } → place ≡ record start { pos = min at (length start.slice) }

@@ -13,8 +13,8 @@ use Rattle.pdb_msf.specs.declared.directory.StreamPlace.{StreamPlace}
 use Rattle.pdb_msf.specs.Source.{HasFailed, found}
 use Rattle.pdb_msf.specs.Pages.{pages, page_number, page_numbers, present, scatter, words}
 use Rattle.pdb_msf.specs.Header.{Head, directory_pages}
-use Rattle.pdb_msf.specs.Directory.{Entry, absent, directory_of, entry_of, place_in, sizes_of, start_of}
-use Rattle.pdb_msf.specs.File.{limited, stream_of}
+use Rattle.pdb_msf.specs.Directory.{Entry, absent, directory_of, entry_of, limited, place_in, sizes_of, start_of}
+use Rattle.pdb_msf.specs.File.{stream_of}
 use Rattle.pdb_msf.specs.Laws.{AreGood, IsDirectory, IsStream, Moment, IsLater, AnswersAlike, AgreeUnless}
 use Rattle.pdb_msf.proofs.Kept.{kept_here, kept_then}
 use Rattle.pdb_msf.proofs.PlaceLemmas.{HasSize, entry_found, stands}
@@ -125,14 +125,14 @@ unfolding stream_of entry_of
 is_stream file head n limit bytes e =
     let g = head.geometry in
     let directory = bind_ok (directory_of file head) _ bytes e in
-    let entry = bind_ok (entry_of g n directory.0) _ bytes directory.2 in
+    let entry = bind_ok (entry_of g n limit directory.0) _ bytes directory.2 in
     let place = bind_ok (place_in g.page_size n directory.0) _ entry.0 entry.1 in
     let numbers = bind_ok (page_numbers g.pages_used (pages g.page_size place.0.size) (words (drop place.0.start directory.0))) _ entry.0 place.2 in
-    let meant : Entry = record { size = place.0.size; pages = numbers.0 } in
+    let meant : Entry = record { size = limited place.0.size limit; pages = numbers.0 } in
     let same : meant ≡ entry.0 = ok_is meant entry.0 numbers.2 in
     let at = stands_where g.page_size n directory.0 place.0 place.1 in
     let lies : found (scatter file g.page_size numbers.0 (limited place.0.size limit)) ≡ Ok bytes =
-    ap (λ (entry : Entry). found (scatter file g.page_size entry.pages (limited entry.size limit))) same ∙ entry.2 in
+    ap (λ (entry : Entry). found (scatter file g.page_size entry.pages entry.size)) same ∙ entry.2 in
     record {
       directory = directory.0;
       has = is_directory file head directory.0 directory.1;
@@ -161,7 +161,7 @@ only_stream file head n limit bytes is =
     let place : StreamPlace = record { size = is.size; start = is.start } in
     let here : place_in g.page_size n d ≡ Ok place = stood ∙ ap (λ (k : ℕ). Ok (let p : StreamPlace = record { size = is.size; start = k } in p)) (sym is.place) in
     let good = read_good g.pages_used (pages g.page_size is.size) (words (drop is.start d)) is.numbers is.good in
-    let entry = entry_found g n d place is.numbers here good in
+    let entry = entry_found g n limit d place is.numbers here good in
     let lies = (scatters file g.page_size is.numbers (limited is.size limit)).only bytes is.lies in
     rw (read, entry, lies) refl
 

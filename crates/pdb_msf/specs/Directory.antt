@@ -1,6 +1,6 @@
 -- The directory of a file: a u32 count of streams, a u32 size for each, and then the page numbers of the
 -- first stream, of the second and so on, as many for each as its size takes.
-use Rattle.std.specs.Prelude.{◌≡◌, ℕ, ◌+◌, ◌*◌, ◌<◌, ◌≤◌, not, nat_lt, nat_le, ◌==◌, if◌then◌else◌, List, length, map, take, drop, min, slice_get, slice_index, vec_capacity, Ok}
+use Rattle.std.specs.Prelude.{◌≡◌, ℕ, ◌+◌, ◌*◌, ◌^◌, ◌<◌, ◌≤◌, not, nat_lt, nat_le, ◌==◌, if◌then◌else◌, List, length, map, take, drop, min, slice_get, slice_index, vec_capacity, Option, Some, None, Ok}
 use Rattle.std.specs.List.{sum_by, range_with_len}
 use Rattle.pdb_base.specs.Refusal.{unexpected_eof, stream_not_found}
 use Rattle.pdb_base.specs.Answer.{Answer, ◌>>=◌, required}
@@ -41,7 +41,20 @@ place_in page_size n directory = do
   reached ← required (nat_le start (length directory)) unexpected_eof
   Ok (record { size = size; start = start })
 
--- a stream as the directory describes it: its size in bytes and its pages
+-- how many streams a directory has, including absent ones: its first word
+abbrev pub stream_count_in : List ℕ → Answer ℕ
+stream_count_in directory = present (slice_get (words directory) 0)
+
+-- the size of stream n, which must be present and have an offset in the directory
+abbrev pub size_in : ℕ → ℕ → List ℕ → Answer ℕ
+size_in page_size n directory = place_in page_size n directory >>= λ place. Ok place.size
+
+-- a size cut to a limit, if there is one
+abbrev pub limited : ℕ → Option ℕ → ℕ
+limited size None = size
+limited size (Some limit) = min size limit
+
+-- a stream as the directory describes it: how many of its bytes are requested, and its pages
 pub record Entry : Type 0 where
   pub size : ℕ
   pub pages : List ℕ
@@ -50,17 +63,19 @@ pub record Entry : Type 0 where
 abbrev pub entry_view : StreamEntry → Entry
 entry_view entry = record { size = entry.size; pages = entry.pages.items }
 
--- The stream is present, and the entry has as many page numbers as its size takes pages.
-pub record HasPages (geometry : Geometry) (entry : StreamEntry) : Type 0 where
-  pub size : entry.size < absent
-  pub pages : length entry.pages.items ≡ pages geometry.page_size entry.size
+-- The pages of the entry hold the bytes that are requested, and are few, as the bytes are.
+pub record HasPages (page_size : ℕ) (entry : StreamEntry) : Type 0 where
+  pub reached : entry.size ≤ length entry.pages.items * page_size
+  pub short : entry.size < absent
+  pub few : length entry.pages.items ≤ 2 ^ 40
 
--- Stream n of a directory. Its page numbers are the words from its offset on.
-unfoldable pub entry_of : Geometry → ℕ → List ℕ → Answer Entry
-entry_of geometry n directory = do
+-- Stream n of a directory, of which at most as many bytes are requested as the limit says. Its page numbers are
+-- the words from its offset on, whatever the limit.
+unfoldable pub entry_of : Geometry → ℕ → Option ℕ → List ℕ → Answer Entry
+entry_of geometry n limit directory = do
   place ← place_in geometry.page_size n directory
   numbers ← page_numbers geometry.pages_used (pages geometry.page_size place.size) (words (drop place.start directory))
-  Ok (record { size = place.size; pages = numbers })
+  Ok (record { size = limited place.size limit; pages = numbers })
 
 -- The bytes of the directory. Its page numbers are in the pages that the header lists.
 unfoldable pub directory_of : List ℕ → Head → Answer (List ℕ)

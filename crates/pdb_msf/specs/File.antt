@@ -1,5 +1,5 @@
 -- The streams of a file.
-use Rattle.std.specs.Prelude.{◌≡◌, ℕ, ◌+◌, ◌*◌, min, Bool, false, if◌then◌else◌, List, Option, Some, None, IfSome, Ok, Err}
+use Rattle.std.specs.Prelude.{◌≡◌, ℕ, ◌+◌, ◌*◌, Bool, false, if◌then◌else◌, List, Option, IfSome, Ok, Err}
 use Rattle.pdb_base.specs.Answer.{Answer, ◌>>=◌}
 use Rattle.pdb_msf.specs.declared.header.Geometry.{Geometry}
 use Rattle.pdb_msf.specs.declared.header.Header.{Header}
@@ -8,7 +8,7 @@ use Rattle.pdb_msf.specs.declared.directory.StreamPlace.{StreamPlace}
 use Rattle.pdb_msf.specs.Source.{found}
 use Rattle.pdb_msf.specs.Pages.{scatter}
 use Rattle.pdb_msf.specs.Header.{Head, IsHeader, directory_pages, header_view}
-use Rattle.pdb_msf.specs.Directory.{Entry, HasStarts, directory_of, entry_of, place_in}
+use Rattle.pdb_msf.specs.Directory.{Entry, HasStarts, directory_of, entry_of, place_in, size_in, stream_count_in}
 
 -- an open file: its source, what its header says, how many bytes were requested from the source to read
 -- streams, and whether its directory is kept in memory
@@ -24,25 +24,28 @@ pub record IsFresh {S : Type 0} (file : Opened S) : Type 0 where
   pub asked : file.asked ≡ 0
   pub located : file.located ≡ false
 
--- a size cut to a limit, if there is one
-abbrev pub limited : ℕ → Option ℕ → ℕ
-limited size None = size
-limited size (Some limit) = min size limit
-
 -- where stream n of a file is in the directory
 abbrev pub placed : List ℕ → Head → ℕ → Answer StreamPlace
 placed file head n = directory_of file head >>= place_in head.geometry.page_size n
 
+-- how many streams a file has, including absent ones
+abbrev pub stream_count_of : List ℕ → Head → Answer ℕ
+stream_count_of file head = directory_of file head >>= stream_count_in
+
+-- the size of stream n of a file
+abbrev pub stream_size_of : List ℕ → Head → ℕ → Answer ℕ
+stream_size_of file head n = directory_of file head >>= size_in head.geometry.page_size n
+
 -- stream n of a file, as the directory describes it
-abbrev pub described : List ℕ → Head → ℕ → Answer Entry
-described file head n = directory_of file head >>= entry_of head.geometry n
+abbrev pub described : List ℕ → Head → ℕ → Option ℕ → Answer Entry
+described file head n limit = directory_of file head >>= entry_of head.geometry n limit
 
 -- the bytes of stream n of a file, at most as many as the limit says
 unfoldable pub stream_of : List ℕ → Head → ℕ → Option ℕ → Answer (List ℕ)
 stream_of file head n limit = do
   directory ← directory_of file head
-  entry ← entry_of head.geometry n directory
-  found (scatter file head.geometry.page_size entry.pages (limited entry.size limit))
+  entry ← entry_of head.geometry n limit directory
+  found (scatter file head.geometry.page_size entry.pages entry.size)
 
 -- how many bytes are requested to locate the directory: its page numbers, four bytes each,
 -- and its bytes; 0 if it is kept
@@ -50,9 +53,9 @@ abbrev pub locating : Bool → Geometry → ℕ
 locating located geometry = if located then 0 else 4 * directory_pages geometry + geometry.directory_size
 
 -- how many bytes of a stream are requested: its size, cut to the limit, or 0 if the stream is refused
-abbrev pub wanted : Answer Entry → Option ℕ → ℕ
-wanted (Ok entry) limit = limited entry.size limit
-wanted (Err refusal) limit = 0
+abbrev pub wanted : Answer Entry → ℕ
+wanted (Ok entry) = entry.size
+wanted (Err refusal) = 0
 
 -- The directory that is kept is the one that the file has, with the offsets of its streams.
 pub record IsKeptOf (file : List ℕ) (head : Head) (directory : Directory) : Type 0 where

@@ -9,8 +9,8 @@ use Rattle.pdb_base.specs.Answer.{AnswersUnless, IsOtherFault}
 use Rattle.pdb_msf.specs.Source.{State, IsKept, HasFailed}
 use Rattle.pdb_msf.specs.Pages.{pages, position_of, scatter, words, page_number, page_numbers}
 use Rattle.pdb_msf.specs.Header.{Head, fields_of, directory_pages}
-use Rattle.pdb_msf.specs.Directory.{absent, pages_taken, sizes_of}
-use Rattle.pdb_msf.specs.File.{limited, stream_of}
+use Rattle.pdb_msf.specs.Directory.{absent, limited, pages_taken, sizes_of}
+use Rattle.pdb_msf.specs.File.{stream_of}
 
 -- `count` pages hold this many bytes, and no fewer pages do.
 pub record IsLeast (page_size bytes count : ℕ) : Type 0 where

@@ -1,12 +1,14 @@
 //! The directory of a file: which streams it holds, and where the page numbers of each begin.
 
-ghost use Rattle.std.specs.Prelude.{◌≡◌, ◌*◌, ◌^◌, ◌<◌, ◌≤◌, false, length, vec_capacity, IfOk, IfErr};
+ghost use Rattle.std.specs.Prelude.{◌≡◌, ◌*◌, ◌^◌, ◌<◌, ◌≤◌, false, length, vec_capacity, IfOk};
+ghost use Rattle.pdb_base.specs.Memory.{FailsOnlyForMemory};
 ghost use Rattle.pdb_base.specs.Answer.{Answers, AnswersUnless, Gives};
 ghost use Rattle.pdb_msf.specs.Source.{HasFailed, IsKept, KeepsKind};
 ghost use Rattle.pdb_msf.specs.Header.{header_view, IsHeader};
 ghost use Rattle.pdb_msf.specs.Asked.{Asks};
 ghost use Rattle.pdb_msf.specs.Exactly.{RefusesExactly};
-ghost use Rattle.pdb_msf.specs.Directory.{absent, directory_of, entry_of, entry_view, pages_taken, place_in, starts_of, HasPages, HasStarts};
+ghost use Rattle.pdb_msf.specs.Directory.{absent, directory_of, entry_of, entry_view, limited, pages_taken, place_in};
+ghost use Rattle.pdb_msf.specs.Directory.{starts_of, stream_count_in, HasPages, HasStarts};
 ghost use Rattle.pdb_msf.specs.File.{locating};
 
 use crate::header::{Geometry, Header};
@@ -40,9 +42,9 @@ pub struct StreamPlace {
 /// A stream as the directory describes it.
 #[derive(Debug, Drop)]
 pub struct StreamEntry {
-    /// The size of the stream in bytes.
-    pub size: u32,
-    /// The numbers of the pages over which its bytes are scattered.
+    /// How many of its bytes are to be read: its size, cut to the limit.
+    pub size: usize,
+    /// The numbers of the pages over which all of its bytes are scattered.
     pub pages: Vec<u32>,
 }
 
@@ -92,7 +94,7 @@ fn starts_of(alloc: Global, geometry: Geometry, directory: &[u8]) -> Result<Vec<
     requires short { length directory.now < 2 ^ 32 }
     ensures starts { IfOk result (λ starts. starts.items ≡ starts_of geometry.page_size directory.now) }
     ensures small { IfOk result (λ starts. 4 * vec_capacity starts ≤ length directory.now) }
-    ensures want { IfErr result (λ e. e ≡ Error.OutOfMemory) }
+    ensures memory { FailsOnlyForMemory result }
 {
     let mut buffer = ParseBuffer::from(directory);
     let Ok(count) = buffer.parse_u32() else {
@@ -130,6 +132,15 @@ impl Directory {
         Ok(Directory { bytes, starts })
     }
 
+    /// Returns how many streams the directory has, including the absent ones.
+    pub fn stream_count(&self) -> Result<u32>
+        ensures { Gives (λ count. count) result (stream_count_in self.now.bytes.items) }
+    {
+        let mut buffer = ParseBuffer::from(self.bytes.as_slice());
+        let count = buffer.parse_u32()?;
+        Ok(count)
+    }
+
     /// Returns where a stream stands in the directory.
     #[tactic(auto, unfolding(crate::specs::Directory::place_in))]
     pub fn place(&self, page_size: u32, stream_number: u32) -> Result<StreamPlace>
@@ -157,19 +168,22 @@ impl Directory {
         })
     }
 
-    /// Returns a stream as the directory describes it, with its size and its page numbers.
+    /// Returns a stream as the directory describes it: how many of its bytes are to be read, and all
+    /// of its page numbers.
     #[tactic(auto, unfolding(crate::specs::Directory::entry_of))]
     pub fn entry(
         &self,
         alloc: Global,
         geometry: Geometry,
         stream_number: u32,
+        limit: Option<usize>,
     ) -> Result<StreamEntry>
         requires sized { 256 ≤ geometry.page_size }
         requires places { HasStarts geometry.page_size self.now }
-        ensures entry { Answers entry_view result (entry_of geometry stream_number self.now.bytes.items) }
+        ensures entry { Answers entry_view result
+            (entry_of geometry stream_number limit self.now.bytes.items) }
         ensures exact { RefusesExactly result (place_in geometry.page_size stream_number self.now.bytes.items) }
-        ensures whole { IfOk result (HasPages geometry) }
+        ensures whole { IfOk result (HasPages geometry.page_size) }
     {
         let place = self.place(geometry.page_size, stream_number)?;
         let mut buffer = ParseBuffer::from(self.bytes.as_slice());
@@ -177,8 +191,19 @@ impl Directory {
         let count = geometry.pages(place.size as usize);
         let pages = geometry.page_numbers(alloc, &mut buffer, count)?;
         Ok(StreamEntry {
-            size: place.size,
+            size: limited(place.size, limit),
             pages,
         })
+    }
+}
+
+/// Returns a size cut to the limit, if there is one.
+fn limited(size: u32, limit: Option<usize>) -> usize
+    ensures size { result ≡ limited size limit }
+    ensures cut { result ≤ size }
+{
+    match limit {
+        Some(limit) => limit.min(size as usize),
+        None => size as usize,
     }
 }

@@ -7,7 +7,7 @@ ghost use Rattle.pdb_msf.specs.Pages.{pages, judged, page_numbers};
 ghost use Rattle.pdb_msf.specs.Runs.{AreJoined};
 ghost use Rattle.pdb_msf.specs.Header.{Head, opened};
 ghost use Rattle.pdb_msf.specs.File.{stream_of};
-ghost use Rattle.pdb_msf.specs.Layout.{Plan, plan_of, stream_by};
+ghost use Rattle.pdb_msf.specs.Layout.{LayoutValue, layout_of, stream_by};
 ghost use Rattle.pdb_msf.specs.Laws.{IsLeast, Scatters, StandAtOffsets, AreGood, FirstFault, CutsOnly, IsStream, Moment, IsLater, AnswersAlike};
 
 /// The number of pages that some bytes take is the least that holds them.
@@ -72,13 +72,13 @@ pub fn streams()
         IsStream file head n limit bytes → stream_of file head n limit ≡ Ok bytes }
 {}
 
-/// A plan that was read from a file's bytes has the header with which that file opens. It reads
-/// each stream from those bytes, or refuses it, exactly as the file does.
+/// A layout that was read from a file's bytes has the header with which that file opens. Each stream
+/// read by it from those bytes is the file's stream, or fails as that does.
 #[tactic(auto, using(crate::proofs::LayoutLemmas::head_read, crate::proofs::LayoutLemmas::same_stream))]
-pub fn plans()
-    ensures head { (file : List ℕ) (plan : Plan) → plan_of file ≡ Ok plan → opened file ≡ Ok plan.head }
-    ensures stream { (file : List ℕ) (plan : Plan) (n : ℕ) (limit : Option ℕ) →
-        plan_of file ≡ Ok plan → stream_by plan file n limit ≡ stream_of file plan.head n limit }
+pub fn layouts()
+    ensures head { (file : List ℕ) (layout : LayoutValue) → layout_of file ≡ Ok layout → opened file ≡ Ok layout.head }
+    ensures stream { (file : List ℕ) (layout : LayoutValue) (n : ℕ) (limit : Option ℕ) →
+        layout_of file ≡ Ok layout → stream_by layout file n limit ≡ stream_of file layout.head n limit }
 {}
 
 /// A stream has one answer, whatever was asked before: each call of `get` leads to a later moment

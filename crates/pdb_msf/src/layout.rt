@@ -3,15 +3,15 @@
 ghost use Rattle.std.specs.Prelude.{◌≡◌};
 ghost use Rattle.pdb_base.specs.Answer.{Answers, Gives};
 ghost use Rattle.pdb_msf.specs.Exactly.{RefusesExactly};
-ghost use Rattle.pdb_msf.specs.Directory.{place_in};
-ghost use Rattle.pdb_msf.specs.Layout.{plan_of, size_by, stream_by, stream_count_in};
+ghost use Rattle.pdb_msf.specs.Directory.{place_in, stream_count_in};
+ghost use Rattle.pdb_msf.specs.Layout.{layout_of, size_by, stream_by};
 
 use crate::directory::Directory;
 use crate::header::{Header, read_header};
-use crate::msf::{OPENING_SIZE, limited, view_front};
+use crate::msf::{OPENING_SIZE, view_front};
 use crate::scattered::CountedSource;
 use crate::source::SourceView;
-use pdb_base::{ParseBuffer, Result, Stream};
+use pdb_base::{Result, Stream};
 use std::alloc::Global;
 use std::marker::Model;
 
@@ -26,9 +26,9 @@ pub struct Layout {
 impl Model for Layout {
     ghost use Rattle.pdb_msf.specs.Directory.{HasStarts};
     ghost use Rattle.pdb_msf.specs.Header.{IsHeader, header_view};
-    ghost use Rattle.pdb_msf.specs.Layout.{Plan};
+    ghost use Rattle.pdb_msf.specs.Layout.{LayoutValue};
 
-    ghost Value = { Plan };
+    ghost Value = { LayoutValue };
 
     ghost view = { λ l. record { head = header_view l.header; directory = l.directory.bytes.items } };
 
@@ -42,9 +42,9 @@ impl Layout {
     /// Fails as `open_msf` does if the header is refused, and then with `IoError` or
     /// `PageReferenceOutOfRange` if the directory can't be read. Fails with `OutOfMemory` if memory
     /// is asked for and refused.
-    #[tactic(auto, unfolding(crate::specs::Header::opened, crate::specs::Layout::plan_of))]
+    #[tactic(auto, unfolding(crate::specs::Header::opened, crate::specs::Layout::layout_of))]
     pub fn read(alloc: Global, file: &[u8]) -> Result<Layout>
-        ensures { Answers (λ layout. layout) result (plan_of file.now) }
+        ensures { Answers (λ layout. layout) result (layout_of file.now) }
     {
         let mut front = file;
         let view = view_front(&mut front, alloc, OPENING_SIZE)?;
@@ -68,9 +68,7 @@ impl Layout {
     pub fn stream_count(&self) -> Result<u32>
         ensures { Gives (λ count. count) result (stream_count_in self.now.directory) }
     {
-        let mut buffer = ParseBuffer::from(self.directory.bytes.as_slice());
-        let count = buffer.parse_u32()?;
-        Ok(count)
+        self.directory.stream_count()
     }
 
     /// Returns the size of a stream in bytes.
@@ -112,13 +110,12 @@ impl Layout {
             (place_in self.now.head.geometry.page_size stream_number self.now.directory) }
     {
         let geometry = self.header.geometry;
-        let entry = self.directory.entry(alloc, geometry, stream_number)?;
-        let size = limited(entry.size, limit);
+        let entry = self.directory.entry(alloc, geometry, stream_number, limit)?;
         let bytes = CountedSource::new(file).read_scattered(
             alloc,
             geometry.page_size,
             &entry.pages,
-            size,
+            entry.size,
         )?;
         Ok(Stream::new(bytes.into_bytes()))
     }

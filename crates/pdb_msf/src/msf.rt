@@ -7,11 +7,11 @@ ghost use Rattle.pdb_msf.specs.Header.{geometry_of, head_of, opening, opened};
 ghost use Rattle.pdb_msf.specs.Asked.{Asks};
 ghost use Rattle.pdb_msf.specs.Exactly.{RefusesExactly};
 ghost use Rattle.pdb_msf.specs.Directory.{directory_of};
-ghost use Rattle.pdb_msf.specs.File.{Opened, IsFresh, described, limited, locating, placed, stream_of, wanted};
+ghost use Rattle.pdb_msf.specs.File.{Opened, IsFresh, described, locating, placed, stream_count_of, stream_of, stream_size_of, wanted};
 
 use crate::directory::Directory;
 use crate::header::{Header, read_header};
-use crate::scattered::{CountedSource, view};
+use crate::scattered::{CountedSource, source_error};
 use crate::source::{ReadView, Source, SourceSlice, SourceView};
 use pdb_base::{Error, Result, Stream};
 use std::alloc::Global;
@@ -55,7 +55,7 @@ pub trait Msf<S: Source> {
         // The directory is asked for where it is not kept yet, and of the stream what is answered.
         ensures asked { Asks (file self.old).asked (file self.new).asked
             (locating (file self.old).located (file self.old).head.geometry
-            + wanted (described (S.state (file self.old).source).bytes (file self.old).head stream_number) limit)
+            + wanted (described (S.state (file self.old).source).bytes (file self.old).head stream_number limit))
             result }
         // The directory stays where it is kept, and is kept but where reading or keeping it is refused.
         ensures stays { IsTrue (file self.old).located → IsTrue (file self.new).located }
@@ -165,6 +165,68 @@ impl<S: Source> BigMSF<S> {
         self.directory = Some(directory);
         Ok(())
     }
+
+    /// Returns the size of a page in bytes: a power of two from 256 to 8,388,608.
+    pub fn page_size(&self) -> u32
+        ensures { result ≡ self.now.head.geometry.page_size }
+    {
+        self.header.geometry.page_size
+    }
+
+    /// Returns how many streams the directory has, including the absent ones. The numbers of the
+    /// streams are those below this count. The directory is read unless it is kept already.
+    ///
+    /// # Errors
+    /// Fails with the first of these, in this order: `IoError` or `PageReferenceOutOfRange` if the
+    /// directory can't be read; `UnexpectedEof` if the directory ends before its count of streams.
+    ///
+    /// Fails with `OutOfMemory` if memory is asked for and refused, which is asked for only to read
+    /// the directory.
+    pub fn stream_count(&mut self, alloc: Global) -> Result<u32>
+        ensures answer { AnswersUnless (HasFailed (S.state self.old.source) (S.state self.new.source)) (λ count. count)
+            result (stream_count_of (S.state self.old.source).bytes self.old.head) }
+        ensures source { IsKept (S.state self.old.source) (S.state self.new.source) }
+        ensures head { self.new.head ≡ self.old.head }
+        ensures located { IfOk result (λ _. IsTrue self.new.located) }
+        ensures asked { Asks self.old.asked self.new.asked (locating self.old.located self.old.head.geometry) result }
+    {
+        self.locate(alloc)?;
+        let Some(directory) = &self.directory else {
+            unreachable!();
+        };
+        directory.stream_count()
+    }
+
+    /// Returns the size of a stream in bytes, without reading the stream. The directory is read
+    /// unless it is kept already.
+    ///
+    /// # Errors
+    /// Fails with the first of these, in this order: `IoError` or `PageReferenceOutOfRange` if the
+    /// directory can't be read; `UnexpectedEof` if the directory ends before its count of streams;
+    /// `StreamNotFound` if the stream's number is not below that count; `UnexpectedEof` if the size
+    /// of the stream or of one before it is missing; `StreamNotFound` if the stream is absent;
+    /// `UnexpectedEof` if the size of a later stream or a page number of an earlier one is missing.
+    ///
+    /// Fails with `OutOfMemory` if memory is asked for and refused, which is asked for only to read
+    /// the directory.
+    pub fn stream_size(&mut self, alloc: Global, stream_number: u32) -> Result<u32>
+        ensures answer { AnswersUnless (HasFailed (S.state self.old.source) (S.state self.new.source)) (λ size. size)
+            result (stream_size_of (S.state self.old.source).bytes self.old.head stream_number) }
+        ensures source { IsKept (S.state self.old.source) (S.state self.new.source) }
+        ensures head { self.new.head ≡ self.old.head }
+        ensures located { IfOk result (λ _. IsTrue self.new.located) }
+        ensures asked { Asks self.old.asked self.new.asked (locating self.old.located self.old.head.geometry) result }
+    {
+        self.locate(alloc)?;
+        let Some(directory) = &self.directory else {
+            unreachable!();
+        };
+        Ok(
+            directory
+                .place(self.header.geometry.page_size, stream_number)?
+                .size,
+        )
+    }
 }
 
 impl<S: Source> Msf<S> for BigMSF<S> {
@@ -177,20 +239,20 @@ impl<S: Source> Msf<S> for BigMSF<S> {
             unreachable!();
         };
         let geometry = self.header.geometry;
-        let entry = directory.entry(alloc, geometry, stream_number)?;
-        let size = limited(entry.size, limit);
+        let entry = directory.entry(alloc, geometry, stream_number, limit)?;
         let bytes = self
             .source
-            .read_scattered(alloc, geometry.page_size, &entry.pages, size)?;
+            .read_scattered(alloc, geometry.page_size, &entry.pages, entry.size)?;
         Ok(Stream::new(bytes.into_bytes()))
     }
 }
 
-impl BigMSF<Vec<u8>> {
-    /// Returns the bytes of a stream as `get` does, and gives the file up.
+impl<S: Source + Drop> BigMSF<S> {
+    /// Returns the bytes of a stream as `get` does, and consumes the file.
     ///
-    /// If the stream's pages stand in the file in increasing order, as most programs write them, its
-    /// bytes are moved together in the file's own memory, and no memory is asked for to hold them.
+    /// If the file is a `Vec<u8>` in which the stream's pages have increasing numbers, as most
+    /// programs write them, the stream's bytes are moved together in the file's own memory, and no
+    /// memory is asked for to hold them.
     ///
     /// # Errors
     /// Fails as `get` does.
@@ -201,10 +263,10 @@ impl BigMSF<Vec<u8>> {
         stream_number: u32,
         limit: Option<usize>,
     ) -> Result<Stream>
-        ensures answer { Answers (λ stream. stream) result
-            (stream_of self.source.items self.head stream_number limit) }
+        ensures answer { AnswersUnless (¬ IsTrue (S.state self.source).is_sound) (λ stream. stream) result
+            (stream_of (S.state self.source).bytes self.head stream_number limit) }
         ensures exact { IsTrue self.located → RefusesExactly result
-            (placed self.source.items self.head stream_number) }
+            (placed (S.state self.source).bytes self.head stream_number) }
     {
         self.locate(alloc)?;
         let BigMSF {
@@ -216,21 +278,9 @@ impl BigMSF<Vec<u8>> {
             unreachable!();
         };
         let geometry = header.geometry;
-        let stream = directory.entry(alloc, geometry, stream_number)?;
-        let taken = limited(stream.size, limit);
-        let view = source.into_scattered(alloc, geometry.page_size, &stream.pages, taken)?;
+        let stream = directory.entry(alloc, geometry, stream_number, limit)?;
+        let view = source.into_scattered(alloc, geometry.page_size, &stream.pages, stream.size)?;
         Ok(Stream::new(view.into_bytes()))
-    }
-}
-
-/// Returns a size cut to the limit, if there is one.
-pub(crate) fn limited(size: u32, limit: Option<usize>) -> usize
-    ensures size { result ≡ limited size limit }
-    ensures cut { result ≤ size }
-{
-    match limit {
-        Some(limit) => limit.min(size as usize),
-        None => size as usize,
     }
 }
 
@@ -241,15 +291,15 @@ pub(crate) fn view_front<S: Source>(source: &mut S, alloc: Global, size: usize) 
     ensures bytes { AnswersUnless (HasFailed (S.state source.old) (S.state source.new)) (λ v. v) result
         (opening size (S.state source.old).bytes) }
     ensures kept { IsKept (S.state source.old) (S.state source.new) }
+    ensures kind { KeepsKind (S.state source.new) result }
 {
     let slices = [SourceSlice { offset: 0, size }];
-    match view(source, alloc, &slices) {
+    match source.view(alloc, &slices) {
         Ok(view) => Ok(view),
-        Err(Error::IoError(error)) => match error.kind() {
+        Err(error) => match error.kind() {
             ErrorKind::UnexpectedEof => Err(Error::UnrecognizedFileFormat),
-            _ => Err(Error::IoError(error)),
+            _ => Err(source_error(error)),
         },
-        Err(error) => Err(error),
     }
 }
 
@@ -257,11 +307,11 @@ pub(crate) fn view_front<S: Source>(source: &mut S, alloc: Global, size: usize) 
 ///
 /// # Errors
 /// Fails with the first of these, in this order: `UnrecognizedFileFormat` if the source has fewer
-/// bytes; `IoError` if the source fails otherwise; `UnimplementedFeature` if the format is MSF
-/// 2.00; `UnrecognizedFileFormat` if the magic is any other than that of MSF 7.00;
-/// `InvalidPageSize` if the page size is not a power of two from 256 to 8,388,608; `UnexpectedEof`
-/// or `PageReferenceOutOfRange` for the first number of the pages that locate the directory that is
-/// missing or bad.
+/// bytes; `IoError` with the source's own error if the source fails otherwise;
+/// `UnimplementedFeature` if the format is MSF 2.00; `UnrecognizedFileFormat` if the magic is any
+/// other than that of MSF 7.00; `InvalidPageSize` if the page size is not a power of two from 256
+/// to 8,388,608; `UnexpectedEof` or `PageReferenceOutOfRange` for the first number of the pages
+/// that locate the directory that is missing or bad.
 ///
 /// Fails with `OutOfMemory` if memory is asked for and refused.
 #[tactic(auto, unfolding(crate::specs::Header::opened), using(crate::proofs::Kept::unsound))]

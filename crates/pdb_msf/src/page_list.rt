@@ -1,6 +1,7 @@
 //! The positions of pages in a file.
 
-ghost use Rattle.std.specs.Prelude.{◌≡◌, ◌==◌, ◌+◌, ◌^◌, ◌<◌, ◌≤◌, ◌∷◌, ◌++◌, [], false, true, length, take, IsOk, OnOk, OnErr, IfErr};
+ghost use Rattle.std.specs.Prelude.{◌≡◌, ◌==◌, ◌+◌, ◌^◌, ◌<◌, ◌≤◌, ◌∷◌, ◌++◌, [], false, true, length, take, IsOk, OnOk, OnErr};
+ghost use Rattle.pdb_base.specs.Memory.{FailsOnlyForMemory};
 ghost use Rattle.pdb_msf.specs.Source.{positions};
 ghost use Rattle.pdb_msf.specs.PageList.{first_of, page_positions, page_slice, with_slice};
 
@@ -61,7 +62,7 @@ impl PageList {
             record self.old { slices = with_slice self.old.slices (page_slice self.old.page_size page) }) }
         ensures positions { OnOk result (
             positions self.new.slices ≡ positions self.old.slices ++ page_positions self.old.page_size page) }
-        ensures want { IfErr result (λ e. e ≡ Error.OutOfMemory) }
+        ensures memory { FailsOnlyForMemory result }
         ensures begins { OnErr result (with_slice self.old.slices (page_slice self.old.page_size page) ≡
             self.old.slices ++ page_slice self.old.page_size page ∷ []) }
         ensures err { OnErr result (self.new ≡ self.old) }
@@ -122,7 +123,7 @@ impl PageList {
 fn add_slice(slices: &mut Vec<SourceSlice>, next: SourceSlice) -> Result<()>
     requires { length (positions slices.old.items) + next.size < 2 ^ 64 }
     ensures slices { OnOk result (slices.new.items ≡ with_slice slices.old.items next) }
-    ensures want { IfErr result (λ e. e ≡ Error.OutOfMemory) }
+    ensures memory { FailsOnlyForMemory result }
     ensures begins { OnErr result (with_slice slices.old.items next ≡ slices.old.items ++ next ∷ []) }
     ensures err { OnErr result (slices.new.items ≡ slices.old.items) }
 {

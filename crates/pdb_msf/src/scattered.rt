@@ -1,46 +1,48 @@
 //! Views of a source, and reads of what lies scattered over its pages.
 
-ghost use Rattle.std.specs.Prelude.{◌≡◌, ◌*◌, ◌^◌, ◌<◌, ◌≤◌, Ok, length, map, IfOk};
+ghost use Rattle.std.specs.Prelude.{◌≡◌, ◌≢◌, ◌*◌, ◌^◌, ◌<◌, ◌≤◌, Ok, IsTrue, length, map, IfOk};
+ghost use Rattle.std.specs.IoError.{error_kind};
 ghost use Rattle.std.specs.List.{range_with_len};
 ghost use Rattle.pdb_base.specs.Answer.{Answers, AnswersUnless};
 ghost use Rattle.pdb_msf.specs.Source.{HasFailed, IsKept, KeepsKind, bytes_at, found, positions};
 ghost use Rattle.pdb_msf.specs.Pages.{position_of, scatter};
 ghost use Rattle.pdb_msf.specs.Asked.{Asks};
 
-use crate::in_place::{can_be_joined, joined};
 use crate::page_list::PageList;
 use crate::source::{ReadView, Source, SourceSlice};
 use pdb_base::{Error, Result};
 use std::alloc::Global;
+use std::io;
 use std::io::ErrorKind;
 
-/// Views slices of a source. An error of kind `OutOfMemory` is returned as `Error::OutOfMemory`,
-/// and any other as an `IoError` that holds it.
-pub fn view<S: Source>(source: &mut S, alloc: Global, slices: &[SourceSlice]) -> Result<ReadView>
+/// Returns the error that stands for one of a source: `OutOfMemory` for the kind `OutOfMemory`, and
+/// for any other kind an `IoError` that holds the source's own error.
+pub fn source_error(error: io::Error) -> Error
+    ensures memory { error_kind error ≡ ErrorKind.OutOfMemory → result ≡ Error.OutOfMemory }
+    ensures kind { error_kind error ≢ ErrorKind.OutOfMemory → result ≡ Error.IoError error }
+{
+    match error.kind() {
+        ErrorKind::OutOfMemory => Error::OutOfMemory,
+        _ => Error::IoError(error),
+    }
+}
+
+/// Views slices of a source.
+fn view<S: Source>(source: &mut S, alloc: Global, slices: &[SourceSlice]) -> Result<ReadView>
     ensures bytes { AnswersUnless (HasFailed (S.state source.old) (S.state source.new)) (λ v. v) result
         (found (bytes_at (S.state source.old).bytes (positions slices.now))) }
     ensures kept { IsKept (S.state source.old) (S.state source.new) }
     ensures kind { KeepsKind (S.state source.new) result }
 {
-    match source.view(alloc, slices) {
-        Ok(view) => Ok(view),
-        Err(error) => match error.kind() {
-            ErrorKind::OutOfMemory => Err(Error::OutOfMemory),
-            _ => Err(Error::IoError(error)),
-        },
-    }
+    source.view(alloc, slices).map_err(source_error)
 }
 
-/// Views slices of a file in memory, and gives the file up: where they can be joined in place, the
-/// view keeps the file's own memory.
-#[tactic(auto, using(crate::proofs::JoinLemmas::can_found))]
-fn into_view(alloc: Global, mut file: Vec<u8>, slices: &[SourceSlice]) -> Result<ReadView>
-    ensures { Answers (λ v. v) result (found (bytes_at file.items (positions slices.now))) }
+/// Views slices of a source, and consumes it.
+fn into_view<S: Source + Drop>(source: S, alloc: Global, slices: &[SourceSlice]) -> Result<ReadView>
+    ensures { AnswersUnless (¬ IsTrue (S.state source).is_sound) (λ v. v) result
+        (found (bytes_at (S.state source).bytes (positions slices.now))) }
 {
-    if can_be_joined(file.len(), slices) {
-        return Ok(ReadView::new(joined(file, slices)));
-    }
-    view(&mut file, alloc, slices)
+    source.into_view(alloc, slices).map_err(source_error)
 }
 
 /// Returns the positions of the first `size` bytes of these pages.
@@ -117,9 +119,9 @@ impl<S: Source> CountedSource<S> {
     }
 }
 
-impl CountedSource<Vec<u8>> {
+impl<S: Source + Drop> CountedSource<S> {
     /// Reads the first `size` bytes of what is scattered over these pages, as `read_scattered` does,
-    /// and gives the file up.
+    /// and consumes the source.
     #[tactic(auto, unfolding(crate::specs::Pages::scatter), using(crate::proofs::PageLemmas::length_found))]
     pub fn into_scattered(
         self,
@@ -131,11 +133,12 @@ impl CountedSource<Vec<u8>> {
         requires size { (0 < page_size) × (page_size ≤ 0x800000) }
         requires reached { size ≤ length numbers.now * page_size }
         requires few { length numbers.now ≤ 2 ^ 40 }
-        ensures bytes { Answers (λ v. v) result (found (scatter self.source.items page_size numbers.now size)) }
+        ensures bytes { AnswersUnless (¬ IsTrue (S.state self.source).is_sound) (λ v. v) result
+            (found (scatter (S.state self.source).bytes page_size numbers.now size)) }
         ensures len { IfOk result (λ v. length v ≡ size) }
     {
         let list = page_list(alloc, page_size, numbers, size)?;
         let CountedSource { source, .. } = self;
-        into_view(alloc, source, list.source_slices())
+        into_view(source, alloc, list.source_slices())
     }
 }

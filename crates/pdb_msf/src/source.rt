@@ -6,6 +6,7 @@ ghost use Rattle.pdb_msf.specs.Source.{State, IsKept, IsLastFault, in_memory, Ha
 ghost use Rattle.std.specs.List.{list_all};
 ghost use Rattle.pdb_msf.specs.Within.{is_within, fitting};
 
+use crate::in_place::{can_be_joined, joined};
 use std::alloc::{AllocError, Global};
 use std::io;
 use std::io::ErrorKind;
@@ -88,6 +89,19 @@ pub trait Source {
             (bytes_at (state self.old).bytes (positions slices.now)) }
         ensures kind { IfErr result (λ e. IsLastFault (state self.new) (error_kind e)) }
         ensures kept { IsKept (state self.old) (state self.new) };
+
+    /// Returns the bytes that the slices name, as `view` does, and consumes the source.
+    ///
+    /// # Errors
+    /// Fails as `view` does.
+    fn into_view(mut self, alloc: Global, slices: &[SourceSlice]) -> Result<ReadView, io::Error>
+    where
+        Self: Sized + Drop,
+        ensures { Shows (¬ IsTrue (state self).is_sound) (λ v. v) result
+            (bytes_at (state self).bytes (positions slices.now)) }
+    {
+        self.view(alloc, slices)
+    }
 }
 
 impl Source for Vec<u8> {
@@ -106,6 +120,12 @@ impl Source for Vec<u8> {
         ensures kept { self.new ≡ self.old }
     {
         view_of(self.as_slice(), alloc, slices)
+    }
+
+    /// Returns the bytes that the slices name. If they can be joined in place, the view keeps the
+    /// file's own memory, and no memory is asked for.
+    fn into_view(self, alloc: Global, slices: &[SourceSlice]) -> Result<ReadView, io::Error> {
+        into_view_of(self, alloc, slices)
     }
 }
 
@@ -133,6 +153,17 @@ fn view_of(file: &[u8], alloc: Global, slices: &[SourceSlice]) -> Result<ReadVie
         return Err(io::Error::from(ErrorKind::OutOfMemory));
     };
     Ok(ReadView::new(copied(alloc, file, slices, size)?))
+}
+
+// A view of bytes in memory, which are joined in place where they can be.
+#[tactic(auto, using(crate::proofs::JoinLemmas::can_found))]
+fn into_view_of(file: Vec<u8>, alloc: Global, slices: &[SourceSlice]) -> Result<ReadView, io::Error>
+    ensures { Shows ⊥ (λ v. v) result (bytes_at file.items (positions slices.now)) }
+{
+    if can_be_joined(file.len(), slices) {
+        return Ok(ReadView::new(joined(file, slices)));
+    }
+    view_of(file.as_slice(), alloc, slices)
 }
 
 // Whether no slice of any bytes passes the end of a file of this length.

@@ -3,7 +3,7 @@
 -- length before it.
 use Rattle.std.specs.Prelude.{ℕ, ◌+◌, ◌/◌, ◌%◌, ◌^◌, Bool, if◌then◌else◌}
 use Rattle.pdb_base.specs.declared.index.TypeIndex.{TypeIndex}
-use Rattle.pdb_bits.specs.Parts.{is_set}
+use Rattle.pdb_base.specs.Bits.{is_bit_set}
 use Rattle.pdb_flags.specs.TypeProperties.{has_unique_name}
 use Rattle.pdb_flags.specs.FieldAttributes.{is_intro_virtual}
 use Rattle.pdb_flags.specs.PointerAttributes.{pointer_to_member}
@@ -269,9 +269,9 @@ modifier_row = do
   word ← u16
   gives (values.modifier (record {
     underlying_type = underlying_type;
-    constant = is_set word 0;
-    volatile = is_set word 1;
-    unaligned = is_set word 2;
+    constant = is_bit_set word 0;
+    volatile = is_bit_set word 1;
+    unaligned = is_bit_set word 2;
   }))
 
 -- lfBitfield

@@ -3,7 +3,7 @@
 ghost use Rattle.std.specs.Prelude.{◌≡◌};
 
 use crate::parse::id_plain::PlainIdLeaf;
-use pdb_leaves::constants::{LF_BUILDINFO, LF_SUBSTR_LIST};
+use pdb_values::constants::{LF_BUILDINFO, LF_SUBSTR_LIST};
 
 /// The kind of record that stands behind a leaf in the table of ids.
 #[derive(Clone, Copy, Debug, PartialEq, Eq)]

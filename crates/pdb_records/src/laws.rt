@@ -33,7 +33,7 @@ pub fn rows<A>()
 #[tactic(auto, using(crate::proofs::NoWant::stops_fault))]
 pub fn refusals<A>()
     ensures faults { (r : Row A) (bytes : List ℕ) (refusal : Refusal) → Stops r bytes refusal → IsFaultOfBytes refusal }
-    ensures want { (r : Row A) (bytes : List ℕ) → ¬ Stops r bytes out_of_memory }
+    ensures memory { (r : Row A) (bytes : List ℕ) → ¬ Stops r bytes out_of_memory }
 {}
 
 /// What is skipped as padding is pads, one after another, up to the end or to a byte that begins no

@@ -3,7 +3,7 @@
 ghost use Rattle.std.specs.Prelude.{◌≡◌};
 
 use crate::parse::plain::PlainLeaf;
-use pdb_leaves::constants::{LF_ARGLIST, LF_ARRAY, LF_ARRAY_ST, LF_METHODLIST, LF_STRIDED_ARRAY};
+use pdb_values::constants::{LF_ARGLIST, LF_ARRAY, LF_ARRAY_ST, LF_METHODLIST, LF_STRIDED_ARRAY};
 
 /// The kind of record that stands behind a leaf.
 #[derive(Clone, Copy, Debug, PartialEq, Eq)]

@@ -1,5 +1,4 @@
 pub mod Row
-pub mod LeafNames
 pub mod Text
 pub mod Lines
 pub mod Words

@@ -6,7 +6,7 @@ use Rattle.std.specs.Str.{bytes_eq}
 use Rattle.pdb_base.specs.ErrorText.{hexadecimal}
 use Rattle.pdb_rows.specs.declared.form.Form.{Form}
 use Rattle.pdb_rows.specs.declared.form.Form.TheVariants.{Text, Json}
-use Rattle.pdb_rows.specs.LeafNames.{leaf_text}
+use Rattle.pdb_values.specs.LeafNames.{leaf_text}
 use Rattle.pdb_rows.specs.Row as rows
 use Rattle.pdb_rows.specs.Row.{ShownValue, ShownField, ShownRow}
 use Rattle.pdb_rows.specs.Text.{four_digits, shown_text, quoted}

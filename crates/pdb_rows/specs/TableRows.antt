@@ -3,7 +3,7 @@
 use Rattle.std.specs.Prelude.{ℕ, [], ◌∷◌, codes, Option, Some, None}
 use Rattle.pdb_frames.specs.FrameNumbers as frames
 use Rattle.pdb_frames.specs.declared.frame_data.FrameData.{FrameData}
-use Rattle.pdb_space.specs.Omap.{Mapping}
+use Rattle.pdb_space.specs.Omap.{OmapValue}
 use Rattle.pdb_space.specs.SectionHeader.{alignment_of, section_name}
 use Rattle.pdb_space.specs.declared.section_header.ImageSectionHeader.{ImageSectionHeader}
 use Rattle.pdb_space.specs.declared.string_ref.StringRef.{StringRef}
@@ -29,7 +29,7 @@ section_row section header =
     ∷ []
 
 -- a record of an OMAP table
-unfoldable pub omap_row : Mapping → ShownRow
+unfoldable pub omap_row : OmapValue → ShownRow
 omap_row mapping =
     (codes "source_address", hexadecimal mapping.source)
     ∷ (codes "target_address", hexadecimal mapping.target)

@@ -11,20 +11,20 @@ pub record IsWritten (old now : Option (List ℕ)) (all rest : List ℕ) : Type 
   pub left : all ≡ done ++ rest
 
 -- a writer received a front of the bytes: none of them, the first of them, or all
-pub record IsFront (all : List ℕ) (old now : Option (List ℕ)) : Type 0 where
+pub record IsPrefix (all : List ℕ) (old now : Option (List ℕ)) : Type 0 where
   pub rest : List ℕ
   pub written : IsWritten old now all rest
 
 -- why output can be cut short although no definition refuses it: a channel failed, or memory was refused
-abbrev pub IsCut : Error → Type 0
-IsCut (IoError cause) = ⊤
-IsCut OutOfMemory = ⊤
-IsCut other = ⊥
+abbrev pub IsOutputFailure : Error → Type 0
+IsOutputFailure (IoError cause) = ⊤
+IsOutputFailure OutOfMemory = ⊤
+IsOutputFailure other = ⊥
 
 -- A writer received all the bytes; or the call failed, and it received a front of them.
 abbrev pub Writes : List ℕ → Option (List ℕ) → Option (List ℕ) → Result (Unit {0}) Error → Type 0
 Writes all old new (Ok done) = Appends old new all
-Writes all old new (Err e) = IsCut e × IsFront all old new
+Writes all old new (Err e) = IsOutputFailure e × IsPrefix all old new
 
 -- the result of a call, without the value that it returned
 abbrev pub done_of : {A : Type 0} → Result A Error → Result (Unit {0}) Error

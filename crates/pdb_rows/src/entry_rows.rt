@@ -1,6 +1,7 @@
 //! The entries of lists as rows, which have no index.
 
-ghost use Rattle.std.specs.Prelude.{◌≡◌, IfErr, IfOk};
+ghost use Rattle.std.specs.Prelude.{◌≡◌, IfOk};
+ghost use Rattle.pdb_base.specs.Memory.{FailsOnlyForMemory};
 ghost use Rattle.pdb_values.specs.TypeView.{type_value};
 ghost use Rattle.pdb_rows.specs.EntryRows.{base_class_leaf, class_leaf, field_row, leaf_of, virtual_base_leaf};
 ghost use Rattle.pdb_rows.specs.Row.{row_shown};
@@ -10,7 +11,7 @@ use crate::head::Head;
 use crate::row::Row;
 use crate::type_rows::{headed_row, listed_method_row};
 use pdb_base::{Error, Result};
-use pdb_leaves::constants::{
+use pdb_values::constants::{
     LF_ARGLIST, LF_ARRAY, LF_BCLASS, LF_BINTERFACE, LF_BITFIELD, LF_CLASS, LF_ENUM, LF_ENUMERATE,
     LF_FIELDLIST, LF_INTERFACE, LF_IVBCLASS, LF_MEMBER, LF_METHOD, LF_METHODLIST, LF_MFUNCTION,
     LF_MODIFIER, LF_NESTTYPE, LF_NULL, LF_ONEMETHOD, LF_POINTER, LF_PROCEDURE, LF_STMEMBER,
@@ -86,7 +87,7 @@ fn leaf_of(data: &TypeData<'_>) -> u16
 #[tactic(auto, unfolding(crate::specs::EntryRows::field_row))]
 pub fn field_row<'t>(alloc: Global, data: &TypeData<'t>) -> Result<Row<'t>>
     ensures ok { IfOk result (λ row. row_shown row ≡ field_row (type_value «data».now)) }
-    ensures want { IfErr result (λ e. e ≡ Error.OutOfMemory) }
+    ensures memory { FailsOnlyForMemory result }
 {
     let leaf = leaf_of(data);
     headed_row(alloc, Head { index: None, leaf }, data)
@@ -98,7 +99,7 @@ pub fn field_row<'t>(alloc: Global, data: &TypeData<'t>) -> Result<Row<'t>>
 /// Fails with `OutOfMemory` if memory is refused.
 pub fn method_row<'t>(alloc: Global, method: MethodListEntry) -> Result<Row<'t>>
     ensures ok { IfOk result (λ row. row_shown row ≡ listed_method_fields method) }
-    ensures want { IfErr result (λ e. e ≡ Error.OutOfMemory) }
+    ensures memory { FailsOnlyForMemory result }
 {
     listed_method_row(alloc, method)
 }

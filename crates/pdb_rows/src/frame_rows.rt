@@ -1,6 +1,7 @@
 //! Frames as rows.
 
-ghost use Rattle.std.specs.Prelude.{◌≡◌, IfErr, IfOk};
+ghost use Rattle.std.specs.Prelude.{◌≡◌, IfOk};
+ghost use Rattle.pdb_base.specs.Memory.{FailsOnlyForMemory};
 ghost use Rattle.pdb_frames.specs.FrameNumbers.{kind_text};
 ghost use Rattle.pdb_rows.specs.Row.{row_shown, value_shown};
 ghost use Rattle.pdb_rows.specs.TableRows.{frame_row, program_place};
@@ -44,7 +45,7 @@ fn program<'t>(place: Option<StringRef>) -> Value<'t>
 #[tactic(auto, unfolding(crate::specs::TableRows::frame_row))]
 pub fn frame_row<'t>(alloc: Global, frame: &FrameData) -> Result<Row<'t>>
     ensures ok { IfOk result (λ row. row_shown row ≡ frame_row frame.now) }
-    ensures want { IfErr result (λ e. e ≡ Error.OutOfMemory) }
+    ensures memory { FailsOnlyForMemory result }
 {
     let fields = vec![in alloc;
         field("code_start", Value::Hexadecimal(frame.code_start.0)),

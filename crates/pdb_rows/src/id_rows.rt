@@ -1,6 +1,7 @@
 //! Ids as rows.
 
-ghost use Rattle.std.specs.Prelude.{◌≡◌, IfErr, IfOk};
+ghost use Rattle.std.specs.Prelude.{◌≡◌, IfOk};
+ghost use Rattle.pdb_base.specs.Memory.{FailsOnlyForMemory};
 ghost use Rattle.pdb_values.specs.IdValue.{build_arguments, function_value, id_value, member_function_value, string_value, text_parts};
 ghost use Rattle.pdb_rows.specs.Fields.{headed};
 ghost use Rattle.pdb_rows.specs.IdRows.{build_info_fields, function_fields, id_row, member_function_fields, source_fields, source_file, source_module, string_fields, string_list_fields};
@@ -21,7 +22,7 @@ use std::alloc::Global;
 fn function_row<'t>(alloc: Global, head: Head, id: &FunctionId<'t>) -> Result<Row<'t>>
     ensures ok { IfOk result (λ row. row_shown row ≡
         headed head.index head.leaf (function_fields (function_value id.now))) }
-    ensures want { IfErr result (λ e. e ≡ Error.OutOfMemory) }
+    ensures memory { FailsOnlyForMemory result }
 {
     let fields = vec![in alloc;
         head.index(),
@@ -38,7 +39,7 @@ fn function_row<'t>(alloc: Global, head: Head, id: &FunctionId<'t>) -> Result<Ro
 fn member_function_row<'t>(alloc: Global, head: Head, id: &MemberFunctionId<'t>) -> Result<Row<'t>>
     ensures ok { IfOk result (λ row. row_shown row ≡
         headed head.index head.leaf (member_function_fields (member_function_value id.now))) }
-    ensures want { IfErr result (λ e. e ≡ Error.OutOfMemory) }
+    ensures memory { FailsOnlyForMemory result }
 {
     let fields = vec![in alloc;
         head.index(),
@@ -55,7 +56,7 @@ fn member_function_row<'t>(alloc: Global, head: Head, id: &MemberFunctionId<'t>)
 fn build_info_row<'t>(alloc: Global, head: Head, id: &BuildInfoId) -> Result<Row<'t>>
     ensures ok { IfOk result (λ row. row_shown row ≡
         headed head.index head.leaf (build_info_fields (build_arguments id.now))) }
-    ensures want { IfErr result (λ e. e ≡ Error.OutOfMemory) }
+    ensures memory { FailsOnlyForMemory result }
 {
     let arguments = id_numbers(alloc, &id.arguments)?;
     let fields = vec![in alloc;
@@ -71,7 +72,7 @@ fn build_info_row<'t>(alloc: Global, head: Head, id: &BuildInfoId) -> Result<Row
 fn string_list_row<'t>(alloc: Global, head: Head, id: &StringListId) -> Result<Row<'t>>
     ensures ok { IfOk result (λ row. row_shown row ≡
         headed head.index head.leaf (string_list_fields (text_parts id.now))) }
-    ensures want { IfErr result (λ e. e ≡ Error.OutOfMemory) }
+    ensures memory { FailsOnlyForMemory result }
 {
     let substrings = type_numbers(alloc, &id.substrings)?;
     let fields = vec![in alloc;
@@ -87,7 +88,7 @@ fn string_list_row<'t>(alloc: Global, head: Head, id: &StringListId) -> Result<R
 fn string_row<'t>(alloc: Global, head: Head, id: &StringId<'t>) -> Result<Row<'t>>
     ensures ok { IfOk result (λ row. row_shown row ≡
         headed head.index head.leaf (string_fields (string_value id.now))) }
-    ensures want { IfErr result (λ e. e ≡ Error.OutOfMemory) }
+    ensures memory { FailsOnlyForMemory result }
 {
     let fields = vec![in alloc;
         head.index(),
@@ -123,7 +124,7 @@ fn source_file<'t>(file: UserDefinedTypeSourceFileRef) -> Value<'t>
 #[tactic(auto, unfolding(crate::specs::IdRows::source_fields))]
 fn source_row<'t>(alloc: Global, head: Head, id: &UserDefinedTypeSourceId) -> Result<Row<'t>>
     ensures ok { IfOk result (λ row. row_shown row ≡ headed head.index head.leaf (source_fields id.now)) }
-    ensures want { IfErr result (λ e. e ≡ Error.OutOfMemory) }
+    ensures memory { FailsOnlyForMemory result }
 {
     let fields = vec![in alloc;
         head.index(),
@@ -143,7 +144,7 @@ fn source_row<'t>(alloc: Global, head: Head, id: &UserDefinedTypeSourceId) -> Re
 #[tactic(auto, unfolding(crate::specs::IdRows::id_row))]
 pub fn id_row<'t>(alloc: Global, index: u32, leaf: u16, data: &IdData<'t>) -> Result<Row<'t>>
     ensures ok { IfOk result (λ row. row_shown row ≡ id_row index leaf (id_value «data».now)) }
-    ensures want { IfErr result (λ e. e ≡ Error.OutOfMemory) }
+    ensures memory { FailsOnlyForMemory result }
 {
     let index = Some(index);
     let head = Head { index, leaf };

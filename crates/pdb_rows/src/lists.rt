@@ -1,6 +1,7 @@
 //! Lists of numbers that rows show.
 
-ghost use Rattle.std.specs.Prelude.{◌≡◌, map, IfErr, IfOk};
+ghost use Rattle.std.specs.Prelude.{◌≡◌, map, IfOk};
+ghost use Rattle.pdb_base.specs.Memory.{FailsOnlyForMemory};
 
 use pdb_base::{Error, IdIndex, Result, TypeIndex};
 use pdb_values::MethodListEntry;
@@ -9,7 +10,7 @@ use std::alloc::Global;
 /// Returns the numbers of type indexes.
 pub(crate) fn type_numbers(alloc: Global, indexes: &[TypeIndex]) -> Result<Vec<u32>>
     ensures ok { IfOk result (λ numbers. numbers.items ≡ map (λ index. index.0) indexes.now) }
-    ensures want { IfErr result (λ e. e ≡ Error.OutOfMemory) }
+    ensures memory { FailsOnlyForMemory result }
 {
     let numbers = indexes.iter().map(|index| index.0).collect(alloc)?;
     Ok(numbers)
@@ -18,7 +19,7 @@ pub(crate) fn type_numbers(alloc: Global, indexes: &[TypeIndex]) -> Result<Vec<u
 /// Returns the numbers of id indexes.
 pub(crate) fn id_numbers(alloc: Global, indexes: &[IdIndex]) -> Result<Vec<u32>>
     ensures ok { IfOk result (λ numbers. numbers.items ≡ map (λ index. index.0) indexes.now) }
-    ensures want { IfErr result (λ e. e ≡ Error.OutOfMemory) }
+    ensures memory { FailsOnlyForMemory result }
 {
     let numbers = indexes.iter().map(|index| index.0).collect(alloc)?;
     Ok(numbers)
@@ -27,7 +28,7 @@ pub(crate) fn id_numbers(alloc: Global, indexes: &[IdIndex]) -> Result<Vec<u32>>
 /// Returns the numbers of methods' types.
 pub(crate) fn method_numbers(alloc: Global, methods: &[MethodListEntry]) -> Result<Vec<u32>>
     ensures ok { IfOk result (λ numbers. numbers.items ≡ map (λ method. method.method_type.0) methods.now) }
-    ensures want { IfErr result (λ e. e ≡ Error.OutOfMemory) }
+    ensures memory { FailsOnlyForMemory result }
 {
     let numbers = methods
         .iter()
@@ -39,7 +40,7 @@ pub(crate) fn method_numbers(alloc: Global, methods: &[MethodListEntry]) -> Resu
 /// Returns bytes as numbers.
 pub(crate) fn byte_numbers(alloc: Global, bytes: &[u8]) -> Result<Vec<u32>>
     ensures ok { IfOk result (λ numbers. numbers.items ≡ bytes.now) }
-    ensures want { IfErr result (λ e. e ≡ Error.OutOfMemory) }
+    ensures memory { FailsOnlyForMemory result }
 {
     let mut numbers = Vec::with_capacity(alloc, bytes.len())?;
     for byte in bytes {
@@ -51,7 +52,7 @@ pub(crate) fn byte_numbers(alloc: Global, bytes: &[u8]) -> Result<Vec<u32>>
 /// Returns a copy of numbers.
 pub(crate) fn copied_numbers(alloc: Global, numbers: &[u32]) -> Result<Vec<u32>>
     ensures ok { IfOk result (λ copies. copies.items ≡ numbers.now) }
-    ensures want { IfErr result (λ e. e ≡ Error.OutOfMemory) }
+    ensures memory { FailsOnlyForMemory result }
 {
     let copies = Vec::from_slice(alloc, numbers)?;
     Ok(copies)

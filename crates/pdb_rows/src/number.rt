@@ -1,7 +1,8 @@
 //! Numbers as they are written.
 
-ghost use Rattle.std.specs.Prelude.{◌≡◌, ◌<◌, ◌++◌, false, IfErr, OnOk};
+ghost use Rattle.std.specs.Prelude.{◌≡◌, ◌<◌, ◌++◌, false, OnOk};
 ghost use Rattle.std.specs.Fmt.{decimal, digit_glyph, digits, signed_decimal};
+ghost use Rattle.pdb_base.specs.Memory.{FailsOnlyForMemory};
 ghost use Rattle.pdb_base.specs.ErrorText.{hexadecimal};
 ghost use Rattle.pdb_rows.specs.Text.{four_digits};
 
@@ -11,7 +12,7 @@ use pdb_base::{Error, Result};
 /// Appends a number in decimal.
 pub(crate) fn push_decimal(number: u64, out: &mut Vec<u8>) -> Result<()>
     ensures ok { OnOk result (out.new.items ≡ out.old.items ++ decimal number) }
-    ensures want { IfErr result (λ e. e ≡ Error.OutOfMemory) }
+    ensures memory { FailsOnlyForMemory result }
 {
     let mut buffer = Buffer::new();
     out.extend_from_slice(buffer.format(number).as_bytes())?;
@@ -21,7 +22,7 @@ pub(crate) fn push_decimal(number: u64, out: &mut Vec<u8>) -> Result<()>
 /// Appends a signed number in decimal.
 pub(crate) fn push_signed(number: i64, out: &mut Vec<u8>) -> Result<()>
     ensures ok { OnOk result (out.new.items ≡ out.old.items ++ signed_decimal number) }
-    ensures want { IfErr result (λ e. e ≡ Error.OutOfMemory) }
+    ensures memory { FailsOnlyForMemory result }
 {
     let mut buffer = Buffer::new();
     out.extend_from_slice(buffer.format(number).as_bytes())?;
@@ -44,7 +45,7 @@ fn digit(number: u32) -> u8
 #[tactic(auto, using(crate::proofs::Digits::hexadecimal_more, std::proofs::lemmas::Fmt::hex_one_digit))]
 fn push_digits(number: u32, out: &mut Vec<u8>) -> Result<()>
     ensures ok { OnOk result (out.new.items ≡ out.old.items ++ digits 16 false number) }
-    ensures want { IfErr result (λ e. e ≡ Error.OutOfMemory) }
+    ensures memory { FailsOnlyForMemory result }
 {
     if number < 16 {
         out.push(digit(number))?;
@@ -58,7 +59,7 @@ fn push_digits(number: u32, out: &mut Vec<u8>) -> Result<()>
 /// Appends a number as `0x` and its hexadecimal digits.
 pub(crate) fn push_hexadecimal(number: u32, out: &mut Vec<u8>) -> Result<()>
     ensures ok { OnOk result (out.new.items ≡ out.old.items ++ hexadecimal number) }
-    ensures want { IfErr result (λ e. e ≡ Error.OutOfMemory) }
+    ensures memory { FailsOnlyForMemory result }
 {
     out.extend_from_slice(b"0x")?;
     push_digits(number, out)

@@ -1,6 +1,7 @@
 //! Records of OMAP tables as rows.
 
-ghost use Rattle.std.specs.Prelude.{◌≡◌, IfErr, IfOk};
+ghost use Rattle.std.specs.Prelude.{◌≡◌, IfOk};
+ghost use Rattle.pdb_base.specs.Memory.{FailsOnlyForMemory};
 ghost use Rattle.pdb_rows.specs.Row.{row_shown};
 ghost use Rattle.pdb_rows.specs.TableRows.{omap_row};
 
@@ -17,7 +18,7 @@ use std::alloc::Global;
 #[tactic(auto, unfolding(crate::specs::TableRows::omap_row))]
 pub fn omap_row<'t>(alloc: Global, mapping: OMAPRecord) -> Result<Row<'t>>
     ensures ok { IfOk result (λ row. row_shown row ≡ omap_row mapping) }
-    ensures want { IfErr result (λ e. e ≡ Error.OutOfMemory) }
+    ensures memory { FailsOnlyForMemory result }
 {
     let fields = vec![in alloc;
         field(

@@ -1,21 +1,22 @@
 //! Rows as lines.
 
-ghost use Rattle.std.specs.Prelude.{◌≡◌, ◌++◌, if◌then◌else◌, [], map, codes, IfErr, OnOk};
+ghost use Rattle.std.specs.Prelude.{◌≡◌, ◌++◌, if◌then◌else◌, [], map, codes, OnOk};
+ghost use Rattle.pdb_base.specs.Memory.{FailsOnlyForMemory};
 ghost use Rattle.pdb_rows.specs.Lines.{field_line, field_text, fields_text, full_text, index_text, is_leading, is_shown_value, kind_text, list_text, row_text, separator, value_text};
 ghost use Rattle.pdb_rows.specs.Row.{field_shown, row_shown, value_shown};
 ghost use Rattle.pdb_rows.specs.Text.{quoted};
 
 use crate::form::Form;
-use crate::leaf_names::leaf_name;
 use crate::number::{four_digits, push_decimal, push_hexadecimal, push_signed};
 use crate::row::{Field, Row, Value};
 use crate::text::{push_quoted, push_text};
 use pdb_base::{Error, Result};
+use pdb_values::leaf_name;
 
 /// Appends a number, which text shows in hexadecimal and JSON in decimal.
 fn push_index(form: Form, number: u32, out: &mut Vec<u8>) -> Result<()>
     ensures ok { OnOk result (out.new.items ≡ out.old.items ++ index_text form number) }
-    ensures want { IfErr result (λ e. e ≡ Error.OutOfMemory) }
+    ensures memory { FailsOnlyForMemory result }
 {
     match form {
         Form::Text => push_hexadecimal(number, out),
@@ -27,7 +28,7 @@ fn push_index(form: Form, number: u32, out: &mut Vec<u8>) -> Result<()>
 #[tactic(auto, unfolding(crate::specs::Lines::kind_text))]
 fn push_kind(form: Form, leaf: u16, out: &mut Vec<u8>) -> Result<()>
     ensures ok { OnOk result (out.new.items ≡ out.old.items ++ quoted form (kind_text leaf)) }
-    ensures want { IfErr result (λ e. e ≡ Error.OutOfMemory) }
+    ensures memory { FailsOnlyForMemory result }
 {
     match leaf_name(leaf) {
         Some(name) => push_quoted(form, name.as_bytes(), out),
@@ -43,7 +44,7 @@ fn push_kind(form: Form, leaf: u16, out: &mut Vec<u8>) -> Result<()>
 fn push_words(form: Form, words: &[&'static str], out: &mut Vec<u8>) -> Result<()>
     ensures ok { OnOk result (out.new.items
         ≡ out.old.items ++ list_text (quoted form) (map (λ word. word.now) words.now)) }
-    ensures want { IfErr result (λ e. e ≡ Error.OutOfMemory) }
+    ensures memory { FailsOnlyForMemory result }
 {
     let Some((first, rest)) = words.split_first() else {
         out.extend_from_slice(b"[]")?;
@@ -63,7 +64,7 @@ fn push_words(form: Form, words: &[&'static str], out: &mut Vec<u8>) -> Result<(
 #[tactic(auto, unfolding(crate::specs::Lines::list_text), using(crate::proofs::Separated::one_more))]
 fn push_indexes(form: Form, indexes: &[u32], out: &mut Vec<u8>) -> Result<()>
     ensures ok { OnOk result (out.new.items ≡ out.old.items ++ list_text (index_text form) indexes.now) }
-    ensures want { IfErr result (λ e. e ≡ Error.OutOfMemory) }
+    ensures memory { FailsOnlyForMemory result }
 {
     let Some((first, rest)) = indexes.split_first() else {
         out.extend_from_slice(b"[]")?;
@@ -82,7 +83,7 @@ fn push_indexes(form: Form, indexes: &[u32], out: &mut Vec<u8>) -> Result<()>
 /// Appends the value of a field. Both forms show numbers as JSON shows indexes, in decimal.
 fn push_value(form: Form, value: &Value<'_>, out: &mut Vec<u8>) -> Result<()>
     ensures ok { OnOk result (out.new.items ≡ out.old.items ++ value_text form (value_shown value.now)) }
-    ensures want { IfErr result (λ e. e ≡ Error.OutOfMemory) }
+    ensures memory { FailsOnlyForMemory result }
 {
     match value {
         Value::Number(number) => push_decimal(*number, out),
@@ -132,7 +133,7 @@ fn is_leading(name: &str) -> bool
 #[tactic(auto, unfolding(crate::specs::Lines::field_text))]
 fn push_field(form: Form, field: &Field<'_>, out: &mut Vec<u8>) -> Result<()>
     ensures ok { OnOk result (out.new.items ≡ out.old.items ++ field_text form (field_shown field.now)) }
-    ensures want { IfErr result (λ e. e ≡ Error.OutOfMemory) }
+    ensures memory { FailsOnlyForMemory result }
 {
     match form {
         Form::Text if is_leading(field.name) => push_value(form, &field.value, out),
@@ -163,7 +164,7 @@ fn separator(form: Form) -> &'static [u8]
 fn push_next(form: Form, is_first: bool, field: &Field<'_>, out: &mut Vec<u8>) -> Result<()>
     ensures ok { OnOk result (out.new.items
         ≡ out.old.items ++ (if is_first then [] else separator form) ++ field_text form (field_shown field.now)) }
-    ensures want { IfErr result (λ e. e ≡ Error.OutOfMemory) }
+    ensures memory { FailsOnlyForMemory result }
 {
     if is_first {
         return push_field(form, field, out);
@@ -176,7 +177,7 @@ fn push_next(form: Form, is_first: bool, field: &Field<'_>, out: &mut Vec<u8>) -
 #[tactic(auto, unfolding(crate::specs::Lines::fields_text))]
 fn push_joined(form: Form, fields: &[Field<'_>], out: &mut Vec<u8>) -> Result<()>
     ensures ok { OnOk result (out.new.items ≡ out.old.items ++ fields_text form (map field_shown fields.now)) }
-    ensures want { IfErr result (λ e. e ≡ Error.OutOfMemory) }
+    ensures memory { FailsOnlyForMemory result }
 {
     let mut is_first = true;
     for field in fields {
@@ -199,7 +200,7 @@ fn push_joined(form: Form, fields: &[Field<'_>], out: &mut Vec<u8>) -> Result<()
 #[tactic(auto, unfolding(crate::specs::Lines::row_text))]
 pub fn push_row(form: Form, row: &Row<'_>, out: &mut Vec<u8>) -> Result<()>
     ensures ok { OnOk result (out.new.items ≡ out.old.items ++ row_text form (row_shown row.now)) }
-    ensures want { IfErr result (λ e. e ≡ Error.OutOfMemory) }
+    ensures memory { FailsOnlyForMemory result }
 {
     match form {
         Form::Text => {
@@ -220,7 +221,7 @@ pub fn push_row(form: Form, row: &Row<'_>, out: &mut Vec<u8>) -> Result<()>
 #[tactic(auto, unfolding(crate::specs::Lines::field_line))]
 fn push_line(field: &Field<'_>, out: &mut Vec<u8>) -> Result<()>
     ensures ok { OnOk result (out.new.items ≡ out.old.items ++ field_line (field_shown field.now)) }
-    ensures want { IfErr result (λ e. e ≡ Error.OutOfMemory) }
+    ensures memory { FailsOnlyForMemory result }
 {
     push_text(Form::Text, field.name.as_bytes(), out)?;
     out.extend_from_slice(b": ")?;
@@ -233,7 +234,7 @@ fn push_line(field: &Field<'_>, out: &mut Vec<u8>) -> Result<()>
 #[tactic(auto, unfolding(crate::specs::Lines::full_text))]
 fn push_lines(fields: &[Field<'_>], out: &mut Vec<u8>) -> Result<()>
     ensures ok { OnOk result (out.new.items ≡ out.old.items ++ full_text Form.Text (map field_shown fields.now)) }
-    ensures want { IfErr result (λ e. e ≡ Error.OutOfMemory) }
+    ensures memory { FailsOnlyForMemory result }
 {
     for field in fields {
         if is_shown(Form::Text, &field.value) {
@@ -251,7 +252,7 @@ fn push_lines(fields: &[Field<'_>], out: &mut Vec<u8>) -> Result<()>
 #[tactic(auto, unfolding(crate::specs::Lines::full_text))]
 pub fn push_fields(form: Form, row: &Row<'_>, out: &mut Vec<u8>) -> Result<()>
     ensures ok { OnOk result (out.new.items ≡ out.old.items ++ full_text form (row_shown row.now)) }
-    ensures want { IfErr result (λ e. e ≡ Error.OutOfMemory) }
+    ensures memory { FailsOnlyForMemory result }
 {
     match form {
         Form::Text => push_lines(&row.fields, out),

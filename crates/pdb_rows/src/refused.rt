@@ -1,6 +1,7 @@
 //! Why a record or another part of a file is refused.
 
-ghost use Rattle.std.specs.Prelude.{◌≡◌, codes, IfErr, IfOk};
+ghost use Rattle.std.specs.Prelude.{◌≡◌, codes, IfOk};
+ghost use Rattle.pdb_base.specs.Memory.{FailsOnlyForMemory};
 ghost use Rattle.pdb_base.specs.Refusal.{refusal_of};
 ghost use Rattle.pdb_rows.specs.Refused.{refusal_text};
 ghost use Rattle.pdb_rows.specs.Row.{field_shown};
@@ -17,7 +18,7 @@ use std::alloc::Global;
 #[tactic(auto, unfolding(crate::specs::Refused::refusal_text))]
 pub fn error_text(alloc: Global, error: &Error) -> Result<Vec<u8>>
     ensures ok { IfOk result (λ text. text.items ≡ refusal_text (refusal_of error.now)) }
-    ensures want { IfErr result (λ e. e ≡ Error.OutOfMemory) }
+    ensures memory { FailsOnlyForMemory result }
 {
     match error {
         Error::IoError(_) => Ok(Vec::from_slice(alloc, b"IO error while reading PDB")?),

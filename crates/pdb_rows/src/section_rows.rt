@@ -1,6 +1,7 @@
 //! Section headers as rows.
 
-ghost use Rattle.std.specs.Prelude.{◌≡◌, IfErr, IfOk};
+ghost use Rattle.std.specs.Prelude.{◌≡◌, IfOk};
+ghost use Rattle.pdb_base.specs.Memory.{FailsOnlyForMemory};
 ghost use Rattle.pdb_space.specs.SectionHeader.{section_name};
 ghost use Rattle.pdb_rows.specs.Fields.{optional_number};
 ghost use Rattle.pdb_rows.specs.Row.{row_shown, value_shown};
@@ -40,7 +41,7 @@ fn alignment<'t>(multiple: Option<u16>) -> Value<'t>
 #[tactic(auto, unfolding(crate::specs::TableRows::section_row))]
 pub fn section_row(alloc: Global, number: u32, header: &ImageSectionHeader) -> Result<Row<'_>>
     ensures ok { IfOk result (λ row. row_shown row ≡ section_row number header.now) }
-    ensures want { IfErr result (λ e. e ≡ Error.OutOfMemory) }
+    ensures memory { FailsOnlyForMemory result }
 {
     let name = RawString::from(name_bytes(header));
     let characteristics = section_words(alloc, header.characteristics)?;

@@ -1,7 +1,8 @@
 //! Text as it is written.
 
-ghost use Rattle.std.specs.Prelude.{◌≡◌, ◌<◌, ◌↔◌, ◌++◌, IfErr, IsTrue, OnOk};
+ghost use Rattle.std.specs.Prelude.{◌≡◌, ◌<◌, ◌↔◌, ◌++◌, IsTrue, OnOk};
 ghost use Rattle.std.specs.List.{list_all};
+ghost use Rattle.pdb_base.specs.Memory.{FailsOnlyForMemory};
 ghost use Rattle.pdb_rows.specs.Text.{escape, is_escaped, is_plain, short_escape, quoted, shown_char, shown_text};
 
 use crate::form::Form;
@@ -55,7 +56,7 @@ fn short_escape(c: char) -> Option<u8>
 fn push_escape(c: char, out: &mut Vec<u8>) -> Result<()>
     requires { c < 256 }
     ensures ok { OnOk result (out.new.items ≡ out.old.items ++ escape c) }
-    ensures want { IfErr result (λ e. e ≡ Error.OutOfMemory) }
+    ensures memory { FailsOnlyForMemory result }
 {
     out.push(b'\\')?;
     match short_escape(c) {
@@ -75,7 +76,7 @@ fn push_escape(c: char, out: &mut Vec<u8>) -> Result<()>
 #[tactic(auto, unfolding(crate::specs::Text::shown_char))]
 fn push_char(form: Form, c: char, out: &mut Vec<u8>) -> Result<()>
     ensures ok { OnOk result (out.new.items ≡ out.old.items ++ shown_char form c) }
-    ensures want { IfErr result (λ e. e ≡ Error.OutOfMemory) }
+    ensures memory { FailsOnlyForMemory result }
 {
     if is_escaped(form, c) {
         push_escape(c, out)
@@ -90,7 +91,7 @@ fn push_char(form: Form, c: char, out: &mut Vec<u8>) -> Result<()>
 #[tactic(auto, using(crate::proofs::PlainText::plain_text, std::proofs::lemmas::List::flat_map_more), unfolding(crate::specs::Text::shown_text))]
 pub(crate) fn push_text(form: Form, text: &[u8], out: &mut Vec<u8>) -> Result<()>
     ensures ok { OnOk result (out.new.items ≡ out.old.items ++ shown_text form text.now) }
-    ensures want { IfErr result (λ e. e ≡ Error.OutOfMemory) }
+    ensures memory { FailsOnlyForMemory result }
 {
     if is_all_plain(text) {
         out.extend_from_slice(text)?;
@@ -106,7 +107,7 @@ pub(crate) fn push_text(form: Form, text: &[u8], out: &mut Vec<u8>) -> Result<()
 #[tactic(auto, unfolding(crate::specs::Text::quoted))]
 pub(crate) fn push_quoted(form: Form, text: &[u8], out: &mut Vec<u8>) -> Result<()>
     ensures ok { OnOk result (out.new.items ≡ out.old.items ++ quoted form text.now) }
-    ensures want { IfErr result (λ e. e ≡ Error.OutOfMemory) }
+    ensures memory { FailsOnlyForMemory result }
 {
     match form {
         Form::Text => push_text(form, text, out),

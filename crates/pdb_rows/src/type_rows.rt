@@ -1,6 +1,7 @@
 //! Types as rows.
 
-ghost use Rattle.std.specs.Prelude.{◌≡◌, IfErr, IfOk};
+ghost use Rattle.std.specs.Prelude.{◌≡◌, IfOk};
+ghost use Rattle.pdb_base.specs.Memory.{FailsOnlyForMemory};
 ghost use Rattle.pdb_values.specs.TypeView.{type_value};
 ghost use Rattle.pdb_rows.specs.Fields.{headed};
 ghost use Rattle.pdb_rows.specs.Row.{row_shown};
@@ -38,7 +39,7 @@ use std::alloc::Global;
 pub(crate) fn headed_row<'t>(alloc: Global, head: Head, data: &TypeData<'t>) -> Result<Row<'t>>
     ensures ok { IfOk result (λ row. row_shown row ≡
         headed head.index head.leaf (type_fields (type_value «data».now))) }
-    ensures want { IfErr result (λ e. e ≡ Error.OutOfMemory) }
+    ensures memory { FailsOnlyForMemory result }
 {
     match data {
         TypeData::Primitive(primitive) => primitive_row(alloc, head, *primitive),
@@ -74,7 +75,7 @@ pub(crate) fn headed_row<'t>(alloc: Global, head: Head, data: &TypeData<'t>) -> 
 #[tactic(auto, unfolding(crate::specs::TypeRows::type_row))]
 pub fn type_row<'t>(alloc: Global, index: u32, leaf: u16, data: &TypeData<'t>) -> Result<Row<'t>>
     ensures ok { IfOk result (λ row. row_shown row ≡ type_row index leaf (type_value «data».now)) }
-    ensures want { IfErr result (λ e. e ≡ Error.OutOfMemory) }
+    ensures memory { FailsOnlyForMemory result }
 {
     let index = Some(index);
     headed_row(alloc, Head { index, leaf }, data)

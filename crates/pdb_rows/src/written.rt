@@ -4,7 +4,7 @@ ghost use Rattle.std.specs.Prelude.{OnErr, OnOk};
 ghost use Rattle.std.specs.Io.KnownBytes.{Appends};
 ghost use Rattle.pdb_rows.specs.Lines.{row_text};
 ghost use Rattle.pdb_rows.specs.Row.{row_shown};
-ghost use Rattle.pdb_rows.specs.Written.{IsFront, Writes};
+ghost use Rattle.pdb_rows.specs.Written.{IsPrefix, Writes};
 
 use crate::form::Form;
 use crate::push::push_row;
@@ -19,7 +19,7 @@ use std::io::{ErrorKind, Write};
 /// Fails if the writer fails or takes no bytes. The writer may then have got a prefix of the bytes.
 pub fn write_bytes<W: Write>(bytes: &[u8], out: &mut W) -> io::Result<()>
     ensures all { OnOk result (Appends (W.contents out.old) (W.contents out.new) bytes.now) }
-    ensures front { OnErr result (IsFront bytes.now (W.contents out.old) (W.contents out.new)) }
+    ensures front { OnErr result (IsPrefix bytes.now (W.contents out.old) (W.contents out.new)) }
 {
     let mut rest = bytes;
     for _ in 0..u64::MAX {

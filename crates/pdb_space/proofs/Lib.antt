@@ -5,4 +5,3 @@ pub mod RecordLemmas
 pub mod OrderLemmas
 pub mod SectionLemmas
 pub mod SearchLemmas
-pub mod FlagLemmas

@@ -6,7 +6,7 @@ use Rattle.std.proofs.lemmas.Bool.{cases_lt, le-ltb, lt-ltb, le-leb, lt-leb, cas
 use Rattle.std.proofs.lemmas.List.{append-nil}
 use Rattle.std.proofs.lemmas.List.Sorted.{IsNonDecreasingBy-drop}
 use Rattle.pdb_space.specs.Sum.{largest, fitting}
-use Rattle.pdb_space.specs.Omap.{Mapping, IsSortedBySource, moved, shift}
+use Rattle.pdb_space.specs.Omap.{OmapValue, IsSortedBySource, moved, shift}
 use Rattle.pdb_space.specs.Conversions.{translated, translated_parts}
 use Rattle.pdb_space.specs.Ranges.{numbers_of, end_to_end, pointwise, unless_empty, part, next_source, parts, parts_until, IsNotEmpty}
 
@@ -48,20 +48,20 @@ pointwise-none move s e none =
 -- ---- sources in order
 
 -- without its first record a table is in order as well
-pub sorted-rest : (mapping : Mapping) (table : List Mapping) → IsSortedBySource (mapping ∷ table) → IsSortedBySource table
+pub sorted-rest : (mapping : OmapValue) (table : List OmapValue) → IsSortedBySource (mapping ∷ table) → IsSortedBySource table
 sorted-rest mapping table sorted = IsNonDecreasingBy-drop (λ m. m.source) 1 (mapping ∷ table) sorted
 
 -- and what is before its first record is before its second
-before-second : (mapping : Mapping) (table : List Mapping) (a : ℕ) → IsSortedBySource (mapping ∷ table) → a < mapping.source → a < next_source table (a + 1)
+before-second : (mapping : OmapValue) (table : List OmapValue) (a : ℕ) → IsSortedBySource (mapping ∷ table) → a < mapping.source → a < next_source table (a + 1)
 before-second mapping [] a sorted before = omega arith
 before-second mapping (next ∷ table) a sorted before = let least = sorted 0 1 mapping (omega arith) (omega arith) in omega (arith, least)
 
-past-second : (mapping : Mapping) (table : List Mapping) (e : ℕ) → IsSortedBySource (mapping ∷ table) → e ≤ mapping.source → e ≤ next_source table e
+past-second : (mapping : OmapValue) (table : List OmapValue) (e : ℕ) → IsSortedBySource (mapping ∷ table) → e ≤ mapping.source → e ≤ next_source table e
 past-second mapping [] e sorted past = omega arith
 past-second mapping (next ∷ table) e sorted past = let least = sorted 0 1 mapping (omega arith) (omega arith) in omega (arith, least)
 
 -- no record is at or below an address before the first
-none-below : (table : List Mapping) (a : ℕ) → IsSortedBySource table → a < next_source table (a + 1) → filter (λ m. leb m.source a) table ≡ []
+none-below : (table : List OmapValue) (a : ℕ) → IsSortedBySource table → a < next_source table (a + 1) → filter (λ m. leb m.source a) table ≡ []
 none-below [] a sorted before = refl
 none-below (mapping ∷ table) a sorted before =
     let above : leb mapping.source a ≡ false = lt-leb mapping.source a before in
@@ -70,19 +70,19 @@ none-below (mapping ∷ table) a sorted before =
 -- ---- what a table makes of one address
 
 -- before the first record nothing
-shift-before : (table : List Mapping) (a : ℕ) → IsSortedBySource table → a < next_source table (a + 1) → shift table a ≡ None
+shift-before : (table : List OmapValue) (a : ℕ) → IsSortedBySource table → a < next_source table (a + 1) → shift table a ≡ None
 unfolding shift
 shift-before table a sorted before = rw (none-below table a sorted before) refl
 
 -- from the first record on, and before the second, where the first moves it
-shift-first : (mapping : Mapping) (table : List Mapping) (a : ℕ) → IsSortedBySource table → mapping.source ≤ a → a < next_source table (a + 1) → shift (mapping ∷ table) a ≡ moved mapping a
+shift-first : (mapping : OmapValue) (table : List OmapValue) (a : ℕ) → IsSortedBySource table → mapping.source ≤ a → a < next_source table (a + 1) → shift (mapping ∷ table) a ≡ moved mapping a
 unfolding shift
 shift-first mapping table a sorted at before =
     let below : leb mapping.source a ≡ true = le-leb mapping.source a at in
     rw (below, none-below table a sorted before) refl
 
 -- from the second record on, what it would be without the first
-shift-later : (mapping next : Mapping) (table : List Mapping) (a : ℕ) → mapping.source ≤ a → next.source ≤ a → shift (mapping ∷ next ∷ table) a ≡ shift (next ∷ table) a
+shift-later : (mapping next : OmapValue) (table : List OmapValue) (a : ℕ) → mapping.source ≤ a → next.source ≤ a → shift (mapping ∷ next ∷ table) a ≡ shift (next ∷ table) a
 unfolding shift
 shift-later mapping next table a at later =
     let below : leb mapping.source a ≡ true = le-leb mapping.source a at in
@@ -126,7 +126,7 @@ cut-step a end some =
     ]
 
 -- the first address of a part, and the part behind it
-part-step : (mapping : Mapping) (next s e : ℕ) → mapping.source ≤ s → s < next → s < e → flat (part mapping next (span s e)) ≡ visible (moved mapping s) ++ flat (part mapping next (span (s + 1) e))
+part-step : (mapping : OmapValue) (next s e : ℕ) → mapping.source ≤ s → s < next → s < e → flat (part mapping next (span s e)) ≡ visible (moved mapping s) ++ flat (part mapping next (span (s + 1) e))
 unfolding part moved
 part-step mapping next s e at before some =
     let low : max mapping.source s ≡ s = omega arith in
@@ -143,7 +143,7 @@ part-step mapping next s e at before some =
     ]
 
 -- before the record it does not matter where the range begins
-part-before : (mapping : Mapping) (next s e : ℕ) → s < mapping.source → part mapping next (span s e) ≡ part mapping next (span (s + 1) e)
+part-before : (mapping : OmapValue) (next s e : ℕ) → s < mapping.source → part mapping next (span s e) ≡ part mapping next (span (s + 1) e)
 unfolding part
 part-before mapping next s e before =
     let low : max mapping.source s ≡ mapping.source = omega arith in
@@ -151,7 +151,7 @@ part-before mapping next s e before =
     rw (low, further) refl
 
 -- where the record's addresses and the range have none in common, there is no part
-pub part-none : (mapping : Mapping) (next s e : ℕ) → min next e ≤ max mapping.source s → part mapping next (span s e) ≡ None
+pub part-none : (mapping : OmapValue) (next s e : ℕ) → min next e ≤ max mapping.source s → part mapping next (span s e) ≡ None
 unfolding part unless_empty
 part-none mapping next s e apart =
     let start = mapping.target + (max mapping.source s - mapping.source) in
@@ -169,7 +169,7 @@ end_to_end-cons None ranges = refl
 end_to_end-cons (Some range) ranges = refl
 
 -- What the parts of a range are, by where its first address lies: before the first record, ..
-step-before : (mapping : Mapping) (table : List Mapping) (s e : ℕ) → IsSortedBySource (mapping ∷ table) → s < mapping.source → s < e
+step-before : (mapping : OmapValue) (table : List OmapValue) (s e : ℕ) → IsSortedBySource (mapping ∷ table) → s < mapping.source → s < e
     → end_to_end (parts table (span s e)) ≡ visible (shift table s) ++ end_to_end (parts table (span (s + 1) e))
     → end_to_end (parts (mapping ∷ table) (span s e)) ≡ visible (shift (mapping ∷ table) s) ++ end_to_end (parts (mapping ∷ table) (span (s + 1) e))
 step-before mapping table s e sorted before some others =
@@ -183,7 +183,7 @@ step-before mapping table s e sorted before some others =
     ∙ sym (end_to_end-cons (part mapping (next_source table e) (span (s + 1) e)) (parts table (span (s + 1) e))))
 
 -- .. among the first record's addresses, ..
-step-first : (mapping : Mapping) (table : List Mapping) (s e : ℕ) → IsSortedBySource (mapping ∷ table) → mapping.source ≤ s → s < next_source table (s + 1) → s < next_source table e → s < e
+step-first : (mapping : OmapValue) (table : List OmapValue) (s e : ℕ) → IsSortedBySource (mapping ∷ table) → mapping.source ≤ s → s < next_source table (s + 1) → s < next_source table e → s < e
     → end_to_end (parts table (span s e)) ≡ visible (shift table s) ++ end_to_end (parts table (span (s + 1) e))
     → end_to_end (parts (mapping ∷ table) (span s e)) ≡ visible (shift (mapping ∷ table) s) ++ end_to_end (parts (mapping ∷ table) (span (s + 1) e))
 step-first mapping table s e sorted at before within some others =
@@ -197,7 +197,7 @@ step-first mapping table s e sorted at before within some others =
     ∙ ap (λ (more : List ℕ). visible (moved mapping s) ++ more) (sym (end_to_end-cons (part mapping (next_source table e) (span (s + 1) e)) (parts table (span (s + 1) e)))))
 
 -- .. or from the second record on.
-step-later : (mapping next : Mapping) (table : List Mapping) (s e : ℕ) → mapping.source ≤ s → next.source ≤ s
+step-later : (mapping next : OmapValue) (table : List OmapValue) (s e : ℕ) → mapping.source ≤ s → next.source ≤ s
     → end_to_end (parts (next ∷ table) (span s e)) ≡ visible (shift (next ∷ table) s) ++ end_to_end (parts (next ∷ table) (span (s + 1) e))
     → end_to_end (parts (mapping ∷ next ∷ table) (span s e)) ≡ visible (shift (mapping ∷ next ∷ table) s) ++ end_to_end (parts (mapping ∷ next ∷ table) (span (s + 1) e))
 step-later mapping next table s e at later others =
@@ -206,7 +206,7 @@ step-later mapping next table s e at later others =
     rw (shift-later mapping next table s at later, none, still) others
 
 -- the parts of a range are the first address and the parts of the rest
-parts-step : (table : List Mapping) (s e : ℕ) → IsSortedBySource table → s < e → end_to_end (parts table (span s e)) ≡ visible (shift table s) ++ end_to_end (parts table (span (s + 1) e))
+parts-step : (table : List OmapValue) (s e : ℕ) → IsSortedBySource table → s < e → end_to_end (parts table (span s e)) ≡ visible (shift table s) ++ end_to_end (parts table (span (s + 1) e))
 unfolding shift
 parts-step [] s e sorted some = refl
 parts-step (mapping ∷ []) s e sorted some =
@@ -226,29 +226,29 @@ parts-step (mapping ∷ next ∷ table) s e sorted some =
     ]
 
 -- of no addresses there is no part
-parts-none : (table : List Mapping) (s e : ℕ) → e ≤ s → parts table (span s e) ≡ []
+parts-none : (table : List OmapValue) (s e : ℕ) → e ≤ s → parts table (span s e) ≡ []
 parts-none [] s e none = refl
 parts-none (mapping ∷ table) s e none = rw (part-none mapping (next_source table e) s e (omega arith)) (parts-none table s e none)
 
-by_count : (count : ℕ) (table : List Mapping) (s e : ℕ) → IsSortedBySource table → e - s ≡ count → end_to_end (parts table (span s e)) ≡ pointwise (shift table) (span s e)
+by_count : (count : ℕ) (table : List OmapValue) (s e : ℕ) → IsSortedBySource table → e - s ≡ count → end_to_end (parts table (span s e)) ≡ pointwise (shift table) (span s e)
 by_count zero table s e sorted none = rw (parts-none table s e (omega arith)) (sym (pointwise-none (shift table) s e (omega arith)))
 by_count (suc count) table s e sorted is =
     parts-step table s e sorted (omega arith)
     ∙ ap (λ (more : List ℕ). visible (shift table s) ++ more) (by_count count table (s + 1) e sorted (omega arith))
     ∙ sym (pointwise-step (shift table) s e (omega arith))
 
-pub parts_are_pointwise : (table : List Mapping) (asked : Range ℕ) → IsSortedBySource table → end_to_end (parts table asked) ≡ pointwise (shift table) asked
+pub parts_are_pointwise : (table : List OmapValue) (asked : Range ℕ) → IsSortedBySource table → end_to_end (parts table asked) ≡ pointwise (shift table) asked
 parts_are_pointwise table asked sorted = by_count (asked.end - asked.start) table asked.start asked.end sorted refl
 
 -- ---- the parts as far as the end
 
 -- from records at or past the end there is no part
-parts-past : (table : List Mapping) (s e : ℕ) → IsSortedBySource table → e ≤ next_source table e → parts table (span s e) ≡ []
+parts-past : (table : List OmapValue) (s e : ℕ) → IsSortedBySource table → e ≤ next_source table e → parts table (span s e) ≡ []
 parts-past [] s e sorted past = refl
 parts-past (mapping ∷ table) s e sorted past =
     rw (part-none mapping (next_source table e) s e (omega arith)) (parts-past table s e (sorted-rest mapping table sorted) (past-second mapping table e sorted past))
 
-pub parts_until_sorted : (table : List Mapping) (asked : Range ℕ) → IsSortedBySource table → parts_until table asked ≡ parts table asked
+pub parts_until_sorted : (table : List OmapValue) (asked : Range ℕ) → IsSortedBySource table → parts_until table asked ≡ parts table asked
 parts_until_sorted [] asked sorted = refl
 parts_until_sorted (mapping ∷ table) asked sorted =
     elim (cases_lt mapping.source asked.end) [
@@ -266,7 +266,7 @@ pub length-cons_option : (range : Option (Range ℕ)) (ranges : List (Range ℕ)
 length-cons_option None ranges = omega arith
 length-cons_option (Some range) ranges = omega arith
 
-pub parts_until_few : (table : List Mapping) (asked : Range ℕ) → length (parts_until table asked) ≤ length table
+pub parts_until_few : (table : List OmapValue) (asked : Range ℕ) → length (parts_until table asked) ≤ length table
 parts_until_few [] asked = omega arith
 parts_until_few (mapping ∷ table) asked =
     let rest = parts_until_few table asked in
@@ -276,7 +276,7 @@ parts_until_few (mapping ∷ table) asked =
       | false ↦ omega (arith, rest, one)
     ]
 
-pub part-not_empty : (mapping : Mapping) (next : ℕ) (asked : Range ℕ) → IfSome (part mapping next asked) IsNotEmpty
+pub part-not_empty : (mapping : OmapValue) (next : ℕ) (asked : Range ℕ) → IfSome (part mapping next asked) IsNotEmpty
 unfolding part unless_empty
 part-not_empty mapping next asked =
     let start = mapping.target + (max mapping.source asked.start - mapping.source) in
@@ -294,7 +294,7 @@ All-cons_option None ranges first rest k d within = rest k d within
 All-cons_option (Some range) ranges first rest zero d within = first
 All-cons_option (Some range) ranges first rest (suc k) d within = rest k d (omega arith)
 
-pub parts_until_not_empty : (table : List Mapping) (asked : Range ℕ) → All IsNotEmpty (parts_until table asked)
+pub parts_until_not_empty : (table : List OmapValue) (asked : Range ℕ) → All IsNotEmpty (parts_until table asked)
 parts_until_not_empty [] asked = λ k d within. absurd (omega arith)
 parts_until_not_empty (mapping ∷ table) asked =
     let some = All-cons_option (part mapping (next_source table asked.end) asked) (parts_until table asked) (part-not_empty mapping (next_source table asked.end) asked) (parts_until_not_empty table asked) in
@@ -303,7 +303,7 @@ parts_until_not_empty (mapping ∷ table) asked =
       | false ↦ some
     ]
 
-pub parts_until_laid : (table : List Mapping) (asked : Range ℕ) → IsSortedBySource table → end_to_end (parts_until table asked) ≡ pointwise (shift table) asked
+pub parts_until_laid : (table : List OmapValue) (asked : Range ℕ) → IsSortedBySource table → end_to_end (parts_until table asked) ≡ pointwise (shift table) asked
 parts_until_laid table asked sorted = ap end_to_end (parts_until_sorted table asked sorted) ∙ parts_are_pointwise table asked sorted
 
 -- ---- without a table

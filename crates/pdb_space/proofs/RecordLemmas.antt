@@ -4,13 +4,13 @@ use Rattle.std.proofs.lemmas.List.{get_or-map, drop-drop, drop-take, take_rest}
 use Rattle.byteorder.specs.Endian.{little_number}
 use Rattle.byteorder.specs.Numbers.{little_from-take}
 use Rattle.pdb_base.proofs.lemmas.Records.{spelled_length, spelled_at}
-use Rattle.pdb_space.specs.Omap.{Mapping, mapping_of, mappings_of, source_at, target_at}
+use Rattle.pdb_space.specs.Omap.{OmapValue, mapping_of, mappings_of, source_at, target_at}
 
-nowhere : Mapping
+nowhere : OmapValue
 nowhere = record { source = 0; target = 0 }
 
 -- a number of the record at a place
-part_at : (part : Mapping → ℕ) (bytes : List ℕ) (k : ℕ) → k < length bytes / 8 → get_or (map part (mappings_of bytes)) k 0 ≡ part (mapping_of (take 8 (drop (8 * k) bytes)))
+part_at : (part : OmapValue → ℕ) (bytes : List ℕ) (k : ℕ) → k < length bytes / 8 → get_or (map part (mappings_of bytes)) k 0 ≡ part (mapping_of (take 8 (drop (8 * k) bytes)))
 part_at part bytes k within =
     get_or-map part (mappings_of bytes) k nowhere 0 (omega (arith, within, spelled_length 8 mapping_of bytes))
     ∙ ap part (spelled_at 8 mapping_of bytes k nowhere within)

@@ -3,8 +3,8 @@
 use Rattle.std.specs.Prelude.{◌≡◌, ◌≢◌, ◌↔◌, ◌⊎◌, ◌+◌, ◌-◌, ◌<◌, ◌≤◌, ℕ, List, slice_get, Option, Some, None}
 pub use Rattle.pdb_base.specs.Derived.{TellsApart}
 use Rattle.pdb_space.specs.declared.section_header.ImageSectionHeader.{ImageSectionHeader}
-use Rattle.pdb_space.specs.Omap.{Mapping}
-use Rattle.pdb_space.specs.Conversions.{Arrangement, rva_to_internal_rva, internal_rva_to_rva}
+use Rattle.pdb_space.specs.Omap.{OmapValue}
+use Rattle.pdb_space.specs.Conversions.{AddressMapValue, rva_to_internal_rva, internal_rva_to_rva}
 use Rattle.std.specs.declared.cmp.Ordering.{Ordering}
 use Rattle.std.specs.declared.cmp.Ordering.TheVariants.{Less, Equal, Greater}
 use Rattle.std.specs.Ordering.{MatchOrdering}
@@ -45,12 +45,12 @@ UndoEachOther made back = IsUndone made back × IsUndone back made
 
 -- A record comes before those with a higher source and, among records with the same source,
 -- before those with a higher target.
-abbrev pub ComesBefore : Mapping → Mapping → Type 0
+abbrev pub ComesBefore : OmapValue → OmapValue → Type 0
 ComesBefore a b = (a.source < b.source) ⊎ ((a.source ≡ b.source) × (a.target < b.target))
 
 -- Records compare as less, equal or greater by `ComesBefore`.
-abbrev pub OrdersBySource : (Mapping → Mapping → Ordering) → Type 0
-OrdersBySource compared = (a b : Mapping) → MatchOrdering (compared a b) (ComesBefore a b) (a ≡ b) (ComesBefore b a)
+abbrev pub OrdersBySource : (OmapValue → OmapValue → Ordering) → Type 0
+OrdersBySource compared = (a b : OmapValue) → MatchOrdering (compared a b) (ComesBefore a b) (a ≡ b) (ComesBefore b a)
 
 -- With each item that an iterator yields, it has fewer left. After it has yielded None, it yields only None.
 pub record EndsForGood {S A : Type 0} (next_gives : S → Option A → S → Type 0) (left : S → ℕ) : Type 0 where
@@ -58,7 +58,7 @@ pub record EndsForGood {S A : Type 0} (next_gives : S → Option A → S → Typ
   pub ended : (before after later : S) (answer : Option A) → next_gives before None after → next_gives after answer later → answer ≡ None
 
 -- If no table leads to the other image, an address has the same number there.
-pub record KeepsNumbers (map : Arrangement) (address : ℕ) : Type 0 where
+pub record KeepsNumbers (map : AddressMapValue) (address : ℕ) : Type 0 where
   pub internal : map.transformed_to_original ≡ None → rva_to_internal_rva map address ≡ Some address
   pub loaded : map.original_to_transformed ≡ None → internal_rva_to_rva map address ≡ Some address
 

@@ -3,7 +3,7 @@ use Rattle.std.specs.Prelude.{ℕ, ◌+◌, ◌-◌, ◌<◌, ◌==◌, nat_lt, 
 use Rattle.std.specs.declared.ops.Range.{Range}
 use Rattle.std.specs.List.{range_with_len, cons_option}
 use Rattle.pdb_space.specs.Sum.{largest}
-use Rattle.pdb_space.specs.Omap.{Mapping}
+use Rattle.pdb_space.specs.Omap.{OmapValue}
 
 -- the numbers in a range, from its start on and below its end
 abbrev pub numbers_of : Range ℕ → List ℕ
@@ -24,24 +24,24 @@ unless_empty range = if nat_lt range.start range.end then Some range else None
 
 -- Where a record moves its part of the range that is asked for, which is the part from its source to that of
 -- the next record. Each address in it is moved as by itself, and the result ends at 0xffffffff at most.
-unfoldable pub part : Mapping → ℕ → Range ℕ → Option (Range ℕ)
+unfoldable pub part : OmapValue → ℕ → Range ℕ → Option (Range ℕ)
 part mapping next asked =
     let low = max mapping.source asked.start in
     let high = min next asked.end in
     if mapping.target == 0 then None else unless_empty (record { start = mapping.target + (low - mapping.source); end = min (mapping.target + (high - mapping.source)) largest })
 
 -- the end of a record's addresses: the source of the next record, or `end` for the last record
-abbrev pub next_source : List Mapping → ℕ → ℕ
+abbrev pub next_source : List OmapValue → ℕ → ℕ
 next_source [] end = end
 next_source (mapping ∷ table) end = mapping.source
 
 -- the parts to which the records move the range that is asked for, record by record; nothing is merged
-abbrev pub parts : List Mapping → Range ℕ → List (Range ℕ)
+abbrev pub parts : List OmapValue → Range ℕ → List (Range ℕ)
 parts [] asked = []
 parts (mapping ∷ table) asked = cons_option (part mapping (next_source table asked.end) asked) (parts table asked)
 
 -- the same, up to the first record whose source is at or past the end of the range
-abbrev pub parts_until : List Mapping → Range ℕ → List (Range ℕ)
+abbrev pub parts_until : List OmapValue → Range ℕ → List (Range ℕ)
 parts_until [] asked = []
 parts_until (mapping ∷ table) asked =
     if nat_le asked.end mapping.source then [] else cons_option (part mapping (next_source table asked.end) asked) (parts_until table asked)

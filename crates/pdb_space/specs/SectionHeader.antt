@@ -2,7 +2,7 @@
 use Rattle.std.specs.Prelude.{ℕ, ◌-◌, ◌^◌, ◌==◌, ◌&&◌, nat_le, if◌then◌else◌, List, take, drop, Option, Some, None, Ok}
 use Rattle.std.specs.List.{before_first}
 use Rattle.pdb_base.specs.Endian.{little_number}
-use Rattle.pdb_bits.specs.Bits.{bits}
+use Rattle.pdb_base.specs.Bits.{bits}
 use Rattle.pdb_base.specs.Answer.{Answer, ◌>>=◌}
 use Rattle.pdb_base.specs.Reading.{front_at}
 use Rattle.pdb_space.specs.declared.section_header.ImageSectionHeader.{ImageSectionHeader}

@@ -32,9 +32,9 @@ pub struct AddressMap {
 
 impl Model for AddressMap {
     ghost use Rattle.std.specs.Prelude.{option_map};
-    ghost use Rattle.pdb_space.specs.Conversions.{Arrangement};
+    ghost use Rattle.pdb_space.specs.Conversions.{AddressMapValue};
 
-    ghost Value = { Arrangement };
+    ghost Value = { AddressMapValue };
 
     ghost view = { λ m. record {
       original_sections = m.original_sections.items;
@@ -136,7 +136,7 @@ impl AddressMap {
 /// there is no table.
 pub(crate) fn translate(table: &Option<OMAPTable>, address: u32) -> Option<u32>
     ensures exact { IfSome table.now IsSortedBySource → result ≡ translated table.now address }
-    ensures somehow { IfSome table.now (λ records. IfSome result (MovesSomehow records address)) }
+    ensures unsorted { IfSome table.now (λ records. IfSome result (MovesSomehow records address)) }
 {
     match table {
         Some(table) => table.lookup(address),

@@ -28,10 +28,7 @@ impl PdbInternalRva {
     pub fn checked_add(self, offset: u32) -> Option<Self>
         ensures { result ≡ fitting (self + offset) }
     {
-        match self.0.checked_add(offset) {
-            Some(sum) => Some(PdbInternalRva(sum)),
-            None => None,
-        }
+        self.0.checked_add(offset).map(|sum| PdbInternalRva(sum))
     }
 
     /// Returns the number of bytes from `other` to this address, or None if this address lies

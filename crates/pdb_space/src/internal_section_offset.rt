@@ -53,10 +53,8 @@ impl PdbInternalSectionOffset {
     pub fn checked_add(self, offset: u32) -> Option<Self>
         ensures { result ≡ option_map (at_offset self) (fitting (self.offset + offset)) }
     {
-        match self.offset.checked_add(offset) {
-            Some(sum) => Some(PdbInternalSectionOffset::new(self.section, sum)),
-            None => None,
-        }
+        let sum = self.offset.checked_add(offset)?;
+        Some(PdbInternalSectionOffset::new(self.section, sum))
     }
 
     /// Returns the place `offset` bytes after this one, or the one at offset 0xffffffff if its

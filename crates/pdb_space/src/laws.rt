@@ -3,13 +3,13 @@
 
 ghost use Rattle.std.specs.Prelude.{◌≡◌, ◌↔◌, ℕ, List, Some, length};
 ghost use Rattle.std.specs.declared.ops.Range.{Range};
-ghost use Rattle.pdb_space.specs.Omap.{Mapping, IsSortedBySource, shift};
+ghost use Rattle.pdb_space.specs.Omap.{OmapValue, IsSortedBySource, shift};
 ghost use Rattle.pdb_space.specs.Ranges.{end_to_end, parts, pointwise};
 ghost use Rattle.pdb_space.specs.declared.section_header.ImageSectionHeader.{ImageSectionHeader};
 ghost use Rattle.pdb_space.specs.SectionPlace.{SectionPlace};
 ghost use Rattle.pdb_space.specs.Sections.{address_of, section_of};
 ghost use Rattle.pdb_space.specs.Sum.{Fits};
-ghost use Rattle.pdb_space.specs.Conversions.{Arrangement};
+ghost use Rattle.pdb_space.specs.Conversions.{AddressMapValue};
 ghost use Rattle.pdb_space.specs.Laws.{EndsForGood, IsCutToFit, IsFirstToReach, IsReached, KeepsNumbers, OrdersByNumber, OrdersBySource, OrdersWithinSections, TellsApart, UndoEachOther};
 ghost use Rattle.pdb_space.specs.StringTableLaws.{FindsName, FindsNames, RefusesByFirstFault};
 
@@ -24,7 +24,6 @@ use crate::section_offset::SectionOffset;
 use crate::string_ref::StringRef;
 
 pub mod derived;
-pub mod flags;
 
 /// Each way to add gives the plain sum if that fits in 32 bits, and a start and the distance from
 /// it to a number add up to that number.
@@ -89,7 +88,7 @@ pub fn names()
 /// addresses one by one.
 #[tactic(auto, using(crate::proofs::RangeLemmas::parts_are_pointwise))]
 pub fn parts()
-    ensures { (table : List Mapping) (asked : Range ℕ) → IsSortedBySource table →
+    ensures { (table : List OmapValue) (asked : Range ℕ) → IsSortedBySource table →
         end_to_end (parts table asked) ≡ pointwise (shift table) asked }
 {}
 
@@ -105,7 +104,7 @@ pub fn places()
 /// Without a table that leads to the other image, an address keeps its number.
 #[tactic(auto, unfolding(crate::specs::Conversions::rva_to_internal_rva, crate::specs::Conversions::internal_rva_to_rva))]
 pub fn without_tables()
-    ensures { (map : Arrangement) (address : ℕ) → KeepsNumbers map address }
+    ensures { (map : AddressMapValue) (address : ℕ) → KeepsNumbers map address }
 {}
 
 /// Records of a table compare by their source, and those of one source by their target.

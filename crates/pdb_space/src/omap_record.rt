@@ -20,9 +20,9 @@ pub struct OMAPRecord {
 }
 
 impl Model for OMAPRecord {
-    ghost use Rattle.pdb_space.specs.Omap.{Mapping};
+    ghost use Rattle.pdb_space.specs.Omap.{OmapValue};
 
-    ghost Value = { Mapping };
+    ghost Value = { OmapValue };
 
     ghost view = { λ r. record { source = r.source; target = r.target } };
 

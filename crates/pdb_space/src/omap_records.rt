@@ -21,9 +21,9 @@ pub struct OMAPRecords<'t> {
 
 impl<'t> Model for OMAPRecords<'t> {
     ghost use Rattle.std.specs.Prelude.{◌≡◌, ◌%◌, List, length};
-    ghost use Rattle.pdb_space.specs.Omap.{Mapping, mappings_of};
+    ghost use Rattle.pdb_space.specs.Omap.{OmapValue, mappings_of};
 
-    ghost Value = { List Mapping };
+    ghost Value = { List OmapValue };
 
     ghost view = { λ r. mappings_of r.bytes.now };
 

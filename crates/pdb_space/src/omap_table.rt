@@ -27,9 +27,9 @@ pub struct OMAPTable {
 
 impl Model for OMAPTable {
     ghost use Rattle.std.specs.Prelude.{◌≡◌, ◌%◌, List, length};
-    ghost use Rattle.pdb_space.specs.Omap.{Mapping, mappings_of};
+    ghost use Rattle.pdb_space.specs.Omap.{OmapValue, mappings_of};
 
-    ghost Value = { List Mapping };
+    ghost Value = { List OmapValue };
 
     ghost view = { λ t. mappings_of t.stream };
 
@@ -81,7 +81,7 @@ impl OMAPTable {
     /// source is at or below the address.
     pub fn lookup(&self, address: u32) -> Option<u32>
         ensures exact { IsSortedBySource self.now → result ≡ shift self.now address }
-        ensures somehow { IfSome result (MovesSomehow self.now address) }
+        ensures unsorted { IfSome result (MovesSomehow self.now address) }
     {
         self.lookup_counted(address, &mut Count::new())
     }
@@ -91,7 +91,7 @@ impl OMAPTable {
     #[tactic(auto, unfolding(crate::specs::Omap::shift))]
     pub fn lookup_counted(&self, address: u32, count: &mut Count) -> Option<u32>
         ensures exact { IsSortedBySource self.now → result ≡ shift self.now address }
-        ensures somehow { IfSome result (MovesSomehow self.now address) }
+        ensures unsorted { IfSome result (MovesSomehow self.now address) }
         ensures counted { calls_of count.new ≡ after_calls (binary_digits (length self.now)) (calls_of count.old) }
     {
         self.last_at_or_below(address, count)?.moved(address)
@@ -102,7 +102,7 @@ impl OMAPTable {
     #[tactic(auto, using(pdb_base::proofs::lemmas::Records::spelled_length))]
     fn last_at_or_below(&self, address: u32, count: &mut Count) -> Option<OMAPRecord>
         ensures exact { IsSortedBySource self.now → result ≡ last_at_or_below self.now address }
-        ensures somehow { IfSome result (λ mapping. Contains self.now mapping × (mapping.source ≤ address)) }
+        ensures unsorted { IfSome result (λ mapping. Contains self.now mapping × (mapping.source ≤ address)) }
         ensures counted { calls_of count.new ≡ after_calls (binary_digits (length self.now)) (calls_of count.old) }
     {
         let bytes = self.bytes();

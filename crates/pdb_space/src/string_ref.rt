@@ -55,7 +55,7 @@ impl StringRef {
         ensures text { Answers cow_str_bytes result (lossy_name_of strings.now self) }
         ensures borrowed { IsOkAnd (name_of strings.now self) IsUtf8
             → IfOk result (λ text. ¬ IsOwnedStr text) }
-        ensures want { IfErr result
+        ensures memory { IfErr result
             (λ e. e ≡ OutOfMemory → IsOkAnd (name_of strings.now self) (λ name. ¬ IsUtf8 name)) }
     {
         strings.get(self)?.to_string(alloc)

@@ -13,7 +13,7 @@ use Rattle.pdb_base.specs.declared.error.Error.{Error}
 use Rattle.pdb_base.specs.Refusal.{Refusal, refusal_of}
 use Rattle.pdb_base.proofs.lemmas.Collected.{ok_is, ok_is_no_err, err_is}
 use Rattle.pdb_tpi.specs.Record.{kind_of}
-use Rattle.pdb_tpi.specs.Steps.{Stand, IsStep, body, steps_taken, room, stopped, walk, walk_rest}
+use Rattle.pdb_tpi.specs.Steps.{WalkPosition, IsStep, body, steps_taken, room, stopped, walk, walk_rest}
 use Rattle.pdb_tpi.specs.Table.{Table}
 use Rattle.pdb_tpi.specs.Walk.{behind, fault_of, first_item, items}
 use Rattle.pdb_tpi.proofs.StepLemmas.{step_err, step_gives, step_none, step_some, step_stops}
@@ -48,40 +48,40 @@ walk_few table =
 -- ---- a step
 
 -- the items that an iterator still has to give
-unfoldable pub left : Stand → List (List ℕ)
+unfoldable pub left : WalkPosition → List (List ℕ)
 left stand = drop (steps_taken stand) (walk stand.table)
 
 some_same : {A : Type 0} {x y : A} → Some x ≡ Some y → x ≡ y
 some_same e = cc
 
 -- the index that a step gives is the iterator's
-step_index : {X : Type 0} (seen : X → ℕ × List ℕ) (old : Stand) (x : X) (new : Stand) → IsStep seen old (Ok (Some x)) new → old.index ≡ (seen x).0
+step_index : {X : Type 0} (seen : X → ℕ × List ℕ) (old : WalkPosition) (x : X) (new : WalkPosition) → IsStep seen old (Ok (Some x)) new → old.index ≡ (seen x).0
 step_index seen old x new step = elim ((slice_get_cases (walk old.table) (steps_taken old)).1) [
   | inl here ↦
-      let moved : Stand = record old { index = old.index + 1 } in
+      let moved : WalkPosition = record old { index = old.index + 1 } in
       let is : (Some (old.index, here.0), moved) ≡ (Some (seen x), new) = ok_is (Some (old.index, here.0), moved) (Some (seen x), new) (sym (step_gives old here.0 (nth_some old.table (steps_taken old) here.0 here.2)) ∙ step.gives) in
-      ap (λ (p : ℕ × List ℕ). p.0) (some_same (ap (λ (p : Option (ℕ × List ℕ) × Stand). p.0) is))
+      ap (λ (p : ℕ × List ℕ). p.0) (some_same (ap (λ (p : Option (ℕ × List ℕ) × WalkPosition). p.0) is))
   | inr past ↦ absurd (omega (arith, (step_some seen old x new step).0, past.0))
 ]
 
 -- the item that a step gives is the first of those that are left
-pub left_first : {X : Type 0} (seen : X → ℕ × List ℕ) (old : Stand) (x : X) (new : Stand) → old.table.header.minimum_index ≤ old.index → IsStep seen old (Ok (Some x)) new → left old ≡ (seen x).1 ∷ left new
+pub left_first : {X : Type 0} (seen : X → ℕ × List ℕ) (old : WalkPosition) (x : X) (new : WalkPosition) → old.table.header.minimum_index ≤ old.index → IsStep seen old (Ok (Some x)) new → left old ≡ (seen x).1 ∷ left new
 unfolding left
 left_first seen old x new base step = elim ((slice_get_cases (walk old.table) (steps_taken old)).1) [
   | inl here ↦
-      let moved : Stand = record old { index = old.index + 1 } in
+      let moved : WalkPosition = record old { index = old.index + 1 } in
       let is : (Some (old.index, here.0), moved) ≡ (Some (seen x), new) = ok_is (Some (old.index, here.0), moved) (Some (seen x), new) (sym (step_gives old here.0 (nth_some old.table (steps_taken old) here.0 here.2)) ∙ step.gives) in
-      let item : here.0 ≡ (seen x).1 = ap (λ (p : ℕ × List ℕ). p.1) (some_same (ap (λ (p : Option (ℕ × List ℕ) × Stand). p.0) is)) in
+      let item : here.0 ≡ (seen x).1 = ap (λ (p : ℕ × List ℕ). p.1) (some_same (ap (λ (p : Option (ℕ × List ℕ) × WalkPosition). p.0) is)) in
       let at : get_or (walk old.table) (steps_taken old) [] ≡ here.0 = sym (some_same (sym here.2 ∙ slice_get-get_or (walk old.table) (steps_taken old) [] here.1)) in
       let next : old.index + 1 - old.table.header.minimum_index ≡ suc (steps_taken old) = omega (arith, base) in
       drop-cons (walk old.table) (steps_taken old) [] here.1
       ∙ ap (λ (i : List ℕ). i ∷ drop (suc (steps_taken old)) (walk old.table)) (at ∙ item)
       ∙ ap (λ (n : ℕ). (seen x).1 ∷ drop n (walk old.table)) (sym next)
-      ∙ ap (λ (s : Stand). (seen x).1 ∷ drop (steps_taken s) (walk s.table)) (ap (λ (p : Option (ℕ × List ℕ) × Stand). p.1) is)
+      ∙ ap (λ (s : WalkPosition). (seen x).1 ∷ drop (steps_taken s) (walk s.table)) (ap (λ (p : Option (ℕ × List ℕ) × WalkPosition). p.1) is)
   | inr past ↦ absurd (omega (arith, (step_some seen old x new step).0, past.0))
 ]
 
-pub left_none : (stand : Stand) → length (walk stand.table) ≤ steps_taken stand → left stand ≡ []
+pub left_none : (stand : WalkPosition) → length (walk stand.table) ≤ steps_taken stand → left stand ≡ []
 unfolding left
 left_none stand past = drop_of_length-le (walk stand.table) past
 
@@ -103,7 +103,7 @@ continued_few index (item ∷ items) =
     omega (arith, here, rest)
 
 -- So much is counted of a table's records as an iterator gave.
-pub record IsCounting (table : Table) (stand : Stand) (counts : List ℕ) (records continued : ℕ) : Type 0 where
+pub record IsCounting (table : Table) (stand : WalkPosition) (counts : List ℕ) (records continued : ℕ) : Type 0 where
   pub same : stand.table ≡ table
   pub base : table.header.minimum_index ≤ stand.index
   pub kinds : length counts ≡ 0x10000
@@ -111,7 +111,7 @@ pub record IsCounting (table : Table) (stand : Stand) (counts : List ℕ) (recor
   pub all : records + length (left stand) ≡ length (walk table)
   pub lists : continued + continued_from stand.index (left stand) ≡ continued_of table
 
-pub counting_none : (table : Table) (stand : Stand) (counts : List ℕ) → stand ≡ record { table = table; index = table.header.minimum_index } → length counts ≡ 0x10000
+pub counting_none : (table : Table) (stand : WalkPosition) (counts : List ℕ) → stand ≡ record { table = table; index = table.header.minimum_index } → length counts ≡ 0x10000
     → ((leaf : ℕ) → leaf < 0x10000 → slice_index_or counts leaf 0 ≡ 0) → IsCounting table stand counts 0 0
 unfolding left
 counting_none table stand counts first kinds zeros =
@@ -126,21 +126,21 @@ counting_none table stand counts first kinds zeros =
     })
 
 -- one count more has room
-pub room_more : (table : Table) (stand : Stand) (counts : List ℕ) (records continued leaf : ℕ) → leaf < 0x10000 → IsCounting table stand counts records continued → slice_index_or counts leaf 0 + 1 < 2 ^ 64
+pub room_more : (table : Table) (stand : WalkPosition) (counts : List ℕ) (records continued leaf : ℕ) → leaf < 0x10000 → IsCounting table stand counts records continued → slice_index_or counts leaf 0 + 1 < 2 ^ 64
 room_more table stand counts records continued leaf within counting =
     let each = counting.each leaf within in
     let few = count_by-le-length (λ item. kind_of item == leaf) (walk table) in
     let most = walk_few table in
     omega (arith, each, few, most)
 
-pub room_continued : (table : Table) (stand : Stand) (counts : List ℕ) (records continued : ℕ) (is_continued : Bool) → IsCounting table stand counts records continued → continued + cond is_continued 1 0 < 2 ^ 64
+pub room_continued : (table : Table) (stand : WalkPosition) (counts : List ℕ) (records continued : ℕ) (is_continued : Bool) → IsCounting table stand counts records continued → continued + cond is_continued 1 0 < 2 ^ 64
 room_continued table stand counts records continued is_continued counting =
     let most = walk_few table in
     let one = one_most is_continued in
     let few = continued_few table.header.minimum_index (walk table) in
     omega (arith, counting.lists, most, few, one)
 
-pub room_records : (table : Table) (stand : Stand) (counts : List ℕ) (records continued : ℕ) → IsCounting table stand counts records continued → records + 1 < 2 ^ 64
+pub room_records : (table : Table) (stand : WalkPosition) (counts : List ℕ) (records continued : ℕ) → IsCounting table stand counts records continued → records + 1 < 2 ^ 64
 room_records table stand counts records continued counting =
     let most = walk_few table in
     omega (arith, counting.all, most)
@@ -178,7 +178,7 @@ each_more counts item others kind leaf whole is within before = elim (cases_Bool
 ]
 
 -- one record more
-pub counting_more : {X : Type 0} (seen : X → ℕ × List ℕ) (table : Table) (old : Stand) (x : X) (new : Stand) (counts more : List ℕ) (records continued kind : ℕ) (is_continued : Bool) → IsStep seen old (Ok (Some x)) new
+pub counting_more : {X : Type 0} (seen : X → ℕ × List ℕ) (table : Table) (old : WalkPosition) (x : X) (new : WalkPosition) (counts more : List ℕ) (records continued kind : ℕ) (is_continued : Bool) → IsStep seen old (Ok (Some x)) new
     → IsCounting table old counts records continued → kind ≡ kind_of (seen x).1 → kind < 0x10000 → more ≡ slice_set counts kind (slice_index_or counts kind 0 + 1) → length more ≡ 0x10000
     → is_continued ≡ goes_on (seen x).0 (seen x).1 → IsCounting table new more (records + 1) (continued + cond is_continued 1 0)
 counting_more seen table old x new counts more records continued kind is_continued step counting is within noted kinds on =
@@ -186,7 +186,7 @@ counting_more seen table old x new counts more records continued kind is_continu
     let base : old.table.header.minimum_index ≤ old.index = subst (λ (t : Table). t.header.minimum_index ≤ old.index) (sym counting.same) counting.base in
     let first = left_first seen old x new base step in
     let kept : new.table ≡ old.table = step.stays in
-    let next : new.index ≡ old.index + 1 = ap (λ (s : Stand). s.index) moved in
+    let next : new.index ≡ old.index + 1 = ap (λ (s : WalkPosition). s.index) moved in
     record {
       same = kept ∙ counting.same;
       base = omega (arith, counting.base, next);
@@ -208,7 +208,7 @@ counting_more seen table old x new counts more records continued kind is_continu
 -- ---- the end
 
 -- all is counted where none is left
-pub counted_all : (table : Table) (stand : Stand) (counts : List ℕ) (records continued : ℕ) → IsCounting table stand counts records continued → length (walk stand.table) ≤ steps_taken stand
+pub counted_all : (table : Table) (stand : WalkPosition) (counts : List ℕ) (records continued : ℕ) → IsCounting table stand counts records continued → length (walk stand.table) ≤ steps_taken stand
     → ((leaf : ℕ) → leaf < 0x10000 → slice_index_or counts leaf 0 ≡ count_of (walk table) leaf) × (records ≡ length (walk table)) × (continued ≡ continued_of table)
 counted_all table stand counts records continued counting past =
     let none = left_none stand past in (
@@ -217,18 +217,18 @@ counted_all table stand counts records continued counting past =
       (let no : continued_from stand.index (left stand) ≡ 0 = ap (continued_from stand.index) none in omega (arith, counting.lists, no)),
     )
 
-stop_at : (stand : Stand) (rest : List ℕ) (fault : Refusal) → stopped stand rest ≡ Err fault → stop_of rest ≡ Some fault
+stop_at : (stand : WalkPosition) (rest : List ℕ) (fault : Refusal) → stopped stand rest ≡ Err fault → stop_of rest ≡ Some fault
 stop_at stand [] fault e = let none : Option (ℕ × List ℕ) = None in absurd (ok_is_no_err (none, stand) fault e)
-stop_at stand (byte ∷ rest) fault e = ap (λ (f : Refusal). Some f) (err_is {A = Option (ℕ × List ℕ) × Stand} (fault_of (byte ∷ rest)) fault e)
+stop_at stand (byte ∷ rest) fault e = ap (λ (f : Refusal). Some f) (err_is {A = Option (ℕ × List ℕ) × WalkPosition} (fault_of (byte ∷ rest)) fault e)
 
 -- the fault of a step that is refused is that at which the walk stops
-pub stops_with : {X : Type 0} (seen : X → ℕ × List ℕ) (table : Table) (old new : Stand) (e : Error) → old.table ≡ table → IsStep seen old (Err e) new → stop_of (walk_rest table) ≡ Some (refusal_of e)
+pub stops_with : {X : Type 0} (seen : X → ℕ × List ℕ) (table : Table) (old new : WalkPosition) (e : Error) → old.table ≡ table → IsStep seen old (Err e) new → stop_of (walk_rest table) ≡ Some (refusal_of e)
 stops_with seen table old new e same step =
     let past = slice_get_past (walk old.table) (steps_taken old) (step_err seen old new e step).0 in
     ap (λ (t : Table). stop_of (walk_rest t)) (sym same) ∙ stop_at old (walk_rest old.table) (refusal_of e) (sym (step_stops old past) ∙ step.gives)
 
 -- where a step gives nothing the walk does not stop
-pub stops_not : {X : Type 0} (seen : X → ℕ × List ℕ) (table : Table) (old new : Stand) → old.table ≡ table → IsStep seen old (Ok None) new → stop_of (walk_rest table) ≡ None
+pub stops_not : {X : Type 0} (seen : X → ℕ × List ℕ) (table : Table) (old new : WalkPosition) → old.table ≡ table → IsStep seen old (Ok None) new → stop_of (walk_rest table) ≡ None
 stops_not seen table old new same step = ap (λ (t : Table). stop_of (walk_rest t)) (sym same) ∙ ap stop_of (step_none seen old new step).1
 
 -- no kind has more records than there are

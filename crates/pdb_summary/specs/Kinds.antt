@@ -5,7 +5,7 @@ use Rattle.pdb_base.specs.Answer.{Answer, ◌>>=◌}
 use Rattle.pdb_base.specs.Refusal.{Refusal}
 use Rattle.pdb_msf.specs.File.{stream_of}
 use Rattle.pdb_msf.specs.Header.{Head}
-use Rattle.pdb_leaves.specs.declared.constants.TheConstants.{LF_FIELDLIST}
+use Rattle.pdb_values.specs.declared.constants.TheConstants.{LF_FIELDLIST}
 use Rattle.pdb_rows.specs.declared.form.Form.{Form}
 use Rattle.pdb_rows.specs.Lines.{row_text}
 use Rattle.pdb_rows.specs.Row.{ShownRow, number, hexadecimal}

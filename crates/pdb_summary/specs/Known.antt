@@ -1,6 +1,6 @@
 -- What is known of a file's streams, as the code holds it.
 use Rattle.std.specs.Prelude.{map}
-use Rattle.pdb_roles.specs.StreamNames.{named_view}
+use Rattle.pdb_file.specs.StreamNames.{named_view}
 use Rattle.pdb_summary.specs.Streams as streams
 use Rattle.pdb_summary.specs.declared.streams.Known.{Known}
 

@@ -6,9 +6,9 @@ use Rattle.pdb_base.specs.declared.index.StreamIndex.{StreamIndex}
 use Rattle.pdb_base.specs.Index.{no_stream}
 use Rattle.pdb_msf.specs.Directory.{directory_of}
 use Rattle.pdb_msf.specs.Header.{Head}
-use Rattle.pdb_roles.specs.File.{file_information, file_roles}
-use Rattle.pdb_roles.specs.StreamNames.{Named, stream_names_of}
-use Rattle.pdb_roles.specs.declared.debug_header.DBIExtraStreams.{DBIExtraStreams}
+use Rattle.pdb_file.specs.File.{file_information, file_roles}
+use Rattle.pdb_file.specs.StreamNames.{Named, stream_names_of}
+use Rattle.pdb_file.specs.declared.debug_header.DBIExtraStreams.{DBIExtraStreams}
 use Rattle.pdb_rows.specs.declared.form.Form.{Form}
 use Rattle.pdb_rows.specs.Lines.{row_text}
 use Rattle.pdb_rows.specs.Row.{ShownRow, number}

@@ -1,15 +1,16 @@
 //! The kinds of the records of a table.
 
-ghost use Rattle.std.specs.Prelude.{◌≡◌, ℕ, ◌+◌, ◌<◌, ◌≤◌, ◌^◌, length, slice_index_or, slice_set, vec_len, IfErr, IfOk, if◌then◌else◌};
+ghost use Rattle.std.specs.Prelude.{◌≡◌, ℕ, ◌+◌, ◌<◌, ◌≤◌, ◌^◌, length, slice_index_or, slice_set, vec_len, IfOk, if◌then◌else◌};
 ghost use Rattle.std.specs.List.{range_with_len};
+ghost use Rattle.pdb_base.specs.Memory.{FailsOnlyForMemory};
 ghost use Rattle.pdb_summary.specs.Kinds.{goes_on, present, ranked};
 ghost use Rattle.pdb_summary.specs.Tally.{IsTally, IsWalked};
 ghost use Rattle.pdb_tpi.specs.Item.{bytes_of, index_of};
 
 use pdb_base::{Error, FallibleIterator, Result, TypeIndex};
-use pdb_leaves::constants::LF_FIELDLIST;
 use pdb_tpi::{Item, TypeInformation};
 use pdb_values::TypeData;
+use pdb_values::constants::LF_FIELDLIST;
 use std::alloc::Global;
 use std::cmp::Reverse;
 
@@ -30,7 +31,7 @@ fn present(alloc: Global, counts: &[u64]) -> Result<Vec<KindCount>>
     requires { length counts.now ≡ 0x10000 }
     ensures present { IfOk result (λ kinds. kinds.items ≡
         present (λ leaf. slice_index_or counts.now leaf 0) (range_with_len 0 0x10000)) }
-    ensures want { IfErr result (λ e. e ≡ Error.OutOfMemory) }
+    ensures memory { FailsOnlyForMemory result }
 {
     let mut kinds = Vec::new(alloc);
     for leaf in 0..KINDS {
@@ -50,7 +51,7 @@ fn rank(alloc: Global, counts: &[u64]) -> Result<Vec<KindCount>>
     requires { length counts.now ≡ 0x10000 }
     ensures ranked { (most : ℕ) → ((leaf : ℕ) → slice_index_or counts.now leaf 0 ≤ most)
         → IfOk result (λ kinds. kinds.items ≡ ranked (λ leaf. slice_index_or counts.now leaf 0) most) }
-    ensures want { IfErr result (λ e. e ≡ Error.OutOfMemory) }
+    ensures memory { FailsOnlyForMemory result }
 {
     let mut kinds = present(alloc, counts)?;
     kinds.sort_by_key(|kind| Reverse(kind.count))?;
@@ -84,7 +85,7 @@ fn note(counts: &mut Vec<u64>, kind: u16)
 fn zeros(alloc: Global, count: usize) -> Result<Vec<u64>>
     ensures kinds { IfOk result (λ counts. vec_len counts ≡ count) }
     ensures zeros { IfOk result (λ counts. (leaf : ℕ) → leaf < count → slice_index_or counts.items leaf 0 ≡ 0) }
-    ensures want { IfErr result (λ e. e ≡ Error.OutOfMemory) }
+    ensures memory { FailsOnlyForMemory result }
 {
     let counts = vec![in alloc; 0; count]?;
     Ok(counts)
@@ -94,7 +95,7 @@ fn zeros(alloc: Global, count: usize) -> Result<Vec<u64>>
 #[tactic(auto, unfolding(crate::specs::Kinds::goes_on))]
 fn goes_on(alloc: Global, item: &Item<'_, TypeIndex>) -> Result<bool>
     ensures ok { IfOk result (λ is. is ≡ goes_on (index_of item.now).0 (bytes_of item.now)) }
-    ensures want { IfErr result (λ e. e ≡ Error.OutOfMemory) }
+    ensures memory { FailsOnlyForMemory result }
 {
     if item.raw_kind() != LF_FIELDLIST {
         return Ok(false);
@@ -116,7 +117,7 @@ fn as_count(is: bool) -> u64
 /// Walks over a table, and counts its records.
 fn count_records(alloc: Global, table: &TypeInformation) -> Result<Tally>
     ensures tally { IfOk result (IsTally table.now) }
-    ensures want { IfErr result (λ e. e ≡ Error.OutOfMemory) }
+    ensures memory { FailsOnlyForMemory result }
 {
     let mut counts = zeros(alloc, KINDS)?;
     let mut records = 0;
@@ -167,7 +168,7 @@ pub struct Walked {
 /// the fault at which the walk stops, if it does.
 pub fn walk_over(alloc: Global, table: &TypeInformation) -> Result<Walked>
     ensures walked { IfOk result (IsWalked table.now) }
-    ensures want { IfErr result (λ e. e ≡ Error.OutOfMemory) }
+    ensures memory { FailsOnlyForMemory result }
 {
     let Tally {
         counts,

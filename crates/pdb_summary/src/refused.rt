@@ -1,6 +1,7 @@
 //! Parts of a file that are refused.
 
-ghost use Rattle.std.specs.Prelude.{◌≡◌, [], ◌∷◌, codes, IfOk, IfErr};
+ghost use Rattle.std.specs.Prelude.{◌≡◌, [], ◌∷◌, codes, IfOk};
+ghost use Rattle.pdb_base.specs.Memory.{FailsOnlyForMemory};
 ghost use Rattle.pdb_base.specs.Refusal.{refusal_of};
 ghost use Rattle.pdb_rows.specs.Row.{field_shown, row_shown};
 ghost use Rattle.pdb_rows.specs.Row.{text as shown_text};
@@ -46,7 +47,7 @@ fn part_field<'t>(part: Part) -> Field<'t>
 /// Returns the row of a part that is refused, with the text that says why.
 fn refused_row<'t>(alloc: Global, part: Part, text: &'t [u8]) -> Result<Row<'t>>
     ensures ok { IfOk result (λ row. row_shown row ≡ part_shown part ∷ (codes "error", shown_text text.now) ∷ []) }
-    ensures want { IfErr result (λ e. e ≡ Error.OutOfMemory) }
+    ensures memory { FailsOnlyForMemory result }
 {
     let fields = vec![in alloc; part_field(part), error_field(text)]?;
     Ok(Row { fields })

@@ -2,11 +2,11 @@
 
 ghost use Rattle.std.specs.Prelude.{◌≡◌, map};
 ghost use Rattle.std.specs.Option.{option_map};
-ghost use Rattle.pdb_roles.specs.StreamNames.{named_view};
+ghost use Rattle.pdb_file.specs.StreamNames.{named_view};
 ghost use Rattle.pdb_summary.specs.Streams.{is_of, listed_role, name_of, role_of};
 
 use pdb_base::{RawString, StreamIndex};
-use pdb_roles::{DBIExtraStreams, StreamName};
+use pdb_file::{DBIExtraStreams, StreamName};
 
 /// Returns whether an index names the stream with this number.
 fn is_of(index: StreamIndex, number: u32) -> bool

@@ -1,10 +1,11 @@
 //! The streams of a file, one line for each.
 
-ghost use Rattle.std.specs.Prelude.{◌≡◌, map, None, IfErr, IfOk};
+ghost use Rattle.std.specs.Prelude.{◌≡◌, map, None, IfOk};
 ghost use Rattle.std.specs.Option.{option_map};
+ghost use Rattle.pdb_base.specs.Memory.{FailsOnlyForMemory};
 ghost use Rattle.pdb_base.specs.Answer.{Answers};
 ghost use Rattle.pdb_msf.specs.File.{stream_of};
-ghost use Rattle.pdb_roles.specs.StreamNames.{named_view};
+ghost use Rattle.pdb_file.specs.StreamNames.{named_view};
 ghost use Rattle.pdb_rows.specs.Row.{row_shown, value_shown};
 ghost use Rattle.pdb_rows.specs.Written.{Writes};
 ghost use Rattle.pdb_summary.specs.Known.{known_view};
@@ -13,8 +14,8 @@ ghost use Rattle.pdb_summary.specs.Streams.{pages_held, size_line, stream_line, 
 use crate::refused::{Part, write_refused};
 use crate::roles::{name_of, role_of};
 use pdb_base::{Error, RawString, Result, Stream};
+use pdb_file::{DBIExtraStreams, StreamName};
 use pdb_msf::{BigMSF, Msf};
-use pdb_roles::{DBIExtraStreams, StreamName};
 use pdb_rows::{Form, Row, Value, field, optional_text, optional_word, write_row};
 use std::alloc::Global;
 use std::io::Write;
@@ -63,7 +64,7 @@ fn stream_row<'t>(
     ensures ok { IfOk result (λ row. row_shown row
         ≡ stream_shown page_size number size (option_map (λ role. role.now) role.entry)
         (option_map (λ name. name.0.now) name.entry)) }
-    ensures want { IfErr result (λ e. e ≡ Error.OutOfMemory) }
+    ensures memory { FailsOnlyForMemory result }
 {
     let fields = vec![in alloc;
         field("stream", Value::Number(number as u64)),

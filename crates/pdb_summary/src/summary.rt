@@ -1,10 +1,11 @@
 //! The summary of a file.
 
-ghost use Rattle.std.specs.Prelude.{◌≡◌, [], ◌++◌, IfErr, IfOk};
+ghost use Rattle.std.specs.Prelude.{◌≡◌, [], ◌++◌, IfOk};
+ghost use Rattle.pdb_base.specs.Memory.{FailsOnlyForMemory};
 ghost use Rattle.pdb_base.specs.Answer.{Answers, Gives};
 ghost use Rattle.pdb_base.specs.Refusal.{refusal_of};
-ghost use Rattle.pdb_roles.specs.File.{file_roles};
-ghost use Rattle.pdb_roles.specs.StreamNames.{stream_names_of};
+ghost use Rattle.pdb_file.specs.File.{file_roles};
+ghost use Rattle.pdb_file.specs.StreamNames.{stream_names_of};
 ghost use Rattle.pdb_rows.specs.Row.{row_shown};
 ghost use Rattle.pdb_rows.specs.Written.{Writes, done_of};
 ghost use Rattle.pdb_summary.specs.Known.{known_view};
@@ -18,8 +19,8 @@ use crate::refused::{Part, write_refused};
 use crate::streams::{Known, write_streams};
 use crate::tables::write_table;
 use pdb_base::{Error, ParseBuffer, Result};
+use pdb_file::{DBIExtraStreams, PDBInformation, extra_streams, pdb_information};
 use pdb_msf::{BigMSF, Msf};
-use pdb_roles::{DBIExtraStreams, PDBInformation, extra_streams, pdb_information};
 use pdb_rows::{Form, Row, Value, field, write_row};
 use std::alloc::Global;
 use std::io::Write;
@@ -60,7 +61,7 @@ fn page_size_of(file: &[u8]) -> u32
 /// size in bytes.
 fn pages_row<'t>(alloc: Global, page_size: u32, pages: u32, size: usize) -> Result<Row<'t>>
     ensures ok { IfOk result (λ row. row_shown row ≡ pages_shown (page_size, pages) size) }
-    ensures want { IfErr result (λ e. e ≡ Error.OutOfMemory) }
+    ensures memory { FailsOnlyForMemory result }
 {
     let fields = vec![in alloc;
         field("page_size", Value::Number(page_size as u64)),

@@ -1,7 +1,8 @@
 //! The tables of a file, and the kinds of their records.
 
-ghost use Rattle.std.specs.Prelude.{◌≡◌, ◌++◌, IfErr, IfOk};
+ghost use Rattle.std.specs.Prelude.{◌≡◌, ◌++◌, IfOk};
 ghost use Rattle.std.specs.Option.{option_map};
+ghost use Rattle.pdb_base.specs.Memory.{FailsOnlyForMemory};
 ghost use Rattle.pdb_base.specs.Answer.{Answers};
 ghost use Rattle.pdb_base.specs.Refusal.{refusal_of};
 ghost use Rattle.pdb_rows.specs.Lines.{row_text};
@@ -30,7 +31,7 @@ fn table_row<'t>(
 ) -> Result<Row<'t>>
     ensures ok { IfOk result (λ row. row_shown row ≡
         table_shown number walked.now.records walked.now.continued least end) }
-    ensures want { IfErr result (λ e. e ≡ Error.OutOfMemory) }
+    ensures memory { FailsOnlyForMemory result }
 {
     let fields = vec![in alloc;
         field("table", Value::Number(number as u64)),
@@ -71,7 +72,7 @@ fn write_head<W: Write>(
 /// Returns the row of a kind of a table's records, and how many there are.
 fn kind_row<'t>(alloc: Global, number: u32, kind: KindCount) -> Result<Row<'t>>
     ensures ok { IfOk result (λ row. row_shown row ≡ kind_shown number kind) }
-    ensures want { IfErr result (λ e. e ≡ Error.OutOfMemory) }
+    ensures memory { FailsOnlyForMemory result }
 {
     let fields = vec![in alloc;
         field("table", Value::Number(number as u64)),

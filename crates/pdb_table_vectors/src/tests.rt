@@ -15,6 +15,7 @@ mod primitives;
 mod read;
 mod refused;
 mod roles;
+mod searching;
 mod strings;
 mod tables;
 mod translation;

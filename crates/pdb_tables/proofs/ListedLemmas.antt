@@ -7,11 +7,11 @@ use Rattle.pdb_base.specs.declared.error.Error.{Error}
 use Rattle.pdb_base.specs.declared.error.Error.TheVariants as errors
 use Rattle.pdb_base.specs.Answer.{Answer, ◌>>=◌, RefusesUnless, IsOtherFault}
 use Rattle.pdb_base.specs.Refusal.{refusal_of}
-use Rattle.pdb_rows.specs.Written.{IsCut, IsFront, Writes}
+use Rattle.pdb_rows.specs.Written.{IsOutputFailure, IsPrefix, Writes}
 use Rattle.pdb_rows.proofs.lemmas.Written.{front_first, front_none, front_second, want_is_cut}
 use Rattle.pdb_tables.specs.Listing.{Listing, IsListed, followed_by, headed, listed_of, whole}
 
-other_is_cut : (e : Error) → IsOtherFault e → IsCut e
+other_is_cut : (e : Error) → IsOtherFault e → IsOutputFailure e
 other_is_cut (errors.IoError cause) is = tt
 other_is_cut errors.UnrecognizedFileFormat is = absurd is
 other_is_cut (errors.PageReferenceOutOfRange _) is = absurd is

@@ -7,7 +7,7 @@ use Rattle.pdb_base.specs.Answer.{required}
 use Rattle.pdb_base.specs.Records.{spelled}
 use Rattle.pdb_base.specs.Refusal.{Refusal, unexpected_eof}
 use Rattle.pdb_base.proofs.lemmas.Records.{spelled_none}
-use Rattle.pdb_space.specs.Omap.{Mapping, IsSortedBySource}
+use Rattle.pdb_space.specs.Omap.{OmapValue, IsSortedBySource}
 use Rattle.pdb_space.specs.Ranges.{next_source}
 use Rattle.pdb_space.specs.StringTable.{name_of}
 use Rattle.pdb_space.proofs.OrderLemmas as order
@@ -15,7 +15,7 @@ use Rattle.pdb_space.proofs.OrderLemmas.{sorted-at_end}
 use Rattle.pdb_space.proofs.RangeLemmas.{sorted-rest}
 use Rattle.pdb_space.specs.SectionHeader.{section_header, section_header_at}
 use Rattle.pdb_space.specs.declared.section_header.ImageSectionHeader.{ImageSectionHeader}
-use Rattle.pdb_roles.proofs.HeaderLemmas.{header_step}
+use Rattle.pdb_file.proofs.HeaderLemmas.{header_step}
 use Rattle.pdb_frames.specs.declared.frame_data.FrameData.{FrameData}
 use Rattle.pdb_rows.specs.declared.form.Form.{Form}
 use Rattle.pdb_rows.specs.Lines.{row_text}
@@ -24,7 +24,7 @@ use Rattle.pdb_rows.specs.Row.{ShownRow}
 use Rattle.pdb_tables.specs.Tables.{section_lines, omap_lines, frame_lines, rises, name_lines, name_shown, names_from, next_place}
 
 -- the line of a first record stands before those of the others
-pub omap_next : (form : Form) (records : List Mapping) (mapping : Mapping) (others : List Mapping) (row : ShownRow) → records ≡ mapping ∷ others → row ≡ omap_row mapping
+pub omap_next : (form : Form) (records : List OmapValue) (mapping : OmapValue) (others : List OmapValue) (row : ShownRow) → records ≡ mapping ∷ others → row ≡ omap_row mapping
     → omap_lines form records ≡ row_text form row ++ omap_lines form others
 omap_next form records mapping others row first shown = rw (first, shown) refl
 
@@ -74,19 +74,19 @@ cut_end stream {size} is cut =
 
 -- ---- the order of an OMAP table
 
-rises-from_sorted : (highest : ℕ) (records : List Mapping) → IsSortedBySource records → highest ≤ next_source records highest → rises highest records ≡ true
+rises-from_sorted : (highest : ℕ) (records : List OmapValue) → IsSortedBySource records → highest ≤ next_source records highest → rises highest records ≡ true
 rises-from_sorted highest [] sorted first = refl
 rises-from_sorted highest (mapping ∷ []) sorted first = and_from (leb highest mapping.source) true (le-leb highest mapping.source first) refl
 rises-from_sorted highest (mapping ∷ next ∷ records) sorted first =
     and_from (leb highest mapping.source) (rises mapping.source (next ∷ records)) (le-leb highest mapping.source first)
     (rises-from_sorted mapping.source (next ∷ records) (sorted-rest mapping (next ∷ records) sorted) (sorted 0 1 mapping (omega arith) (omega arith)))
 
-rises_is : (highest : ℕ) (records : List Mapping) → order.rises highest records ≡ rises highest records
+rises_is : (highest : ℕ) (records : List OmapValue) → order.rises highest records ≡ rises highest records
 rises_is highest [] = refl
 rises_is highest (mapping ∷ records) = ap (λ (b : Bool). leb highest mapping.source && b) (rises_is mapping.source records)
 
 -- a test of the order is the one that is defined
-pub rises_as : (records : List Mapping) (test : Bool) → IsTrue test ↔ IsSortedBySource records → test ≡ rises 0 records
+pub rises_as : (records : List OmapValue) (test : Bool) → IsTrue test ↔ IsSortedBySource records → test ≡ rises 0 records
 rises_as records true is = sym (rises-from_sorted 0 records (is.0 refl) (omega arith))
 rises_as records false is = elim (cases_Bool (rises 0 records)) [
   | inl risen ↦ absurd (false≢true (is.1 (sorted-at_end 0 [] records (sym (rises_is 0 records ∙ risen)) refl)))

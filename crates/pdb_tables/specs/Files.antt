@@ -6,8 +6,8 @@ use Rattle.pdb_msf.specs.File.{stream_of}
 use Rattle.pdb_msf.specs.Header.{Head}
 use Rattle.pdb_space.specs.StringTable.{names_of}
 use Rattle.pdb_frames.specs.Table.{frame_table_of}
-use Rattle.pdb_roles.specs.File.{file_frame_table, file_roles, file_string_table, stream_numbered}
-use Rattle.pdb_roles.specs.declared.debug_header.DBIExtraStreams.{DBIExtraStreams}
+use Rattle.pdb_file.specs.File.{file_frame_table, file_roles, file_string_table, stream_numbered}
+use Rattle.pdb_file.specs.declared.debug_header.DBIExtraStreams.{DBIExtraStreams}
 use Rattle.pdb_rows.specs.declared.form.Form.{Form}
 use Rattle.pdb_rows.specs.Lines.{row_text}
 use Rattle.pdb_rows.specs.Row.{ShownRow, text}

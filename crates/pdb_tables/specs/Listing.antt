@@ -4,7 +4,7 @@ use Rattle.std.specs.Io.KnownBytes.{Appends}
 use Rattle.pdb_base.specs.declared.error.Error.{Error}
 use Rattle.pdb_base.specs.Answer.{Answer, ◌>>=◌}
 use Rattle.pdb_base.specs.Refusal.{Refusal, refusal_of}
-use Rattle.pdb_rows.specs.Written.{IsCut, IsFront}
+use Rattle.pdb_rows.specs.Written.{IsOutputFailure, IsPrefix}
 
 -- The lines up to the first fault, and the refusal behind them, if there is one.
 pub record Listing : Type 0 where
@@ -44,4 +44,4 @@ followed_by first next = record {
 -- short, and the writer received a front of the lines.
 abbrev pub IsListed : Listing → Option (List ℕ) → Option (List ℕ) → Result (Unit {0}) Error → Type 0
 IsListed listing old new (Ok done) = (listing.end ≡ Ok tt) × Appends old new listing.lines
-IsListed listing old new (Err e) = ((listing.end ≡ Err (refusal_of e)) × Appends old new listing.lines) ⊎ (IsCut e × IsFront listing.lines old new)
+IsListed listing old new (Err e) = ((listing.end ≡ Err (refusal_of e)) × Appends old new listing.lines) ⊎ (IsOutputFailure e × IsPrefix listing.lines old new)

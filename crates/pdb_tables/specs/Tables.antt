@@ -6,7 +6,7 @@ use Rattle.std.specs.List.{flat_map}
 use Rattle.pdb_base.specs.Answer.{required}
 use Rattle.pdb_base.specs.Records.{spelled}
 use Rattle.pdb_base.specs.Refusal.{unexpected_eof}
-use Rattle.pdb_space.specs.Omap.{Mapping, omap_table_of}
+use Rattle.pdb_space.specs.Omap.{OmapValue, omap_table_of}
 use Rattle.pdb_space.specs.StringTable.{name_of}
 use Rattle.pdb_space.specs.SectionHeader.{section_header}
 use Rattle.pdb_space.specs.declared.section_header.ImageSectionHeader.{ImageSectionHeader}
@@ -33,11 +33,11 @@ sections_listing form stream = record {
 }
 
 -- the lines of OMAP records
-abbrev pub omap_lines : Form → List Mapping → List ℕ
+abbrev pub omap_lines : Form → List OmapValue → List ℕ
 omap_lines form records = flat_map (λ mapping. row_text form (omap_row mapping)) records
 
 -- whether no source is below that of the record before it, and the first isn't below `highest`
-abbrev pub rises : ℕ → List Mapping → Bool
+abbrev pub rises : ℕ → List OmapValue → Bool
 rises highest [] = true
 rises highest (mapping ∷ records) = nat_le highest mapping.source && rises mapping.source records
 
@@ -46,7 +46,7 @@ abbrev pub order_shown : Bool → ShownRow
 order_shown sorted = (codes "is_sorted", flag sorted) ∷ []
 
 -- the lines of the records of an OMAP table, and behind them the line that says whether it is sorted
-abbrev pub omap_all : Form → List Mapping → List ℕ
+abbrev pub omap_all : Form → List OmapValue → List ℕ
 omap_all form records = omap_lines form records ++ row_text form (order_shown (rises 0 records))
 
 -- the records of the OMAP table that a stream is

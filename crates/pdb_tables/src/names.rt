@@ -1,6 +1,7 @@
 //! The names of string tables.
 
-ghost use Rattle.std.specs.Prelude.{◌≡◌, IfOk, IfErr};
+ghost use Rattle.std.specs.Prelude.{◌≡◌, IfOk};
+ghost use Rattle.pdb_base.specs.Memory.{FailsOnlyForMemory};
 ghost use Rattle.pdb_rows.specs.Row.{row_shown};
 ghost use Rattle.pdb_tables.specs.Listing.{IsListed, whole};
 ghost use Rattle.pdb_tables.specs.Tables.{all_names, name_lines, name_shown, next_place};
@@ -23,7 +24,7 @@ fn next_place(place: u32, size: usize) -> Option<u32>
 /// Returns the row of a name: its offset and its text.
 fn name_row<'t>(alloc: Global, place: u32, name: RawString<'t>) -> Result<Row<'t>>
     ensures ok { IfOk result (λ row. row_shown row ≡ name_shown (place, name.entry.0.now)) }
-    ensures want { IfErr result (λ e. e ≡ Error.OutOfMemory) }
+    ensures memory { FailsOnlyForMemory result }
 {
     let fields = vec![in alloc;
         field("offset", Value::Hexadecimal(place)),

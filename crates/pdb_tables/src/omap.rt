@@ -1,6 +1,7 @@
 //! The records of OMAP tables.
 
-ghost use Rattle.std.specs.Prelude.{◌≡◌, IfOk, IfErr};
+ghost use Rattle.std.specs.Prelude.{◌≡◌, IfOk};
+ghost use Rattle.pdb_base.specs.Memory.{FailsOnlyForMemory};
 ghost use Rattle.pdb_rows.specs.Row.{row_shown};
 ghost use Rattle.pdb_rows.specs.Written.{Writes};
 ghost use Rattle.pdb_tables.specs.Listing.{IsListed};
@@ -34,7 +35,7 @@ fn is_sorted(table: &OMAPTable) -> bool
 /// Returns the row that says whether a table is sorted.
 fn order_row<'t>(alloc: Global, is_sorted: bool) -> Result<Row<'t>>
     ensures ok { IfOk result (λ row. row_shown row ≡ order_shown is_sorted) }
-    ensures want { IfErr result (λ e. e ≡ Error.OutOfMemory) }
+    ensures memory { FailsOnlyForMemory result }
 {
     let fields = vec![in alloc; field("is_sorted", Value::Flag(is_sorted))]?;
     Ok(Row { fields })

@@ -1,6 +1,7 @@
 //! The OMAP tables of a file, by the roles of their streams.
 
-ghost use Rattle.std.specs.Prelude.{◌≡◌, IfErr, IfOk};
+ghost use Rattle.std.specs.Prelude.{◌≡◌, IfOk};
+ghost use Rattle.pdb_base.specs.Memory.{FailsOnlyForMemory};
 ghost use Rattle.pdb_msf.specs.Source.{IsKept};
 ghost use Rattle.pdb_rows.specs.Lines.{row_text};
 ghost use Rattle.pdb_rows.specs.Row.{row_shown};
@@ -10,8 +11,8 @@ ghost use Rattle.pdb_tables.specs.Listing.{IsListed};
 
 use crate::omap::write_omap;
 use pdb_base::{Error, Result};
+use pdb_file::{DBIExtraStreams, extra_streams};
 use pdb_msf::{BigMSF, Msf, Source};
-use pdb_roles::{DBIExtraStreams, extra_streams};
 use pdb_rows::{Form, Row, Value, field, write_row};
 use std::alloc::Global;
 use std::io::Write;
@@ -19,7 +20,7 @@ use std::io::Write;
 /// Returns the row that says the role of the table that follows, and the number of its stream.
 fn role_row<'t>(alloc: Global, role: &'static str, number: u32) -> Result<Row<'t>>
     ensures ok { IfOk result (λ row. row_shown row ≡ role_shown role.now number) }
-    ensures want { IfErr result (λ e. e ≡ Error.OutOfMemory) }
+    ensures memory { FailsOnlyForMemory result }
 {
     let fields = vec![in alloc;
         field("role", Value::Word(role)),

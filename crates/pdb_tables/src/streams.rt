@@ -3,12 +3,12 @@
 ghost use Rattle.std.specs.Prelude.{◌≡◌};
 ghost use Rattle.pdb_base.specs.Answer.{AnswersUnless};
 ghost use Rattle.pdb_msf.specs.Source.{HasFailed, IsKept};
-ghost use Rattle.pdb_roles.specs.File.{stream_numbered};
+ghost use Rattle.pdb_file.specs.File.{stream_numbered};
 ghost use Rattle.pdb_tables.specs.Files.{section_number};
 
 use pdb_base::{Result, Stream};
+use pdb_file::extra_streams;
 use pdb_msf::{BigMSF, Msf, Source};
-use pdb_roles::extra_streams;
 use std::alloc::Global;
 
 /// Returns the stream of a number, or None if no number is given.

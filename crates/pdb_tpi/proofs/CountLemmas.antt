@@ -5,7 +5,7 @@ use Rattle.std.proofs.lemmas.Option.{slice_get_within}
 use Rattle.pdb_base.specs.Count.{one_more, after_calls}
 use Rattle.pdb_base.proofs.lemmas.Count.{one_call}
 use Rattle.pdb_tpi.specs.Table.{Table}
-use Rattle.pdb_tpi.specs.Steps.{Stand, walk, walk_rest, nth_item, steps_taken, reads_one}
+use Rattle.pdb_tpi.specs.Steps.{WalkPosition, walk, walk_rest, nth_item, steps_taken, reads_one}
 use Rattle.pdb_tpi.specs.Finder.{reads_between}
 use Rattle.pdb_tpi.proofs.StepLemmas.{nth_ok}
 
@@ -14,7 +14,7 @@ pub nth_within : (table : Table) (n : ℕ) (item : List ℕ) → nth_item table 
 nth_within table n item e = slice_get_within (walk table) n item (nth_ok table n item e)
 
 -- an item's length is read
-pub reads_item : (stand : Stand) (calls : ℕ) → steps_taken stand < length (walk stand.table) → reads_one stand calls ≡ one_more calls
+pub reads_item : (stand : WalkPosition) (calls : ℕ) → steps_taken stand < length (walk stand.table) → reads_one stand calls ≡ one_more calls
 reads_item stand calls within = let here : ltb (steps_taken stand) (length (walk stand.table)) ≡ true = lt-ltb (steps_taken stand) (length (walk stand.table)) within in rw here refl
 
 -- the lengths up to an item of the walk
@@ -36,7 +36,7 @@ stops_by true calls done = one_call calls done
 stops_by false calls done = ap (λ (n : ℕ). after_calls n calls) (sym (add-zero done))
 
 -- the count after the last read of several: that of the item, or of where the walk stops
-pub last_count : (start now : Stand) (steps done calls : ℕ) → now.table ≡ start.table → steps_taken now ≡ steps_taken start + done → steps_taken now ≤ length (walk now.table) → done ≤ steps
+pub last_count : (start now : WalkPosition) (steps done calls : ℕ) → now.table ≡ start.table → steps_taken now ≡ steps_taken start + done → steps_taken now ≤ length (walk now.table) → done ≤ steps
     → (steps_taken now < length (walk now.table) → done ≡ steps)
     → reads_one now (after_calls done calls) ≡ after_calls (reads_between start.table (steps_taken start) (steps_taken start + steps)) calls
 last_count start now steps done calls table place reached le last =

@@ -8,7 +8,7 @@ use Rattle.std.proofs.lemmas.List.Sums.{fold_more}
 use Rattle.pdb_base.specs.Refusal.{type_not_found, type_not_indexed}
 use Rattle.pdb_base.specs.Answer.{Answer}
 use Rattle.pdb_tpi.specs.Table.{Table, IsTable, count_of}
-use Rattle.pdb_tpi.specs.Steps.{Stand, walk, walk_rest, nth_item, steps_taken}
+use Rattle.pdb_tpi.specs.Steps.{WalkPosition, walk, walk_rest, nth_item, steps_taken}
 use Rattle.pdb_tpi.specs.Place.{IsPlace, ArePlaces}
 use Rattle.pdb_tpi.specs.Finder.{first_of, block_of, has_index, max_index_of, known_after, known_of, item_of, find_of, reads_between, reads_of, most_blocks}
 use Rattle.pdb_tpi.proofs.TableLemmas.{place_first}
@@ -181,17 +181,17 @@ starts_block : (place : ℕ) (least first : ℕ) → first ≡ least → 8 * (pl
 starts_block place least first e = omega arith
 
 -- an iterator at the start of a known block finds the item
-pub found_by : (table : Table) (known i first : ℕ) (start : Stand) → first ≡ table.header.minimum_index → first ≤ i → i < table.header.maximum_index → (i - first) / 8 < known
+pub found_by : (table : Table) (known i first : ℕ) (start : WalkPosition) → first ≡ table.header.minimum_index → first ≤ i → i < table.header.maximum_index → (i - first) / 8 < known
     → start ≡ record { table = table; index = first + (i - first) / 8 * 8 } → find_of table known i ≡ nth_item start.table (steps_taken start + (i - first) % 8)
 found_by table known i first start e least below known_block is =
     let place : i - first ≡ i - table.header.minimum_index = ap (λ (n : ℕ). i - n) e in
     let block : block_of table i < known = rw (← place) known_block in
     find_known table known i (omega arith) below block
     ∙ ap (nth_item table) (sym place ∙ sym (steps_reach (i - first) table.header.minimum_index first e))
-    ∙ ap (λ (s : Stand). nth_item s.table (steps_taken s + (i - first) % 8)) (sym is)
+    ∙ ap (λ (s : WalkPosition). nth_item s.table (steps_taken s + (i - first) % 8)) (sym is)
 
 -- and reads as many lengths as it should
-pub counted_by : (table : Table) (known i first : ℕ) (start : Stand) → first ≡ table.header.minimum_index → first ≤ i → i < table.header.maximum_index → (i - first) / 8 < known
+pub counted_by : (table : Table) (known i first : ℕ) (start : WalkPosition) → first ≡ table.header.minimum_index → first ≤ i → i < table.header.maximum_index → (i - first) / 8 < known
     → start ≡ record { table = table; index = first + (i - first) / 8 * 8 } → reads_of table known i ≡ reads_between start.table (steps_taken start) (steps_taken start + (i - first) % 8)
 counted_by table known i first start e least below known_block is =
     let place : i - first ≡ i - table.header.minimum_index = ap (λ (n : ℕ). i - n) e in
@@ -200,7 +200,7 @@ counted_by table known i first start e least below known_block is =
     ∙ ap (λ (n : ℕ). reads_between table (8 * (n / 8)) n) (sym place)
     ∙ ap (λ (n : ℕ). reads_between table n (i - first)) (starts_block (i - first) table.header.minimum_index first e)
     ∙ ap (reads_between table (first + (i - first) / 8 * 8 - table.header.minimum_index)) (sym (steps_reach (i - first) table.header.minimum_index first e))
-    ∙ ap (λ (s : Stand). reads_between s.table (steps_taken s) (steps_taken s + (i - first) % 8)) (sym is)
+    ∙ ap (λ (s : WalkPosition). reads_between s.table (steps_taken s) (steps_taken s + (i - first) % 8)) (sym is)
 
 -- ---- several iterators
 
@@ -208,10 +208,10 @@ pub known_start : (table : Table) (known : ℕ) → known_of table known [] ≡ 
 unfolding known_of
 known_start table known = refl
 
-pub known_next : (table : Table) (known : ℕ) (shown : List Stand) (i : ℕ) (d : Stand) → i < length shown
-    → known_of table known (map (λ (s : Stand). s.index) (take (i + 1) shown)) ≡ known_after table (known_of table known (map (λ (s : Stand). s.index) (take i shown))) ((get_or shown i d).index)
+pub known_next : (table : Table) (known : ℕ) (shown : List WalkPosition) (i : ℕ) (d : WalkPosition) → i < length shown
+    → known_of table known (map (λ (s : WalkPosition). s.index) (take (i + 1) shown)) ≡ known_after table (known_of table known (map (λ (s : WalkPosition). s.index) (take i shown))) ((get_or shown i d).index)
 unfolding known_of
 known_next table known shown i d within =
-    fold-map (known_after table) (λ (s : Stand). s.index) known (take (i + 1) shown)
-    ∙ fold_more (λ (k : ℕ) (s : Stand). known_after table k s.index) known shown i d within
-    ∙ ap (λ (k : ℕ). known_after table k ((get_or shown i d).index)) (sym (fold-map (known_after table) (λ (s : Stand). s.index) known (take i shown)))
+    fold-map (known_after table) (λ (s : WalkPosition). s.index) known (take (i + 1) shown)
+    ∙ fold_more (λ (k : ℕ) (s : WalkPosition). known_after table k s.index) known shown i d within
+    ∙ ap (λ (k : ℕ). known_after table k ((get_or shown i d).index)) (sym (fold-map (known_after table) (λ (s : WalkPosition). s.index) known (take i shown)))

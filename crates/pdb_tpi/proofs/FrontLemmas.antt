@@ -27,13 +27,13 @@ required_is false e x h = absurd (ok_is_no_err x e (sym h))
 -- ---- an item
 
 -- An item that stands at the front of bytes behind its length.
-pub record IsFront (bytes item : List ℕ) : Type 0 where
+pub record IsPrefix (bytes item : List ℕ) : Type 0 where
   pub kind : 2 ≤ length item
   pub within : 2 + length item ≤ length bytes
   pub word : little_number 2 (take 2 bytes) ≡ length item
   pub is : item ≡ take (length item) (drop 2 bytes)
 
-pub front_item : (bytes item : List ℕ) → first_item bytes ≡ Ok item → IsFront bytes item
+pub front_item : (bytes item : List ℕ) → first_item bytes ≡ Ok item → IsPrefix bytes item
 unfolding first_item
 front_item bytes item e = elim (cases_lt (length bytes) 2) [
   | inl short ↦ absurd (ok_is_no_err item unexpected_eof (sym e ∙ rw (number_cut 2 bytes short) refl))
@@ -55,7 +55,7 @@ front_item bytes item e = elim (cases_lt (length bytes) 2) [
       }
 ]
 
-pub item_front : (bytes item : List ℕ) → IsFront bytes item → first_item bytes ≡ Ok item
+pub item_front : (bytes item : List ℕ) → IsPrefix bytes item → first_item bytes ≡ Ok item
 unfolding first_item
 item_front bytes item front =
     let long : 2 ≤ length bytes = let w = front.within in omega arith in

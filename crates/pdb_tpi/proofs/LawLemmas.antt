@@ -16,14 +16,14 @@ use Rattle.pdb_tpi.specs.Walk.{framed, IsItem, IsWalk, first_item, behind, items
 use Rattle.pdb_tpi.specs.Steps.{room, body, walk, walk_rest}
 use Rattle.pdb_tpi.specs.Finder.{has_index, block_of, reads_of, reads_between}
 use Rattle.pdb_tpi.specs.Laws.{AreBytes, WalksOnce, HasFault, ReadsFew}
-use Rattle.pdb_tpi.proofs.FrontLemmas.{IsFront, front_item, item_front, short_front, cut_front, unkind_front}
+use Rattle.pdb_tpi.proofs.FrontLemmas.{IsPrefix, front_item, item_front, short_front, cut_front, unkind_front}
 use Rattle.pdb_tpi.proofs.WalkLemmas.{items_more, rest_more, items_none, rest_none, items_full, rest_full, fault_is, fault_whole}
 use Rattle.pdb_tpi.proofs.FinderLemmas.{few_reads, within_block}
 
 -- ---- an item behind its length
 
 -- bytes that begin with a length and as many bytes begin with that item
-front_of : (head item more : List ℕ) → length head ≡ 2 → little_number 2 head ≡ length item → 2 ≤ length item → IsFront (head ++ item ++ more) item
+front_of : (head item more : List ℕ) → length head ≡ 2 → little_number 2 head ≡ length item → 2 ≤ length item → IsPrefix (head ++ item ++ more) item
 front_of head item more len word kind =
     let all : head ++ item ++ more ≡ head ++ (item ++ more) = append_assoc head item more in
     let front : take 2 (head ++ (item ++ more)) ≡ head = ap (λ (n : ℕ). take n (head ++ (item ++ more))) (sym len) ∙ take-append_seam head (item ++ more) in

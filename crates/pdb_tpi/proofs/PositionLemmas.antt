@@ -10,7 +10,7 @@ use Rattle.pdb_base.proofs.lemmas.Collected.{ok, ok_is, ok_is_no_err}
 use Rattle.pdb_tpi.specs.declared.open_table.RecordPlace.{RecordPlace}
 use Rattle.pdb_tpi.specs.Table.{Table}
 use Rattle.pdb_tpi.specs.Walk.{first_item, behind, items, rest, fault_of}
-use Rattle.pdb_tpi.specs.Steps.{Stand, IsStep, steps_taken, step_of, room, body, walk, walk_rest, nth_item}
+use Rattle.pdb_tpi.specs.Steps.{WalkPosition, IsStep, steps_taken, step_of, room, body, walk, walk_rest, nth_item}
 use Rattle.pdb_tpi.specs.Place.{IsPlace}
 use Rattle.pdb_tpi.specs.OpenTable.{bytes_at, size_of, position_of, record_at, step_located}
 use Rattle.pdb_tpi.proofs.FrontLemmas.{front_item}
@@ -102,42 +102,42 @@ record_placed table n index end item place is e =
     (omega (arith, stands, ends), ap at (omega (arith, stands, ends)))
 
 -- the same behind an item that a step gave
-pub step_placed : {X : Type 0} (seen : X → ℕ × List ℕ) (old new : Stand) (x : X) (end : ℕ) → old.table.header.minimum_index ≤ old.index → IsStep seen old (Ok (Some x)) new → IsPlace new.table new.index end
+pub step_placed : {X : Type 0} (seen : X → ℕ × List ℕ) (old new : WalkPosition) (x : X) (end : ℕ) → old.table.header.minimum_index ≤ old.index → IsStep seen old (Ok (Some x)) new → IsPlace new.table new.index end
     → (length (seen x).1 ≤ end) × (record { offset = end - length (seen x).1; length = length (seen x).1 } ≡ record_at old.table (steps_taken old) (seen x).1)
 step_placed seen old new x end least step place =
     let moved = step_some seen old x new step in
     let here : IsPlace old.table new.index end = subst (λ (t : Table). IsPlace t new.index end) step.stays place in
-    let next : new.index ≡ old.table.header.minimum_index + steps_taken old + 1 = omega (arith, ap (λ (s : Stand). s.index) moved.1, least) in
+    let next : new.index ≡ old.table.header.minimum_index + steps_taken old + 1 = omega (arith, ap (λ (s : WalkPosition). s.index) moved.1, least) in
     record_placed old.table (steps_taken old) new.index end (seen x).1 here next (step_item seen old x new step)
 
 -- what a step tells of its record
-step_told : {X : Type 0} (seen : X → ℕ × List ℕ) (old new : Stand) (x : X) → IsStep seen old (Ok (Some x)) new → step_located old ≡ Ok (Some (record_at old.table (steps_taken old) (seen x).1), new)
-step_told seen old new x step = ap (λ (answer : Answer (Option (ℕ × List ℕ) × Stand)). answer >>= λ step. Ok (option_map (λ item. record_at old.table (steps_taken old) item.1) step.0, step.1)) step.gives
+step_told : {X : Type 0} (seen : X → ℕ × List ℕ) (old new : WalkPosition) (x : X) → IsStep seen old (Ok (Some x)) new → step_located old ≡ Ok (Some (record_at old.table (steps_taken old) (seen x).1), new)
+step_told seen old new x step = ap (λ (answer : Answer (Option (ℕ × List ℕ) × WalkPosition)). answer >>= λ step. Ok (option_map (λ item. record_at old.table (steps_taken old) item.1) step.0, step.1)) step.gives
 
 -- the same after a step along a table, of which it is told where the record stands and where the walk then does
-pub step_given : {X : Type 0} (seen : X → ℕ × List ℕ) (table : Table) (index : ℕ) (old new : Stand) (x : X) (len end after : ℕ) (place : RecordPlace)
+pub step_given : {X : Type 0} (seen : X → ℕ × List ℕ) (table : Table) (index : ℕ) (old new : WalkPosition) (x : X) (len end after : ℕ) (place : RecordPlace)
     → old ≡ record { table = table; index = index } → table.header.minimum_index ≤ index → IsStep seen old (Ok (Some x)) new → IsPlace new.table new.index end → after ≡ new.index
     → len ≡ length (seen x).1 → place ≡ record { offset = end - len; length = len } → step_located (record { table = table; index = index }) ≡ Ok (Some place, record { table = table; index = after })
 step_given seen table index old new x len end after place is least step stands behind long placed =
-    let given : Stand = record { table = table; index = index } in
-    let goes : IsStep seen given (Ok (Some x)) new = subst (λ (s : Stand). IsStep seen s (Ok (Some x)) new) is step in
+    let given : WalkPosition = record { table = table; index = index } in
+    let goes : IsStep seen given (Ok (Some x)) new = subst (λ (s : WalkPosition). IsStep seen s (Ok (Some x)) new) is step in
     let there = step_placed seen given new x end least goes stands in
     let at : ℕ → RecordPlace = λ n. record { offset = end - n; length = n } in
     let same : record_at table (steps_taken given) (seen x).1 ≡ place = sym (placed ∙ ap at long ∙ there.1) in
     let moved : new ≡ record { table = table; index = after } =
     ap (λ (t : Table). record { table = t; index = new.index }) goes.stays ∙ ap (λ (i : ℕ). record { table = table; index = i }) (sym behind) in
     step_told seen given new x goes
-    ∙ ap (λ (p : RecordPlace). ok {A = Option RecordPlace × Stand} (Some p, new)) same
-    ∙ ap (λ (s : Stand). ok {A = Option RecordPlace × Stand} (Some place, s)) moved
+    ∙ ap (λ (p : RecordPlace). ok {A = Option RecordPlace × WalkPosition} (Some p, new)) same
+    ∙ ap (λ (s : WalkPosition). ok {A = Option RecordPlace × WalkPosition} (Some place, s)) moved
 
 -- Behind the item of a place to which a walk went on: its record stands before that.
-pub skipped : (table : Table) (old new : Stand) (place steps end : ℕ) (item : List ℕ) → old.table ≡ table → table.header.minimum_index ≤ old.index → old.index + steps ≡ table.header.minimum_index + place
+pub skipped : (table : Table) (old new : WalkPosition) (place steps end : ℕ) (item : List ℕ) → old.table ≡ table → table.header.minimum_index ≤ old.index → old.index + steps ≡ table.header.minimum_index + place
     → nth_item old.table (steps_taken old + steps) ≡ Ok item → new ≡ record old { index = old.index + steps + 1 } → IsPlace new.table new.index end
     → (length item ≤ end) × (record { offset = end - length item; length = length item } ≡ record_at table place item)
 skipped table old new place steps end item same least goes is moved stands =
-    let table_is : new.table ≡ table = ap (λ (s : Stand). s.table) moved ∙ same in
+    let table_is : new.table ≡ table = ap (λ (s : WalkPosition). s.table) moved ∙ same in
     let here : IsPlace table new.index end = subst (λ (t : Table). IsPlace t new.index end) table_is stands in
-    let next : new.index ≡ table.header.minimum_index + place + 1 = omega (arith, ap (λ (s : Stand). s.index) moved, goes) in
+    let next : new.index ≡ table.header.minimum_index + place + 1 = omega (arith, ap (λ (s : WalkPosition). s.index) moved, goes) in
     let first : old.table.header.minimum_index ≡ table.header.minimum_index = ap (λ (t : Table). t.header.minimum_index) same in
     let n : steps_taken old + steps ≡ place = omega (arith, first, goes, least) in
     let found : nth_item table place ≡ Ok item = ap (λ (t : Table). nth_item t place) (sym same) ∙ ap (nth_item old.table) (sym n) ∙ is in

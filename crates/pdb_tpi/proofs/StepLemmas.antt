@@ -10,7 +10,7 @@ use Rattle.pdb_base.specs.Answer.{Answer}
 use Rattle.pdb_base.proofs.lemmas.Collected.{err, ok_is, err_is, ok_is_no_err}
 use Rattle.pdb_tpi.specs.Table.{Table}
 use Rattle.pdb_tpi.specs.Walk.{first_item, fault_of}
-use Rattle.pdb_tpi.specs.Steps.{Stand, walk, walk_rest, nth_item, steps_taken, items_left, stopped, step_of, IsStep}
+use Rattle.pdb_tpi.specs.Steps.{WalkPosition, walk, walk_rest, nth_item, steps_taken, items_left, stopped, step_of, IsStep}
 use Rattle.pdb_tpi.specs.Place.{IsPlace}
 use Rattle.pdb_tpi.proofs.FrontLemmas.{empty_front}
 use Rattle.pdb_tpi.proofs.WalkLemmas.{IsBehind, place_end, place_full, place_next, nth_some, nth_none}
@@ -53,30 +53,30 @@ place_behind table index position place past = elim (cases_lt index (2 ^ 32)) [
 
 -- ---- steps
 
-pub step_stops : (stand : Stand) → slice_get (walk stand.table) (steps_taken stand) ≡ None → step_of stand ≡ stopped stand (walk_rest stand.table)
+pub step_stops : (stand : WalkPosition) → slice_get (walk stand.table) (steps_taken stand) ≡ None → step_of stand ≡ stopped stand (walk_rest stand.table)
 unfolding step_of
 step_stops stand e = rw e refl
 
-stopped_fault : (stand : Stand) (rest : List ℕ) → rest ≢ [] → stopped stand rest ≡ Err (fault_of rest)
+stopped_fault : (stand : WalkPosition) (rest : List ℕ) → rest ≢ [] → stopped stand rest ≡ Err (fault_of rest)
 stopped_fault stand [] some = absurd (some refl)
 stopped_fault stand (byte ∷ rest) some = refl
 
 pub step_ends : (table : Table) (index position : ℕ) → IsPlace table index position → drop position table.bytes ≡ [] → step_of (record { table = table; index = index }) ≡ Ok (None, record { table = table; index = index })
 step_ends table index position place none =
-    let stand : Stand = record { table = table; index = index } in
+    let stand : WalkPosition = record { table = table; index = index } in
     let end = place_end table index position unexpected_eof place (ap first_item none ∙ empty_front) in
     step_stops stand end.none ∙ ap (stopped stand) (end.rest ∙ none)
 
 pub step_faults : (table : Table) (index position : ℕ) (fault : Refusal) → IsPlace table index position → drop position table.bytes ≢ []
     → nth_item table (index - table.header.minimum_index) ≡ Err fault → step_of (record { table = table; index = index }) ≡ Err fault
 step_faults table index position fault place some e =
-    let stand : Stand = record { table = table; index = index } in
+    let stand : WalkPosition = record { table = table; index = index } in
     let is = nth_err table (index - table.header.minimum_index) fault e in
     let end = place_behind table index position place is.0 in
     step_stops stand end.none ∙ ap (stopped stand) end.rest ∙ stopped_fault stand (drop position table.bytes) some
     ∙ ap (λ (f : Refusal). err f) (ap fault_of (sym end.rest) ∙ is.1)
 
-pub step_gives : (stand : Stand) (item : List ℕ) → nth_item stand.table (steps_taken stand) ≡ Ok item → step_of stand ≡ Ok (Some (stand.index, item), record stand { index = stand.index + 1 })
+pub step_gives : (stand : WalkPosition) (item : List ℕ) → nth_item stand.table (steps_taken stand) ≡ Ok item → step_of stand ≡ Ok (Some (stand.index, item), record stand { index = stand.index + 1 })
 unfolding step_of
 step_gives stand item e = let is = nth_ok stand.table (steps_taken stand) item e in rw is refl
 
@@ -84,7 +84,7 @@ item_is_none : (item : List ℕ) → Some item ≡ None → ⊥
 item_is_none item e = cc
 
 -- behind an item that is there one fewer is left
-pub leaves_fewer : (old new : Stand) (item : List ℕ) → old.table.header.minimum_index ≤ old.index → nth_item old.table (steps_taken old) ≡ Ok item → new ≡ record old { index = old.index + 1 } → items_left new < items_left old
+pub leaves_fewer : (old new : WalkPosition) (item : List ℕ) → old.table.header.minimum_index ≤ old.index → nth_item old.table (steps_taken old) ≡ Ok item → new ≡ record old { index = old.index + 1 } → items_left new < items_left old
 leaves_fewer old new item least e moved = elim ((slice_get_cases (walk old.table) (steps_taken old)).1) [
   | inl here ↦ let within = here.1 in rw moved (omega arith)
   | inr past ↦ absurd (item_is_none item (sym (nth_ok old.table (steps_taken old) item e) ∙ past.1))
@@ -94,20 +94,20 @@ some_is_none : (x : ℕ × List ℕ) → Some x ≡ None → ⊥
 some_is_none x e = cc
 
 -- what a step behind the last item tells
-no_item : (stand : Stand) (rest : List ℕ) (item : ℕ × List ℕ) (new : Stand) → stopped stand rest ≡ Ok (Some item, new) → ⊥
+no_item : (stand : WalkPosition) (rest : List ℕ) (item : ℕ × List ℕ) (new : WalkPosition) → stopped stand rest ≡ Ok (Some item, new) → ⊥
 no_item stand [] item new e =
-    let ended : Option (ℕ × List ℕ) × Stand = (None, stand) in
-    let given : Option (ℕ × List ℕ) × Stand = (Some item, new) in
-    some_is_none item (sym (ap (λ (p : Option (ℕ × List ℕ) × Stand). p.0) (ok_is ended given e)))
+    let ended : Option (ℕ × List ℕ) × WalkPosition = (None, stand) in
+    let given : Option (ℕ × List ℕ) × WalkPosition = (Some item, new) in
+    some_is_none item (sym (ap (λ (p : Option (ℕ × List ℕ) × WalkPosition). p.0) (ok_is ended given e)))
 no_item stand (byte ∷ rest) item new e = ok_is_no_err (Some item, new) (fault_of (byte ∷ rest)) (sym e)
 
-at_end : (stand : Stand) (rest : List ℕ) (new : Stand) → stopped stand rest ≡ Ok (None, new) → rest ≡ []
+at_end : (stand : WalkPosition) (rest : List ℕ) (new : WalkPosition) → stopped stand rest ≡ Ok (None, new) → rest ≡ []
 at_end stand [] new e = refl
 at_end stand (byte ∷ rest) new e = let none : Option (ℕ × List ℕ) = None in absurd (ok_is_no_err (none, new) (fault_of (byte ∷ rest)) (sym e))
 
-at_fault : (stand : Stand) (rest : List ℕ) (fault : Refusal) → stopped stand rest ≡ Err fault → fault_of rest ≡ fault
+at_fault : (stand : WalkPosition) (rest : List ℕ) (fault : Refusal) → stopped stand rest ≡ Err fault → fault_of rest ≡ fault
 at_fault stand [] fault e = let none : Option (ℕ × List ℕ) = None in absurd (ok_is_no_err (none, stand) fault e)
-at_fault stand (byte ∷ rest) fault e = err_is {A = Option (ℕ × List ℕ) × Stand} (fault_of (byte ∷ rest)) fault e
+at_fault stand (byte ∷ rest) fault e = err_is {A = Option (ℕ × List ℕ) × WalkPosition} (fault_of (byte ∷ rest)) fault e
 
 -- no byte is left
 pub none_left : (bytes : List ℕ) → eqb (length bytes) 0 ≡ true → bytes ≡ []
@@ -121,12 +121,12 @@ some_left (byte ∷ bytes) e none = cc
 -- ---- what callers learn of a step
 
 -- an item that was given is in the walk, and the iterator goes on behind it
-pub step_some : {X : Type 0} (seen : X → ℕ × List ℕ) (old : Stand) (x : X) (new : Stand) → IsStep seen old (Ok (Some x)) new → steps_taken old < length (walk old.table) × (new ≡ record old { index = old.index + 1 })
+pub step_some : {X : Type 0} (seen : X → ℕ × List ℕ) (old : WalkPosition) (x : X) (new : WalkPosition) → IsStep seen old (Ok (Some x)) new → steps_taken old < length (walk old.table) × (new ≡ record old { index = old.index + 1 })
 step_some seen old x new step = elim ((slice_get_cases (walk old.table) (steps_taken old)).1) [
   | inl here ↦
-      let moved : Stand = record old { index = old.index + 1 } in
+      let moved : WalkPosition = record old { index = old.index + 1 } in
       let is : (Some (old.index, here.0), moved) ≡ (Some (seen x), new) = ok_is (Some (old.index, here.0), moved) (Some (seen x), new) (sym (step_gives old here.0 (nth_some old.table (steps_taken old) here.0 here.2)) ∙ step.gives) in
-      (here.1, sym (ap (λ (p : Option (ℕ × List ℕ) × Stand). p.1) is))
+      (here.1, sym (ap (λ (p : Option (ℕ × List ℕ) × WalkPosition). p.1) is))
   | inr past ↦ absurd (no_item old (walk_rest old.table) (seen x) new (sym (step_stops old past.1) ∙ step.gives))
 ]
 
@@ -135,32 +135,32 @@ item_in (Some item) = Ok item.1
 item_in None = Err unexpected_eof
 
 -- and is that of its place
-pub step_item : {X : Type 0} (seen : X → ℕ × List ℕ) (old : Stand) (x : X) (new : Stand) → IsStep seen old (Ok (Some x)) new → nth_item old.table (steps_taken old) ≡ Ok (seen x).1
+pub step_item : {X : Type 0} (seen : X → ℕ × List ℕ) (old : WalkPosition) (x : X) (new : WalkPosition) → IsStep seen old (Ok (Some x)) new → nth_item old.table (steps_taken old) ≡ Ok (seen x).1
 step_item seen old x new step = elim ((slice_get_cases (walk old.table) (steps_taken old)).1) [
   | inl here ↦
-      let moved : Stand = record old { index = old.index + 1 } in
+      let moved : WalkPosition = record old { index = old.index + 1 } in
       let is : (Some (old.index, here.0), moved) ≡ (Some (seen x), new) = ok_is (Some (old.index, here.0), moved) (Some (seen x), new) (sym (step_gives old here.0 (nth_some old.table (steps_taken old) here.0 here.2)) ∙ step.gives) in
-      nth_some old.table (steps_taken old) here.0 here.2 ∙ ap (λ (p : Option (ℕ × List ℕ) × Stand). item_in p.0) is
+      nth_some old.table (steps_taken old) here.0 here.2 ∙ ap (λ (p : Option (ℕ × List ℕ) × WalkPosition). item_in p.0) is
   | inr past ↦ absurd (no_item old (walk_rest old.table) (seen x) new (sym (step_stops old past.1) ∙ step.gives))
 ]
 
 -- at the end every item of the walk was given, and no byte is left
-pub step_none : {X : Type 0} (seen : X → ℕ × List ℕ) (old new : Stand) → IsStep seen old (Ok None) new → (length (walk old.table) ≤ steps_taken old) × (walk_rest old.table ≡ [])
+pub step_none : {X : Type 0} (seen : X → ℕ × List ℕ) (old new : WalkPosition) → IsStep seen old (Ok None) new → (length (walk old.table) ≤ steps_taken old) × (walk_rest old.table ≡ [])
 step_none seen old new step = elim ((slice_get_cases (walk old.table) (steps_taken old)).1) [
   | inl here ↦
-      let moved : Stand = record old { index = old.index + 1 } in
-      let given : Option (ℕ × List ℕ) × Stand = (Some (old.index, here.0), moved) in
-      let ended : Option (ℕ × List ℕ) × Stand = (None, new) in
+      let moved : WalkPosition = record old { index = old.index + 1 } in
+      let given : Option (ℕ × List ℕ) × WalkPosition = (Some (old.index, here.0), moved) in
+      let ended : Option (ℕ × List ℕ) × WalkPosition = (None, new) in
       let is : given ≡ ended = ok_is given ended (sym (step_gives old here.0 (nth_some old.table (steps_taken old) here.0 here.2)) ∙ step.gives) in
-      absurd (some_is_none (old.index, here.0) (ap (λ (p : Option (ℕ × List ℕ) × Stand). p.0) is))
+      absurd (some_is_none (old.index, here.0) (ap (λ (p : Option (ℕ × List ℕ) × WalkPosition). p.0) is))
   | inr past ↦ (past.0, at_end old (walk_rest old.table) new (sym (step_stops old past.1) ∙ step.gives))
 ]
 
 -- a fault comes behind every item of the walk, and is that of its rest
-pub step_err : {X : Type 0} (seen : X → ℕ × List ℕ) (old new : Stand) (e : Error) → IsStep seen old (Err e) new → (length (walk old.table) ≤ steps_taken old) × (fault_of (walk_rest old.table) ≡ refusal_of e)
+pub step_err : {X : Type 0} (seen : X → ℕ × List ℕ) (old new : WalkPosition) (e : Error) → IsStep seen old (Err e) new → (length (walk old.table) ≤ steps_taken old) × (fault_of (walk_rest old.table) ≡ refusal_of e)
 step_err seen old new e step = elim ((slice_get_cases (walk old.table) (steps_taken old)).1) [
   | inl here ↦
-      let moved : Stand = record old { index = old.index + 1 } in
+      let moved : WalkPosition = record old { index = old.index + 1 } in
       absurd (ok_is_no_err (Some (old.index, here.0), moved) (refusal_of e) (sym (step_gives old here.0 (nth_some old.table (steps_taken old) here.0 here.2)) ∙ step.gives))
   | inr past ↦ (past.0, at_fault old (walk_rest old.table) (refusal_of e) (sym (step_stops old past.1) ∙ step.gives))
 ]

@@ -6,24 +6,24 @@ use Rattle.pdb_base.specs.declared.error.Error.{Error}
 use Rattle.pdb_base.specs.Refusal.{refusal_of}
 use Rattle.pdb_base.proofs.lemmas.Collected.{ok_is, ok_is_no_err}
 use Rattle.pdb_tpi.specs.Table.{Table}
-use Rattle.pdb_tpi.specs.Steps.{Stand, walk, walk_rest, steps_taken, stopped, IsStep}
+use Rattle.pdb_tpi.specs.Steps.{WalkPosition, walk, walk_rest, steps_taken, stopped, IsStep}
 use Rattle.pdb_tpi.specs.StepLaws.{AreSteps, first_stand, IsAnswerAt}
 use Rattle.pdb_tpi.proofs.WalkLemmas.{nth_some}
 use Rattle.pdb_tpi.proofs.StepLemmas.{step_stops, step_gives, step_some, step_none, step_err}
 
 -- a stand before the item of a place
-abbrev pub stand_at : Table → ℕ → Stand
+abbrev pub stand_at : Table → ℕ → WalkPosition
 stand_at table n = record { table = table; index = table.header.minimum_index + n }
 
 -- A step from a place answers what is there, and goes on behind an item, and else stays.
-record IsOneStep {X : Type 0} (seen : X → ℕ × List ℕ) (table : Table) (n : ℕ) (result : Result (Option X) Error) (next : Stand) : Type 0 where
+record IsOneStep {X : Type 0} (seen : X → ℕ × List ℕ) (table : Table) (n : ℕ) (result : Result (Option X) Error) (next : WalkPosition) : Type 0 where
   pub at_place : IsAnswerAt seen table n result
   pub goes_on : (next ≡ stand_at table (n + 1)) ⊎ ((length (walk table) ≤ n) × (next ≡ stand_at table n))
 
 place_there : (table : Table) (n : ℕ) → steps_taken (stand_at table n) ≡ n
 place_there table n = omega arith
 
-one_step : {X : Type 0} (seen : X → ℕ × List ℕ) (table : Table) (n : ℕ) (result : Result (Option X) Error) (next : Stand) → IsStep seen (stand_at table n) result next → IsOneStep seen table n result next
+one_step : {X : Type 0} (seen : X → ℕ × List ℕ) (table : Table) (n : ℕ) (result : Result (Option X) Error) (next : WalkPosition) → IsStep seen (stand_at table n) result next → IsOneStep seen table n result next
 one_step seen table n (Ok (Some x)) next step =
     let old = stand_at table n in
     let there = place_there table n in
@@ -31,9 +31,9 @@ one_step seen table n (Ok (Some x)) next step =
     elim ((slice_get_cases (walk table) n).1) [
       | inl here ↦
           let get : slice_get (walk table) (steps_taken old) ≡ Some here.0 = rw there here.2 in
-          let moved : Stand = record old { index = old.index + 1 } in
+          let moved : WalkPosition = record old { index = old.index + 1 } in
           let is = ok_is (Some (old.index, here.0), moved) (Some (seen x), next) (sym (step_gives old here.0 (nth_some table (steps_taken old) here.0 get)) ∙ step.gives) in
-          let seen_is : Some (old.index, here.0) ≡ Some (seen x) = ap (λ (p : Option (ℕ × List ℕ) × Stand). p.0) is in
+          let seen_is : Some (old.index, here.0) ≡ Some (seen x) = ap (λ (p : Option (ℕ × List ℕ) × WalkPosition). p.0) is in
           let index_is : old.index + 1 ≡ table.header.minimum_index + (n + 1) = omega arith in
           record {
             at_place = inl (record { item = here.0; in_walk = here.2; given = x; is = refl; same = cc });
@@ -47,10 +47,10 @@ one_step seen table n (Ok None) next step =
     let ended = step_none seen old next step in
     let past : length (walk table) ≤ n = let h = ended.0 in omega (arith, there) in
     let none : slice_get (walk table) (steps_taken old) ≡ None = rw there (slice_get_past (walk table) n past) in
-    let kept : (None, old) ≡ (None, next) = ok_is {A = Option (ℕ × List ℕ) × Stand} (None, old) (None, next) (sym (step_stops old none ∙ ap (stopped old) ended.1) ∙ step.gives) in
+    let kept : (None, old) ≡ (None, next) = ok_is {A = Option (ℕ × List ℕ) × WalkPosition} (None, old) (None, next) (sym (step_stops old none ∙ ap (stopped old) ended.1) ∙ step.gives) in
     record {
       at_place = inr (past, inl (ended.1, refl));
-      goes_on = inr (past, sym (ap (λ (p : Option (ℕ × List ℕ) × Stand). p.1) kept));
+      goes_on = inr (past, sym (ap (λ (p : Option (ℕ × List ℕ) × WalkPosition). p.1) kept));
     }
 one_step seen table n (Err e) next step =
     let old = stand_at table n in
@@ -58,7 +58,7 @@ one_step seen table n (Err e) next step =
     let refused = step_err seen old next e step in
     let past : length (walk table) ≤ n = let h = refused.0 in omega (arith, there) in
     let none : slice_get (walk table) (steps_taken old) ≡ None = rw there (slice_get_past (walk table) n past) in
-    let some : walk_rest table ≢ [] = λ empty. ok_is_no_err {A = Option (ℕ × List ℕ) × Stand} (None, old) (refusal_of e) (sym (step_stops old none ∙ ap (stopped old) empty) ∙ step.gives) in
+    let some : walk_rest table ≢ [] = λ empty. ok_is_no_err {A = Option (ℕ × List ℕ) × WalkPosition} (None, old) (refusal_of e) (sym (step_stops old none ∙ ap (stopped old) empty) ∙ step.gives) in
     record {
       at_place = inr (past, inr (some, record { error = e; is = refl; same = sym refused.1 }));
       goes_on = inr (past, step.kept);
@@ -78,11 +78,11 @@ steps_from seen table n (first ∷ before) behind result steps =
     let step = one_step seen table n first steps.0 steps.1 in
     elim step.goes_on [
       | inl next ↦
-          let further = subst (λ (s : Stand). AreSteps seen s (before ++ result ∷ behind)) next steps.2 in
+          let further = subst (λ (s : WalkPosition). AreSteps seen s (before ++ result ∷ behind)) next steps.2 in
           let there : n + length (first ∷ before) ≡ n + 1 + length before = omega arith in
           rw there (steps_from seen table (n + 1) before behind result further)
       | inr stays ↦
-          let further = subst (λ (s : Stand). AreSteps seen s (before ++ result ∷ behind)) stays.1 steps.2 in
+          let further = subst (λ (s : WalkPosition). AreSteps seen s (before ++ result ∷ behind)) stays.1 steps.2 in
           let past = stays.0 in
           still_behind seen table (n + length before) (n + length (first ∷ before)) result (omega arith) (omega arith) (steps_from seen table n before behind result further)
     ]

@@ -5,7 +5,7 @@ use Rattle.std.specs.Option.{option_map}
 use Rattle.pdb_base.specs.Answer.{Answer, ◌>>=◌}
 use Rattle.pdb_tpi.specs.declared.open_table.RecordPlace.{RecordPlace}
 use Rattle.pdb_tpi.specs.Table.{Table}
-use Rattle.pdb_tpi.specs.Steps.{Stand, walk, steps_taken, step_of}
+use Rattle.pdb_tpi.specs.Steps.{WalkPosition, walk, steps_taken, step_of}
 use Rattle.pdb_tpi.specs.Place.{ArePlaces, IsPlace}
 use Rattle.pdb_tpi.specs.Finder.{item_of}
 
@@ -34,7 +34,7 @@ located table i =
     else item_of table i >>= λ item. Ok (Some (record_at table (i - table.header.minimum_index) item))
 
 -- the place of the record that the next step of a walk returns, and where the walk stands afterwards
-abbrev pub step_located : Stand → Answer (Option RecordPlace × Stand)
+abbrev pub step_located : WalkPosition → Answer (Option RecordPlace × WalkPosition)
 step_located stand = step_of stand >>= λ step. Ok (option_map (λ item. record_at stand.table (steps_taken stand) item.1) step.0, step.1)
 
 -- What an open table keeps: where the blocks begin that look-ups know, and where its walk stands.

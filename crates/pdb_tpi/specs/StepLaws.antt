@@ -4,15 +4,15 @@ use Rattle.pdb_base.specs.declared.error.Error.{Error}
 use Rattle.pdb_base.specs.Refusal.{refusal_of}
 use Rattle.pdb_tpi.specs.Table.{Table}
 use Rattle.pdb_tpi.specs.Walk.{fault_of}
-use Rattle.pdb_tpi.specs.Steps.{Stand, walk, walk_rest, IsStep}
+use Rattle.pdb_tpi.specs.Steps.{WalkPosition, walk, walk_rest, IsStep}
 
 -- the results of steps, each of which begins where the one before ended
-abbrev pub AreSteps : {X : Type 0} → (X → ℕ × List ℕ) → Stand → List (Result (Option X) Error) → Type 0
+abbrev pub AreSteps : {X : Type 0} → (X → ℕ × List ℕ) → WalkPosition → List (Result (Option X) Error) → Type 0
 AreSteps seen stand [] = ⊤
-AreSteps seen stand (result ∷ results) = (next : Stand) × IsStep seen stand result next × AreSteps seen next results
+AreSteps seen stand (result ∷ results) = (next : WalkPosition) × IsStep seen stand result next × AreSteps seen next results
 
 -- where an iterator stands before the first item
-abbrev pub first_stand : Table → Stand
+abbrev pub first_stand : Table → WalkPosition
 first_stand table = record { table = table; index = table.header.minimum_index }
 
 -- A step returns item `n` of the walk, with its index.

@@ -29,38 +29,38 @@ unfoldable pub nth_item : Table → ℕ → Answer (List ℕ)
 nth_item table n = option_map_or (λ item. Ok item) (slice_get (walk table) n) (Err (fault_of (walk_rest table)))
 
 -- where an iterator stands: before the item of an index
-pub record Stand : Type 0 where
+pub record WalkPosition : Type 0 where
   pub table : Table
   pub index : ℕ
 
 -- the place in the walk of the item before which an iterator stands
-abbrev pub steps_taken : Stand → ℕ
+abbrev pub steps_taken : WalkPosition → ℕ
 steps_taken stand = stand.index - stand.table.header.minimum_index
 
 -- how many items an iterator has yet to return
-abbrev pub items_left : Stand → ℕ
+abbrev pub items_left : WalkPosition → ℕ
 items_left stand = length (walk stand.table) - steps_taken stand
 
 -- what a step returns behind the last item: None if no byte is left, and else the fault
-abbrev pub stopped : Stand → List ℕ → Answer (Option (ℕ × List ℕ) × Stand)
+abbrev pub stopped : WalkPosition → List ℕ → Answer (Option (ℕ × List ℕ) × WalkPosition)
 stopped stand [] = Ok (None, stand)
 stopped stand (byte ∷ rest) = Err (fault_of (byte ∷ rest))
 
 -- what a step returns: the next item with its index, and where the iterator stands afterwards
-unfoldable pub step_of : Stand → Answer (Option (ℕ × List ℕ) × Stand)
+unfoldable pub step_of : WalkPosition → Answer (Option (ℕ × List ℕ) × WalkPosition)
 step_of stand =
     option_map_or (λ item. Ok (Some (stand.index, item), record stand { index = stand.index + 1 })) (slice_get (walk stand.table) (steps_taken stand)) (stopped stand (walk_rest stand.table))
 
 -- A step returns what `step_of` gives, if `seen` shows each item as its index and bytes, and stays in its
 -- table. A step that fails doesn't move the iterator, so the next one fails with the same refusal. A step
 -- that returns an item leaves fewer items.
-pub record IsStep {X : Type 0} (seen : X → ℕ × List ℕ) (old : Stand) (result : Result (Option X) Error) (new : Stand) : Type 0 where
+pub record IsStep {X : Type 0} (seen : X → ℕ × List ℕ) (old : WalkPosition) (result : Result (Option X) Error) (new : WalkPosition) : Type 0 where
   pub gives : Gives (λ item. (option_map seen item, new)) result (step_of old)
   pub kept : OnErr result (new ≡ old)
   pub stays : new.table ≡ old.table
   pub fewer : IfOk result (λ given. IfSome given (λ item. items_left new < items_left old))
 
 -- the count of length words after the next step, which reads one if two bytes are left for it
-abbrev pub reads_one : Stand → ℕ → ℕ
+abbrev pub reads_one : WalkPosition → ℕ → ℕ
 reads_one stand calls =
     if nat_lt (steps_taken stand) (length (walk stand.table)) || nat_le 2 (length (walk_rest stand.table)) then one_more calls else calls

@@ -12,7 +12,7 @@ use crate::Type;
 use crate::finder::ItemFinder;
 use crate::open_table::OpenTable;
 use pdb_base::{Error, Result, TypeIndex};
-use pdb_leaves::constants::LF_FIELDLIST;
+use pdb_values::constants::LF_FIELDLIST;
 use pdb_values::{FieldList, TypeData};
 use std::alloc::Global;
 

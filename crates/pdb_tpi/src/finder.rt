@@ -4,7 +4,7 @@ ghost use Rattle.std.specs.Prelude.{◌≡◌, ◌+◌, ◌≤◌, All, length, 
 ghost use Rattle.pdb_base.specs.Answer.{Answers, Gives};
 ghost use Rattle.pdb_base.specs.Count.{calls_of, after_calls};
 ghost use Rattle.pdb_tpi.specs.Item.{bytes_of, index_of};
-ghost use Rattle.pdb_tpi.specs.Steps.{Stand};
+ghost use Rattle.pdb_tpi.specs.Steps.{WalkPosition};
 ghost use Rattle.pdb_tpi.specs.Table.{count_of};
 ghost use Rattle.pdb_tpi.specs.Place.{ArePlaces};
 ghost use Rattle.pdb_tpi.specs.Finder.{FinderState, known_when_new, known_after, known_of, max_index_of, most_blocks, find_of, reads_of};

@@ -34,7 +34,7 @@ impl<'t> Item<'t, IdIndex> {
         ensures answered { (value : IdValue) (rest : List ℕ) →
             IsId (bytes_of self.now) value rest → ShowsOrLacks id_value value result }
         ensures refused { (refusal : Refusal) → NoId (bytes_of self.now) refusal → RefusesOrLacks refusal result }
-        ensures want { LacksOnlyIf result (HoldsIdItem (bytes_of self.now)) }
+        ensures memory { LacksOnlyIf result (HoldsIdItem (bytes_of self.now)) }
         ensures cut { IsCutIdList (bytes_of self.now) → result ≡ Err UnexpectedEof }
         ensures short { IfOk result (λ id. 2 * item_count (id_value id) ≤ length (bytes_of self.now)) }
     {

@@ -5,7 +5,7 @@ ghost use Rattle.pdb_base.specs.Answer.{Gives};
 ghost use Rattle.pdb_base.specs.Count.{calls_of, one_more, after_calls};
 ghost use Rattle.pdb_tpi.specs.Item.{bytes_of, index_of};
 ghost use Rattle.pdb_tpi.specs.Walk.{first_item};
-ghost use Rattle.pdb_tpi.specs.Steps.{Stand, walk, steps_taken, nth_item, IsStep, reads_one};
+ghost use Rattle.pdb_tpi.specs.Steps.{WalkPosition, walk, steps_taken, nth_item, IsStep, reads_one};
 ghost use Rattle.pdb_tpi.specs.Finder.{reads_between};
 ghost use Rattle.pdb_tpi.specs.Place.{IsPlace};
 
@@ -28,10 +28,10 @@ pub struct ItemIter<'t, I> {
 }
 
 impl<'t, I> Model for ItemIter<'t, I> {
-    ghost use Rattle.pdb_tpi.specs.Steps.{Stand};
+    ghost use Rattle.pdb_tpi.specs.Steps.{WalkPosition};
     ghost use Rattle.pdb_tpi.specs.Place.{IsPlace};
 
-    ghost Value = { Stand };
+    ghost Value = { WalkPosition };
 
     ghost view = { λ i. record { table = i.table.now; index = i.index } };
 

@@ -21,7 +21,7 @@ pub use item_information::ItemInformation;
 pub use item_iter::ItemIter;
 pub use open_table::{OpenTable, RecordPlace};
 use pdb_base::{IdIndex, TypeIndex};
-pub use pdb_leaves::constants;
+pub use pdb_values::constants;
 
 /// The table of types.
 pub type TypeInformation = ItemInformation<TypeIndex>;

@@ -45,10 +45,10 @@ pub struct OpenTable<I> {
 
 impl<I> Model for OpenTable<I> {
     ghost use Rattle.std.specs.Prelude.{vec_capacity};
-    ghost use Rattle.pdb_tpi.specs.Steps.{Stand};
+    ghost use Rattle.pdb_tpi.specs.Steps.{WalkPosition};
     ghost use Rattle.pdb_tpi.specs.OpenTable.{IsOpen};
 
-    ghost Value = { Stand };
+    ghost Value = { WalkPosition };
 
     ghost view = { λ t. record { table = t.items; index = t.index } };
 

@@ -17,8 +17,8 @@ ghost use Rattle.pdb_tpi.specs.Record.{type_of};
 
 use crate::item::Item;
 use pdb_base::{ParseBuffer, Result, TypeIndex};
-use pdb_leaves::constants::LF_FIELDLIST;
 use pdb_records::{parse_behind_leaf, parse_field_list};
+use pdb_values::constants::LF_FIELDLIST;
 use pdb_values::{FIRST_RECORD, TypeData, type_data_for_primitive};
 use std::alloc::Global;
 
@@ -52,7 +52,7 @@ impl<'t> Item<'t, TypeIndex> {
             IsRecord (bytes_of self.now) value rest → ShowsOrLacks type_value value result }
         ensures refused { first_record ≤ (index_of self.now).0 → (refusal : Refusal) →
             NoRecord (bytes_of self.now) refusal → RefusesOrLacks refusal result }
-        ensures want { LacksOnlyIf result ((first_record ≤ (index_of self.now).0) × NeedsMemory (bytes_of self.now)) }
+        ensures memory { LacksOnlyIf result ((first_record ≤ (index_of self.now).0) × NeedsMemory (bytes_of self.now)) }
         ensures cut { first_record ≤ (index_of self.now).0 →
             IsFalseCount (bytes_of self.now) → result ≡ Err UnexpectedEof }
         ensures short { IfOk result (λ value. IsShort (length (bytes_of self.now)) (type_value value)) }

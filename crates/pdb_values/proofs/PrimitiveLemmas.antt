@@ -2,11 +2,11 @@
 use Rattle.std.proofs.Common.{◌≡◌, ℕ, ◌+◌, ◌*◌, ◌^◌, ◌<◌, true, ◌==◌, List, [], ◌∷◌, Option, Some, None, Ok, Err, refl, sym, ap, ◌∙◌, arith, lit<}
 use Rattle.std.specs.List.{list_all}
 use Rattle.std.proofs.lemmas.Bool.Decides.{nat_tests}
-use Rattle.pdb_bits.specs.Bits.{bits}
+use Rattle.pdb_base.specs.Bits.{bits}
 use Rattle.pdb_base.specs.Refusal.{Refusal, type_not_found}
 use Rattle.pdb_base.specs.Answer.{Answer, ◌>>=◌}
 use Rattle.pdb_base.proofs.lemmas.Collected.{bind_ok, ok_is, ok_is_no_err, err_is}
-use Rattle.pdb_bits.proofs.lemmas.Parts.{all_bits, put_together}
+use Rattle.pdb_base.proofs.lemmas.BitFields.{all_bits, put_together}
 use Rattle.pdb_values.specs.declared.primitive.Indirection.{Indirection}
 use Rattle.pdb_values.specs.declared.primitive.Indirection.TheVariants as pointers
 use Rattle.pdb_values.specs.declared.primitive.PrimitiveKind.{PrimitiveKind}

@@ -12,6 +12,8 @@ pub mod Primitive
 pub mod TypeView
 pub mod IdValue
 pub mod Items
+pub mod LeafNumbers
+pub mod LeafNames
 pub mod Laws
 -- the definitions of the crates below this one that its contracts cite
 pub use Rattle.pdb_base.specs.Answer

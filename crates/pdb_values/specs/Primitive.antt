@@ -4,7 +4,7 @@
 -- cvinfo.h.
 use Rattle.std.specs.Prelude.{ℕ, ◌==◌, List, [], ◌∷◌, Option, Some, None, Ok, Err}
 use Rattle.std.specs.Map.{lookup}
-use Rattle.pdb_bits.specs.Bits.{bits}
+use Rattle.pdb_base.specs.Bits.{bits}
 use Rattle.pdb_base.specs.Refusal.{type_not_found}
 use Rattle.pdb_base.specs.Answer.{Answer, ◌>>=◌}
 use Rattle.pdb_values.specs.declared.primitive.TheConstants.{FIRST_RECORD}

@@ -5,7 +5,6 @@ ghost use Rattle.pdb_base.specs.Answer.{Answers};
 ghost use Rattle.pdb_base.specs.Memory.{LacksOnlyIf, HasItem};
 ghost use Rattle.pdb_values.specs.Array.{array_value};
 
-use crate::copy_items::copy_items;
 use pdb_base::{Result, TypeIndex};
 use std::alloc::Global;
 
@@ -21,7 +20,9 @@ pub struct ArrayType {
     /// The distance from one element to the next in bytes, if the record states it.
     pub stride: Option<u32>,
 
-    /// How many bytes the array takes in each dimension, the outermost first.
+    /// The size of the array in bytes up to each dimension, the innermost first: each size includes
+    /// those before it, so that a `float[4][4]` is `[16, 64]`. Most compilers write one dimension
+    /// only, and an array of arrays.
     pub dimensions: Vec<u32>,
 }
 
@@ -32,9 +33,10 @@ impl ArrayType {
     /// Returns `OutOfMemory` if memory is refused, which is asked for only if there is a dimension.
     pub fn clone(&self, alloc: Global) -> Result<Self>
         ensures copied { Answers array_value result (Ok (array_value self.now)) }
-        ensures want { LacksOnlyIf result (HasItem (array_value self.now).dimensions) }
+        ensures memory { LacksOnlyIf result (HasItem (array_value self.now).dimensions) }
     {
-        let dimensions = copy_items(alloc, self.dimensions.as_slice())?;
+        let mut dimensions = Vec::new(alloc);
+        dimensions.extend_from_slice(&self.dimensions)?;
         Ok(ArrayType {
             element_type: self.element_type,
             indexing_type: self.indexing_type,

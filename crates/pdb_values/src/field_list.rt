@@ -29,7 +29,7 @@ impl<'t> FieldList<'t> {
     /// Returns `OutOfMemory` if memory is refused, which is asked for only if there is a field.
     pub fn clone(&self, alloc: Global) -> Result<Self>
         ensures copied { Answers field_list_value result (Ok (field_list_value self.now)) }
-        ensures want { LacksOnlyIf result (HasListItem (field_list_value self.now)) }
+        ensures memory { LacksOnlyIf result (HasListItem (field_list_value self.now)) }
     {
         copy_list(alloc, self)
     }

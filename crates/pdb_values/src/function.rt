@@ -5,7 +5,6 @@ ghost use Rattle.pdb_base.specs.Answer.{Answers};
 ghost use Rattle.pdb_base.specs.Memory.{LacksOnlyIf, HasItem};
 ghost use Rattle.pdb_values.specs.Function.{argument_types};
 
-use crate::copy_items::copy_items;
 use pdb_base::{Result, TypeIndex};
 use pdb_flags::FunctionAttributes;
 use std::alloc::Global;
@@ -65,9 +64,10 @@ impl ArgumentList {
     /// Returns `OutOfMemory` if memory is refused, which is asked for only if the list has an item.
     pub fn clone(&self, alloc: Global) -> Result<Self>
         ensures copied { Answers argument_types result (Ok (argument_types self.now)) }
-        ensures want { LacksOnlyIf result (HasItem (argument_types self.now)) }
+        ensures memory { LacksOnlyIf result (HasItem (argument_types self.now)) }
     {
-        let arguments = copy_items(alloc, self.arguments.as_slice())?;
+        let mut arguments = Vec::new(alloc);
+        arguments.extend_from_slice(&self.arguments)?;
         Ok(ArgumentList { arguments })
     }
 }

@@ -41,7 +41,7 @@ impl<'t> IdData<'t> {
     /// Returns `OutOfMemory` if memory is refused, which is asked for only if a list has an item.
     pub fn clone(&self, alloc: Global) -> Result<Self>
         ensures copied { Answers id_value result (Ok (id_value self.now)) }
-        ensures want { LacksOnlyIf result (HasIdListItem (id_value self.now)) }
+        ensures memory { LacksOnlyIf result (HasIdListItem (id_value self.now)) }
     {
         match self {
             IdData::Function(id) => Ok(IdData::Function(FunctionId { ..*id })),

@@ -1,18 +1,20 @@
 //! The values of type records and id records: structs and enums with the fields of the records,
-//! which borrow their names from the records' bytes. The records are those of Microsoft's cvinfo.h.
+//! which borrow their names from the records' bytes; and the numbers and names of record kinds. The
+//! records are those of Microsoft's cvinfo.h.
 #![tactic(auto)]
 
 mod array;
 mod base_class;
 mod bitfield;
 mod class;
-mod copy_items;
+pub mod constants;
 mod enumeration;
 mod field_list;
 mod function;
 mod function_id;
 mod id_data;
 pub mod laws;
+mod leaf_names;
 mod list_id;
 mod member;
 mod method;
@@ -33,6 +35,7 @@ pub use field_list::FieldList;
 pub use function::{ArgumentList, MemberFunctionType, ProcedureType};
 pub use function_id::{FunctionId, MemberFunctionId};
 pub use id_data::IdData;
+pub use leaf_names::leaf_name;
 pub use list_id::{BuildInfoId, StringId, StringListId};
 pub use member::{MemberType, NestedType, StaticMemberType};
 pub use method::{MethodList, MethodListEntry, MethodType, OverloadedMethodType};

@@ -5,7 +5,6 @@ ghost use Rattle.pdb_base.specs.Answer.{Answers};
 ghost use Rattle.pdb_base.specs.Memory.{LacksOnlyIf, HasItem};
 ghost use Rattle.pdb_values.specs.IdValue.{build_arguments, text_parts};
 
-use crate::copy_items::copy_items;
 use pdb_base::{IdIndex, RawString, Result, TypeIndex};
 use std::alloc::Global;
 
@@ -41,9 +40,10 @@ impl BuildInfoId {
     /// Returns `OutOfMemory` if memory is refused, which is asked for only if the list has an item.
     pub fn clone(&self, alloc: Global) -> Result<Self>
         ensures copied { Answers build_arguments result (Ok (build_arguments self.now)) }
-        ensures want { LacksOnlyIf result (HasItem (build_arguments self.now)) }
+        ensures memory { LacksOnlyIf result (HasItem (build_arguments self.now)) }
     {
-        let arguments = copy_items(alloc, self.arguments.as_slice())?;
+        let mut arguments = Vec::new(alloc);
+        arguments.extend_from_slice(&self.arguments)?;
         Ok(BuildInfoId { arguments })
     }
 }
@@ -55,9 +55,10 @@ impl StringListId {
     /// Returns `OutOfMemory` if memory is refused, which is asked for only if the list has an item.
     pub fn clone(&self, alloc: Global) -> Result<Self>
         ensures copied { Answers text_parts result (Ok (text_parts self.now)) }
-        ensures want { LacksOnlyIf result (HasItem (text_parts self.now)) }
+        ensures memory { LacksOnlyIf result (HasItem (text_parts self.now)) }
     {
-        let substrings = copy_items(alloc, self.substrings.as_slice())?;
+        let mut substrings = Vec::new(alloc);
+        substrings.extend_from_slice(&self.substrings)?;
         Ok(StringListId { substrings })
     }
 }

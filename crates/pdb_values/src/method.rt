@@ -5,7 +5,6 @@ ghost use Rattle.pdb_base.specs.Answer.{Answers};
 ghost use Rattle.pdb_base.specs.Memory.{LacksOnlyIf, HasItem};
 ghost use Rattle.pdb_values.specs.Method.{listed_methods};
 
-use crate::copy_items::copy_items;
 use pdb_base::{RawString, Result, TypeIndex};
 use pdb_flags::FieldAttributes;
 use std::alloc::Global;
@@ -67,9 +66,10 @@ impl MethodList {
     /// Returns `OutOfMemory` if memory is refused, which is asked for only if the list has an item.
     pub fn clone(&self, alloc: Global) -> Result<Self>
         ensures copied { Answers listed_methods result (Ok (listed_methods self.now)) }
-        ensures want { LacksOnlyIf result (HasItem (listed_methods self.now)) }
+        ensures memory { LacksOnlyIf result (HasItem (listed_methods self.now)) }
     {
-        let methods = copy_items(alloc, self.methods.as_slice())?;
+        let mut methods = Vec::new(alloc);
+        methods.extend_from_slice(&self.methods)?;
         Ok(MethodList { methods })
     }
 }

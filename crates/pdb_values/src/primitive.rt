@@ -2,12 +2,12 @@
 
 ghost use Rattle.std.specs.Prelude.{◌≡◌, ◌<◌};
 ghost use Rattle.pdb_base.specs.Answer.{Gives};
-ghost use Rattle.pdb_bits.specs.Bits.{bits};
+ghost use Rattle.pdb_base.specs.Bits.{bits};
 ghost use Rattle.pdb_values.specs.Primitive.{primitive_kinds, indirections, numbered, first_record};
 ghost use Rattle.pdb_values.specs.TypeView.{type_value, primitive_of};
 
 use crate::type_data::TypeData;
-use pdb_base::{Error, Result, TypeIndex};
+use pdb_base::{Error, Result, TypeIndex, bit_field};
 
 /// A type that has no record of its own: one of the machine or of a language, or a pointer to one.
 #[derive(Clone, Copy, Debug, PartialEq, Eq)]
@@ -250,21 +250,6 @@ impl PrimitiveKind {
 /// The least index of a type that has a record: those below stand for primitive types.
 pub const FIRST_RECORD: u32 = 0x1000;
 
-/// Returns the number of the primitive type, which is the low byte of an index.
-fn kind_number(index: TypeIndex) -> u32
-    ensures { result ≡ bits index.0 0 8 }
-{
-    index.0 & 0xff
-}
-
-/// Returns the number of the indirection, which is in the four bits above the low byte of an index.
-fn indirection_number(index: TypeIndex) -> u32
-    requires { index.0 < first_record }
-    ensures { result ≡ bits index.0 8 4 }
-{
-    index.0 >> 8
-}
-
 /// Returns the primitive type that an index below 0x1000 stands for. The index's low byte is the
 /// number of the type, and the bits above say whether it is a pointer to that type, and which kind
 /// of pointer.
@@ -276,9 +261,9 @@ pub fn type_data_for_primitive<'t>(index: TypeIndex) -> Result<TypeData<'t>>
     requires { index.0 < first_record }
     ensures { Gives type_value result (primitive_of index.0) }
 {
-    let kind = PrimitiveKind::numbered(kind_number(index)).ok_or(Error::TypeNotFound(index.0))?;
-    let indirection = Indirection::numbered(indirection_number(index)).ok_or(Error::TypeNotFound(
-        index.0,
-    ))?;
+    let kind = bit_field(index.0, 0, 8);
+    let kind = PrimitiveKind::numbered(kind).ok_or(Error::TypeNotFound(index.0))?;
+    let indirection = bit_field(index.0, 8, 4);
+    let indirection = Indirection::numbered(indirection).ok_or(Error::TypeNotFound(index.0))?;
     Ok(TypeData::Primitive(PrimitiveType { kind, indirection }))
 }

@@ -126,7 +126,7 @@ impl<'t> TypeData<'t> {
     /// Returns `OutOfMemory` if memory is refused, which is asked for only if a list has an item.
     pub fn clone(&self, alloc: Global) -> Result<Self>
         ensures copied { Answers type_value result (Ok (type_value self.now)) }
-        ensures want { LacksOnlyIf result (HasListItem (type_value self.now)) }
+        ensures memory { LacksOnlyIf result (HasListItem (type_value self.now)) }
     {
         copy_type(alloc, self)
     }
@@ -174,7 +174,7 @@ fn copy_plain<'t>(original: &TypeData<'t>) -> TypeData<'t>
 #[cycle(copy)]
 pub(crate) fn copy_type<'t>(alloc: Global, original: &TypeData<'t>) -> Result<TypeData<'t>>
     ensures copied { Answers type_value result (Ok (type_value original.now)) }
-    ensures want { LacksOnlyIf result (HasListItem (type_value original.now)) }
+    ensures memory { LacksOnlyIf result (HasListItem (type_value original.now)) }
 {
     match original {
         TypeData::Array(array) => Ok(TypeData::Array(array.clone(alloc)?)),
@@ -189,7 +189,7 @@ pub(crate) fn copy_type<'t>(alloc: Global, original: &TypeData<'t>) -> Result<Ty
 #[cycle(copy)]
 pub(crate) fn copy_list<'t>(alloc: Global, list: &FieldList<'t>) -> Result<FieldList<'t>>
     ensures copied { Answers field_list_value result (Ok (field_list_value list.now)) }
-    ensures want { LacksOnlyIf result (HasListItem (field_list_value list.now)) }
+    ensures memory { LacksOnlyIf result (HasListItem (field_list_value list.now)) }
 {
     let fields = copy_fields(alloc, list.fields.as_slice())?;
     Ok(FieldList {
@@ -202,7 +202,7 @@ pub(crate) fn copy_list<'t>(alloc: Global, list: &FieldList<'t>) -> Result<Field
 #[cycle(copy)]
 fn copy_fields<'t>(alloc: Global, fields: &[TypeData<'t>]) -> Result<Vec<TypeData<'t>>>
     ensures copied { Answers (λ copies. fields_value copies.items) result (Ok (fields_value fields.now)) }
-    ensures want { LacksOnlyIf result (HasField (fields_value fields.now)) }
+    ensures memory { LacksOnlyIf result (HasField (fields_value fields.now)) }
 {
     if fields.is_empty() {
         return Ok(Vec::new(alloc));

@@ -1,6 +1,7 @@
 //! The example file S1, small enough to be written out by hand.
 
-ghost use Rattle.std.specs.Prelude.{◌≡◌, ◌+◌, ◌≤◌, [], ◌++◌, length, take, vec_len, IfOk, IfErr, OnOk};
+ghost use Rattle.std.specs.Prelude.{◌≡◌, ◌+◌, ◌≤◌, [], ◌++◌, length, take, vec_len, IfOk, OnOk};
+ghost use Rattle.pdb_base.specs.Memory.{FailsOnlyForMemory};
 ghost use Rattle.pdb_vectors.specs.Example.{directory, header, location, page, s1_bytes, s1_of};
 
 use pdb_base::{Error, Result};
@@ -33,7 +34,7 @@ fn push_page(file: &mut Vec<u8>, front: &[u8], fill: u8) -> Result<()>
     requires { length front.now ≤ 512 }
     ensures page { OnOk result (file.new.items ≡ file.old.items ++ page front.now fill) }
     ensures len { OnOk result (vec_len file.new ≡ vec_len file.old + 512) }
-    ensures want { IfErr result (λ e. e ≡ Error.OutOfMemory) }
+    ensures memory { FailsOnlyForMemory result }
 {
     let len = file.len() + PAGE_SIZE;
     file.extend_from_slice(front)?;
@@ -55,7 +56,7 @@ fn page_of(bytes: &[u8]) -> &[u8]
 fn directory(alloc: Global, size: u32) -> Result<Vec<u8>>
     ensures bytes { IfOk result (λ bytes. bytes.items ≡ directory size) }
     ensures len { IfOk result (λ bytes. vec_len bytes ≡ 32) }
-    ensures want { IfErr result (λ e. e ≡ Error.OutOfMemory) }
+    ensures memory { FailsOnlyForMemory result }
 {
     let mut bytes = Vec::from_slice(alloc, SIZES)?;
     bytes.extend_from_slice(&size.to_le_bytes())?;
@@ -71,7 +72,7 @@ fn push_directory(file: &mut Vec<u8>, directory: &[u8]) -> Result<()>
     ensures pages { OnOk result (file.new.items ≡
         file.old.items ++ page header 0 ++ page [] 0 ++ page directory.now 0 ++ page location 0) }
     ensures len { OnOk result (vec_len file.new ≡ vec_len file.old + 2048) }
-    ensures want { IfErr result (λ e. e ≡ Error.OutOfMemory) }
+    ensures memory { FailsOnlyForMemory result }
 {
     push_page(file, HEADER, 0)?;
     push_page(file, b"", 0)?;
@@ -86,7 +87,7 @@ fn push_streams(file: &mut Vec<u8>, stream: &[u8]) -> Result<()>
     ensures pages { OnOk result (file.new.items ≡
         file.old.items ++ page [] 0 ++ page [] 98 ++ page [] 97 ++ page stream.now 0) }
     ensures len { OnOk result (vec_len file.new ≡ vec_len file.old + 2048) }
-    ensures want { IfErr result (λ e. e ≡ Error.OutOfMemory) }
+    ensures memory { FailsOnlyForMemory result }
 {
     push_page(file, b"", 0)?;
     push_page(file, b"", b'b')?;
@@ -103,7 +104,7 @@ fn push_streams(file: &mut Vec<u8>, stream: &[u8]) -> Result<()>
 pub fn s1_with(alloc: Global, stream: &[u8]) -> Result<Vec<u8>>
     ensures bytes { IfOk result (λ file. file.items ≡ s1_of (take 512 stream.now)) }
     ensures len { IfOk result (λ file. vec_len file ≡ 4096) }
-    ensures want { IfErr result (λ e. e ≡ Error.OutOfMemory) }
+    ensures memory { FailsOnlyForMemory result }
 {
     let stream = page_of(stream);
     let directory = directory(alloc, stream.len() as u32)?;
@@ -122,7 +123,7 @@ pub fn s1_with(alloc: Global, stream: &[u8]) -> Result<Vec<u8>>
 pub fn s1(alloc: Global) -> Result<Vec<u8>>
     ensures bytes { IfOk result (λ file. file.items ≡ s1_bytes) }
     ensures len { IfOk result (λ file. vec_len file ≡ 4096) }
-    ensures want { IfErr result (λ e. e ≡ Error.OutOfMemory) }
+    ensures memory { FailsOnlyForMemory result }
 {
     s1_with(alloc, HELLO)
 }

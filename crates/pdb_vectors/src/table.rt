@@ -1,6 +1,7 @@
 //! Tables of types or ids, for tests that ask for their items.
 
-ghost use Rattle.std.specs.Prelude.{◌≡◌, IfOk, IfErr};
+ghost use Rattle.std.specs.Prelude.{◌≡◌, IfOk};
+ghost use Rattle.pdb_base.specs.Memory.{FailsOnlyForMemory};
 ghost use Rattle.pdb_vectors.specs.Tables.{table_bytes};
 
 use pdb_base::{Error, Result};
@@ -23,7 +24,7 @@ pub fn item_table(
     items: &[u8],
 ) -> Result<Vec<u8>>
     ensures bytes { IfOk result (λ table. table.items ≡ table_bytes header_size minimum maximum items.now) }
-    ensures want { IfErr result (λ e. e ≡ Error.OutOfMemory) }
+    ensures memory { FailsOnlyForMemory result }
 {
     let mut bytes = Vec::from_slice(alloc, &[0; 4])?;
     bytes.extend_from_slice(&header_size.to_le_bytes())?;

@@ -6,7 +6,7 @@ ghost use Rattle.pdb_msf.specs.Source.{in_memory};
 
 use super::rows::{ROWS, Row, edited, list_of, stream_of};
 use pdb_base::{Error, FallibleIterator, IdIndex, Result, Stream, TypeIndex, Variant};
-use pdb_command::{Outcome, act, read_all};
+use pdb_cli::{Outcome, act, read_all};
 use pdb_container::{Query, Reply, run};
 use pdb_msf::{BigMSF, Msf, ReadView, Source, SourceSlice, open_msf};
 use pdb_tpi::{IdInformation, TypeFinder, TypeInformation};

@@ -2,7 +2,7 @@
 
 use super::printed::{ABSENT_2, EXAMPLE};
 use pdb_base::{Error, Result};
-use pdb_command::{Ended, read_all, read_within, serve};
+use pdb_cli::{Ended, read_all, read_within, serve};
 use pdb_vectors::s1;
 use std::alloc::Global;
 use std::env::Args;

@@ -1,7 +1,7 @@
 //! What the program prints of S1, row by row.
 
 use pdb_base::Result;
-use pdb_command::{Outcome, act};
+use pdb_cli::{Outcome, act};
 use pdb_vectors::{item_table, s1, s1_with};
 use std::alloc::Global;
 use std::test::Fail;

@@ -1,7 +1,7 @@
 //! The program on the channels of a process that lies in memory.
 
 use super::printed::{ABSENT_2, USAGE};
-use pdb_command::program;
+use pdb_cli::program;
 use pdb_vectors::s1_with;
 use std::alloc::{Allocator, Global};
 use std::cell::RefCell;

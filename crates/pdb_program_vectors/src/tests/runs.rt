@@ -1,7 +1,7 @@
 //! Runs: a file, and all that is asked of it, at once or one query at a time. What each other query is replied stands in the
 //! printed rows.
 
-use pdb_container::{Query, Reply, Result, ask, run};
+use pdb_container::{Query, Reply, Result, run};
 use pdb_vectors::s1;
 use std::alloc::Global;
 use std::test::Fail;
@@ -56,24 +56,10 @@ fn are_said(alloc: Global, replies: &[Reply], wanted: &[&str]) -> bool {
             .all(|(reply, want)| says(alloc, reply, want))
 }
 
-/// Whether a run replies so to all queries at once.
-fn is_run(alloc: Global, queries: &[Query], wanted: &[&str]) -> Result<bool> {
+/// Whether a run replies so to all queries.
+fn is_replied(alloc: Global, queries: &[Query], wanted: &[&str]) -> Result<bool> {
     let replies = run(alloc, s1(alloc)?, queries)?;
     Ok(are_said(alloc, &replies, wanted))
-}
-
-/// Whether a query that is asked alone is replied so.
-fn is_asked(alloc: Global, query: Query, wanted: &[&str]) -> Result<bool> {
-    let reply = ask(alloc, s1(alloc)?, query);
-    Ok(are_said(alloc, &[reply], wanted))
-}
-
-/// Whether queries are replied so: one is asked alone, and several at once.
-fn is_replied(alloc: Global, queries: &[Query], wanted: &[&str]) -> Result<bool> {
-    match queries {
-        [query] => is_asked(alloc, *query, wanted),
-        _ => is_run(alloc, queries, wanted),
-    }
 }
 
 #[test]

@@ -12,8 +12,8 @@ ghost use Rattle.pdb_records.specs.Memory.{HoldsDimension, HoldsArray};
 
 use crate::parse::shape::parse_type_index;
 use pdb_base::{Error, ParseBuffer, Result};
-use pdb_leaves::constants::LF_PAD0;
 use pdb_values::ArrayType;
+use pdb_values::constants::LF_PAD0;
 use std::alloc::Global;
 
 /// Returns how many bytes a pad has that begins with `byte`.
@@ -69,7 +69,7 @@ fn ends_dimensions(buffer: &mut ParseBuffer<'_>) -> Result<bool>
 /// Reads the dimensions of an array.
 fn parse_dimensions(alloc: Global, buffer: &mut ParseBuffer<'_>) -> Result<Vec<u32>>
     ensures read { Answers (λ list. (list.items, left buffer.new)) result (dimensions_at (left buffer.old)) }
-    ensures want { LacksOnlyIf result (HoldsDimension (left buffer.old)) }
+    ensures memory { LacksOnlyIf result (HoldsDimension (left buffer.old)) }
 {
     let mut dimensions = Vec::new(alloc);
     'all: loop {
@@ -89,7 +89,7 @@ fn parse_dimensions(alloc: Global, buffer: &mut ParseBuffer<'_>) -> Result<Vec<u
 #[tactic(auto, unfolding(crate::specs::Arrays::dimensions_to_end))]
 fn parse_last_dimensions(alloc: Global, buffer: &mut ParseBuffer<'_>) -> Result<Vec<u32>>
     ensures read { Answers (λ list. (list.items, left buffer.new)) result (dimensions_to_end (left buffer.old)) }
-    ensures want { LacksOnlyIf result (HoldsDimension (left buffer.old)) }
+    ensures memory { LacksOnlyIf result (HoldsDimension (left buffer.old)) }
 {
     let dimensions = parse_dimensions(alloc, buffer)?;
     skip_padding(buffer)?;
@@ -108,7 +108,7 @@ pub(crate) fn parse_array(
     strided: bool,
 ) -> Result<ArrayType>
     ensures read { Answers (λ t. (array_value t, left buffer.new)) result (array_at strided (left buffer.old)) }
-    ensures want { LacksOnlyIf result (HoldsArray strided (left buffer.old)) }
+    ensures memory { LacksOnlyIf result (HoldsArray strided (left buffer.old)) }
 {
     Ok(ArrayType {
         element_type: parse_type_index(buffer)?,

@@ -42,7 +42,7 @@ fn parse_held_indexes<I: Index>(
     requires { 4 * count ≤ length (left buffer.old) }
     ensures read { Answers (λ list. (list.items, left buffer.new)) result
         (repeated (index_at I.said) count (left buffer.old)) }
-    ensures want { LacksOnlyIf result (0 < count) }
+    ensures memory { LacksOnlyIf result (0 < count) }
 {
     let mut indexes = Vec::new(alloc);
     while indexes.len() < count {
@@ -63,7 +63,7 @@ fn parse_indexes<I: Index>(
 ) -> Result<Vec<I>>
     ensures read { Answers (λ list. (list.items, left buffer.new)) result
         (repeated (index_at I.said) count (left buffer.old)) }
-    ensures want { LacksOnlyIf result
+    ensures memory { LacksOnlyIf result
         (IsOkAnd (repeated (index_at I.said) count (left buffer.old)) (λ read. HasItem read.0)) }
 {
     if buffer.len() / 4 < count {
@@ -83,7 +83,7 @@ pub(crate) fn parse_counted<I: Index>(
     width: CountWidth,
 ) -> Result<Vec<I>>
     ensures read { Answers (λ list. (list.items, left buffer.new)) result (counted_at width I.said (left buffer.old)) }
-    ensures want { LacksOnlyIf result (IsOkAnd (counted_at width I.said (left buffer.old)) (λ read. HasItem read.0)) }
+    ensures memory { LacksOnlyIf result (IsOkAnd (counted_at width I.said (left buffer.old)) (λ read. HasItem read.0)) }
 {
     let count = parse_count(buffer, width)?;
     parse_indexes(alloc, buffer, count)

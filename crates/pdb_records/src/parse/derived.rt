@@ -7,10 +7,9 @@ ghost use Rattle.pdb_records.specs.Records.{plain_at};
 ghost use Rattle.pdb_records.specs.Rows.{pointer_row, modifier_row, bitfield_row};
 
 use crate::parse::shape::parse_type_index;
-use pdb_base::{Error, ParseBuffer, Result};
-use pdb_bits::is_set;
+use pdb_base::{Error, ParseBuffer, Result, is_bit_set};
 use pdb_flags::PointerAttributes;
-use pdb_leaves::constants::LF_POINTER;
+use pdb_values::constants::LF_POINTER;
 use pdb_values::{BitfieldType, ModifierType, PointerType, TypeData};
 
 /// Reads a pointer.
@@ -43,9 +42,9 @@ pub(crate) fn parse_modifier<'t>(buffer: &mut ParseBuffer<'t>) -> Result<TypeDat
     let word = buffer.parse_u16()?;
     Ok(TypeData::Modifier(ModifierType {
         underlying_type,
-        constant: is_set(word as u32, 0),
-        volatile: is_set(word as u32, 1),
-        unaligned: is_set(word as u32, 2),
+        constant: is_bit_set(word as u32, 0),
+        volatile: is_bit_set(word as u32, 1),
+        unaligned: is_bit_set(word as u32, 2),
     }))
 }
 

@@ -15,7 +15,7 @@ use crate::parse::array::skip_padding;
 use crate::parse::record::parse_behind_leaf;
 use crate::parse::shape::parse_type_index;
 use pdb_base::{ParseBuffer, Result, TypeIndex};
-use pdb_leaves::constants::LF_INDEX;
+use pdb_values::constants::LF_INDEX;
 use pdb_values::{FieldList, TypeData};
 use std::alloc::Global;
 
@@ -44,7 +44,7 @@ fn field_list<'t>(fields: Vec<TypeData<'t>>, continuation: Option<TypeIndex>) ->
 #[inline(never)]
 pub fn parse_field_list<'t>(alloc: Global, buffer: &mut ParseBuffer<'t>) -> Result<TypeData<'t>>
     ensures read { Answers (λ t. (type_value t, left buffer.new)) result (field_list_at (left buffer.old)) }
-    ensures want { LacksOnlyIf result (HoldsField (left buffer.old)) }
+    ensures memory { LacksOnlyIf result (HoldsField (left buffer.old)) }
 {
     let mut fields = Vec::new(alloc);
     let mut continuation = None;

@@ -26,7 +26,7 @@ fn parse_id_leaf<'t>(
     leaf: IdLeaf,
 ) -> Result<IdData<'t>>
     ensures read { Answers (λ id. (id_value id, left buffer.new)) result (id_data_at number leaf (left buffer.old)) }
-    ensures want { LacksOnlyIf result (SaysIdItem (id_data_at number leaf (left buffer.old))) }
+    ensures memory { LacksOnlyIf result (SaysIdItem (id_data_at number leaf (left buffer.old))) }
 {
     match leaf {
         IdLeaf::Plain(leaf) => parse_plain_id(buffer, number, leaf),
@@ -53,7 +53,7 @@ fn parse_behind_id_leaf<'t>(
     number: u16,
 ) -> Result<IdData<'t>>
     ensures read { Answers (λ id. (id_value id, left buffer.new)) result (behind_id_leaf number (left buffer.old)) }
-    ensures want { LacksOnlyIf result (SaysIdItem (behind_id_leaf number (left buffer.old))) }
+    ensures memory { LacksOnlyIf result (SaysIdItem (behind_id_leaf number (left buffer.old))) }
 {
     match IdLeaf::from_number(number) {
         Some(leaf) => parse_id_leaf(alloc, buffer, number, leaf),
@@ -65,7 +65,7 @@ fn parse_behind_id_leaf<'t>(
 #[tactic(auto, unfolding(crate::specs::Ids::id_at))]
 fn parse_id_record<'t>(alloc: Global, buffer: &mut ParseBuffer<'t>) -> Result<IdData<'t>>
     ensures read { Answers (λ id. (id_value id, left buffer.new)) result (id_at (left buffer.old)) }
-    ensures want { LacksOnlyIf result (SaysIdItem (id_at (left buffer.old))) }
+    ensures memory { LacksOnlyIf result (SaysIdItem (id_at (left buffer.old))) }
 {
     let number = buffer.parse_u16()?;
     parse_behind_id_leaf(alloc, buffer, number)
@@ -89,7 +89,7 @@ pub fn parse_id_data<'t>(alloc: Global, bytes: &'t [u8]) -> Result<IdData<'t>>
     ensures answered { (value : IdValue) (rest : List ℕ) →
         IsId bytes.now value rest → ShowsOrLacks id_value value result }
     ensures refused { (refusal : Refusal) → NoId bytes.now refusal → RefusesOrLacks refusal result }
-    ensures want { LacksOnlyIf result (HoldsIdItem bytes.now) }
+    ensures memory { LacksOnlyIf result (HoldsIdItem bytes.now) }
     ensures cut { IsCutIdList bytes.now → result ≡ Err UnexpectedEof }
     ensures short { IfOk result (λ id. 2 * item_count (id_value id) ≤ length bytes.now) }
 {

@@ -9,10 +9,10 @@ ghost use Rattle.pdb_records.specs.IdRows.{function_id_row, member_function_id_r
 
 use crate::parse::shape::{parse_id_index, parse_some_id, parse_text, parse_type_index};
 use pdb_base::{ParseBuffer, Result};
-use pdb_leaves::constants::{
+use pdb_space::StringRef;
+use pdb_values::constants::{
     LF_FUNC_ID, LF_MFUNC_ID, LF_STRING_ID, LF_UDT_MOD_SRC_LINE, LF_UDT_SRC_LINE,
 };
-use pdb_space::StringRef;
 use pdb_values::{
     FunctionId, IdData, MemberFunctionId, StringId, UserDefinedTypeSourceFileRef,
     UserDefinedTypeSourceId,

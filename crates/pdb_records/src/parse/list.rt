@@ -17,7 +17,7 @@ use std::alloc::Global;
 pub(crate) fn parse_method_list(alloc: Global, buffer: &mut ParseBuffer<'_>) -> Result<MethodList>
     ensures read { Answers (λ list. (list.methods.items, left buffer.new)) result
         (to_end (row listed_method_row) (left buffer.old)) }
-    ensures want { LacksOnlyIf result (HoldsMethod (left buffer.old)) }
+    ensures memory { LacksOnlyIf result (HoldsMethod (left buffer.old)) }
 {
     let mut methods: Vec<MethodListEntry> = Vec::new(alloc);
     while !buffer.is_empty() {

@@ -19,7 +19,7 @@ use crate::parse::member::{
 };
 use crate::parse::table_shape::parse_table_shape;
 use pdb_base::{ParseBuffer, Result};
-use pdb_leaves::constants::{
+use pdb_values::constants::{
     LF_BCLASS, LF_BINTERFACE, LF_BITFIELD, LF_CLASS, LF_CLASS_ST, LF_ENUM, LF_ENUM_ST,
     LF_ENUMERATE, LF_ENUMERATE_ST, LF_INTERFACE, LF_IVBCLASS, LF_MEMBER, LF_MEMBER_ST, LF_METHOD,
     LF_METHOD_ST, LF_MFUNCTION, LF_MODIFIER, LF_NESTTYPE, LF_NESTTYPE_ST, LF_NESTTYPEEX,

@@ -25,7 +25,7 @@ fn parse_leaf<'t>(
     leaf: Leaf,
 ) -> Result<TypeData<'t>>
     ensures read { Answers (λ t. (type_value t, left buffer.new)) result (data_at number leaf (left buffer.old)) }
-    ensures want { LacksOnlyIf result (HoldsItem leaf (left buffer.old)) }
+    ensures memory { LacksOnlyIf result (HoldsItem leaf (left buffer.old)) }
 {
     match leaf {
         Leaf::Plain(leaf) => parse_plain(buffer, number, leaf),
@@ -54,7 +54,7 @@ pub fn parse_behind_leaf<'t>(
     number: u16,
 ) -> Result<TypeData<'t>>
     ensures read { Answers (λ t. (type_value t, left buffer.new)) result (behind_leaf number (left buffer.old)) }
-    ensures want { LacksOnlyIf result (HoldsItemBehind number (left buffer.old)) }
+    ensures memory { LacksOnlyIf result (HoldsItemBehind number (left buffer.old)) }
 {
     match Leaf::from_number(number) {
         Some(leaf) => parse_leaf(alloc, buffer, number, leaf),

@@ -9,7 +9,7 @@ ghost use Rattle.pdb_records.specs.Rows.{low_16, low_32};
 
 use crate::parse::index::parse_index;
 use pdb_base::{IdIndex, ParseBuffer, RawString, Result, TypeIndex};
-use pdb_leaves::constants::LF_ST_MAX;
+use pdb_values::constants::LF_ST_MAX;
 
 /// Reads the index of a type.
 #[inline(always)]

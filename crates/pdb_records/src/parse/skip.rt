@@ -11,7 +11,7 @@ use crate::parse::array::skip_padding;
 use crate::parse::fields::parse_continuation;
 use crate::parse::record::parse_behind_leaf;
 use pdb_base::{ParseBuffer, Result, TypeIndex};
-use pdb_leaves::constants::LF_INDEX;
+use pdb_values::constants::LF_INDEX;
 use std::alloc::Global;
 
 /// Reads entries to the end of the bytes and keeps none of them. Returns the index of the list that
@@ -23,7 +23,7 @@ use std::alloc::Global;
 #[inline(never)]
 pub fn skip_field_list(alloc: Global, buffer: &mut ParseBuffer<'_>) -> Result<Option<TypeIndex>>
     ensures read { Answers (λ next. (next, left buffer.new)) result (list_continuation_at (left buffer.old)) }
-    ensures want { LacksOnlyIf result (HoldsField (left buffer.old)) }
+    ensures memory { LacksOnlyIf result (HoldsField (left buffer.old)) }
 {
     let mut continuation = None;
     'entries: while !buffer.is_empty() {

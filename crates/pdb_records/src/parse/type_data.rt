@@ -17,8 +17,8 @@ ghost use Rattle.pdb_records.specs.Assigned.{SaysAssigned, ShowsOrLacks, Refuses
 use crate::parse::fields::parse_field_list;
 use crate::parse::record::parse_behind_leaf;
 use pdb_base::{ParseBuffer, Result};
-use pdb_leaves::constants::LF_FIELDLIST;
 use pdb_values::TypeData;
+use pdb_values::constants::LF_FIELDLIST;
 use std::alloc::Global;
 
 /// Reads the type record at the front of a buffer.
@@ -26,7 +26,7 @@ use std::alloc::Global;
 #[tactic(auto, unfolding(crate::specs::Fields::record_at))]
 fn parse_record<'t>(alloc: Global, buffer: &mut ParseBuffer<'t>) -> Result<TypeData<'t>>
     ensures read { Answers (λ t. (type_value t, left buffer.new)) result (record_at (left buffer.old)) }
-    ensures want { LacksOnlyIf result (NeedsMemory (left buffer.old)) }
+    ensures memory { LacksOnlyIf result (NeedsMemory (left buffer.old)) }
 {
     let number = buffer.parse_u16()?;
     if number == LF_FIELDLIST {
@@ -62,7 +62,7 @@ pub fn parse_type_data<'t>(alloc: Global, bytes: &'t [u8]) -> Result<TypeData<'t
     ensures answered { (value : TypeValue) (rest : List ℕ) →
         IsRecord bytes.now value rest → ShowsOrLacks type_value value result }
     ensures refused { (refusal : Refusal) → NoRecord bytes.now refusal → RefusesOrLacks refusal result }
-    ensures want { LacksOnlyIf result (NeedsMemory bytes.now) }
+    ensures memory { LacksOnlyIf result (NeedsMemory bytes.now) }
     ensures cut { IsFalseCount bytes.now → result ≡ Err UnexpectedEof }
     ensures short { IfOk result (λ value. IsShort (length bytes.now) (type_value value)) }
 {

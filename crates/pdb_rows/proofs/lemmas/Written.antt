@@ -5,7 +5,7 @@ use Rattle.std.specs.Io.KnownBytes.{Appends, Keeps}
 use Rattle.std.proofs.KnownBytes.{Appends-nil, Appends-trans, Appends-kept}
 use Rattle.pdb_base.specs.declared.error.Error.{Error}
 use Rattle.pdb_base.specs.declared.error.Error.TheVariants.{OutOfMemory}
-use Rattle.pdb_rows.specs.Written.{IsCut, IsFront, IsWritten, Writes}
+use Rattle.pdb_rows.specs.Written.{IsOutputFailure, IsPrefix, IsWritten, Writes}
 
 -- nothing is written
 pub written_none : (old : Option (List ℕ)) (all : List ℕ) → IsWritten old old all all
@@ -39,11 +39,11 @@ written_as old now all rest other same before = subst (IsWritten old now all) sa
 -- ---- fronts
 
 -- nothing is a front
-pub front_none : (all : List ℕ) (old : Option (List ℕ)) → IsFront all old old
+pub front_none : (all : List ℕ) (old : Option (List ℕ)) → IsPrefix all old old
 front_none all old = record { rest = all; written = written_none old all }
 
 -- a front of the next line, behind what was written
-pub front_more : (old now new : Option (List ℕ)) (all line rest left : List ℕ) → left ≡ line ++ rest → IsWritten old now all left → IsFront line now new → IsFront all old new
+pub front_more : (old now new : Option (List ℕ)) (all line rest left : List ℕ) → left ≡ line ++ rest → IsWritten old now all left → IsPrefix line now new → IsPrefix all old new
 front_more old now new all line rest left next before front =
     let part = front.written in
     record {
@@ -56,11 +56,11 @@ front_more old now new all line rest left next before front =
     }
 
 -- a front of the first is one of both
-pub front_first : (old new : Option (List ℕ)) (first rest : List ℕ) → IsFront first old new → IsFront (first ++ rest) old new
+pub front_first : (old new : Option (List ℕ)) (first rest : List ℕ) → IsPrefix first old new → IsPrefix (first ++ rest) old new
 front_first old new first rest front = front_more old old new (first ++ rest) first rest (first ++ rest) refl (written_none old (first ++ rest)) front
 
 -- a front of what follows the first
-pub front_second : (old now new : Option (List ℕ)) (first second : List ℕ) → Appends old now first → IsFront second now new → IsFront (first ++ second) old new
+pub front_second : (old now new : Option (List ℕ)) (first second : List ℕ) → Appends old now first → IsPrefix second now new → IsPrefix (first ++ second) old new
 front_second old now new first second got front =
     let before : IsWritten old now (first ++ second) second = record { done = first; got = got; left = refl } in
     front_more old now new (first ++ second) second [] second (sym (append-nil second)) before front
@@ -72,8 +72,8 @@ writes_second old now new first second (Err e) got writes = (writes.0, front_sec
 
 -- ---- where bytes are cut short
 
-pub want_is_cut : (e : Error) → e ≡ OutOfMemory → IsCut e
-want_is_cut e is = subst IsCut (sym is) tt
+pub want_is_cut : (e : Error) → e ≡ OutOfMemory → IsOutputFailure e
+want_is_cut e is = subst IsOutputFailure (sym is) tt
 
 -- memory was refused behind what was written
 pub lacks_more : (old now : Option (List ℕ)) (all left : List ℕ) (e : Error) → IsWritten old now all left → e ≡ OutOfMemory → Writes all old now (Err e)

@@ -1,6 +1,7 @@
 //! Base classes and pointers to tables of virtual functions as rows.
 
-ghost use Rattle.std.specs.Prelude.{◌≡◌, IfErr, IfOk};
+ghost use Rattle.std.specs.Prelude.{◌≡◌, IfOk};
+ghost use Rattle.pdb_base.specs.Memory.{FailsOnlyForMemory};
 ghost use Rattle.pdb_rows.specs.Fields.{headed};
 ghost use Rattle.pdb_rows.specs.Row.{row_shown};
 ghost use Rattle.pdb_rows.specs.TypeRows.{base_class_fields, table_pointer_fields, virtual_base_fields};
@@ -16,7 +17,7 @@ use std::alloc::Global;
 #[tactic(auto, unfolding(crate::specs::TypeRows::base_class_fields))]
 pub(crate) fn base_class_row<'t>(alloc: Global, head: Head, base: BaseClassType) -> Result<Row<'t>>
     ensures ok { IfOk result (λ row. row_shown row ≡ headed head.index head.leaf (base_class_fields base)) }
-    ensures want { IfErr result (λ e. e ≡ Error.OutOfMemory) }
+    ensures memory { FailsOnlyForMemory result }
 {
     let attributes = field_words(alloc, base.attributes)?;
     let fields = vec![in alloc;
@@ -38,7 +39,7 @@ pub(crate) fn virtual_base_row<'t>(
     base: VirtualBaseClassType,
 ) -> Result<Row<'t>>
     ensures ok { IfOk result (λ row. row_shown row ≡ headed head.index head.leaf (virtual_base_fields base)) }
-    ensures want { IfErr result (λ e. e ≡ Error.OutOfMemory) }
+    ensures memory { FailsOnlyForMemory result }
 {
     let attributes = field_words(alloc, base.attributes)?;
     let fields = vec![in alloc;
@@ -69,7 +70,7 @@ pub(crate) fn table_pointer_row<'t>(
     pointer: VirtualFunctionTablePointerType,
 ) -> Result<Row<'t>>
     ensures ok { IfOk result (λ row. row_shown row ≡ headed head.index head.leaf (table_pointer_fields pointer)) }
-    ensures want { IfErr result (λ e. e ≡ Error.OutOfMemory) }
+    ensures memory { FailsOnlyForMemory result }
 {
     let fields = vec![in alloc;
         head.index(),

@@ -1,6 +1,7 @@
 //! Classes and unions as rows.
 
-ghost use Rattle.std.specs.Prelude.{◌≡◌, IfErr, IfOk};
+ghost use Rattle.std.specs.Prelude.{◌≡◌, IfOk};
+ghost use Rattle.pdb_base.specs.Memory.{FailsOnlyForMemory};
 ghost use Rattle.pdb_values.specs.Class.{class_value};
 ghost use Rattle.pdb_values.specs.Union.{union_value};
 ghost use Rattle.pdb_rows.specs.Fields.{headed};
@@ -19,7 +20,7 @@ use std::alloc::Global;
 pub(crate) fn class_row<'t>(alloc: Global, head: Head, class: &ClassType<'t>) -> Result<Row<'t>>
     ensures ok { IfOk result (λ row. row_shown row ≡
         headed head.index head.leaf (class_fields (class_value class.now))) }
-    ensures want { IfErr result (λ e. e ≡ Error.OutOfMemory) }
+    ensures memory { FailsOnlyForMemory result }
 {
     let properties = property_words(alloc, class.properties)?;
     let fields = vec![in alloc;
@@ -48,7 +49,7 @@ pub(crate) fn union_row<'t>(
 ) -> Result<Row<'t>>
     ensures ok { IfOk result (λ row. row_shown row ≡
         headed head.index head.leaf (union_fields (union_value union_type.now))) }
-    ensures want { IfErr result (λ e. e ≡ Error.OutOfMemory) }
+    ensures memory { FailsOnlyForMemory result }
 {
     let properties = property_words(alloc, union_type.properties)?;
     let fields = vec![in alloc;

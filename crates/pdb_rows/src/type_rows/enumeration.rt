@@ -1,6 +1,7 @@
 //! Enumerations and their values as rows.
 
-ghost use Rattle.std.specs.Prelude.{◌≡◌, IfErr, IfOk};
+ghost use Rattle.std.specs.Prelude.{◌≡◌, IfOk};
+ghost use Rattle.pdb_base.specs.Memory.{FailsOnlyForMemory};
 ghost use Rattle.pdb_values.specs.Enumeration.{enumerate_value, enumeration_value};
 ghost use Rattle.pdb_rows.specs.Fields.{headed};
 ghost use Rattle.pdb_rows.specs.Row.{row_shown, value_shown};
@@ -22,7 +23,7 @@ pub(crate) fn enumeration_row<'t>(
 ) -> Result<Row<'t>>
     ensures ok { IfOk result (λ row. row_shown row ≡
         headed head.index head.leaf (enumeration_fields (enumeration_value enumeration.now))) }
-    ensures want { IfErr result (λ e. e ≡ Error.OutOfMemory) }
+    ensures memory { FailsOnlyForMemory result }
 {
     let properties = property_words(alloc, enumeration.properties)?;
     let fields = vec![in alloc;
@@ -65,7 +66,7 @@ pub(crate) fn enumerate_row<'t>(
 ) -> Result<Row<'t>>
     ensures ok { IfOk result (λ row. row_shown row ≡
         headed head.index head.leaf (enumerate_fields (enumerate_value value.now))) }
-    ensures want { IfErr result (λ e. e ≡ Error.OutOfMemory) }
+    ensures memory { FailsOnlyForMemory result }
 {
     let attributes = field_words(alloc, value.attributes)?;
     let fields = vec![in alloc;

@@ -1,6 +1,7 @@
 //! Types of functions as rows.
 
-ghost use Rattle.std.specs.Prelude.{◌≡◌, IfErr, IfOk};
+ghost use Rattle.std.specs.Prelude.{◌≡◌, IfOk};
+ghost use Rattle.pdb_base.specs.Memory.{FailsOnlyForMemory};
 ghost use Rattle.pdb_rows.specs.Fields.{headed};
 ghost use Rattle.pdb_rows.specs.Row.{row_shown};
 ghost use Rattle.pdb_rows.specs.TypeRows.{member_function_fields, procedure_fields};
@@ -20,7 +21,7 @@ pub(crate) fn procedure_row<'t>(
     procedure: ProcedureType,
 ) -> Result<Row<'t>>
     ensures ok { IfOk result (λ row. row_shown row ≡ headed head.index head.leaf (procedure_fields procedure)) }
-    ensures want { IfErr result (λ e. e ≡ Error.OutOfMemory) }
+    ensures memory { FailsOnlyForMemory result }
 {
     let attributes = function_words(alloc, procedure.attributes)?;
     let fields = vec![in alloc;
@@ -49,7 +50,7 @@ pub(crate) fn member_function_row<'t>(
     function: MemberFunctionType,
 ) -> Result<Row<'t>>
     ensures ok { IfOk result (λ row. row_shown row ≡ headed head.index head.leaf (member_function_fields function)) }
-    ensures want { IfErr result (λ e. e ≡ Error.OutOfMemory) }
+    ensures memory { FailsOnlyForMemory result }
 {
     let attributes = function_words(alloc, function.attributes)?;
     let fields = vec![in alloc;

@@ -1,6 +1,7 @@
 //! Records with a list as rows.
 
-ghost use Rattle.std.specs.Prelude.{◌≡◌, IfErr, IfOk};
+ghost use Rattle.std.specs.Prelude.{◌≡◌, IfOk};
+ghost use Rattle.pdb_base.specs.Memory.{FailsOnlyForMemory};
 ghost use Rattle.pdb_values.specs.Array.{array_value};
 ghost use Rattle.pdb_values.specs.Function.{argument_types};
 ghost use Rattle.pdb_values.specs.Method.{listed_methods};
@@ -22,7 +23,7 @@ use std::alloc::Global;
 pub(crate) fn array_row<'t>(alloc: Global, head: Head, array: &ArrayType) -> Result<Row<'t>>
     ensures ok { IfOk result (λ row. row_shown row ≡
         headed head.index head.leaf (array_fields (array_value array.now))) }
-    ensures want { IfErr result (λ e. e ≡ Error.OutOfMemory) }
+    ensures memory { FailsOnlyForMemory result }
 {
     let dimensions = copied_numbers(alloc, &array.dimensions)?;
     let fields = vec![in alloc;
@@ -41,7 +42,7 @@ pub(crate) fn array_row<'t>(alloc: Global, head: Head, array: &ArrayType) -> Res
 pub(crate) fn field_list_row<'t>(alloc: Global, head: Head, list: &FieldList<'_>) -> Result<Row<'t>>
     ensures ok { IfOk result (λ row. row_shown row ≡
         headed head.index head.leaf (type_fields (field_list_value list.now))) }
-    ensures want { IfErr result (λ e. e ≡ Error.OutOfMemory) }
+    ensures memory { FailsOnlyForMemory result }
 {
     let fields = vec![in alloc;
         head.index(),
@@ -61,7 +62,7 @@ pub(crate) fn argument_list_row<'t>(
 ) -> Result<Row<'t>>
     ensures ok { IfOk result (λ row. row_shown row ≡
         headed head.index head.leaf (argument_list_fields (argument_types list.now))) }
-    ensures want { IfErr result (λ e. e ≡ Error.OutOfMemory) }
+    ensures memory { FailsOnlyForMemory result }
 {
     let arguments = type_numbers(alloc, &list.arguments)?;
     let fields = vec![in alloc;
@@ -77,7 +78,7 @@ pub(crate) fn argument_list_row<'t>(
 pub(crate) fn method_list_row<'t>(alloc: Global, head: Head, list: &MethodList) -> Result<Row<'t>>
     ensures ok { IfOk result (λ row. row_shown row ≡
         headed head.index head.leaf (method_list_fields (listed_methods list.now))) }
-    ensures want { IfErr result (λ e. e ≡ Error.OutOfMemory) }
+    ensures memory { FailsOnlyForMemory result }
 {
     let methods = list.methods.as_slice();
     let numbers = method_numbers(alloc, methods)?;
@@ -99,7 +100,7 @@ pub(crate) fn table_shape_row<'t>(
 ) -> Result<Row<'t>>
     ensures ok { IfOk result (λ row. row_shown row ≡
         headed head.index head.leaf (table_shape_fields (table_shape_value shape.entry))) }
-    ensures want { IfErr result (λ e. e ≡ Error.OutOfMemory) }
+    ensures memory { FailsOnlyForMemory result }
 {
     let descriptors = byte_numbers(alloc, shape.descriptors)?;
     let fields = vec![in alloc;

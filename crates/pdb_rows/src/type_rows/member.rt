@@ -1,6 +1,7 @@
 //! Data members and nested types as rows.
 
-ghost use Rattle.std.specs.Prelude.{◌≡◌, IfErr, IfOk};
+ghost use Rattle.std.specs.Prelude.{◌≡◌, IfOk};
+ghost use Rattle.pdb_base.specs.Memory.{FailsOnlyForMemory};
 ghost use Rattle.pdb_values.specs.Member.{member_value, nested_value, static_member_value};
 ghost use Rattle.pdb_rows.specs.Fields.{headed};
 ghost use Rattle.pdb_rows.specs.Row.{row_shown};
@@ -18,7 +19,7 @@ use std::alloc::Global;
 pub(crate) fn member_row<'t>(alloc: Global, head: Head, member: &MemberType<'t>) -> Result<Row<'t>>
     ensures ok { IfOk result (λ row. row_shown row ≡
         headed head.index head.leaf (member_fields (member_value member.now))) }
-    ensures want { IfErr result (λ e. e ≡ Error.OutOfMemory) }
+    ensures memory { FailsOnlyForMemory result }
 {
     let attributes = field_words(alloc, member.attributes)?;
     let fields = vec![in alloc;
@@ -42,7 +43,7 @@ pub(crate) fn static_member_row<'t>(
 ) -> Result<Row<'t>>
     ensures ok { IfOk result (λ row. row_shown row ≡
         headed head.index head.leaf (static_member_fields (static_member_value member.now))) }
-    ensures want { IfErr result (λ e. e ≡ Error.OutOfMemory) }
+    ensures memory { FailsOnlyForMemory result }
 {
     let attributes = field_words(alloc, member.attributes)?;
     let fields = vec![in alloc;
@@ -61,7 +62,7 @@ pub(crate) fn static_member_row<'t>(
 pub(crate) fn nested_row<'t>(alloc: Global, head: Head, nested: &NestedType<'t>) -> Result<Row<'t>>
     ensures ok { IfOk result (λ row. row_shown row ≡
         headed head.index head.leaf (nested_fields (nested_value nested.now))) }
-    ensures want { IfErr result (λ e. e ≡ Error.OutOfMemory) }
+    ensures memory { FailsOnlyForMemory result }
 {
     let attributes = field_words(alloc, nested.attributes)?;
     let fields = vec![in alloc;

@@ -1,6 +1,7 @@
 //! Methods as rows.
 
-ghost use Rattle.std.specs.Prelude.{◌≡◌, IfErr, IfOk};
+ghost use Rattle.std.specs.Prelude.{◌≡◌, IfOk};
+ghost use Rattle.pdb_base.specs.Memory.{FailsOnlyForMemory};
 ghost use Rattle.pdb_values.specs.Method.{method_value, overloaded_method_value};
 ghost use Rattle.pdb_rows.specs.Fields.{headed};
 ghost use Rattle.pdb_rows.specs.Row.{row_shown};
@@ -22,7 +23,7 @@ pub(crate) fn overloaded_method_row<'t>(
 ) -> Result<Row<'t>>
     ensures ok { IfOk result (λ row. row_shown row ≡
         headed head.index head.leaf (overloaded_method_fields (overloaded_method_value methods.now))) }
-    ensures want { IfErr result (λ e. e ≡ Error.OutOfMemory) }
+    ensures memory { FailsOnlyForMemory result }
 {
     let fields = vec![in alloc;
         head.index(),
@@ -39,7 +40,7 @@ pub(crate) fn overloaded_method_row<'t>(
 pub(crate) fn method_row<'t>(alloc: Global, head: Head, method: &MethodType<'t>) -> Result<Row<'t>>
     ensures ok { IfOk result (λ row. row_shown row ≡
         headed head.index head.leaf (method_fields (method_value method.now))) }
-    ensures want { IfErr result (λ e. e ≡ Error.OutOfMemory) }
+    ensures memory { FailsOnlyForMemory result }
 {
     let attributes = field_words(alloc, method.attributes)?;
     let fields = vec![in alloc;
@@ -58,7 +59,7 @@ pub(crate) fn method_row<'t>(alloc: Global, head: Head, method: &MethodType<'t>)
 #[tactic(auto, unfolding(crate::specs::TypeRows::listed_method_fields))]
 pub(crate) fn listed_method_row<'t>(alloc: Global, method: MethodListEntry) -> Result<Row<'t>>
     ensures ok { IfOk result (λ row. row_shown row ≡ listed_method_fields method) }
-    ensures want { IfErr result (λ e. e ≡ Error.OutOfMemory) }
+    ensures memory { FailsOnlyForMemory result }
 {
     let attributes = field_words(alloc, method.attributes)?;
     let fields = vec![in alloc;

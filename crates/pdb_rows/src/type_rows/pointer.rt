@@ -1,6 +1,7 @@
 //! Pointers, modified types and bit fields as rows.
 
-ghost use Rattle.std.specs.Prelude.{◌≡◌, IfErr, IfOk};
+ghost use Rattle.std.specs.Prelude.{◌≡◌, IfOk};
+ghost use Rattle.pdb_base.specs.Memory.{FailsOnlyForMemory};
 ghost use Rattle.pdb_rows.specs.Fields.{headed};
 ghost use Rattle.pdb_rows.specs.Row.{row_shown};
 ghost use Rattle.pdb_rows.specs.TypeRows.{bitfield_fields, modifier_fields, pointer_fields};
@@ -16,7 +17,7 @@ use std::alloc::Global;
 #[tactic(auto, unfolding(crate::specs::TypeRows::pointer_fields))]
 pub(crate) fn pointer_row<'t>(alloc: Global, head: Head, pointer: PointerType) -> Result<Row<'t>>
     ensures ok { IfOk result (λ row. row_shown row ≡ headed head.index head.leaf (pointer_fields pointer)) }
-    ensures want { IfErr result (λ e. e ≡ Error.OutOfMemory) }
+    ensures memory { FailsOnlyForMemory result }
 {
     let word = pointer.attributes;
     let attributes = pointer_words(alloc, word)?;
@@ -37,7 +38,7 @@ pub(crate) fn pointer_row<'t>(alloc: Global, head: Head, pointer: PointerType) -
 #[tactic(auto, unfolding(crate::specs::TypeRows::modifier_fields))]
 pub(crate) fn modifier_row<'t>(alloc: Global, head: Head, modifier: ModifierType) -> Result<Row<'t>>
     ensures ok { IfOk result (λ row. row_shown row ≡ headed head.index head.leaf (modifier_fields modifier)) }
-    ensures want { IfErr result (λ e. e ≡ Error.OutOfMemory) }
+    ensures memory { FailsOnlyForMemory result }
 {
     let modifiers = modifier_words(alloc, modifier)?;
     let fields = vec![in alloc;
@@ -53,7 +54,7 @@ pub(crate) fn modifier_row<'t>(alloc: Global, head: Head, modifier: ModifierType
 #[tactic(auto, unfolding(crate::specs::TypeRows::bitfield_fields))]
 pub(crate) fn bitfield_row<'t>(alloc: Global, head: Head, bitfield: BitfieldType) -> Result<Row<'t>>
     ensures ok { IfOk result (λ row. row_shown row ≡ headed head.index head.leaf (bitfield_fields bitfield)) }
-    ensures want { IfErr result (λ e. e ≡ Error.OutOfMemory) }
+    ensures memory { FailsOnlyForMemory result }
 {
     let fields = vec![in alloc;
         head.index(),

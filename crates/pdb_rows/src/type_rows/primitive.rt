@@ -1,7 +1,8 @@
 //! Types without a record as rows.
 
-ghost use Rattle.std.specs.Prelude.{◌≡◌, IfErr, IfOk};
+ghost use Rattle.std.specs.Prelude.{◌≡◌, IfOk};
 ghost use Rattle.std.specs.Option.{option_map};
+ghost use Rattle.pdb_base.specs.Memory.{FailsOnlyForMemory};
 ghost use Rattle.pdb_rows.specs.Fields.{headed, optional_text};
 ghost use Rattle.pdb_rows.specs.Row.{row_shown, value_shown};
 ghost use Rattle.pdb_rows.specs.TypeRows.{primitive_fields};
@@ -31,7 +32,7 @@ pub(crate) fn primitive_row<'t>(
     primitive: PrimitiveType,
 ) -> Result<Row<'t>>
     ensures ok { IfOk result (λ row. row_shown row ≡ headed head.index head.leaf (primitive_fields primitive)) }
-    ensures want { IfErr result (λ e. e ≡ Error.OutOfMemory) }
+    ensures memory { FailsOnlyForMemory result }
 {
     let fields = vec![in alloc;
         head.index(),

@@ -1,6 +1,7 @@
 //! The words of the flags that are set.
 
-ghost use Rattle.std.specs.Prelude.{◌≡◌, map, IfErr, IfOk};
+ghost use Rattle.std.specs.Prelude.{◌≡◌, map, IfOk};
+ghost use Rattle.pdb_base.specs.Memory.{FailsOnlyForMemory};
 ghost use Rattle.pdb_rows.specs.Words.{chosen};
 
 use pdb_base::{Error, Result};
@@ -14,7 +15,7 @@ use std::alloc::Global;
 pub(crate) fn chosen(alloc: Global, flags: &[(bool, &'static str)]) -> Result<Vec<&'static str>>
     ensures ok { IfOk result (λ words. map (λ name. name.now) words.items ≡
         chosen (map (λ flag. (flag.0, flag.1.now)) flags.now)) }
-    ensures want { IfErr result (λ e. e ≡ Error.OutOfMemory) }
+    ensures memory { FailsOnlyForMemory result }
 {
     let mut words = Vec::new(alloc);
     for (is_set, word) in flags {

@@ -1,7 +1,8 @@
 //! Attributes of a member in words.
 
-ghost use Rattle.std.specs.Prelude.{◌≡◌, map, IfErr, IfOk};
+ghost use Rattle.std.specs.Prelude.{◌≡◌, map, IfOk};
 ghost use Rattle.std.specs.Option.{option_map};
+ghost use Rattle.pdb_base.specs.Memory.{FailsOnlyForMemory};
 ghost use Rattle.pdb_rows.specs.Words.{access_word, field_words};
 
 use crate::words::chosen::chosen;
@@ -27,7 +28,7 @@ pub(crate) fn access_word(word: FieldAttributes) -> Option<&'static str>
 #[tactic(auto, unfolding(crate::specs::Words::field_words))]
 pub(crate) fn field_words(alloc: Global, word: FieldAttributes) -> Result<Vec<&'static str>>
     ensures ok { IfOk result (λ words. map (λ name. name.now) words.items ≡ field_words word) }
-    ensures want { IfErr result (λ e. e ≡ Error.OutOfMemory) }
+    ensures memory { FailsOnlyForMemory result }
 {
     let words = chosen(
         alloc,

@@ -1,6 +1,7 @@
 //! Attributes of a function in words.
 
-ghost use Rattle.std.specs.Prelude.{◌≡◌, map, IfErr, IfOk};
+ghost use Rattle.std.specs.Prelude.{◌≡◌, map, IfOk};
+ghost use Rattle.pdb_base.specs.Memory.{FailsOnlyForMemory};
 ghost use Rattle.pdb_rows.specs.Words.{function_words};
 
 use crate::words::chosen::chosen;
@@ -12,7 +13,7 @@ use std::alloc::Global;
 #[tactic(auto, unfolding(crate::specs::Words::function_words))]
 pub(crate) fn function_words(alloc: Global, word: FunctionAttributes) -> Result<Vec<&'static str>>
     ensures ok { IfOk result (λ words. map (λ name. name.now) words.items ≡ function_words word) }
-    ensures want { IfErr result (λ e. e ≡ Error.OutOfMemory) }
+    ensures memory { FailsOnlyForMemory result }
 {
     let words = chosen(
         alloc,

@@ -1,6 +1,7 @@
 //! Modifiers in words.
 
-ghost use Rattle.std.specs.Prelude.{◌≡◌, map, IfErr, IfOk};
+ghost use Rattle.std.specs.Prelude.{◌≡◌, map, IfOk};
+ghost use Rattle.pdb_base.specs.Memory.{FailsOnlyForMemory};
 ghost use Rattle.pdb_rows.specs.Words.{modifier_words};
 
 use crate::words::chosen::chosen;
@@ -12,7 +13,7 @@ use std::alloc::Global;
 #[tactic(auto, unfolding(crate::specs::Words::modifier_words))]
 pub(crate) fn modifier_words(alloc: Global, modifier: ModifierType) -> Result<Vec<&'static str>>
     ensures ok { IfOk result (λ words. map (λ name. name.now) words.items ≡ modifier_words modifier) }
-    ensures want { IfErr result (λ e. e ≡ Error.OutOfMemory) }
+    ensures memory { FailsOnlyForMemory result }
 {
     let words = chosen(
         alloc,

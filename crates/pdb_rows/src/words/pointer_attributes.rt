@@ -1,6 +1,7 @@
 //! Attributes of a pointer in words.
 
-ghost use Rattle.std.specs.Prelude.{◌≡◌, map, IfErr, IfOk};
+ghost use Rattle.std.specs.Prelude.{◌≡◌, map, IfOk};
+ghost use Rattle.pdb_base.specs.Memory.{FailsOnlyForMemory};
 ghost use Rattle.pdb_flags.specs.PointerNumbers.{kind_number, mode_number};
 ghost use Rattle.pdb_rows.specs.Words.{kind_word, mode_word, pointer_words};
 
@@ -49,7 +50,7 @@ pub(crate) fn mode_word(mode: PointerMode) -> &'static str
 #[tactic(auto, unfolding(crate::specs::Words::pointer_words))]
 pub(crate) fn pointer_words(alloc: Global, word: PointerAttributes) -> Result<Vec<&'static str>>
     ensures ok { IfOk result (λ words. map (λ name. name.now) words.items ≡ pointer_words word) }
-    ensures want { IfErr result (λ e. e ≡ Error.OutOfMemory) }
+    ensures memory { FailsOnlyForMemory result }
 {
     let words = chosen(
         alloc,

@@ -1,6 +1,7 @@
 //! The flags of a section in words.
 
-ghost use Rattle.std.specs.Prelude.{◌≡◌, map, IfErr, IfOk};
+ghost use Rattle.std.specs.Prelude.{◌≡◌, map, IfOk};
+ghost use Rattle.pdb_base.specs.Memory.{FailsOnlyForMemory};
 ghost use Rattle.pdb_rows.specs.Words.{section_words};
 
 use crate::words::chosen::chosen;
@@ -15,7 +16,7 @@ pub(crate) fn section_words(
     flags: SectionCharacteristics,
 ) -> Result<Vec<&'static str>>
     ensures ok { IfOk result (λ words. map (λ name. name.now) words.items ≡ section_words flags.0) }
-    ensures want { IfErr result (λ e. e ≡ Error.OutOfMemory) }
+    ensures memory { FailsOnlyForMemory result }
 {
     let words = chosen(
         alloc,

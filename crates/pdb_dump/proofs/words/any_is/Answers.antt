@@ -1,6 +1,6 @@
 use Rattle.std.proofs.Common.{ℕ, List, Bor, sym, ◌∙◌}
 use Rattle.std.proofs.lemmas.List.Folds.{list_any_at}
-use Rattle.pdb_command.specs.Words.{same}
+use Rattle.pdb_cli.specs.Words.{same}
 use Rattle.pdb_dump.proofs.words.any_is.Goals as goal
 
 pub returns-then-eq : goal.returns-then-eq

@@ -1,6 +1,6 @@
 use Rattle.std.proofs.Common.{◌≡◌, ◌≤◌, ◌-◌, ℕ, List, [], ◌∷◌, Bor, Some, map, length, take, drop, get_or, refl, sym, ap, ◌∙◌, arith}
 use Rattle.std.proofs.lemmas.List.{take_all}
-use Rattle.pdb_command.specs.Words.{number_of}
+use Rattle.pdb_cli.specs.Words.{number_of}
 use Rattle.pdb_dump.specs.Words.{streams_asked, with_stream}
 use Rattle.pdb_mapping.specs.declared.given.MapStreams.{MapStreams}
 use Rattle.pdb_dump.proofs.words.streams_asked.Goals as goal

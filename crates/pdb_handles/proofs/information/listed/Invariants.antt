@@ -1,6 +1,6 @@
 use Rattle.std.proofs.Common.{◌≡◌, map, take}
 use Rattle.std.specs.List.{flat_map}
-use Rattle.pdb_roles.specs.StreamNames.{named_view}
+use Rattle.pdb_file.specs.StreamNames.{named_view}
 use Rattle.pdb_handles.specs.Information.{named_row}
 use Rattle.pdb_handles.proofs.information.listed.Given as goal
 

@@ -2,7 +2,7 @@ use Rattle.std.proofs.Common.{map, ap, sym, ◌∙◌}
 use Rattle.std.specs.List.{flat_map}
 use Rattle.std.proofs.lemmas.Simd.{map-map}
 use Rattle.std.proofs.lemmas.List.Folds.{flat_map-map}
-use Rattle.pdb_roles.specs.StreamNames.{Named, named_view}
+use Rattle.pdb_file.specs.StreamNames.{Named, named_view}
 use Rattle.pdb_handles.specs.Information.{named_row}
 use Rattle.pdb_handles.proofs.information.listing_of.Goals as goal
 

@@ -9,7 +9,7 @@ returns-in_err-item g c = rw (passed_on _ _ c.from_residual.ensures.1) (ends_sto
 
 pub returns-in_err-push_id : goal.returns-in_err-push_id
 returns-in_err-push_id g c =
-    rw (passed_on _ _ c.from_residual-in_err-push_id.ensures.1) (ends_lacking _ _ _ _ _ _ c.loop-line.invariant c.in_err-push_id.ensures.want)
+    rw (passed_on _ _ c.from_residual-in_err-push_id.ensures.1) (ends_lacking _ _ _ _ _ _ c.loop-line.invariant c.in_err-push_id.ensures.memory)
 
 pub returns-in_err-write_bytes : goal.returns-in_err-write_bytes
 returns-in_err-write_bytes g c =

@@ -18,10 +18,10 @@ returns-in_err-value g c =
     (refuses_early _ _ _ (type_unparsed _ _ _ _ _ _ c.in_ok-item.ensures.item (ap (λ (index : TypeIndex). index.0) c.in_ok-item.ensures.index) c.in_err-value.ensures.read))
 
 pub returns-in_err-row : goal.returns-in_err-row
-returns-in_err-row g c = rw (passed_on _ _ c.from_residual-in_err-row.ensures.1) (lacks_early _ _ _ c.in_err-row.ensures.want)
+returns-in_err-row g c = rw (passed_on _ _ c.from_residual-in_err-row.ensures.1) (lacks_early _ _ _ c.in_err-row.ensures.memory)
 
 pub returns-in_err-push_fields : goal.returns-in_err-push_fields
-returns-in_err-push_fields g c = rw (passed_on _ _ c.from_residual-in_err-push_fields.ensures.1) (lacks_early _ _ _ c.in_err-push_fields.ensures.want)
+returns-in_err-push_fields g c = rw (passed_on _ _ c.from_residual-in_err-push_fields.ensures.1) (lacks_early _ _ _ c.in_err-push_fields.ensures.memory)
 
 pub returns-in_err-write_bytes : goal.returns-in_err-write_bytes
 returns-in_err-write_bytes g c =

@@ -28,8 +28,8 @@ loop-init c =
       room = c.in_ok-starts.ensures.exact;
     }
 
-pub returns-in_err-size-clause-want : goal.returns-in_err-size-clause-want
-returns-in_err-size-clause-want c =
+pub returns-in_err-size-clause-memory : goal.returns-in_err-size-clause-memory
+returns-in_err-size-clause-memory c =
     let front : words (left c.from-buffer.result) ≡ drop 0 (words c.args.directory.now) = ap (λ (p : Place). words (left p)) c.from-buffer.ensures in
     let count = next_word (words c.args.directory.now) 0 _ _ front c.in-Ok.ensures.read in
     let none = no_word (sizes_of c.args.directory.now) c.loop.counter _ _ c.loop.invariant.rest c.in_err-size.ensures.read in

@@ -1,6 +1,6 @@
 -- The first name of the stream is the first among those that are left.
 use Rattle.std.proofs.Common.{◌≡◌, drop, map}
-use Rattle.pdb_roles.specs.StreamNames.{named_view}
+use Rattle.pdb_file.specs.StreamNames.{named_view}
 use Rattle.pdb_summary.specs.Streams.{name_of}
 use Rattle.pdb_summary.proofs.roles.name_of.Given as goal
 

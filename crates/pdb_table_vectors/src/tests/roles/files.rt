@@ -2,11 +2,11 @@
 
 use super::super::says;
 use pdb_base::{Error, FallibleIterator, Result as Answer};
-use pdb_frames::{FrameDataIter, FrameTable};
-use pdb_msf::{BigMSF, open_msf};
-use pdb_roles::{
+use pdb_file::{
     address_map, extra_streams, frame_table, named_stream, pdb_information, string_table,
 };
+use pdb_frames::{FrameDataIter, FrameTable};
+use pdb_msf::{BigMSF, open_msf};
 use pdb_space::{AddressMap, PdbInternalRva, Rva, StringRef};
 use std::alloc::Global;
 use std::test::Fail;

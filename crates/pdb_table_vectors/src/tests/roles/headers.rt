@@ -3,7 +3,7 @@
 use super::super::stream;
 use super::front;
 use pdb_base::{Error, Result as Answer, Stream, StreamIndex};
-use pdb_roles::{DBIExtraStreams, DBIHeader};
+use pdb_file::{DBIExtraStreams, DBIHeader};
 use std::alloc::Global;
 use std::test::Fail;
 

@@ -3,7 +3,7 @@
 use super::super::{says, stream};
 use super::front;
 use pdb_base::{Error, Result as Answer, StreamIndex};
-use pdb_roles::{PDBInformation, StreamName, StreamNames};
+use pdb_file::{PDBInformation, StreamName, StreamNames};
 use std::alloc::Global;
 use std::test::Fail;
 

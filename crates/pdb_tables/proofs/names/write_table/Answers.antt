@@ -28,7 +28,7 @@ pub returns : goal.returns
 returns g c = (refl, written_all _ _ _ _ (name_most c.args.form _ _ _ _ c.loop-test.false) c.loop.invariant)
 
 pub returns-in_err-row : goal.returns-in_err-row
-returns-in_err-row g c = rw (passed_on _ _ c.from_residual.ensures.1) (inr (lacks_more _ _ _ _ _ c.loop.invariant c.in_err-row.ensures.want))
+returns-in_err-row g c = rw (passed_on _ _ c.from_residual.ensures.1) (inr (lacks_more _ _ _ _ _ c.loop.invariant c.in_err-row.ensures.memory))
 
 pub returns-in_err-write_row : goal.returns-in_err-write_row
 returns-in_err-write_row g c =

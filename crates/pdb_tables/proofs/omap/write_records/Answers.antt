@@ -9,7 +9,7 @@ loop-record-preserved g c =
     written_more _ _ _ _ _ _ _ next c.loop-record.invariant c.in_ok-write_row.ensures
 
 pub returns-in_err-row : goal.returns-in_err-row
-returns-in_err-row g c = rw (passed_on _ _ c.from_residual.ensures.1) (lacks_more _ _ _ _ _ c.loop-record.invariant c.in_err-row.ensures.want)
+returns-in_err-row g c = rw (passed_on _ _ c.from_residual.ensures.1) (lacks_more _ _ _ _ _ c.loop-record.invariant c.in_err-row.ensures.memory)
 
 pub returns-in_err-write_row : goal.returns-in_err-write_row
 returns-in_err-write_row g c =

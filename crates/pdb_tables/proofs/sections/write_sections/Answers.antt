@@ -1,7 +1,7 @@
 use Rattle.std.proofs.Common.{◌<◌, ◌≤◌, length, sym, ap, arith, inl, inr}
 use Rattle.pdb_base.specs.Place.{left}
 use Rattle.pdb_base.proofs.lemmas.Refused.{passed_on}
-use Rattle.pdb_roles.proofs.HeaderLemmas.{header_refused}
+use Rattle.pdb_file.proofs.HeaderLemmas.{header_refused}
 use Rattle.pdb_tables.specs.Tables.{sections_listing}
 use Rattle.pdb_tables.proofs.TableLemmas.{section_next, read_first, whole_end, cut_end, no_section}
 use Rattle.pdb_rows.proofs.lemmas.Written.{cut_more, lacks_more, written_more, written_all}
@@ -41,7 +41,7 @@ returns g c =
 
 pub returns-in_err-row : goal.returns-in_err-row
 unfolding sections_listing
-returns-in_err-row g c = rw (passed_on _ _ c.from_residual-in_err-row.ensures.1) (inr (lacks_more _ _ _ _ _ c.loop-place.invariant.written c.in_err-row.ensures.want))
+returns-in_err-row g c = rw (passed_on _ _ c.from_residual-in_err-row.ensures.1) (inr (lacks_more _ _ _ _ _ c.loop-place.invariant.written c.in_err-row.ensures.memory))
 
 pub returns-in_err-write_row : goal.returns-in_err-write_row
 unfolding sections_listing

@@ -4,23 +4,14 @@ use Rattle.std.proofs.Common.{List, ℕ}
 use Rattle.pdb_msf.specs.Directory.{entry_view}
 use Rattle.pdb_msf.specs.Header.{header_view}
 use Rattle.pdb_msf.specs.File.{IsKeptOf}
-use Rattle.pdb_msf.proofs.PageLemmas.{stream_held, stream_few}
 use Rattle.pdb_msf.proofs.KindLemmas.{tells_entry}
 use Rattle.pdb_msf.proofs.AskedLemmas.{asks_stopped, asks_refused, wanted_is}
 use Rattle.pdb_msf.proofs.msf.BigMSFMsf.get.Goals as goal
 
-pub read_scattered-requires-clause-reached : goal.read_scattered-requires-clause-reached
-read_scattered-requires-clause-reached g c =
-    stream_held _ _ _ _ c.self.invariant.read.sized (ap length c.deref.ensures.value ∙ c.in_ok-entry.ensures.whole.pages) c.limited-size.ensures.cut
-
-pub read_scattered-requires-clause-few : goal.read_scattered-requires-clause-few
-read_scattered-requires-clause-few g c =
-    stream_few _ _ _ c.self.invariant.read.sized (ap length c.deref.ensures.value ∙ c.in_ok-entry.ensures.whole.pages) c.in_ok-entry.ensures.whole.size
-
 pub returns-in_err-entry-clause-kind : goal.returns-in_err-entry-clause-kind
 returns-in_err-entry-clause-kind g c =
     rw (passed_on _ _ c.from_residual-in_err-entry.ensures.1)
-    (tells_entry (g.S.Source.state c.locate.new.self.source) entry_view c.in_err-entry.field-0.0 _ _ _ c.in_err-entry.ensures.entry)
+    (tells_entry (g.S.Source.state c.locate.new.self.source) entry_view c.in_err-entry.field-0.0 _ _ _ _ c.in_err-entry.ensures.entry)
 
 pub returns-in_err-entry-clause-asked : goal.returns-in_err-entry-clause-asked
 returns-in_err-entry-clause-asked g c =
@@ -35,7 +26,7 @@ returns-in_err-bytes-clause-asked g c =
     ap (λ m. (g.S.Source.state m.source).bytes) c.self.view_is ∙ c.in_ok-locate.ensures.source.bytes in
     let head : header_view inside.header ≡ c.args.self.now.head = ap (λ m. m.head) c.self.view_is ∙ c.in_ok-locate.ensures.head in
     let wants = wanted_is _ _ _ _ c.args.stream_number c.args.limit c.in-Some.directory.bytes.items (entry_view c.in_ok-entry.entry) file head kept.bytes c.in_ok-entry.ensures.entry in
-    let whole = c.limited-size.ensures.size ∙ sym wants in
+    let whole = sym wants in
     let middle : inside.source.asked ≡ _ = ap (λ m. m.asked) c.self.view_is ∙ c.in_ok-locate.ensures.asked in
     rw (passed_on _ _ c.from_residual-in_err-bytes.ensures.1)
     (asks_refused (List ℕ) _ inside.source.asked _ _ _ c.in_err-bytes.field-0.0 c.in_ok-locate.ensures.fits middle

@@ -12,12 +12,12 @@ pub returns-in_err-parse_dimension-clause-read : goal.returns-in_err-parse_dimen
 returns-in_err-parse_dimension-clause-read c =
     rw (passed_on _ _ c.from_residual.ensures.1) (inl (c.all.invariant.all ∙ step_refused c.all.dimensions.items (left c.all.buffer) _ c.in_err-parse_dimension.ensures))
 
-pub returns-in_err-parse_dimension-clause-want : goal.returns-in_err-parse_dimension-clause-want
-returns-in_err-parse_dimension-clause-want c =
+pub returns-in_err-parse_dimension-clause-memory : goal.returns-in_err-parse_dimension-clause-memory
+returns-in_err-parse_dimension-clause-memory c =
     passes_no_want (dimension_at (left c.all.buffer)) _ _ _ (dimension_no_want (left c.all.buffer)) c.in_err-parse_dimension.ensures c.from_residual.ensures.1
 
-pub returns-in_err-push-clause-want : goal.returns-in_err-push-clause-want
-returns-in_err-push-clause-want c = λ want.
+pub returns-in_err-push-clause-memory : goal.returns-in_err-push-clause-memory
+returns-in_err-push-clause-memory c = λ want.
     holds_now HoldsDimension (left c.all.buffer) (left c.args.buffer.now) c.all.invariant.begun (dimension_there (left c.all.buffer) _ _ c.in_ok-parse_dimension.ensures)
 
 pub returns-in_err-ends_dimensions-clause-read : goal.returns-in_err-ends_dimensions-clause-read
@@ -25,8 +25,8 @@ returns-in_err-ends_dimensions-clause-read c =
     rw (passed_on _ _ c.from_residual-in_err-ends_dimensions.ensures.1)
     (inl (c.all.invariant.all ∙ loop_fails c.all.dimensions.items (left c.all.buffer) _ _ _ c.in_ok-parse_dimension.ensures c.in_err-ends_dimensions.ensures))
 
-pub returns-in_err-ends_dimensions-clause-want : goal.returns-in_err-ends_dimensions-clause-want
-returns-in_err-ends_dimensions-clause-want c =
+pub returns-in_err-ends_dimensions-clause-memory : goal.returns-in_err-ends_dimensions-clause-memory
+returns-in_err-ends_dimensions-clause-memory c =
     passes_no_want (end_at (left c.parse_dimension.new.buffer)) _ _ _ (end_no_want (left c.parse_dimension.new.buffer)) c.in_err-ends_dimensions.ensures c.from_residual-in_err-ends_dimensions.ensures.1
 
 pub returns-then-branch-clause-read : goal.returns-then-branch-clause-read

@@ -12,14 +12,14 @@ pub returns-in_err-count-clause-read : goal.returns-in_err-count-clause-read
 returns-in_err-count-clause-read g c =
     rw (passed_on _ _ c.from_residual.ensures.1) (inl (counted_cut c.args.width g.I.Index.said (left c.args.buffer.now) _ c.in_err-count.ensures))
 
-pub returns-in_err-count-clause-want : goal.returns-in_err-count-clause-want
-returns-in_err-count-clause-want g c = λ want.
+pub returns-in_err-count-clause-memory : goal.returns-in_err-count-clause-memory
+returns-in_err-count-clause-memory g c = λ want.
     absurd (number_is_no_want (count_bytes c.args.width) (left c.args.buffer.now) _ c.in_err-count.ensures (cause_is _ _ (sym (passed_on _ _ c.from_residual.ensures.1) ∙ want)))
 
 pub returns-clause-read : goal.returns-clause-read
 returns-clause-read g c =
     rw (counted_is c.args.width g.I.Index.said (left c.args.buffer.now) _ _ (repeated (index_at g.I.Index.said) c.in_ok-count.count (left c.parse_count.new.buffer)) c.in_ok-count.ensures refl) c.parse_indexes.ensures.read
 
-pub returns-clause-want : goal.returns-clause-want
-returns-clause-want g c = λ want.
-    rw (counted_is c.args.width g.I.Index.said (left c.args.buffer.now) _ _ (repeated (index_at g.I.Index.said) c.in_ok-count.count (left c.parse_count.new.buffer)) c.in_ok-count.ensures refl) (c.parse_indexes.ensures.want want)
+pub returns-clause-memory : goal.returns-clause-memory
+returns-clause-memory g c = λ want.
+    rw (counted_is c.args.width g.I.Index.said (left c.args.buffer.now) _ _ (repeated (index_at g.I.Index.said) c.in_ok-count.count (left c.parse_count.new.buffer)) c.in_ok-count.ensures refl) (c.parse_indexes.ensures.memory want)

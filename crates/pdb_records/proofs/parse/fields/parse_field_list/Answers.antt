@@ -23,8 +23,8 @@ returns-in_err-number-clause-read c =
     let refused = no_leaf (left c.entries.buffer) _ c.in_err-number.ensures.read in
     rw (passed_on _ _ c.from_residual.ensures.1) (inl (field_list_stops (left c.args.buffer.now) c.entries.invariant.entries (left c.entries.buffer) _ c.entries.invariant.all some refused))
 
-pub returns-in_err-number-clause-want : goal.returns-in_err-number-clause-want
-returns-in_err-number-clause-want c =
+pub returns-in_err-number-clause-memory : goal.returns-in_err-number-clause-memory
+returns-in_err-number-clause-memory c =
     passes_no_want (number_at 2 (left c.entries.buffer)) _ _ _ (number_no_want 2 (left c.entries.buffer)) c.in_err-number.ensures.read c.from_residual.ensures.1
 
 -- ---- the list that continues this one
@@ -36,8 +36,8 @@ returns-in_err-parse_continuation-clause-read c =
     let refused = no_continuation (left c.entries.buffer) (left c.parse_u16.new.self) _ leaf c.in_err-parse_continuation.ensures in
     rw (passed_on _ _ c.from_residual-in_err-parse_continuation.ensures.1) (inl (field_list_stops (left c.args.buffer.now) c.entries.invariant.entries (left c.entries.buffer) _ c.entries.invariant.all some refused))
 
-pub returns-in_err-parse_continuation-clause-want : goal.returns-in_err-parse_continuation-clause-want
-returns-in_err-parse_continuation-clause-want c =
+pub returns-in_err-parse_continuation-clause-memory : goal.returns-in_err-parse_continuation-clause-memory
+returns-in_err-parse_continuation-clause-memory c =
     let mid = left c.parse_u16.new.self in
     passes_no_want (row continuation_row mid) _ _ _ (row_no_want continuation_row mid) c.in_err-parse_continuation.ensures c.from_residual-in_err-parse_continuation.ensures.1
 
@@ -48,8 +48,8 @@ returns-in_err-skip_padding-clause-read c =
     let refused = cut_continuation (left c.entries.buffer) (left c.parse_u16.new.self) _ _ _ leaf c.in_ok-parse_continuation.ensures c.in_err-skip_padding.ensures in
     rw (passed_on _ _ c.from_residual-in_err-skip_padding.ensures.1) (inl (field_list_stops (left c.args.buffer.now) c.entries.invariant.entries (left c.entries.buffer) _ c.entries.invariant.all some refused))
 
-pub returns-in_err-skip_padding-clause-want : goal.returns-in_err-skip_padding-clause-want
-returns-in_err-skip_padding-clause-want c =
+pub returns-in_err-skip_padding-clause-memory : goal.returns-in_err-skip_padding-clause-memory
+returns-in_err-skip_padding-clause-memory c =
     let end = left c.parse_continuation.new.buffer in
     passes_no_want (padding_at end) _ _ _ (padding_no_want end) c.in_err-skip_padding.ensures c.from_residual-in_err-skip_padding.ensures.1
 
@@ -84,13 +84,13 @@ returns-in-Err-clause-read c =
       | inr want ↦ inr want
     ]
 
-pub returns-in-Err-clause-want : goal.returns-in-Err-clause-want
-returns-in-Err-clause-want c = λ want.
+pub returns-in-Err-clause-memory : goal.returns-in-Err-clause-memory
+returns-in-Err-clause-memory c = λ want.
     field_holds (left c.args.buffer.now) (left c.entries.buffer) c.entries.invariant.begun (
       c.in_ok-number.number,
       left c.parse_u16.new.self,
       (shapes u16).found (left c.entries.buffer) _ _ c.in_ok-number.ensures.read,
-      wants_as c.in-Err.error _ c.in-Err.ensures.want want,
+      wants_as c.in-Err.error _ c.in-Err.ensures.memory want,
     )
 
 pub returns-in_err-skip_padding-in-Ok-clause-read : goal.returns-in_err-skip_padding-in-Ok-clause-read
@@ -99,13 +99,13 @@ returns-in_err-skip_padding-in-Ok-clause-read c =
     let refused = cut_field (left c.entries.buffer) _ _ _ _ _ c.in_ok-number.ensures.read c.if-number-eq-LF_INDEX.false c.in-Ok.ensures.read c.in_err-skip_padding-in-Ok.ensures in
     rw (passed_on _ _ c.from_residual-in_err-skip_padding-in-Ok.ensures.1) (inl (field_list_stops (left c.args.buffer.now) c.entries.invariant.entries (left c.entries.buffer) _ c.entries.invariant.all some refused))
 
-pub returns-in_err-skip_padding-in-Ok-clause-want : goal.returns-in_err-skip_padding-in-Ok-clause-want
-returns-in_err-skip_padding-in-Ok-clause-want c =
+pub returns-in_err-skip_padding-in-Ok-clause-memory : goal.returns-in_err-skip_padding-in-Ok-clause-memory
+returns-in_err-skip_padding-in-Ok-clause-memory c =
     let end = left c.parse_behind_leaf.new.buffer in
     passes_no_want (padding_at end) _ _ _ (padding_no_want end) c.in_err-skip_padding-in-Ok.ensures c.from_residual-in_err-skip_padding-in-Ok.ensures.1
 
-pub returns-in_err-push-in-Ok-clause-want : goal.returns-in_err-push-in-Ok-clause-want
-returns-in_err-push-in-Ok-clause-want c = λ want.
+pub returns-in_err-push-in-Ok-clause-memory : goal.returns-in_err-push-in-Ok-clause-memory
+returns-in_err-push-in-Ok-clause-memory c = λ want.
     let read = one_field_at (left c.entries.buffer) _ _ _ _ _ c.in_ok-number.ensures.read c.if-number-eq-LF_INDEX.false c.in-Ok.ensures.read c.in_ok-skip_padding-in-Ok.ensures in
     field_there (left c.args.buffer.now) (left c.entries.buffer) _ _ c.entries.invariant.begun read
 

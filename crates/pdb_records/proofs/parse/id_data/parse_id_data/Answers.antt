@@ -21,13 +21,13 @@ pub returns-clause-refused : goal.returns-clause-refused
 returns-clause-refused c =
     refuses_assigned id_value id_at IsId NoId ids_agree c.args.bytes.now (left c.parse_id_record.new.buffer) c.parse_id_record.result (rw c.from-buffer.ensures at c.parse_id_record.ensures.read)
 
-pub returns-clause-want : goal.returns-clause-want
-returns-clause-want c = lacks_for_list c.args.bytes.now c.parse_id_record.result (rw c.from-buffer.ensures at c.parse_id_record.ensures.want)
+pub returns-clause-memory : goal.returns-clause-memory
+returns-clause-memory c = lacks_for_list c.args.bytes.now c.parse_id_record.result (rw c.from-buffer.ensures at c.parse_id_record.ensures.memory)
 
 pub returns-clause-cut : goal.returns-clause-cut
 returns-clause-cut c =
     refuses_cut c.args.bytes.now (left c.parse_id_record.new.buffer) c.parse_id_record.result (rw c.from-buffer.ensures at c.parse_id_record.ensures.read)
-    (rw c.from-buffer.ensures at c.parse_id_record.ensures.want)
+    (rw c.from-buffer.ensures at c.parse_id_record.ensures.memory)
 
 pub returns-clause-short : goal.returns-clause-short
 returns-clause-short c = shows_short c.args.bytes.now (left c.parse_id_record.new.buffer) c.parse_id_record.result (rw c.from-buffer.ensures at c.parse_id_record.ensures.read)

@@ -8,16 +8,16 @@ use Rattle.pdb_records.proofs.IdLemmas.{list_said}
 use Rattle.pdb_records.proofs.MemoryLemmas.{gives_no_want, wants_as, plain_id_no_want}
 use Rattle.pdb_records.proofs.parse.id_data.parse_id_leaf.Goals as goal
 
-pub returns-in-Plain-clause-want : goal.returns-in-Plain-clause-want
-returns-in-Plain-clause-want c =
+pub returns-in-Plain-clause-memory : goal.returns-in-Plain-clause-memory
+returns-in-Plain-clause-memory c =
     gives_no_want _ c.parse_plain_id.result (plain_id_at (id_row_of c.args.number c.in-Plain.leaf) (left c.args.buffer.now)) _ (plain_id_no_want (id_row_of c.args.number c.in-Plain.leaf) (left c.args.buffer.now)) c.parse_plain_id.ensures
 
-pub returns-in-Err-clause-want : goal.returns-in-Err-clause-want
-returns-in-Err-clause-want c = λ want.
+pub returns-in-Err-clause-memory : goal.returns-in-Err-clause-memory
+returns-in-Err-clause-memory c = λ want.
     rw c.in-BuildInfo.is
-    (list_said values.build_info (counted_at Bits16 as_id (left c.args.buffer.now)) (λ xs item. item) (wants_as c.in-Err.error _ c.in-Err.ensures.want want))
+    (list_said values.build_info (counted_at Bits16 as_id (left c.args.buffer.now)) (λ xs item. item) (wants_as c.in-Err.error _ c.in-Err.ensures.memory want))
 
-pub returns-in-Err-parse_counted-clause-want : goal.returns-in-Err-parse_counted-clause-want
-returns-in-Err-parse_counted-clause-want c = λ want.
+pub returns-in-Err-parse_counted-clause-memory : goal.returns-in-Err-parse_counted-clause-memory
+returns-in-Err-parse_counted-clause-memory c = λ want.
     rw c.in-StringList.is
-    (list_said values.string_list (counted_at Bits32 as_type (left c.args.buffer.now)) (λ xs item. item) (wants_as c.in-Err-parse_counted.error _ c.in-Err-parse_counted.ensures.want want))
+    (list_said values.string_list (counted_at Bits32 as_type (left c.args.buffer.now)) (λ xs item. item) (wants_as c.in-Err-parse_counted.error _ c.in-Err-parse_counted.ensures.memory want))

@@ -21,8 +21,8 @@ loop-buffer-preserved c =
       begun = inr (holds_now HoldsMethod (left c.loop-buffer.buffer) (left c.args.buffer.now) c.loop-buffer.invariant.begun here);
     })
 
-pub returns-in_err-push-in-Ok-clause-want : goal.returns-in_err-push-in-Ok-clause-want
-returns-in_err-push-in-Ok-clause-want c = λ want.
+pub returns-in_err-push-in-Ok-clause-memory : goal.returns-in_err-push-in-Ok-clause-memory
+returns-in_err-push-in-Ok-clause-memory c = λ want.
     holds_now HoldsMethod (left c.loop-buffer.buffer) (left c.args.buffer.now) c.loop-buffer.invariant.begun
     (method_there (left c.loop-buffer.buffer) c.in-Ok.method (left c.parse_listed_method.new.buffer) c.in-Ok.ensures)
 
@@ -31,8 +31,8 @@ returns-in-Err-clause-read c =
     let some : left c.loop-buffer.buffer ≢ [] = λ none. false≢true (c.loop-buffer-test.ensures.1 none) in
     inl (c.loop-buffer.invariant.all ∙ to_end_stops (row listed_method_row) c.loop-buffer.methods.items (left c.loop-buffer.buffer) _ some c.in-Err.ensures)
 
-pub returns-in-Err-clause-want : goal.returns-in-Err-clause-want
-returns-in-Err-clause-want c = refusal_no_want (row listed_method_row (left c.loop-buffer.buffer)) c.in-Err.error _ (row_no_want listed_method_row (left c.loop-buffer.buffer)) c.in-Err.ensures
+pub returns-in-Err-clause-memory : goal.returns-in-Err-clause-memory
+returns-in-Err-clause-memory c = refusal_no_want (row listed_method_row (left c.loop-buffer.buffer)) c.in-Err.error _ (row_no_want listed_method_row (left c.loop-buffer.buffer)) c.in-Err.ensures
 
 pub returns-clause-read : goal.returns-clause-read
 returns-clause-read c =

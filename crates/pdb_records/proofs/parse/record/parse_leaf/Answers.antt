@@ -9,11 +9,11 @@ use Rattle.pdb_records.proofs.CountedLemmas.{types_agree, indexes_there}
 use Rattle.pdb_records.proofs.MemoryLemmas.{gives_no_want, wants_as, plain_no_want}
 use Rattle.pdb_records.proofs.parse.record.parse_leaf.Goals as goal
 
-pub returns-in-Err-clause-want : goal.returns-in-Err-clause-want
-returns-in-Err-clause-want c = λ want.
+pub returns-in-Err-clause-memory : goal.returns-in-Err-clause-memory
+returns-in-Err-clause-memory c = λ want.
     rw c.in-ArgumentList.is
-    (indexes_there (counted_at Bits32 as_type) arguments_row (types_agree Bits32) (left c.args.buffer.now) (wants_as c.in-Err.error _ c.in-Err.ensures.want want))
+    (indexes_there (counted_at Bits32 as_type) arguments_row (types_agree Bits32) (left c.args.buffer.now) (wants_as c.in-Err.error _ c.in-Err.ensures.memory want))
 
-pub returns-in-Plain-clause-want : goal.returns-in-Plain-clause-want
-returns-in-Plain-clause-want c =
+pub returns-in-Plain-clause-memory : goal.returns-in-Plain-clause-memory
+returns-in-Plain-clause-memory c =
     gives_no_want _ c.parse_plain.result (plain_at (row_of c.args.number c.in-Plain.leaf) (left c.args.buffer.now)) _ (plain_no_want (row_of c.args.number c.in-Plain.leaf) (left c.args.buffer.now)) c.parse_plain.ensures

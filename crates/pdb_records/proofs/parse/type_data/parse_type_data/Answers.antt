@@ -19,15 +19,15 @@ pub returns-clause-refused : goal.returns-clause-refused
 returns-clause-refused c =
     refuses_record c.args.bytes.now (left c.parse_record.new.buffer) c.parse_record.result (rw c.from-buffer.ensures at c.parse_record.ensures.read)
 
-pub returns-clause-want : goal.returns-clause-want
-returns-clause-want c =
-    let held : LacksOnlyIf c.parse_record.result (NeedsMemory c.args.bytes.now) = rw c.from-buffer.ensures at c.parse_record.ensures.want in
+pub returns-clause-memory : goal.returns-clause-memory
+returns-clause-memory c =
+    let held : LacksOnlyIf c.parse_record.result (NeedsMemory c.args.bytes.now) = rw c.from-buffer.ensures at c.parse_record.ensures.memory in
     held
 
 pub returns-clause-cut : goal.returns-clause-cut
 returns-clause-cut c =
     says_cut c.args.bytes.now (left c.parse_record.new.buffer) c.parse_record.result (rw c.from-buffer.ensures at c.parse_record.ensures.read)
-    (rw c.from-buffer.ensures at c.parse_record.ensures.want)
+    (rw c.from-buffer.ensures at c.parse_record.ensures.memory)
 
 pub returns-clause-short : goal.returns-clause-short
 returns-clause-short c = says_short c.args.bytes.now (left c.parse_record.new.buffer) c.parse_record.result (rw c.from-buffer.ensures at c.parse_record.ensures.read)

@@ -2,7 +2,7 @@ use Rattle.std.proofs.Common.{◌≡◌, ◌+◌, ◌≤◌, sym, ap, ◌∙◌,
 use Rattle.pdb_base.specs.Count.{calls_of, one_more}
 use Rattle.pdb_base.proofs.lemmas.Refused.{passed_on}
 use Rattle.pdb_tpi.specs.Table.{Table}
-use Rattle.pdb_tpi.specs.Steps.{Stand, steps_taken, nth_item, reads_one}
+use Rattle.pdb_tpi.specs.Steps.{WalkPosition, steps_taken, nth_item, reads_one}
 use Rattle.pdb_tpi.proofs.StepLemmas.{nth_further, nth_err}
 use Rattle.pdb_base.proofs.lemmas.Count.{one_call}
 use Rattle.pdb_tpi.proofs.CountLemmas.{nth_within, reads_item, last_count}
@@ -31,8 +31,8 @@ loop-preserved g c =
     let index = c.loop.invariant.index in
     let least = c.in_ok-read.ensures.reached.0 in
     record {
-      table = ap (λ (s : Stand). s.table) c.in_ok-read.ensures.moved ∙ c.loop.invariant.table;
-      index = ap (λ (s : Stand). s.index) c.in_ok-read.ensures.moved ∙ omega arith;
+      table = ap (λ (s : WalkPosition). s.table) c.in_ok-read.ensures.moved ∙ c.loop.invariant.table;
+      index = ap (λ (s : WalkPosition). s.index) c.in_ok-read.ensures.moved ∙ omega arith;
       place = ap steps_taken c.in_ok-read.ensures.moved ∙ omega arith;
       counted = c.in_ok-read.ensures.counted ∙ reads_item c.loop.self (calls_of c.loop.count) within
           ∙ ap one_more c.loop.invariant.counted ∙ one_call (calls_of c.args.count.now) c.loop.counter;

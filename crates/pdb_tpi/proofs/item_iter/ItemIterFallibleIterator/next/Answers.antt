@@ -1,6 +1,6 @@
 use Rattle.std.proofs.Common.{◌≢◌, [], drop, refl, sym, ap, ◌∙◌}
 use Rattle.pdb_base.proofs.lemmas.Refused.{passed_on}
-use Rattle.pdb_tpi.specs.Steps.{Stand}
+use Rattle.pdb_tpi.specs.Steps.{WalkPosition}
 use Rattle.pdb_tpi.proofs.StepLemmas.{none_left, some_left, step_ends, step_faults, step_gives, leaves_fewer}
 use Rattle.pdb_tpi.proofs.item_iter.ItemIterFallibleIterator.next.Goals as goal
 
@@ -18,7 +18,7 @@ returns-in_err-item g c =
     (record {
       gives = rw (← c.self.view_is) (step_faults s.table.now s.index s.position _ c.self.invariant some (rw (← c.self.view_is) at c.in_err-item.ensures.item));
       kept = c.in_err-item.ensures.kept;
-      stays = ap (λ (s : Stand). s.table) c.in_err-item.ensures.kept;
+      stays = ap (λ (s : WalkPosition). s.table) c.in_err-item.ensures.kept;
       fewer = tt;
     })
 
@@ -27,6 +27,6 @@ returns g c =
     record {
       gives = rw (c.in_ok-item.ensures.index, c.in_ok-item.ensures.moved) (step_gives c.args.self.now c.in_ok-item.item.bytes.now c.in_ok-item.ensures.item);
       kept = tt;
-      stays = ap (λ (s : Stand). s.table) c.in_ok-item.ensures.moved;
+      stays = ap (λ (s : WalkPosition). s.table) c.in_ok-item.ensures.moved;
       fewer = leaves_fewer c.args.self.now _ _ c.in_ok-item.ensures.reached.0 c.in_ok-item.ensures.item c.in_ok-item.ensures.moved;
     }

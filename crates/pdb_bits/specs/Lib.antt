@@ -1,3 +1,0 @@
-pub mod Bits
-pub mod Parts
-pub mod Laws

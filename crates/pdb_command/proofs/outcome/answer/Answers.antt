@@ -1,8 +1,0 @@
-use Rattle.std.proofs.lemmas.Result.{IfOk-weaker}
-use Rattle.pdb_container.specs.Reply.{answer_of}
-use Rattle.pdb_command.proofs.OutcomeLemmas.{shown_outcome}
-use Rattle.pdb_command.proofs.outcome.answer.Goals as goal
-
-pub returns-clause-ok : goal.returns-clause-ok
-returns-clause-ok c =
-    IfOk-weaker c.shown.result _ _ (λ outcome shown. shown_outcome c.ask.result (answer_of c.args.file.items c.args.query) outcome c.ask.ensures shown) c.shown.ensures.ok

@@ -1,9 +1,0 @@
-use Rattle.std.proofs.Common.{◌≤◌}
-use Rattle.pdb_command.proofs.WordLemmas.{HasRead}
-use Rattle.pdb_command.proofs.words.spelled.Given as goal
-
-abbrev pub invariant-loop-digit : goal.invariant-loop-digit
-invariant-loop-digit l = record {
-  read : HasRead l.base l.digits l.digit-index l.value;
-  fits : l.value ≤ 0xffffffff;
-}

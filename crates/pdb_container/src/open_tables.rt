@@ -1,0 +1,182 @@
+//! The tables that a run keeps open, and replies from them.
+
+ghost use Rattle.std.specs.Prelude.{◌≡◌, List, ℕ, None, IfOk};
+ghost use Rattle.pdb_base.specs.Answer.{Answer, Answers, AnswersUnless};
+ghost use Rattle.pdb_container.specs.OpenTables.{AreOf, IsOf, items_in, table_of_stream};
+ghost use Rattle.pdb_container.specs.Reply.{IsReply, RepliesUnless, reply_by};
+ghost use Rattle.pdb_space.specs.Omap.{omap_table_of};
+ghost use Rattle.pdb_space.specs.StringTable.{names_of};
+
+use crate::query::{Query, Reply};
+use crate::read_streams::ReadStreams;
+use crate::replies::{fields_reply, id_reply, name_reply, ranges_reply, type_reply};
+use pdb_base::{IdIndex, Result, Stream, TypeIndex};
+use pdb_space::{OMAPTable, StringTable};
+use pdb_tpi::{IdInformation, OpenTable, TypeInformation};
+use std::alloc::Global;
+
+/// A table that a stream holds.
+pub trait Table: Sized + Drop {
+    // The table in the bytes of a stream.
+    ghost table_in: { List ℕ → Answer Self };
+
+    /// Parses the table in a stream.
+    fn parse_in(alloc: Global, stream: Stream) -> Result<Self>
+        ensures { Answers (λ table. table) result (table_in stream) };
+}
+
+impl Table for OpenTable<TypeIndex> {
+    ghost table_in = { items_in };
+
+    fn parse_in(alloc: Global, stream: Stream) -> Result<Self> {
+        OpenTable::new(alloc, TypeInformation::parse(stream)?)
+    }
+}
+
+impl Table for OpenTable<IdIndex> {
+    ghost table_in = { items_in };
+
+    fn parse_in(alloc: Global, stream: Stream) -> Result<Self> {
+        OpenTable::new(alloc, IdInformation::parse(stream)?)
+    }
+}
+
+impl Table for StringTable {
+    ghost table_in = { names_of };
+
+    fn parse_in(_alloc: Global, stream: Stream) -> Result<Self> {
+        StringTable::parse(stream)
+    }
+}
+
+impl Table for OMAPTable {
+    ghost table_in = { omap_table_of };
+
+    fn parse_in(_alloc: Global, stream: Stream) -> Result<Self> {
+        OMAPTable::parse(stream)
+    }
+}
+
+/// A table, and the number of the stream that holds it.
+#[derive(Drop)]
+pub struct Numbered<T> {
+    number: u32,
+    table: T,
+}
+
+/// Returns the table in the stream of a number: the one that is open already if it is that stream's,
+/// and otherwise one that is read.
+fn opened<T: Table, F: ReadStreams>(
+    alloc: Global,
+    file: &mut F,
+    number: u32,
+    last: Option<Numbered<T>>,
+) -> Result<Numbered<T>>
+    requires can_read { F.can_read file.old }
+    requires of { IsOf T.table_in (F.stream file.old) last }
+    ensures table { AnswersUnless (F.failed file.old file.new) (λ opened. opened.table) result
+        (table_of_stream T.table_in (F.stream file.old) number) }
+    ensures number { IfOk result (λ opened. opened.number ≡ number) }
+    ensures kept { F.kept file.old file.new }
+{
+    if let Some(last) = last {
+        if last.number == number {
+            return Ok(last);
+        }
+    }
+    let stream = file.read(alloc, number, None)?;
+    let table = T::parse_in(alloc, stream)?;
+    Ok(Numbered { number, table })
+}
+
+/// The last table of each kind that was opened.
+#[derive(Drop)]
+pub struct OpenTables {
+    types: Option<Numbered<OpenTable<TypeIndex>>>,
+    ids: Option<Numbered<OpenTable<IdIndex>>>,
+    names: Option<Numbered<StringTable>>,
+    omap: Option<Numbered<OMAPTable>>,
+}
+
+impl OpenTables {
+    /// Returns no tables.
+    pub fn new() -> Self
+        ensures { result ≡ record { types = None; ids = None; names = None; omap = None } }
+    {
+        OpenTables {
+            types: None,
+            ids: None,
+            names: None,
+            omap: None,
+        }
+    }
+
+    /// Answers a query from the table that it asks, which is opened if it is not open yet.
+    ///
+    /// # Errors
+    /// Fails with the first error of the stream, of the table in it, of the look-up and of the
+    /// record, or with `OutOfMemory`.
+    fn attempt<F: ReadStreams>(
+        &mut self,
+        alloc: Global,
+        file: &mut F,
+        query: Query,
+    ) -> Result<Reply>
+        requires can_read { F.can_read file.old }
+        requires of { AreOf (F.stream file.old) self.old }
+        ensures reply { RepliesUnless (F.failed file.old file.new) result (reply_by (F.stream file.old) query) }
+        ensures of { AreOf (F.stream file.old) self.new }
+        ensures kept { F.kept file.old file.new }
+    {
+        match query {
+            Query::Stream { number, limit } => {
+                let stream = file.read(alloc, number, limit)?;
+                Ok(Reply::Bytes(stream.into_bytes()))
+            }
+            Query::TypeRecord { stream, index } => {
+                let mut types = opened(alloc, file, stream, self.types.take())?;
+                let reply = type_reply(alloc, &mut types.table, index);
+                self.types = Some(types);
+                reply
+            }
+            Query::Fields { stream, index } => {
+                let mut types = opened(alloc, file, stream, self.types.take())?;
+                let reply = fields_reply(alloc, &mut types.table, index);
+                self.types = Some(types);
+                reply
+            }
+            Query::IdRecord { stream, index } => {
+                let mut ids = opened(alloc, file, stream, self.ids.take())?;
+                let reply = id_reply(alloc, &mut ids.table, index);
+                self.ids = Some(ids);
+                reply
+            }
+            Query::Name { stream, offset } => {
+                let names = opened(alloc, file, stream, self.names.take())?;
+                let reply = name_reply(alloc, &names.table, offset);
+                self.names = Some(names);
+                reply
+            }
+            Query::Ranges { omap, start, end } => {
+                let table = opened(alloc, file, omap, self.omap.take())?;
+                let reply = ranges_reply(alloc, &table.table, start..end);
+                self.omap = Some(table);
+                reply
+            }
+        }
+    }
+
+    /// Answers a query. An error is a reply too.
+    pub fn reply<F: ReadStreams>(&mut self, alloc: Global, file: &mut F, query: Query) -> Reply
+        requires can_read { F.can_read file.old }
+        requires of { AreOf (F.stream file.old) self.old }
+        ensures reply { IsReply (F.failed file.old file.new) result (reply_by (F.stream file.old) query) }
+        ensures of { AreOf (F.stream file.old) self.new }
+        ensures kept { F.kept file.old file.new }
+    {
+        match self.attempt(alloc, file, query) {
+            Ok(reply) => reply,
+            Err(error) => Reply::Refused(error),
+        }
+    }
+}

@@ -1,0 +1,119 @@
+//! Replies from tables that are open.
+
+ghost use Rattle.std.specs.Prelude.{◌≡◌, map, IfOk, Ok};
+ghost use Rattle.std.specs.Option.{option_map};
+ghost use Rattle.pdb_base.specs.Memory.{FailsOnlyForMemory};
+ghost use Rattle.pdb_values.specs.IdValue.{id_name, id_value};
+ghost use Rattle.pdb_values.specs.Text.{text_bytes};
+ghost use Rattle.pdb_values.specs.TypeValue.{name_of};
+ghost use Rattle.pdb_values.specs.TypeView.{type_value};
+ghost use Rattle.pdb_container.specs.Reply.{Replies, fields_in, id_in, moved, name_in, type_in};
+
+use crate::query::Reply;
+use pdb_base::{IdIndex, RawString, Result, TypeIndex};
+use pdb_space::{OMAPTable, StringRef, StringTable};
+use pdb_tpi::OpenTable;
+use pdb_values::{IdData, TypeData};
+use std::alloc::Global;
+use std::ops::Range;
+
+/// Copies a name, if there is one.
+fn copied(alloc: Global, name: Option<RawString<'_>>) -> Result<Option<Vec<u8>>>
+    ensures ok { IfOk result (λ copy. option_map (λ bytes. bytes.items) copy ≡ option_map text_bytes name.entry) }
+    ensures memory { FailsOnlyForMemory result }
+{
+    match name {
+        Some(name) => Ok(Some(Vec::from_slice(alloc, name.as_bytes())?)),
+        None => Ok(None),
+    }
+}
+
+/// Replies with the type of an index: its kind, and its name if it has one.
+#[inline(never)]
+#[tactic(auto, unfolding(crate::specs::Reply::type_in))]
+pub fn type_reply(alloc: Global, types: &mut OpenTable<TypeIndex>, index: u32) -> Result<Reply>
+    ensures reply { Replies result (type_in index types.old.table) }
+    ensures kept { types.new ≡ types.old }
+{
+    types.learn(alloc, TypeIndex(index));
+    let item = types.item(TypeIndex(index))?;
+    let value = item.parse(alloc)?;
+    Ok(Reply::Record {
+        index,
+        kind: item.raw_kind(),
+        name: copied(alloc, value.name())?,
+    })
+}
+
+/// Returns the name of a function, a method or a text, or None for any other id.
+fn name_of_id<'t>(id: &IdData<'t>) -> Option<RawString<'t>>
+    ensures { option_map text_bytes result ≡ id_name (id_value id.now) }
+{
+    match id {
+        IdData::Function(function) => Some(function.name),
+        IdData::MemberFunction(method) => Some(method.name),
+        IdData::String(text) => Some(text.name),
+        _ => None,
+    }
+}
+
+/// Replies with the id of an index: its kind, and its name if it has one.
+#[inline(never)]
+#[tactic(auto, unfolding(crate::specs::Reply::id_in))]
+pub fn id_reply(alloc: Global, ids: &mut OpenTable<IdIndex>, index: u32) -> Result<Reply>
+    ensures reply { Replies result (id_in index ids.old.table) }
+    ensures kept { ids.new ≡ ids.old }
+{
+    ids.learn(alloc, IdIndex(index));
+    let item = ids.item(IdIndex(index))?;
+    let value = item.parse(alloc)?;
+    Ok(Reply::Record {
+        index,
+        kind: item.raw_kind(),
+        name: copied(alloc, name_of_id(&value))?,
+    })
+}
+
+/// Copies the names of fields, with None for each field that has no name.
+fn names_of(alloc: Global, fields: &[TypeData<'_>]) -> Result<Vec<Option<Vec<u8>>>>
+    ensures ok { IfOk result (λ names.
+        map (λ name. option_map (λ copy. copy.items) name) names.items ≡
+        map (λ field. name_of (type_value field)) fields.now) }
+    ensures memory { FailsOnlyForMemory result }
+{
+    let mut names = Vec::with_capacity(alloc, fields.len())?;
+    for field in fields {
+        names.push(copied(alloc, field.name())?)?;
+    }
+    Ok(names)
+}
+
+/// Replies with the names of the fields of a list and of the lists that continue it.
+#[inline(never)]
+#[tactic(auto, unfolding(crate::specs::Reply::fields_in))]
+pub fn fields_reply(alloc: Global, types: &mut OpenTable<TypeIndex>, index: u32) -> Result<Reply>
+    ensures reply { Replies result (fields_in index types.old.table) }
+    ensures kept { types.new ≡ types.old }
+{
+    types.learn(alloc, TypeIndex(index));
+    let fields = types.fields(alloc, TypeIndex(index))?;
+    Ok(Reply::Fields(names_of(alloc, &fields)?))
+}
+
+/// Replies with the name at an offset in a string table.
+#[inline(never)]
+#[tactic(auto, unfolding(crate::specs::Reply::name_in))]
+pub fn name_reply(alloc: Global, names: &StringTable, offset: u32) -> Result<Reply>
+    ensures { Replies result (name_in offset names.now) }
+{
+    let name = names.get(StringRef(offset))?;
+    Ok(Reply::Name(Vec::from_slice(alloc, name.as_bytes())?))
+}
+
+/// Replies with where an OMAP table moves the addresses of a range.
+#[inline(never)]
+pub fn ranges_reply(alloc: Global, table: &OMAPTable, addresses: Range<u32>) -> Result<Reply>
+    ensures { Replies result (Ok (moved table.now addresses)) }
+{
+    Ok(Reply::Ranges(table.lookup_range(addresses).collect(alloc)?))
+}

@@ -1,0 +1,106 @@
+-- What is refused only since the bytes end too soon.
+use Rattle.std.proofs.Common.{◌≡◌, ℕ, Bool, true, false, ◌*◌, ◌/◌, List, [], ◌∷◌, length, take, drop, map, refl, sym, ap, ◌∙◌, inl, inr, Ok, Err, Result}
+use Rattle.std.proofs.lemmas.Bool.{cases_lt}
+use Rattle.std.specs.List.{range_with_len}
+use Rattle.pdb_base.specs.Answer.{Answer, ◌>>=◌, collected, required}
+use Rattle.pdb_base.specs.Endian.{little_number}
+use Rattle.pdb_base.specs.Reading.{front_at, number_at}
+use Rattle.pdb_base.specs.Refusal.{refusal_of, unexpected_eof}
+use Rattle.pdb_base.specs.declared.error.Error.{Error}
+use Rattle.pdb_base.specs.declared.error.Error.TheVariants.{OutOfMemory}
+use Rattle.pdb_base.proofs.lemmas.Collected.{err_is, ok_is_no_err}
+use Rattle.pdb_base.proofs.lemmas.Reading.{front_whole, front_cut, number_whole, number_cut}
+use Rattle.pdb_space.specs.StringTable.{name_of}
+use Rattle.pdb_space.proofs.NameLemmas.{finds_name}
+use Rattle.pdb_file.specs.Information.{information_of}
+use Rattle.pdb_file.specs.StreamNames.{Map, behind_set, entries_at, map_of, named_at, named_in, stream_names_of}
+use Rattle.pdb_file.specs.declared.information.PDBInformation.{PDBInformation}
+use Rattle.pdb_file.specs.Laws.{EndsTooSoon}
+
+pub ok_ends : {A : Type 0} (x : A) → EndsTooSoon (Ok x)
+ok_ends x e h = absurd (ok_is_no_err x e h)
+
+pub then_ends : {A B : Type 0} (r : Answer A) (f : A → Answer B) → EndsTooSoon r → ((x : A) → EndsTooSoon (f x)) → EndsTooSoon (r >>= f)
+then_ends (Ok x) f here behind e h = behind x e h
+then_ends {A} {B} (Err d) f here behind e h = sym (err_is {A = B} d e h) ∙ here d refl
+
+pub front_ends : (count : ℕ) (bytes : List ℕ) → EndsTooSoon (front_at count bytes)
+front_ends count bytes e h = elim (cases_lt (length bytes) count) [
+  | inl short ↦ sym (err_is {A = List ℕ × List ℕ} unexpected_eof e (sym (front_cut count bytes short) ∙ h))
+  | inr long ↦ absurd (ok_is_no_err (take count bytes, drop count bytes) e (sym (front_whole count bytes long) ∙ h))
+]
+
+pub number_ends : (width : ℕ) (bytes : List ℕ) → EndsTooSoon (number_at width bytes)
+number_ends width bytes e h = elim (cases_lt (length bytes) width) [
+  | inl short ↦ sym (err_is {A = ℕ × List ℕ} unexpected_eof e (sym (number_cut width bytes short) ∙ h))
+  | inr long ↦ absurd (ok_is_no_err (little_number width (take width bytes), drop width bytes) e (sym (number_whole width bytes long) ∙ h))
+]
+
+pub required_ends : (test : Bool) → EndsTooSoon (required test unexpected_eof)
+required_ends true e h = absurd (ok_is_no_err tt e h)
+required_ends false e h = sym (err_is {A = Unit {0}} unexpected_eof e h)
+
+name_ends : (names : List ℕ) (offset : ℕ) → EndsTooSoon (name_of names offset)
+name_ends names offset e h = ((finds_name names offset).missing e h).0
+
+-- answers none of which is refused otherwise
+collected_ends : {A : Type 0} (f : ℕ → Answer A) (places : List ℕ) → ((place : ℕ) → EndsTooSoon (f place)) → EndsTooSoon (collected (map f places))
+collected_ends f [] each e h = absurd cc
+collected_ends f (place ∷ places) each e h =
+    then_ends (f place) (λ x. collected (map f places) >>= λ xs. Ok (x ∷ xs)) (each place)
+    (λ x. then_ends (collected (map f places)) (λ xs. Ok (x ∷ xs)) (collected_ends f places each) (λ xs. ok_ends (x ∷ xs))) e h
+
+-- ---- stream 1
+
+set_ends : (bytes : List ℕ) → EndsTooSoon (behind_set bytes)
+unfolding behind_set
+set_ends bytes =
+    then_ends (number_at 4 bytes) _ (number_ends 4 bytes) (λ count.
+    then_ends (front_at (4 * count.0) count.1) _ (front_ends (4 * count.0) count.1) (λ words. ok_ends words.1))
+
+entries_end : (bytes : List ℕ) → EndsTooSoon (entries_at bytes)
+unfolding entries_at
+entries_end bytes =
+    then_ends (number_at 4 bytes) _ (number_ends 4 bytes) (λ count.
+    then_ends (number_at 4 count.1) _ (number_ends 4 count.1) (λ capacity.
+    then_ends (behind_set capacity.1) _ (set_ends capacity.1) (λ present.
+    then_ends (behind_set present) _ (set_ends present) (λ deleted.
+    then_ends (front_at (8 * count.0) deleted) _ (front_ends (8 * count.0) deleted) (λ entries. ok_ends entries.0)))))
+
+pub map_ends : (information : PDBInformation) → EndsTooSoon (map_of information)
+unfolding map_of
+map_ends information =
+    then_ends (front_at information.names_offset information.stream) _ (front_ends information.names_offset information.stream) (λ before.
+    then_ends (front_at information.names_size before.1) _ (front_ends information.names_size before.1) (λ names.
+    then_ends (entries_at names.1) _ (entries_end names.1) (λ entries. ok_ends (record { names = names.0; entries = entries }))))
+
+named_ends : (table : Map) (place : ℕ) → EndsTooSoon (named_at table place)
+unfolding named_at
+named_ends table place =
+    then_ends (name_of table.names _) _ (name_ends table.names _) (λ name. ok_ends (record { name = name; stream = _ }))
+
+all_named_end : (table : Map) → EndsTooSoon (named_in table)
+unfolding named_in
+all_named_end table = collected_ends (named_at table) (range_with_len 0 (length table.entries / 8)) (named_ends table)
+
+pub names_end : (information : PDBInformation) → EndsTooSoon (stream_names_of information)
+unfolding stream_names_of
+names_end information = then_ends (map_of information) named_in (map_ends information) all_named_end
+
+pub information_ends : (stream : List ℕ) → EndsTooSoon (information_of stream)
+unfolding information_of
+information_ends stream = then_ends (required _ unexpected_eof) _ (required_ends _) (λ whole. ok_ends _)
+
+-- no want of memory comes before the names are there
+pub no_want_before : (information : PDBInformation) (e : Error) → e ≡ OutOfMemory → map_of information ≡ Err (refusal_of e) → ⊥
+no_want_before information e want refused =
+    let end = map_ends information (refusal_of e) refused in
+    let is = ap refusal_of want in
+    cc
+
+abbrev pub refused : {X : Type 0} → Error → Result X Error
+refused e = Err e
+
+-- two refused calls of one error
+pub cause_is : {X : Type 0} (d e : Error) → refused {X = X} d ≡ refused {X = X} e → d ≡ e
+cause_is d e h = cc

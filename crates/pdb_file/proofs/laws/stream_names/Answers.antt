@@ -1,0 +1,5 @@
+use Rattle.pdb_file.proofs.NamedLaws.{finds_named}
+use Rattle.pdb_file.proofs.laws.stream_names.Goals as goal
+
+pub returns : goal.returns
+returns c = finds_named

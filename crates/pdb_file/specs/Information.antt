@@ -1,0 +1,24 @@
+-- The header of stream 1, which identifies the file: a u32 version, a u32 signature, a u32 age, sixteen bytes
+-- of a GUID, and a u32 size of the names after it.
+use Rattle.std.specs.Prelude.{ℕ, nat_le, List, length, take, drop, Ok}
+use Rattle.pdb_base.specs.Refusal.{unexpected_eof}
+use Rattle.pdb_base.specs.Answer.{Answer, ◌>>=◌, required}
+use Rattle.pdb_file.specs.Fields.{u32_in}
+use Rattle.pdb_file.specs.declared.information.PDBInformation.{PDBInformation}
+
+-- the information with its fields, each read at its offset
+unfoldable pub information : List ℕ → PDBInformation
+information stream = record {
+  version = u32_in 0 stream;
+  signature = u32_in 4 stream;
+  age = u32_in 8 stream;
+  guid = take 16 (drop 12 stream);
+  names_size = u32_in 28 stream;
+  names_offset = 32;
+  stream = stream;
+}
+
+unfoldable pub information_of : List ℕ → Answer PDBInformation
+information_of stream = do
+  whole ← required (nat_le 32 (length stream)) unexpected_eof
+  Ok (information stream)

@@ -1,0 +1,146 @@
+//! The roles of streams, which the debug header of stream 3 lists.
+
+ghost use Rattle.std.specs.Prelude.{◌≡◌, ◌+◌, ◌^◌, ◌<◌, sum};
+ghost use Rattle.pdb_base.specs.Answer.{Gives};
+ghost use Rattle.pdb_file.specs.DebugHeader.{debug_header_of, extra_streams, extra_streams_of, listed, roles_in, sizes_before};
+
+use crate::dbi_header::{DBIHeader, HEADER_SIZE};
+use crate::fields::u16_in;
+use pdb_base::{Error, ParseBuffer, Result, Stream, StreamIndex};
+
+/// The size in bytes of the stream numbers that have a role.
+const ROLES_SIZE: usize = 22;
+
+/// The streams of eleven roles. The index of a role names no stream if the file has none in that
+/// role. By default, no index names a stream.
+#[derive(Clone, Copy, Debug, Default, PartialEq, Eq)]
+pub struct DBIExtraStreams {
+    /// Frames in the older format.
+    pub fpo: StreamIndex,
+
+    /// Exception handlers.
+    pub exception: StreamIndex,
+
+    /// Fixups.
+    pub fixup: StreamIndex,
+
+    /// The OMAP table that leads from the image as it is loaded to the original one.
+    pub omap_to_src: StreamIndex,
+
+    /// The OMAP table that leads from the original image to the one that is loaded.
+    pub omap_from_src: StreamIndex,
+
+    /// The headers of the sections of the image as it is loaded.
+    pub section_headers: StreamIndex,
+
+    /// The map of the tokens of the common language runtime.
+    pub token_rid_map: StreamIndex,
+
+    /// The image's section `.xdata`.
+    pub xdata: StreamIndex,
+
+    /// The image's section `.pdata`.
+    pub pdata: StreamIndex,
+
+    /// Frames in the newer format.
+    pub framedata: StreamIndex,
+
+    /// The headers of the sections of the original image, if a tool has rearranged it.
+    pub original_section_headers: StreamIndex,
+}
+
+/// Returns the stream at index `place` of a list of stream numbers, or an index that names no
+/// stream if the list ends before that number does.
+fn listed(list: &[u8], place: usize) -> StreamIndex
+    requires { place < 11 }
+    ensures { result ≡ listed place list.now }
+{
+    if 2 * place + 2 <= list.len() {
+        StreamIndex(u16_in(list, 2 * place))
+    } else {
+        StreamIndex::none()
+    }
+}
+
+/// Returns the number of bytes before the debug header.
+#[tactic(auto)]
+fn size_before(header: &DBIHeader) -> usize
+    ensures { result ≡ sum (sizes_before header.now) }
+{
+    HEADER_SIZE
+        + header.module_list_size as usize
+        + header.section_contribution_size as usize
+        + header.section_map_size as usize
+        + header.file_info_size as usize
+        + header.type_server_map_size as usize
+        + header.ec_substream_size as usize
+}
+
+/// Returns the debug header in stream 3, which is empty if the stream is.
+#[tactic(auto, unfolding(crate::specs::DebugHeader::debug_header_behind))]
+fn debug_header(stream: &[u8]) -> Result<&[u8]>
+    ensures { Gives (λ list. list.now) result (debug_header_of stream.now) }
+{
+    if stream.is_empty() {
+        return Ok(stream);
+    }
+    let header = DBIHeader::read(stream)?;
+    let mut buffer = ParseBuffer::from(stream);
+    buffer.take(size_before(&header))?;
+    buffer.take(header.debug_header_size as usize)
+}
+
+impl DBIExtraStreams {
+    /// Reads the roles from the debug header in stream 3. If the stream is empty, no role has a
+    /// stream.
+    ///
+    /// The parts of the stream stand in this order: the header, modules, section contributions, the
+    /// section map, file info, the type server map, names for edit and continue, the debug header.
+    /// The header says the sizes of the parts after it.
+    ///
+    /// # Errors
+    /// Fails as `DBIHeader::parse` does, then with `UnexpectedEof` if the stream ends before the
+    /// debug header does, and then as `parse` does.
+    #[tactic(auto, unfolding(crate::specs::DebugHeader::extra_streams_of))]
+    pub fn new(stream: &Stream) -> Result<Self>
+        ensures { Gives (λ roles. roles) result (extra_streams_of stream.now) }
+    {
+        let list = debug_header(stream.as_slice())?;
+        DBIExtraStreams::parse(list)
+    }
+
+    /// Parses a debug header: stream numbers, each a little-endian `u16`, of which the first eleven
+    /// are those of the roles in order. A role after the last number has no stream.
+    ///
+    /// # Errors
+    /// Fails with `UnexpectedEof` if one of the first eleven numbers is cut in half.
+    #[tactic(auto, unfolding(crate::specs::DebugHeader::extra_streams))]
+    pub fn parse(list: &[u8]) -> Result<Self>
+        ensures { Gives (λ roles. roles) result (extra_streams list.now) }
+    {
+        if list.len() < ROLES_SIZE && list.len() % 2 != 0 {
+            return Err(Error::UnexpectedEof);
+        }
+        Ok(DBIExtraStreams::of_list(list))
+    }
+
+    /// Returns the streams of the roles, each by its index in a list.
+    #[tactic(auto, unfolding(crate::specs::DebugHeader::roles_in))]
+    fn of_list(list: &[u8]) -> Self
+        ensures { result ≡ roles_in list.now }
+    {
+        DBIExtraStreams {
+            fpo: listed(list, 0),
+            exception: listed(list, 1),
+            fixup: listed(list, 2),
+            omap_to_src: listed(list, 3),
+            omap_from_src: listed(list, 4),
+            section_headers: listed(list, 5),
+            token_rid_map: listed(list, 6),
+            xdata: listed(list, 7),
+            pdata: listed(list, 8),
+            framedata: listed(list, 9),
+            original_section_headers: listed(list, 10),
+        }
+    }
+}

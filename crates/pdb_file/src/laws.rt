@@ -1,0 +1,36 @@
+//! What the definitions that contracts cite say in other words. The functions do nothing: each
+//! contract is a law.
+
+ghost use Rattle.std.specs.Prelude.{ℕ, List};
+ghost use Rattle.pdb_file.specs.declared.information.PDBInformation.{PDBInformation};
+ghost use Rattle.pdb_file.specs.Laws.{FindsHeader, FindsDebugHeader, FindsNamed, FindsRoles};
+
+pub mod derived;
+
+/// The header of stream 3 is the one that the stream begins with, whose first field is the
+/// signature. Any other stream is refused by the first of three faults.
+#[tactic(auto, using(crate::proofs::DbiLaws::finds_header))]
+pub fn headers()
+    ensures { (stream : List ℕ) → FindsHeader stream }
+{}
+
+/// The debug header of stream 3 comes after parts of the sizes that the header says, in their
+/// order. A stream that holds none is refused as its header is, or because it ends too soon.
+#[tactic(auto, using(crate::proofs::DbiLaws::finds_debug_header))]
+pub fn debug_headers()
+    ensures { (stream : List ℕ) → FindsDebugHeader stream }
+{}
+
+/// The roles have the streams that a list gives at their indices. A list gives none exactly if it
+/// ends in half of one of the first eleven numbers.
+#[tactic(auto, using(crate::proofs::RoleLaws::finds_roles))]
+pub fn roles()
+    ensures { (list : List ℕ) → FindsRoles list }
+{}
+
+/// The named streams are those of the table that stream 1 holds after its names: a name and a
+/// stream for each entry, in order. There are none exactly if the stream ends too soon, or if a
+/// name has no NUL after it among the names.
+pub fn stream_names()
+    ensures { (information : PDBInformation) → FindsNamed information }
+{}

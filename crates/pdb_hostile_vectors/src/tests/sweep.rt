@@ -1,0 +1,58 @@
+//! All files that differ from the example file in one byte, and all its prefixes: a run over each of
+//! them ends, and replies to each query unless the file can't be opened.
+
+use pdb_base::{Error, Result};
+use pdb_container::{Query, run};
+use pdb_vectors::s1;
+use std::alloc::Global;
+use std::test::Fail;
+
+/// A query for all bytes of a stream.
+const fn stream(number: u32) -> Query {
+    Query::Stream {
+        number,
+        limit: None,
+    }
+}
+
+/// Queries for the streams of the example file, and for one that it lacks.
+const STREAMS: &[Query] = &[stream(0), stream(1), stream(2), stream(3), stream(4)];
+
+/// Returns whether a run over a file replies to each query, or fails since the file can't be opened.
+fn ends(alloc: Global, file: Vec<u8>) -> bool {
+    match run(alloc, file, STREAMS) {
+        Ok(replies) => replies.len() == STREAMS.len(),
+        Err(error) => !matches!(error, Error::OutOfMemory),
+    }
+}
+
+/// Returns a copy of a file with another byte at a place.
+fn with_byte(alloc: Global, file: &[u8], place: usize, byte: u8) -> Result<Vec<u8>> {
+    let mut copy = Vec::from_slice(alloc, file)?;
+    if let Some(at) = copy.get_mut(place) {
+        *at = byte;
+    }
+    Ok(copy)
+}
+
+#[test]
+fn bytes(rt: HostRuntime) -> std::result::Result<(), Fail> {
+    let file = s1(rt.alloc())?;
+    for (place, byte) in file.iter().enumerate() {
+        for other in [0, 0xff, byte.wrapping_add(1)] {
+            let changed = with_byte(rt.alloc(), &file, place, other)?;
+            assert!(rt; ends(rt.alloc(), changed), "byte {place} is {other}");
+        }
+    }
+    Ok(())
+}
+
+#[test]
+fn prefixes(rt: HostRuntime) -> std::result::Result<(), Fail> {
+    let file = s1(rt.alloc())?;
+    for end in 0..file.len() {
+        let cut = Vec::from_slice(rt.alloc(), &file[..end])?;
+        assert!(rt; ends(rt.alloc(), cut), "cut to {end} bytes");
+    }
+    Ok(())
+}
