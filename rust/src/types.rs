@@ -13,6 +13,13 @@ const FIRST_RECORD: u32 = 0x1000;
 const BATCH: usize = 64;
 
 /// A table of types, and the stream that has it.
+///
+/// The library keeps a part of it open, which stays on its thread:
+///
+/// ```compile_fail,E0277
+/// fn is_send<T: Send>() {}
+/// is_send::<pdb_container::Types>();
+/// ```
 #[derive(Debug)]
 pub struct Types {
     stream: Vec<u8>,
