@@ -202,15 +202,19 @@ class OfInput(unittest.TestCase):
             with self.assertRaises(PdbError):
                 pdb.types[record.index]
 
-    def test_a_table_that_ends_too_soon(self):
+    def test_a_table_that_is_damaged(self):
+        # The header, two items, and the length of the third, which becomes too short for its kind.
         with pdb_container.open(SAMPLE) as pdb:
-            header = bytes(pdb.stream(2, 56))
+            front = bytes(pdb.stream(2, 110))
         data = SAMPLE.read_bytes()
-        # A maximum index above that of the last item.
-        more = header[:12] + b"\0\0\x01\0" + header[16:]
-        with Pdb(data.replace(header, more)) as pdb, self.assertRaises(PdbError) as raised:
-            list(pdb.types)
-        self.assertEqual((raised.exception.status, raised.exception.stream), (Status.UNEXPECTED_EOF, 2))
+        self.assertEqual(data.count(front), 1)
+        with Pdb(data.replace(front, front[:108] + b"\x01" + front[109:])) as pdb:
+            types = iter(pdb.types)
+            self.assertEqual([next(types).index, next(types).index], [0x1000, 0x1001])
+            with self.assertRaises(PdbError) as raised:
+                next(types)
+            self.assertEqual((raised.exception.status, raised.exception.stream), (Status.TYPE_TOO_SHORT, 2))
+            self.assertEqual(list(types), [])
 
     def test_another_thread(self):
         raised = []

@@ -147,16 +147,20 @@ fn a_record_that_cannot_be_read() {
 }
 
 #[test]
-fn a_table_that_ends_too_soon() {
+fn a_table_that_is_damaged() {
     let file = sample();
-    let header = Pdb::parse(&file).unwrap().stream_prefix(2, 56).unwrap();
-    let mut more = header.clone();
-    more[12..16].copy_from_slice(&[0, 0, 1, 0]);
-    let damaged = replaced(&file, &header, &more);
+    // The header, two items, and the length of the third, which becomes too short for its kind.
+    let front = Pdb::parse(&file).unwrap().stream_prefix(2, 110).unwrap();
+    let mut shorter = front.clone();
+    shorter[108] = 1;
+    let damaged = replaced(&file, &front, &shorter);
     let types = Pdb::parse(&damaged).unwrap().types().unwrap();
-    let mut all = types.iter();
-    assert_eq!(all.by_ref().find_map(Result::err), Some(Error::UnexpectedEof));
-    assert_eq!((all.next(), all.next()), (None, None));
+    let all: Vec<_> = types.iter().collect();
+    assert_eq!((all.len(), all[2]), (3, Err(Error::TypeTooShort)));
+    assert!(all[..2].iter().all(Result::is_ok));
+    let mut fused = types.iter().skip(3);
+    assert_eq!((fused.next(), fused.next()), (None, None));
+    assert_eq!(types.get(0x1002), Err(Error::TypeTooShort));
 }
 
 #[test]
