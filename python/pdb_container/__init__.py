@@ -11,7 +11,7 @@ grammar of the format gives, or its first error. This package calls them, and is
 on the thread that opened it.
 """
 
-from ._file import AddressMap, Frame, Frames, Information, Names, Omap, Pdb, Roles, Section, Streams, open
+from ._file import AddressMap, Frame, Frames, Information, Names, Omap, Pdb, Roles, Section, Stream, Streams, open
 from ._library import LibraryError, PdbError
 from ._sys import IdShape, Shape, Status
 from ._tables import Field, Id, Ids, Row, Type, Types
@@ -19,5 +19,5 @@ from ._tables import Field, Id, Ids, Row, Type, Types
 __version__ = "0.1.0"
 __all__ = [
     "AddressMap", "Field", "Frame", "Frames", "Id", "IdShape", "Ids", "Information", "LibraryError", "Names", "Omap",
-    "Pdb", "PdbError", "Roles", "Row", "Section", "Shape", "Status", "Streams", "Type", "Types", "open",
+    "Pdb", "PdbError", "Roles", "Row", "Section", "Shape", "Status", "Stream", "Streams", "Type", "Types", "open",
 ]  # fmt: skip

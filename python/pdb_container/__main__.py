@@ -12,11 +12,9 @@ from . import LibraryError, Pdb, PdbError, open
 def print_summary(pdb: Pdb):
     about = pdb.information
     print(f"guid {about.guid}, age {about.age}, pages of {pdb.page_size} bytes")
-    of_streams = {number: name for name, number in pdb.named_streams.items()}
-    of_streams.update((getattr(pdb.roles, role), role) for role in pdb.roles.__dataclass_fields__)
-    for number in range(len(pdb.streams)):
-        size = pdb.streams.size(number)
-        print(f"stream {number}: {'absent' if size is None else f'{size} bytes'} {of_streams.get(number, '')}".rstrip())
+    for stream in pdb.streams:
+        size = "absent" if stream.size is None else f"{stream.size} bytes"
+        print(f"stream {stream.number}: {size} {stream.name or stream.role or ''}".rstrip())
     shapes = Counter("not read" if it.shape is None else it.shape.name.lower() for it in pdb.types)
     print(f"{len(pdb.types)} types: {', '.join(f'{count} {shape}' for shape, count in shapes.most_common())}")
     print(f"{len(pdb.ids)} ids")

@@ -4,6 +4,7 @@ import builtins
 import mmap
 import os
 import uuid
+from collections.abc import Sequence
 from ctypes import byref, c_size_t, c_uint8, c_uint32, string_at
 from dataclasses import dataclass
 from functools import cached_property
@@ -208,8 +209,33 @@ class Frames:
         return Frame(it.kind, *sizes, most, *flags, it.program if it.has_program else None)
 
 
-class Streams:
-    """The streams of a file, by their numbers. One that is absent has None as its size."""
+class Stream:
+    """A stream of a file: its number, and its size in bytes as the directory gives it, None for one that is absent."""
+
+    def __init__(self, pdb: "Pdb", number: int, size: Optional[int]):
+        self._pdb, self.number, self.size = pdb, number, size
+
+    def __repr__(self) -> str:
+        return f"Stream(number={self.number}, size={self.size})"
+
+    def read(self, limit: Optional[int] = None) -> memoryview:
+        """Its bytes, at most `limit` of them."""
+        return self._pdb.stream(self.number, limit)
+
+    @property
+    def name(self) -> Optional[str]:
+        """The first of its names."""
+        return next((name for name, number in self._pdb.named_streams.items() if number == self.number), None)
+
+    @property
+    def role(self) -> Optional[str]:
+        """The name of its role in `Roles`."""
+        roles = self._pdb.roles
+        return next((role for role in roles.__dataclass_fields__ if getattr(roles, role) == self.number), None)
+
+
+class Streams(Sequence):
+    """The streams of a file, by their numbers."""
 
     def __init__(self, pdb: "Pdb"):
         self._pdb = pdb
@@ -218,17 +244,17 @@ class Streams:
     def __len__(self) -> int:
         return self._count
 
-    def __getitem__(self, number: int) -> memoryview:
-        return self._pdb.stream(number)
-
-    def size(self, number: int) -> Optional[int]:
-        """The size of a stream in bytes, as the directory gives it; None for one that is absent."""
+    def __getitem__(self, number: int) -> Stream:
+        if not 0 <= number < self._count:
+            raise IndexError(number)
+        self._pdb._bytes()
         try:
-            return value(c_uint32, library().pdb_file_stream_size, self._pdb._file.handle, number).value
+            size = value(c_uint32, library().pdb_file_stream_size, self._pdb._file.handle, number).value
         except PdbError as error:
-            if error.status == Status.STREAM_NOT_FOUND and number < self._count:
-                return None
-            raise
+            if error.status != Status.STREAM_NOT_FOUND:
+                raise
+            size = None
+        return Stream(self._pdb, number, size)
 
 
 class Pdb:

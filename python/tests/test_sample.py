@@ -28,7 +28,12 @@ class OfFile(unittest.TestCase):
     def test_header(self):
         self.assertEqual(self.pdb.page_size, 512)
         self.assertEqual(len(self.pdb.streams), 20)
-        self.assertEqual(self.pdb.streams.size(0), 0)
+        self.assertEqual([it.number for it in self.pdb.streams], list(range(20)))
+        self.assertEqual((self.pdb.streams[0].size, self.pdb.streams[1].size), (0, 93))
+        self.assertEqual((self.pdb.streams[14].name, self.pdb.streams[14].role), ("/names", None))
+        self.assertEqual((self.pdb.streams[17].name, self.pdb.streams[17].role), (None, "omap_from_src"))
+        with self.assertRaises(IndexError):
+            self.pdb.streams[20]
         self.assertEqual(self.pdb.information.version, 20000404)
         self.assertEqual(self.pdb.information.age, 1)
         self.assertEqual(self.pdb.information.guid.bytes_le, bytes(self.pdb.stream(1)[12:28]))
@@ -36,7 +41,7 @@ class OfFile(unittest.TestCase):
     def test_streams(self):
         self.assertEqual(len(self.pdb.stream(10)), 160)
         self.assertEqual(bytes(self.pdb.stream(10, 5)), b".text")
-        self.assertEqual(bytes(self.pdb.streams[10][:5]), b".text")
+        self.assertEqual(bytes(self.pdb.streams[10].read(5)), b".text")
         with self.assertRaises(PdbError) as raised:
             self.pdb.stream(99)
         error = raised.exception
