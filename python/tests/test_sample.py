@@ -5,6 +5,7 @@ import io
 import mmap
 import os
 import pathlib
+import random
 import subprocess
 import sys
 import tempfile
@@ -18,6 +19,38 @@ from pdb_container.__main__ import main
 
 SAMPLE = pathlib.Path(__file__).resolve().parents[2] / "examples" / "sample.pdb"
 PACKAGE = SAMPLE.parents[1] / "python"
+
+
+def read_types(pdb):
+    for it in pdb.types:
+        if it.error is None:
+            words = it.record, it.name, it.unique_name, it.arguments, it.dimensions, it.methods
+            with contextlib.suppress(PdbError):
+                words += (it.fields,)
+            str((it, words))
+
+
+def read_ids(pdb):
+    for it in pdb.ids:
+        if it.error is None:
+            str((it, it.record, it.name, it.ids))
+
+
+# What reads each part of a file.
+EVERYTHING = [
+    lambda pdb: [stream.read() for stream in pdb.streams if stream.size is not None],
+    lambda pdb: (pdb.information, pdb.named_streams, pdb.roles),
+    lambda pdb: [(stream.name, stream.role) for stream in pdb.streams],
+    lambda pdb: list(pdb.names),
+    lambda pdb: pdb.sections + pdb.original_sections,
+    lambda pdb: pdb.omap_to_src and pdb.omap_to_src.ranges(range(0x1000, 0x3000)),
+    lambda pdb: [pdb.address_map.rva_to_internal_offset(it) for it in range(0x1000, 0x1200)],
+    lambda pdb: pdb.address_map.rva_ranges(range(0x1000, 0x3000)),
+    lambda pdb: [pdb.frames.at(it) for it in range(0x1000, 0x1200)],
+    read_types,
+    read_ids,
+    lambda pdb: pdb.types.get("Derived"),
+]
 
 
 class OfFile(unittest.TestCase):
@@ -220,6 +253,21 @@ class OfInput(unittest.TestCase):
                 next(types)
             self.assertEqual((raised.exception.status, raised.exception.stream), (Status.TYPE_TOO_SHORT, 2))
             self.assertEqual(list(types), [])
+
+    def test_damaged_files(self):
+        data, failed = SAMPLE.read_bytes(), 0
+        for seed in range(40):
+            numbers, copy = random.Random(seed), bytearray(data)
+            # The first pages have the header, the directory and short streams.
+            for _ in range(numbers.choice([1, 4, 40])):
+                copy[numbers.choice([numbers.randrange(len(copy)), numbers.randrange(16384)])] = numbers.choice([0, 1, 0x80, 0xFF])
+            with contextlib.suppress(PdbError), Pdb(copy) as pdb:
+                for part in EVERYTHING:
+                    try:
+                        part(pdb)
+                    except PdbError:
+                        failed += 1
+        self.assertGreater(failed, 0)
 
     def test_another_thread(self):
         raised = []

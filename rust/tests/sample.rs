@@ -163,6 +163,62 @@ fn a_table_that_is_damaged() {
     assert_eq!(types.get(0x1002), Err(Error::TypeTooShort));
 }
 
+/// Reads all that a file has, and counts what can't be read.
+fn read_everything(pdb: &Pdb<'_>) -> usize {
+    let mut failed = 0;
+    let mut count = |is_read: bool| failed += usize::from(!is_read);
+    (0..pdb.stream_count()).for_each(|number| count(pdb.stream(number).is_ok()));
+    count(pdb.information().is_ok());
+    count(pdb.named_streams().is_ok());
+    count(pdb.names().and_then(|names| names.iter()?.collect::<Result<Vec<_>, _>>().map(|it| it.len())).is_ok());
+    count(pdb.sections().is_ok());
+    count(pdb.omap_from_src().is_ok_and(|omap| omap.is_none_or(|it| it.ranges(0x1000..0x3000).is_ok())));
+    count(pdb.address_map().is_ok_and(|map| map.rva_to_internal_offset(0x1005).is_ok()));
+    count(pdb.frames().is_ok_and(|frames| frames.at(0x1020).is_ok()));
+    match pdb.types() {
+        Err(_) => count(false),
+        Ok(types) => types.iter().for_each(|ty| {
+            count(ty.is_ok_and(|ty| {
+                ty.shape() != Shape::Primitive
+                    && ty.name().is_ok()
+                    && ty.unique_name().is_ok()
+                    && ty.arguments().is_ok()
+                    && ty.dimensions().is_ok()
+                    && ty.methods().is_ok()
+                    && ty
+                        .row
+                        .list_index()
+                        .is_none_or(|list| types.fields(list).is_ok_and(|it| it.iter().count() == it.len()))
+            }))
+        }),
+    }
+    match pdb.ids() {
+        Err(_) => count(false),
+        Ok(ids) => ids.iter().for_each(|id| count(id.is_ok_and(|id| id.name().is_ok() && id.list().is_ok()))),
+    }
+    failed
+}
+
+#[test]
+fn damaged_files() {
+    let file = sample();
+    let (mut failed, mut number) = (0, 1_usize);
+    let mut random = |below: usize| {
+        number = number.wrapping_mul(6364136223846793005).wrapping_add(1442695040888963407);
+        (number >> 33) % below
+    };
+    for _ in 0..60 {
+        let mut copy = file.clone();
+        for _ in 0..[1, 4, 40][random(3)] {
+            // The first pages have the header, the directory and short streams.
+            let within = [file.len(), 16384][random(2)];
+            copy[random(within)] = [0, 1, 0x80, 0xff][random(4)];
+        }
+        failed += Pdb::parse(&copy).map_or(1, |pdb| read_everything(&pdb));
+    }
+    assert!(failed > 0);
+}
+
 #[test]
 fn no_program_database() {
     for file in [&b""[..], &[b'M'; 8192]] {
