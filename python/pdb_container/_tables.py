@@ -132,7 +132,8 @@ class Type(Row):
 
     @property
     def dimensions(self) -> Optional[List[int]]:
-        """The number of bytes that an array takes in each dimension, the outermost first; None for any other type."""
+        """The size of an array in bytes up to each dimension, the innermost first: each includes those before it. None
+        for any other type."""
         return self._list(c_uint32, library().pdb_type_dimensions)
 
     @property

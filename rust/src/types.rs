@@ -253,7 +253,8 @@ impl<'t> Type<'t> {
         })
     }
 
-    /// The number of bytes that an array takes in each dimension, the outermost first; None for any other type.
+    /// The size of an array in bytes up to each dimension, the innermost first: each size includes those before it.
+    /// None for any other type.
     pub fn dimensions(&self) -> Result<Option<Vec<u32>>> {
         items(|room, size, count, fault| unsafe {
             sys::pdb_type_dimensions(self.record.as_ptr(), self.record.len(), self.index, room, size, count, fault)
