@@ -473,8 +473,8 @@ uint32_t pdb_type_arguments(const uint8_t *record, size_t record_length, uint32_
  * none. */
 uint32_t pdb_type_unique_name(const uint8_t *record, size_t record_length, uint32_t index, uint8_t *room, size_t room_length, size_t *length, pdb_fault *fault);
 
-/* Copies the number of bytes that an array takes in each dimension, the outermost first. The status is
- * PDB_NOWHERE for any other type. */
+/* Copies the size of an array in bytes up to each dimension, the innermost first: each size includes those before
+ * it. The status is PDB_NOWHERE for any other type. */
 uint32_t pdb_type_dimensions(const uint8_t *record, size_t record_length, uint32_t index, uint32_t *room, size_t room_length, size_t *length, pdb_fault *fault);
 
 /* Writes the methods in a list of methods, each as a row of the shape PDB_METHOD. The status is PDB_NOWHERE for

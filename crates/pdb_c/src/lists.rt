@@ -28,7 +28,7 @@ pub extern "C" fn pdb_type_methods(
     copy_if(methods_of(alloc, bytes, index), room, length).tell(fault)
 }
 
-/// Copies the number of bytes that an array takes in each dimension, the outermost first.
+/// Copies the size of an array in bytes up to each dimension, the innermost first.
 #[unsafe(no_mangle)]
 pub extern "C" fn pdb_type_dimensions(
     alloc: Global,

@@ -107,7 +107,7 @@ pub extern "C" fn pdb_table_find(
         return Fault::status(NOT_OPEN).tell(fault);
     };
     let told = match &mut *content {
-        Content::Table(open) => find_record(open, alloc, index, place),
+        Content::Table(open) => find_record(open, index, place),
         _ => Fault::status(NOT_OPEN),
     };
     table.put(content);

@@ -1,10 +1,14 @@
 -- Replies to queries one after another.
-use Rattle.std.proofs.Common.{◌≡◌, ℕ, List, [], ◌∷◌, ◌++◌, refl, subst}
+use Rattle.std.proofs.Common.{◌≡◌, ℕ, List, [], ◌∷◌, ◌++◌, arith}
 use Rattle.std.specs.Prelude.{IsTrue}
-use Rattle.pdb_msf.specs.Source.{State, IsKept}
+use Rattle.pdb_msf.specs.Source.{State, IsKept, HasFailed}
+use Rattle.pdb_msf.specs.File.{Opened, stream_of}
 use Rattle.pdb_msf.specs.Header.{Head}
 use Rattle.pdb_container.specs.declared.query.Query.{Query}
 use Rattle.pdb_container.specs.declared.query.Reply.{Reply}
+use Rattle.pdb_container.specs.declared.open_tables.OpenTables.{OpenTables}
+use Rattle.pdb_container.specs.OpenTables.{AreOf}
+use Rattle.pdb_container.specs.ReadStreams.{StaysOpen}
 use Rattle.pdb_container.specs.Reply.{AreReplies, IsReply, reply_of}
 use Rattle.pdb_container.proofs.lemmas.Replies.{IsReply-weaker}
 
@@ -16,3 +20,35 @@ one_more failed file head [] [] query reply are is = (is, tt)
 one_more failed file head [] (r ∷ replies) query reply are is = absurd are
 one_more failed file head (q ∷ queries) [] query reply are is = absurd are
 one_more failed file head (q ∷ queries) (r ∷ replies) query reply are is = (are.0, one_more failed file head queries replies query reply are.1 is)
+
+-- a reply of the source as it is now is one of the source as it was first
+pub reply_of_first : (first old new : State) (before head : Head) (query : Query) (reply : Reply) → IsKept first old → head ≡ before → IsKept old new
+    → IsReply (HasFailed old new) reply (reply_of old.bytes head query) → IsReply (¬ IsTrue first.is_sound) reply (reply_of first.bytes before query)
+reply_of_first first old new before head query reply kept same next is =
+    let unsound : HasFailed old new → ¬ IsTrue first.is_sound = λ failed sound. let faults = (next.sound (kept.sound sound).0).1 in omega (arith, failed) in
+    rw (← kept.bytes, ← same) (IsReply-weaker _ _ reply _ unsound is)
+
+-- the reply of the last read is one of the source as it was first
+pub last_reply_of_first : (first old : State) (before head : Head) (query : Query) (reply : Reply) → IsKept first old → head ≡ before
+    → IsReply (¬ IsTrue old.is_sound) reply (reply_of old.bytes head query) → IsReply (¬ IsTrue first.is_sound) reply (reply_of first.bytes before query)
+last_reply_of_first first old before head query reply kept same is =
+    rw (← kept.bytes, ← same) (IsReply-weaker _ _ reply _ (λ unsound sound. unsound (kept.sound sound).0) is)
+
+-- tables of a file that stays open are still its tables
+pub same_tables : {S : Type 0} (state : S → State) (old new : Opened S) (tables : OpenTables) → StaysOpen state old new
+    → AreOf (stream_of (state old.source).bytes old.head) tables → AreOf (stream_of (state new.source).bytes new.head) tables
+same_tables state old new tables kept are = rw (kept.source.bytes, kept.head) are
+
+AreReplies-weaker : (failed unsound : Type 0) (file : List ℕ) (head : Head) (queries : List Query) (replies : List Reply) → (failed → unsound)
+    → AreReplies failed file head queries replies → AreReplies unsound file head queries replies
+AreReplies-weaker failed unsound file head [] [] weaker are = tt
+AreReplies-weaker failed unsound file head [] (r ∷ replies) weaker are = absurd are
+AreReplies-weaker failed unsound file head (q ∷ queries) [] weaker are = absurd are
+AreReplies-weaker failed unsound file head (q ∷ queries) (r ∷ replies) weaker are =
+    (IsReply-weaker failed unsound r (reply_of file head q) weaker are.0, AreReplies-weaker failed unsound file head queries replies weaker are.1)
+
+-- the replies of a file that was opened are those of its source
+pub opened_replies : (first now : State) (head : Head) (queries : List Query) (replies : List Reply) → IsKept first now
+    → AreReplies (¬ IsTrue now.is_sound) now.bytes head queries replies → AreReplies (¬ IsTrue first.is_sound) first.bytes head queries replies
+opened_replies first now head queries replies kept are =
+    rw (← kept.bytes) (AreReplies-weaker _ _ now.bytes head queries replies (λ unsound sound. unsound (kept.sound sound).0) are)

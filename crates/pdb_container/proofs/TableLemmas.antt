@@ -20,7 +20,8 @@ replies_unless failed (Err e) meant (inr memory) = inr (inl memory)
 -- the error of a table that is not opened is that of the reply
 pub not_opened : {T : Type 0} (failed : Type 0) (e : Error) (stream : Answer (List ℕ)) (table_in : List ℕ → Answer T) (said : T → Answer ReplyValue)
     → RefusesUnless failed e (stream >>= table_in) → RefusesUnless failed e (stream >>= λ bytes. table_in bytes >>= said)
-not_opened failed e (Err r) table_in said refuses = refuses
+not_opened failed e (Err r) table_in said (inl is) = inl (let same : r ≡ refusal_of e = cc in ap (λ (d : Refusal). Err d) same)
+not_opened failed e (Err r) table_in said (inr other) = inr other
 not_opened failed e (Ok bytes) table_in said (inl is) = inl (rw is refl)
 not_opened failed e (Ok bytes) table_in said (inr other) = inr other
 

@@ -1,5 +1,7 @@
 -- Files whose streams are read, one that stays open and one that the read consumes.
 use Rattle.std.specs.Prelude.{◌≡◌, ℕ, List, Option, Some, None, Err, IsTrue}
+use Rattle.std.proofs.Common.{refl}
+use Rattle.std.proofs.Math.Nat.{le_refl}
 use Rattle.pdb_base.specs.Answer.{Answer}
 use Rattle.pdb_base.specs.Refusal.{stream_not_found}
 use Rattle.pdb_msf.specs.Source.{State, IsKept}
@@ -9,6 +11,13 @@ use Rattle.pdb_msf.specs.File.{Opened, stream_of}
 pub record StaysOpen {S : Type 0} (state : S → State) (old new : Opened S) : Type 0 where
   pub source : IsKept (state old.source) (state new.source)
   pub head : new.head ≡ old.head
+
+-- so it does where nothing is read
+pub stays_open : {S : Type 0} (state : S → State) (file : Opened S) → StaysOpen state file file
+stays_open state file = record {
+  source = record { bytes = refl; counts = le_refl (state file.source).faults; sound = λ sound. (sound, refl) };
+  head = refl;
+}
 
 -- the stream of a file that is there once, and none afterwards
 abbrev pub stream_once : {S : Type 0} → (S → State) → Option (Opened S) → ℕ → Option ℕ → Answer (List ℕ)

@@ -28,6 +28,7 @@ pub trait Table: Sized + Drop {
 impl Table for OpenTable<TypeIndex> {
     ghost table_in = { items_in };
 
+    #[tactic(auto, unfolding(crate::specs::OpenTables::items_in))]
     fn parse_in(alloc: Global, stream: Stream) -> Result<Self> {
         OpenTable::new(alloc, TypeInformation::parse(stream)?)
     }
@@ -36,6 +37,7 @@ impl Table for OpenTable<TypeIndex> {
 impl Table for OpenTable<IdIndex> {
     ghost table_in = { items_in };
 
+    #[tactic(auto, unfolding(crate::specs::OpenTables::items_in))]
     fn parse_in(alloc: Global, stream: Stream) -> Result<Self> {
         OpenTable::new(alloc, IdInformation::parse(stream)?)
     }

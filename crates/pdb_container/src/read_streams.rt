@@ -5,7 +5,7 @@ ghost use Rattle.std.specs.Prelude.{◌≡◌, ℕ, List, Option, Some, None, Is
 ghost use Rattle.pdb_base.specs.Answer.{Answer, AnswersUnless};
 ghost use Rattle.pdb_msf.specs.File.{stream_of};
 ghost use Rattle.pdb_msf.specs.Source.{HasFailed};
-ghost use Rattle.pdb_container.specs.ReadStreams.{StaysOpen, WasSound, stream_once};
+ghost use Rattle.pdb_container.specs.ReadStreams.{StaysOpen, WasSound, stays_open, stream_once};
 
 use pdb_base::{Error, Result, Stream};
 use pdb_msf::{BigMSF, Msf, Source};
@@ -42,6 +42,8 @@ impl<S: Source> ReadStreams for BigMSF<S> {
 
     ghost kept = { λ old new. StaysOpen S.state old new };
 
+    ghost stays = { λ file. stays_open S.state file };
+
     fn read(&mut self, alloc: Global, number: u32, limit: Option<usize>) -> Result<Stream> {
         self.get(alloc, number, limit)
     }
@@ -70,6 +72,8 @@ impl<S: Source + Drop> ReadStreams for LastRead<S> {
     ghost failed = { λ old new. ¬ WasSound S.state old.file };
 
     ghost kept = { λ old new. Unit {0} };
+
+    ghost stays = { λ _. tt };
 
     fn read(&mut self, alloc: Global, number: u32, limit: Option<usize>) -> Result<Stream> {
         match self.file.take() {

@@ -35,7 +35,7 @@ pub fn type_reply(alloc: Global, types: &mut OpenTable<TypeIndex>, index: u32) -
     ensures reply { Replies result (type_in index types.old.table) }
     ensures kept { types.new ≡ types.old }
 {
-    types.learn(alloc, TypeIndex(index));
+    types.learn(TypeIndex(index));
     let item = types.item(TypeIndex(index))?;
     let value = item.parse(alloc)?;
     Ok(Reply::Record {
@@ -64,7 +64,7 @@ pub fn id_reply(alloc: Global, ids: &mut OpenTable<IdIndex>, index: u32) -> Resu
     ensures reply { Replies result (id_in index ids.old.table) }
     ensures kept { ids.new ≡ ids.old }
 {
-    ids.learn(alloc, IdIndex(index));
+    ids.learn(IdIndex(index));
     let item = ids.item(IdIndex(index))?;
     let value = item.parse(alloc)?;
     Ok(Reply::Record {
@@ -95,7 +95,7 @@ pub fn fields_reply(alloc: Global, types: &mut OpenTable<TypeIndex>, index: u32)
     ensures reply { Replies result (fields_in index types.old.table) }
     ensures kept { types.new ≡ types.old }
 {
-    types.learn(alloc, TypeIndex(index));
+    types.learn(TypeIndex(index));
     let fields = types.fields(alloc, TypeIndex(index))?;
     Ok(Reply::Fields(names_of(alloc, &fields)?))
 }

@@ -12,6 +12,7 @@ use Rattle.pdb_space.specs.StringTable.{names_of}
 use Rattle.pdb_space.specs.declared.section_header.ImageSectionHeader.{ImageSectionHeader}
 use Rattle.pdb_frames.specs.Table.{Frames}
 use Rattle.pdb_frames.specs.Table as frames
+use Rattle.pdb_tpi.specs.Table.{Table, table_of}
 use Rattle.pdb_file.specs.DebugHeader.{extra_streams_of}
 use Rattle.pdb_file.specs.Information.{information_of}
 use Rattle.pdb_file.specs.StreamNames.{number_named, stream_names_of}
@@ -19,13 +20,19 @@ use Rattle.pdb_file.specs.SectionHeaders.{section_headers_of}
 use Rattle.pdb_file.specs.declared.debug_header.DBIExtraStreams.{DBIExtraStreams}
 use Rattle.pdb_file.specs.declared.information.PDBInformation.{PDBInformation}
 
--- the number of the stream that identifies the file and names streams, and that of
--- the stream of debug information
+-- the numbers of the stream that identifies the file and names streams, of the table of types, of the stream of
+-- debug information, and of the table of ids
 abbrev pub information_stream : ℕ
 information_stream = 1
 
+abbrev pub type_stream : ℕ
+type_stream = 2
+
 abbrev pub debug_stream : ℕ
 debug_stream = 3
+
+abbrev pub id_stream : ℕ
+id_stream = 4
 
 -- ---- one stream
 
@@ -35,29 +42,37 @@ stream_numbered file head None = Ok None
 stream_numbered file head (Some number) = stream_of file head number None >>= λ stream. Ok (Some stream)
 
 -- the stream that an index names, or None if it names none
-unfoldable pub stream_at : List ℕ → Head → StreamIndex → Answer (Option (List ℕ))
+abbrev pub stream_at : List ℕ → Head → StreamIndex → Answer (Option (List ℕ))
 stream_at file head index = stream_numbered file head (stream_number index.0)
 
--- what a stream says, or None if there is no stream
-abbrev pub said_by : {A : Type 0} → (List ℕ → Answer A) → Option (List ℕ) → Answer (Option A)
-said_by means None = Ok None
-said_by means (Some stream) = means stream >>= λ value. Ok (Some value)
+-- what the bytes of a stream mean, or None if there is no stream
+abbrev pub answer_if_present : {A : Type 0} → (List ℕ → Answer A) → Option (List ℕ) → Answer (Option A)
+answer_if_present means None = Ok None
+answer_if_present means (Some stream) = means stream >>= λ value. Ok (Some value)
 
 -- the information in stream 1 of a file
 unfoldable pub file_information : List ℕ → Head → Answer PDBInformation
 file_information file head = stream_of file head information_stream None >>= information_of
 
+-- the table of types in stream 2 of a file
+unfoldable pub file_types : List ℕ → Head → Answer Table
+file_types file head = stream_of file head type_stream None >>= table_of
+
+-- the table of ids in stream 4 of a file
+unfoldable pub file_ids : List ℕ → Head → Answer Table
+file_ids file head = stream_of file head id_stream None >>= table_of
+
 -- the streams of the roles in stream 3 of a file
 unfoldable pub file_roles : List ℕ → Head → Answer DBIExtraStreams
 file_roles file head = stream_of file head debug_stream None >>= extra_streams_of
 
--- the section headers in the stream that an index names, or None if it names none
-unfoldable pub sections_at : List ℕ → Head → StreamIndex → Answer (Option (List ImageSectionHeader))
-sections_at file head index = stream_at file head index >>= said_by section_headers_of
+-- the section headers in the stream with a number, or None if there is no number
+unfoldable pub sections_numbered : List ℕ → Head → Option ℕ → Answer (Option (List ImageSectionHeader))
+sections_numbered file head number = stream_numbered file head number >>= answer_if_present section_headers_of
 
--- the OMAP table in the stream that an index names, or None if it names none
-unfoldable pub omap_at : List ℕ → Head → StreamIndex → Answer (Option (List OmapValue))
-omap_at file head index = stream_at file head index >>= said_by omap.omap_table_of
+-- the OMAP table in the stream with a number, or None if there is no number
+unfoldable pub omap_numbered : List ℕ → Head → Option ℕ → Answer (Option (List OmapValue))
+omap_numbered file head number = stream_numbered file head number >>= answer_if_present omap.omap_table_of
 
 -- ---- several streams
 
@@ -65,8 +80,8 @@ omap_at file head index = stream_at file head index >>= said_by omap.omap_table_
 -- source leads from the original image to this one, and OMAP to source leads back.
 unfoldable pub rearranged : List ℕ → Head → DBIExtraStreams → List ImageSectionHeader → List ImageSectionHeader → Answer AddressMapValue
 rearranged file head roles sections original = do
-  to_source ← omap_at file head roles.omap_to_src
-  from_source ← omap_at file head roles.omap_from_src
+  to_source ← omap_numbered file head (stream_number roles.omap_to_src.0)
+  from_source ← omap_numbered file head (stream_number roles.omap_from_src.0)
   Ok (record { original_sections = original; transformed_sections = Some sections; transformed_to_original = to_source; original_to_transformed = from_source })
 
 -- an image with these sections, which was rearranged if there are original sections
@@ -79,8 +94,8 @@ arranged file head roles sections None =
 unfoldable pub file_address_map : List ℕ → Head → Answer AddressMapValue
 file_address_map file head = do
   roles ← file_roles file head
-  sections ← sections_at file head roles.section_headers
-  original ← sections_at file head roles.original_section_headers
+  sections ← sections_numbered file head (stream_number roles.section_headers.0)
+  original ← sections_numbered file head (stream_number roles.original_section_headers.0)
   arranged file head roles (unwrap_or sections []) original
 
 -- the frame table of a file, made from its FPO stream and its frame data

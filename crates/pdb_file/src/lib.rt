@@ -1,5 +1,5 @@
-//! The purposes of the streams of a program database: the roles that stream 3 gives to streams by
-//! their numbers, the names that stream 1 gives them, and the tables that are found by these.
+//! A program database, the purposes of its streams, and the parts that are found by these: stream 3
+//! gives roles to streams by their numbers, and stream 1 gives them names.
 #![tactic(auto)]
 
 mod dbi_header;
@@ -13,8 +13,6 @@ mod stream_names;
 
 pub use dbi_header::DBIHeader;
 pub use debug_header::DBIExtraStreams;
-pub use file::{
-    address_map, extra_streams, frame_table, named_stream, pdb_information, string_table,
-};
+pub use file::{ID_STREAM, PDB, TYPE_STREAM};
 pub use information::PDBInformation;
 pub use stream_names::{StreamName, StreamNames};

@@ -37,7 +37,6 @@ pub fn counted(kept: &OpenTable<TypeIndex>) -> u32
 /// Writes where the record of an index stands in the stream.
 pub fn find_record(
     kept: &mut OpenTable<TypeIndex>,
-    alloc: Global,
     index: u32,
     place: &mut Located,
 ) -> Fault
@@ -45,8 +44,8 @@ pub fn find_record(
         located_told place.old index (located kept.old.table index) }
     ensures kept { kept.new ≡ kept.old }
 {
-    kept.learn(alloc, index);
-    match kept.find(index) {
+    kept.learn(TypeIndex(index));
+    match kept.find(TypeIndex(index)) {
         Ok(Some(found)) => {
             *place = Located::at(index, found);
             Fault::status(FINE)
@@ -89,6 +88,6 @@ pub fn listed_fields(
     ensures fields { Answers (option_map listing_view) result (listings (fields_in_table index kept.old)) }
     ensures kept { kept.new ≡ kept.old }
 {
-    kept.learn(alloc, index);
+    kept.learn(TypeIndex(index));
     listing_found(alloc, kept.fields(alloc, TypeIndex(index)))
 }

@@ -3,28 +3,17 @@ use Rattle.std.specs.Prelude.{ℕ, ◌&&◌, if◌then◌else◌, Bool, List, []
 use Rattle.std.specs.Option.{is_none}
 use Rattle.pdb_base.specs.Answer.{Answer, ◌>>=◌}
 use Rattle.pdb_msf.specs.Header.{Head}
-use Rattle.pdb_file.specs.File.{file_address_map, said_by, stream_numbered}
-use Rattle.pdb_file.specs.SectionHeaders.{section_headers_of}
+use Rattle.pdb_file.specs.File.{file_address_map, omap_numbered, sections_numbered}
 use Rattle.pdb_space.specs.Conversions.{AddressMapValue}
-use Rattle.pdb_space.specs.Omap.{OmapValue, omap_table_of}
-use Rattle.pdb_space.specs.declared.section_header.ImageSectionHeader.{ImageSectionHeader}
 use Rattle.pdb_mapping.specs.declared.given.MapStreams.{MapStreams}
-
--- the section headers in the stream with this number, if a number is given
-unfoldable pub sections_in : List ℕ → Head → Option ℕ → Answer (Option (List ImageSectionHeader))
-sections_in file head number = stream_numbered file head number >>= said_by section_headers_of
-
--- the OMAP table in the stream with this number, if a number is given
-unfoldable pub omap_in : List ℕ → Head → Option ℕ → Answer (Option (List OmapValue))
-omap_in file head number = stream_numbered file head number >>= said_by omap_table_of
 
 -- the address map made from given streams
 unfoldable pub given_map : List ℕ → Head → MapStreams → Answer AddressMapValue
 given_map file head streams = do
-  sections ← sections_in file head streams.sections
-  transformed ← sections_in file head streams.transformed
-  to_original ← omap_in file head streams.to_original
-  to_transformed ← omap_in file head streams.to_transformed
+  sections ← sections_numbered file head streams.sections
+  transformed ← sections_numbered file head streams.transformed
+  to_original ← omap_numbered file head streams.to_original
+  to_transformed ← omap_numbered file head streams.to_transformed
   Ok (record { original_sections = unwrap_or sections []; transformed_sections = transformed; transformed_to_original = to_original; original_to_transformed = to_transformed })
 
 -- whether no stream is given

@@ -1,11 +1,12 @@
 -- The streams of a file.
-use Rattle.std.specs.Prelude.{◌≡◌, ℕ, ◌+◌, ◌*◌, Bool, false, if◌then◌else◌, List, Option, IfSome, Ok, Err}
-use Rattle.pdb_base.specs.Answer.{Answer, ◌>>=◌}
+use Rattle.std.specs.Prelude.{◌≡◌, ℕ, ◌+◌, ◌*◌, Bool, false, if◌then◌else◌, List, Option, IfSome, Result, Ok, Err}
+use Rattle.pdb_base.specs.declared.error.Error.{Error}
+use Rattle.pdb_base.specs.Answer.{Answer, ◌>>=◌, AnswersUnless}
 use Rattle.pdb_msf.specs.declared.header.Geometry.{Geometry}
 use Rattle.pdb_msf.specs.declared.header.Header.{Header}
 use Rattle.pdb_msf.specs.declared.directory.Directory.{Directory}
 use Rattle.pdb_msf.specs.declared.directory.StreamPlace.{StreamPlace}
-use Rattle.pdb_msf.specs.Source.{found}
+use Rattle.pdb_msf.specs.Source.{HasFailed, IsKept, State, found}
 use Rattle.pdb_msf.specs.Pages.{scatter}
 use Rattle.pdb_msf.specs.Header.{Head, IsHeader, directory_pages, header_view}
 use Rattle.pdb_msf.specs.Directory.{Entry, HasStarts, directory_of, entry_of, place_in, size_in, stream_count_in}
@@ -23,6 +24,14 @@ pub record Opened (S : Type 0) : Type 0 where
 pub record IsFresh {S : Type 0} (file : Opened S) : Type 0 where
   pub asked : file.asked ≡ 0
   pub located : file.located ≡ false
+
+-- A call that reads a file returns what is meant for the file's bytes and header, as `view` sees it, unless the source
+-- failed. The bytes and the header stay the same.
+pub record ReadsFile {S X A : Type 0} (state : S → State) (old new : Opened S) (view : X → A) (result : Result X Error)
+    (meant : List ℕ → Head → Answer A) : Type 0 where
+  pub answer : AnswersUnless (HasFailed (state old.source) (state new.source)) view result (meant (state old.source).bytes old.head)
+  pub source : IsKept (state old.source) (state new.source)
+  pub head : new.head ≡ old.head
 
 -- where stream n of a file is in the directory
 abbrev pub placed : List ℕ → Head → ℕ → Answer StreamPlace

@@ -6,7 +6,8 @@ use Rattle.std.proofs.lemmas.List.{get_or_push, get_or_append_left, length_push}
 use Rattle.std.proofs.lemmas.List.Folds.{fold-map}
 use Rattle.std.proofs.lemmas.List.Sums.{fold_more}
 use Rattle.pdb_base.specs.Refusal.{type_not_found, type_not_indexed}
-use Rattle.pdb_base.specs.Answer.{Answer}
+use Rattle.pdb_base.specs.Count.{after_calls}
+use Rattle.pdb_base.proofs.lemmas.Count.{few_calls}
 use Rattle.pdb_tpi.specs.Table.{Table, IsTable, count_of}
 use Rattle.pdb_tpi.specs.Steps.{WalkPosition, walk, walk_rest, nth_item, steps_taken}
 use Rattle.pdb_tpi.specs.Place.{IsPlace, ArePlaces}
@@ -72,75 +73,19 @@ pub places_first : (table : Table) (capacity : ℕ) → IsTable table → 0 < co
 places_first table capacity sound some room =
     places_push table [] capacity table.header.minimum_index table.header.header_size (places_none table capacity room) (place_first table sound) (omega arith) (omega arith)
 
--- ---- what a look-up answers
-
-find_as : (table : Table) (known i : ℕ) (answer : Answer (List ℕ)) → cond (has_index table i && leb known (block_of table i)) (Err (type_not_indexed i (max_index_of table known))) (item_of table i) ≡ answer → find_of table known i ≡ answer
-unfolding find_of
-find_as table known i answer e = e
-
-reads_as : (table : Table) (known i reads : ℕ) → cond (has_index table i && ltb (block_of table i) known) (reads_between table (8 * block_of table i) (i - table.header.minimum_index)) 0 ≡ reads → reads_of table known i ≡ reads
-unfolding reads_of
-reads_as table known i reads e = e
-
-pub find_below : (table : Table) (known i : ℕ) → i < table.header.minimum_index → find_of table known i ≡ Ok (0xff ∷ 0xff ∷ [])
-unfolding item_of
-find_below table known i below =
-    let before : leb table.header.minimum_index i ≡ false = grind (arith, nat_tests) in
-    let test : ltb i table.header.minimum_index ≡ true = lt-ltb i table.header.minimum_index below in
-    find_as table known i (Ok (0xff ∷ 0xff ∷ [])) (rw (before, test) refl)
-
-pub reads_below : (table : Table) (known i : ℕ) → i < table.header.minimum_index → reads_of table known i ≡ 0
-reads_below table known i below =
-    let before : leb table.header.minimum_index i ≡ false = grind (arith, nat_tests) in
-    reads_as table known i 0 (rw before refl)
-
-pub find_above : (table : Table) (known i : ℕ) → table.header.minimum_index ≤ i → table.header.maximum_index ≤ i → find_of table known i ≡ Err (type_not_found i)
-unfolding item_of
-find_above table known i least above =
-    let behind : ltb i table.header.maximum_index ≡ false = le-ltb i table.header.maximum_index above in
-    let first : leb table.header.minimum_index i ≡ true = grind (arith, nat_tests) in
-    let test : ltb i table.header.minimum_index ≡ false = le-ltb i table.header.minimum_index least in
-    let past : leb table.header.maximum_index i ≡ true = grind (arith, nat_tests) in
-    find_as table known i (Err (type_not_found i)) (rw (first, behind, test, past) refl)
-
-pub reads_above : (table : Table) (known i : ℕ) → table.header.minimum_index ≤ i → table.header.maximum_index ≤ i → reads_of table known i ≡ 0
-reads_above table known i least above =
-    let behind : ltb i table.header.maximum_index ≡ false = le-ltb i table.header.maximum_index above in
-    let first : leb table.header.minimum_index i ≡ true = grind (arith, nat_tests) in
-    reads_as table known i 0 (rw (first, behind) refl)
-
-pub find_unknown : (table : Table) (known i : ℕ) → table.header.minimum_index ≤ i → i < table.header.maximum_index → known ≤ block_of table i → find_of table known i ≡ Err (type_not_indexed i (max_index_of table known))
-find_unknown table known i least below unknown =
-    let first : leb table.header.minimum_index i ≡ true = grind (arith, nat_tests) in
-    let last : ltb i table.header.maximum_index ≡ true = lt-ltb i table.header.maximum_index below in
-    let test : leb known (block_of table i) ≡ true = grind (arith, nat_tests) in
-    find_as table known i (Err (type_not_indexed i (max_index_of table known))) (rw (first, last, test) refl)
-
-none_by : (test : Bool) (reads : ℕ) → cond (test && false) reads 0 ≡ 0
-none_by true reads = refl
-none_by false reads = refl
-
-pub reads_unknown : (table : Table) (known i : ℕ) → known ≤ block_of table i → reads_of table known i ≡ 0
-reads_unknown table known i unknown =
-    let test : ltb (block_of table i) known ≡ false = le-ltb (block_of table i) known unknown in
-    reads_as table known i 0 (rw test (none_by (has_index table i) (reads_between table (8 * block_of table i) (i - table.header.minimum_index))))
-
-pub find_known : (table : Table) (known i : ℕ) → table.header.minimum_index ≤ i → i < table.header.maximum_index → block_of table i < known → find_of table known i ≡ nth_item table (i - table.header.minimum_index)
-unfolding item_of
-find_known table known i least below known_block =
-    let first : leb table.header.minimum_index i ≡ true = grind (arith, nat_tests) in
-    let last : ltb i table.header.maximum_index ≡ true = lt-ltb i table.header.maximum_index below in
-    let test : leb known (block_of table i) ≡ false = grind (arith, nat_tests) in
-    let above : ltb i table.header.minimum_index ≡ false = le-ltb i table.header.minimum_index least in
-    let before : leb table.header.maximum_index i ≡ false = grind (arith, nat_tests) in
-    find_as table known i (nth_item table (i - table.header.minimum_index)) (rw (first, last, test, above, before) refl)
-
-pub reads_known : (table : Table) (known i : ℕ) → table.header.minimum_index ≤ i → i < table.header.maximum_index → block_of table i < known → reads_of table known i ≡ reads_between table (8 * block_of table i) (i - table.header.minimum_index)
-reads_known table known i least below known_block =
-    let first : leb table.header.minimum_index i ≡ true = grind (arith, nat_tests) in
-    let last : ltb i table.header.maximum_index ≡ true = lt-ltb i table.header.maximum_index below in
-    let test : ltb (block_of table i) known ≡ true = lt-ltb (block_of table i) known known_block in
-    reads_as table known i (reads_between table (8 * block_of table i) (i - table.header.minimum_index)) (rw (first, last, test) refl)
+-- one more block is known where the item before its first one ends
+pub block_learned : (table : Table) (positions : List ℕ) (capacity block end : ℕ) → ArePlaces table positions capacity
+    → block ≡ length positions → 0 < length positions
+    → IsPlace table (table.header.minimum_index + (block * 8 - 1) + 1) end
+    → first_of table block < table.header.maximum_index
+    → (length positions < capacity) × ArePlaces table (positions ++ end ∷ []) capacity
+block_learned table positions capacity block end places is some place below =
+    let index : ℕ = table.header.minimum_index + (block * 8 - 1) + 1 in
+    let first : index ≡ first_of table (length positions) = omega arith in
+    let last : index < table.header.maximum_index = omega arith in
+    let room = room_for table (length positions) index end place first last in
+    let reserved = places.reserved in
+    (omega (arith, room), places_push table positions capacity index end places place first last)
 
 -- ---- the walk within a block
 
@@ -173,34 +118,20 @@ pub few_reads : (table : Table) (known i : ℕ) → reads_of table known i ≤ 8
 unfolding reads_of
 few_reads table known i = few_reads_by table known i (has_index table i && ltb (block_of table i) known)
 
--- the walk from the start of a block reaches the index
-steps_reach : (place : ℕ) (least first : ℕ) → first ≡ least → first + place / 8 * 8 - least + place % 8 ≡ place
-steps_reach place least first e = omega (arith, within_block place)
-
-starts_block : (place : ℕ) (least first : ℕ) → first ≡ least → 8 * (place / 8) ≡ first + place / 8 * 8 - least
-starts_block place least first e = omega arith
-
--- an iterator at the start of a known block finds the item
-pub found_by : (table : Table) (known i first : ℕ) (start : WalkPosition) → first ≡ table.header.minimum_index → first ≤ i → i < table.header.maximum_index → (i - first) / 8 < known
-    → start ≡ record { table = table; index = first + (i - first) / 8 * 8 } → find_of table known i ≡ nth_item start.table (steps_taken start + (i - first) % 8)
-found_by table known i first start e least below known_block is =
-    let place : i - first ≡ i - table.header.minimum_index = ap (λ (n : ℕ). i - n) e in
-    let block : block_of table i < known = rw (← place) known_block in
-    find_known table known i (omega arith) below block
-    ∙ ap (nth_item table) (sym place ∙ sym (steps_reach (i - first) table.header.minimum_index first e))
-    ∙ ap (λ (s : WalkPosition). nth_item s.table (steps_taken s + (i - first) % 8)) (sym is)
-
--- and reads as many lengths as it should
-pub counted_by : (table : Table) (known i first : ℕ) (start : WalkPosition) → first ≡ table.header.minimum_index → first ≤ i → i < table.header.maximum_index → (i - first) / 8 < known
-    → start ≡ record { table = table; index = first + (i - first) / 8 * 8 } → reads_of table known i ≡ reads_between start.table (steps_taken start) (steps_taken start + (i - first) % 8)
-counted_by table known i first start e least below known_block is =
-    let place : i - first ≡ i - table.header.minimum_index = ap (λ (n : ℕ). i - n) e in
-    let block : block_of table i < known = rw (← place) known_block in
-    reads_known table known i (omega arith) below block
-    ∙ ap (λ (n : ℕ). reads_between table (8 * (n / 8)) n) (sym place)
-    ∙ ap (λ (n : ℕ). reads_between table n (i - first)) (starts_block (i - first) table.header.minimum_index first e)
-    ∙ ap (reads_between table (first + (i - first) / 8 * 8 - table.header.minimum_index)) (sym (steps_reach (i - first) table.header.minimum_index first e))
-    ∙ ap (λ (s : WalkPosition). reads_between s.table (steps_taken s) (steps_taken s + (i - first) % 8)) (sym is)
+-- and so does the walk from a known block to a place in it
+pub few_in_block : (table : Table) (place known calls : ℕ) → place / 8 < known
+    → after_calls (reads_between table (8 * min (place / 8) (known - 1)) place) calls ≤ calls + 8
+few_in_block table place known calls within =
+    let block : min (place / 8) (known - 1) ≡ place / 8 = omega arith in
+    let place_in = within_block place in
+    rw block
+    (omega (
+      arith,
+      place_in.0,
+      place_in.1,
+      few_between table (8 * (place / 8)) place (omega (arith, place_in.0)),
+      few_calls (reads_between table (8 * (place / 8)) place) calls,
+    ))
 
 -- ---- several iterators
 

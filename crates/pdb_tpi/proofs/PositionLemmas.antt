@@ -1,21 +1,25 @@
 -- Where the items of a walk begin.
-use Rattle.std.proofs.Common.{◌≡◌, ℕ, zero, suc, ◌+◌, ◌-◌, ◌≤◌, ◌<◌, List, [], ◌∷◌, length, take, drop, get_or, refl, sym, ap, subst, ◌∙◌, arith, Ok, Err, Option, Some, None, inl, inr}
+use Rattle.std.proofs.Common.{◌≡◌, ℕ, zero, suc, ◌+◌, ◌-◌, ◌≤◌, ◌<◌, List, [], ◌∷◌, length, take, drop, get_or, refl, sym, ap, subst, ◌∙◌, arith, Ok, Err, Option, Some, None, inl, inr, true, false, leb, ltb}
 use Rattle.std.specs.List.{slice_get, sum_by}
+use Rattle.std.proofs.lemmas.Bool.{cases_lt, le-ltb, lt-ltb}
+use Rattle.std.proofs.lemmas.Bool.Decides.{nat_tests}
 use Rattle.std.proofs.lemmas.List.{drop-drop, length-drop}
 use Rattle.std.proofs.lemmas.List.Sums.{sum_by-cons, sum_by_more, sum_by-take-drop}
 use Rattle.std.proofs.lemmas.Option.{slice_get_cases}
-use Rattle.std.specs.Option.{option_map}
+use Rattle.std.specs.Option.{option_map, option_map_or}
 use Rattle.pdb_base.specs.Answer.{Answer, ◌>>=◌}
-use Rattle.pdb_base.proofs.lemmas.Collected.{ok, ok_is, ok_is_no_err}
+use Rattle.pdb_base.specs.Refusal.{Refusal, type_not_found}
+use Rattle.pdb_base.proofs.lemmas.Collected.{ok, ok_is, ok_is_no_err, bind_ok}
 use Rattle.pdb_tpi.specs.declared.open_table.RecordPlace.{RecordPlace}
 use Rattle.pdb_tpi.specs.Table.{Table}
 use Rattle.pdb_tpi.specs.Walk.{first_item, behind, items, rest, fault_of}
 use Rattle.pdb_tpi.specs.Steps.{WalkPosition, IsStep, steps_taken, step_of, room, body, walk, walk_rest, nth_item}
 use Rattle.pdb_tpi.specs.Place.{IsPlace}
-use Rattle.pdb_tpi.specs.OpenTable.{bytes_at, size_of, position_of, record_at, step_located}
+use Rattle.pdb_tpi.specs.Finder.{item_of}
+use Rattle.pdb_tpi.specs.OpenTable.{bytes_at, located, size_of, position_of, record_at, step_located}
 use Rattle.pdb_tpi.proofs.FrontLemmas.{front_item}
 use Rattle.pdb_tpi.proofs.WalkLemmas.{items_more, rest_more, items_none, rest_none, items_full, rest_full, nth_some, nth_none}
-use Rattle.pdb_tpi.proofs.StepLemmas.{nth_ok, step_some, step_item}
+use Rattle.pdb_tpi.proofs.StepLemmas.{nth_ok, step_none, step_some}
 
 -- items from the front of bytes on, and what is left behind them, take all of the bytes
 sized_from : (limit : ℕ) (bytes : List ℕ) (answer : Answer (List ℕ)) → first_item bytes ≡ answer → ((further : List ℕ) → sum_by size_of (items limit further) + length (rest limit further) ≡ length further)
@@ -91,54 +95,122 @@ record_stands table n item e =
     sym (ap (drop 2) (drop-drop size table.header.header_size table.bytes) ∙ drop-drop 2 (table.header.header_size + size) table.bytes) in
     ap (take (length item)) there ∙ sym front.is
 
--- An iterator that stands behind an item tells where its record stands.
-pub record_placed : (table : Table) (n index end : ℕ) (item : List ℕ) → IsPlace table index end → index ≡ table.header.minimum_index + n + 1 → nth_item table n ≡ Ok item
-    → (length item ≤ end) × (record { offset = end - length item; length = length item } ≡ record_at table n item)
+-- The record of item `n` of the walk stands right before a position.
+pub record IsRecordBefore (table : Table) (n : ℕ) (item : List ℕ) (end : ℕ) : Type 0 where
+  pub before : length item ≤ end
+  pub place : record { offset = end - length item; length = length item } ≡ record_at table n item
+
+-- it does so where an iterator stands behind that item
+pub record_placed : (table : Table) (n index end : ℕ) (item : List ℕ) → IsPlace table index end
+    → index ≡ table.header.minimum_index + n + 1 → nth_item table n ≡ Ok item → IsRecordBefore table n item end
 record_placed table n index end item place is e =
     let next : index - table.header.minimum_index ≡ n + 1 = omega arith in
-    let stands : end ≡ position_of table (n + 1) = stands_at table index end place ∙ ap (position_of table) next in
+    let stands : end ≡ position_of table (n + 1) =
+    stands_at table index end place ∙ ap (position_of table) next in
     let ends = record_ends table n item e in
     let at : ℕ → RecordPlace = λ offset. record { offset = offset; length = length item } in
-    (omega (arith, stands, ends), ap at (omega (arith, stands, ends)))
+    record { before = omega (arith, stands, ends); place = ap at (omega (arith, stands, ends)) }
 
--- the same behind an item that a step gave
-pub step_placed : {X : Type 0} (seen : X → ℕ × List ℕ) (old new : WalkPosition) (x : X) (end : ℕ) → old.table.header.minimum_index ≤ old.index → IsStep seen old (Ok (Some x)) new → IsPlace new.table new.index end
-    → (length (seen x).1 ≤ end) × (record { offset = end - length (seen x).1; length = length (seen x).1 } ≡ record_at old.table (steps_taken old) (seen x).1)
+-- and the place of its record is that of its index
+pub record_found : (table : Table) (i place end : ℕ) (item : List ℕ) (found : RecordPlace)
+    → i ≡ table.header.minimum_index + place → i < table.header.maximum_index → nth_item table place ≡ Ok item
+    → IsPlace table (table.header.minimum_index + place + 1) end
+    → found ≡ record { offset = end - length item; length = length item } → located table i ≡ Ok (Some found)
+unfolding item_of
+record_found table i place end item found is below e behind there =
+    let least : ltb i table.header.minimum_index ≡ false = grind (arith, nat_tests) in
+    let most : leb table.header.maximum_index i ≡ false = grind (arith, nat_tests) in
+    let n : i - table.header.minimum_index ≡ place = omega arith in
+    let at = record_placed table place _ end item behind refl e in
+    rw (least, most, n, e) (ap (λ (p : RecordPlace). ok (Some p)) (sym at.place ∙ sym there))
+
+-- an item has room for its kind
+least_of : (table : Table) (n : ℕ) (item : List ℕ) → nth_item table n ≡ Ok item → 2 ≤ length item
+unfolding walk
+least_of table n item e =
+    (front_item _ item (item_begins (room table) n (body table) item (nth_ok table n item e))).kind
+
+-- the item of an index that is not below the minimum is in the walk
+item_in_walk : (table : Table) (i : ℕ) (item : List ℕ) → table.header.minimum_index ≤ i → item_of table i ≡ Ok item
+    → nth_item table (i - table.header.minimum_index) ≡ Ok item
+unfolding item_of
+item_in_walk table i item least e =
+    let first : ltb i table.header.minimum_index ≡ false = le-ltb i table.header.minimum_index least in
+    elim (cases_lt i table.header.maximum_index) [
+      | inl below ↦
+          let last : leb table.header.maximum_index i ≡ false = grind (arith, nat_tests) in rw (first, last) at e
+      | inr past ↦
+          let last : leb table.header.maximum_index i ≡ true = grind (arith, nat_tests) in
+          absurd (ok_is_no_err item (type_not_found i) (sym (rw (first, last) at e)))
+    ]
+
+primitive : (table : Table) (i : ℕ) → i < table.header.minimum_index → item_of table i ≡ Ok (0xff ∷ 0xff ∷ [])
+unfolding item_of
+primitive table i below = rw (lt-ltb i table.header.minimum_index below) refl
+
+-- What the place of an index says of its item: the item's bytes are there, and a primitive type's are ff ff.
+pub item_located : (table : Table) (i : ℕ) (place : Option RecordPlace) → located table i ≡ Ok place
+    → let bytes = option_map_or (bytes_at table) place (0xff ∷ 0xff ∷ []) in (item_of table i ≡ Ok bytes) × (2 ≤ length bytes)
+item_located table i place e = elim (cases_lt i table.header.minimum_index) [
+  | inl below ↦
+      let first : ltb i table.header.minimum_index ≡ true = lt-ltb i table.header.minimum_index below in
+      let none : None ≡ place = ok_is {A = Option RecordPlace} None place (rw first at e) in
+      rw (← none) (primitive table i below, omega arith)
+  | inr least ↦
+      let first : ltb i table.header.minimum_index ≡ false = le-ltb i table.header.minimum_index least in
+      let found = bind_ok (item_of table i)
+      (λ item. ok (Some (record_at table (i - table.header.minimum_index) item))) place (rw first at e) in
+      let some : Some (record_at table (i - table.header.minimum_index) found.0) ≡ place =
+      ok_is (Some (record_at table (i - table.header.minimum_index) found.0)) place found.2 in
+      let item = item_in_walk table i found.0 least found.1 in
+      rw (← some, record_stands table (i - table.header.minimum_index) found.0 item)
+      (found.1, least_of table (i - table.header.minimum_index) found.0 item)
+]
+
+-- the places of the records that steps return
+abbrev told : WalkPosition → Answer (Option (ℕ × List ℕ) × WalkPosition) → Answer (Option RecordPlace × WalkPosition)
+told stand answer =
+    answer >>= λ step. Ok (option_map (λ item. record_at stand.table (steps_taken stand) item.1) step.0, step.1)
+
+pub step_told : {X : Type 0} (seen : X → ℕ × List ℕ) (old new : WalkPosition) (given : Option X)
+    → IsStep seen old (Ok given) new
+    → step_located old ≡ Ok (option_map (λ x. record_at old.table (steps_taken old) (seen x).1) given, new)
+step_told seen old new None step = ap (told old) step.gives
+step_told seen old new (Some x) step = ap (told old) step.gives
+
+-- the record of the item that a step returns stands right before where the step ends
+pub step_placed : {X : Type 0} (seen : X → ℕ × List ℕ) (old new : WalkPosition) (x : X) (end : ℕ)
+    → old.table.header.minimum_index ≤ old.index → IsStep seen old (Ok (Some x)) new → IsPlace new.table new.index end
+    → IsRecordBefore old.table (steps_taken old) (seen x).1 end
 step_placed seen old new x end least step place =
-    let moved = step_some seen old x new step in
+    let given = step_some seen old x new step in
     let here : IsPlace old.table new.index end = subst (λ (t : Table). IsPlace t new.index end) step.stays place in
-    let next : new.index ≡ old.table.header.minimum_index + steps_taken old + 1 = omega (arith, ap (λ (s : WalkPosition). s.index) moved.1, least) in
-    record_placed old.table (steps_taken old) new.index end (seen x).1 here next (step_item seen old x new step)
+    let next : new.index ≡ old.table.header.minimum_index + steps_taken old + 1 =
+    omega (arith, ap (λ (s : WalkPosition). s.index) given.moved, least) in
+    record_placed old.table (steps_taken old) new.index end (seen x).1 here next
+    (nth_some old.table (steps_taken old) (seen x).1 given.there)
 
--- what a step tells of its record
-step_told : {X : Type 0} (seen : X → ℕ × List ℕ) (old new : WalkPosition) (x : X) → IsStep seen old (Ok (Some x)) new → step_located old ≡ Ok (Some (record_at old.table (steps_taken old) (seen x).1), new)
-step_told seen old new x step = ap (λ (answer : Answer (Option (ℕ × List ℕ) × WalkPosition)). answer >>= λ step. Ok (option_map (λ item. record_at old.table (steps_taken old) item.1) step.0, step.1)) step.gives
+-- a step that returns no item leaves the walk where it stands
+pub step_stays : {X : Type 0} (seen : X → ℕ × List ℕ) (start old new : WalkPosition) → old ≡ start
+    → IsStep seen old (Ok None) new → step_located start ≡ Ok (None, start)
+step_stays seen start old new is step =
+    let goes = subst (λ (s : WalkPosition). IsStep seen s (Ok None) new) is step in
+    let none : Option RecordPlace = None in
+    step_told seen start new None goes ∙ ap (λ (s : WalkPosition). ok (none, s)) (step_none seen start new goes).2
 
--- the same after a step along a table, of which it is told where the record stands and where the walk then does
-pub step_given : {X : Type 0} (seen : X → ℕ × List ℕ) (table : Table) (index : ℕ) (old new : WalkPosition) (x : X) (len end after : ℕ) (place : RecordPlace)
-    → old ≡ record { table = table; index = index } → table.header.minimum_index ≤ index → IsStep seen old (Ok (Some x)) new → IsPlace new.table new.index end → after ≡ new.index
-    → len ≡ length (seen x).1 → place ≡ record { offset = end - len; length = len } → step_located (record { table = table; index = index }) ≡ Ok (Some place, record { table = table; index = after })
-step_given seen table index old new x len end after place is least step stands behind long placed =
-    let given : WalkPosition = record { table = table; index = index } in
-    let goes : IsStep seen given (Ok (Some x)) new = subst (λ (s : WalkPosition). IsStep seen s (Ok (Some x)) new) is step in
-    let there = step_placed seen given new x end least goes stands in
+-- one that returns an item tells the place of its record, and the walk stands behind it
+pub step_goes : {X : Type 0} (seen : X → ℕ × List ℕ) (start old new : WalkPosition) (x : X) (index len end : ℕ)
+    (place : RecordPlace) → old ≡ start → start.table.header.minimum_index ≤ start.index
+    → IsStep seen old (Ok (Some x)) new → IsPlace new.table new.index end → index ≡ new.index → len ≡ length (seen x).1
+    → place ≡ record { offset = end - len; length = len }
+    → step_located start ≡ Ok (Some place, record start { index = index })
+step_goes seen start old new x index len end place is least step stands behind long placed =
+    let goes = subst (λ (s : WalkPosition). IsStep seen s (Ok (Some x)) new) is step in
+    let moved = (step_some seen start x new goes).moved in
     let at : ℕ → RecordPlace = λ n. record { offset = end - n; length = n } in
-    let same : record_at table (steps_taken given) (seen x).1 ≡ place = sym (placed ∙ ap at long ∙ there.1) in
-    let moved : new ≡ record { table = table; index = after } =
-    ap (λ (t : Table). record { table = t; index = new.index }) goes.stays ∙ ap (λ (i : ℕ). record { table = table; index = i }) (sym behind) in
-    step_told seen given new x goes
+    let same = sym (placed ∙ ap at long ∙ (step_placed seen start new x end least goes stands).place) in
+    let next : index ≡ start.index + 1 = behind ∙ ap (λ (s : WalkPosition). s.index) moved in
+    step_told seen start new (Some x) goes
     ∙ ap (λ (p : RecordPlace). ok {A = Option RecordPlace × WalkPosition} (Some p, new)) same
-    ∙ ap (λ (s : WalkPosition). ok {A = Option RecordPlace × WalkPosition} (Some place, s)) moved
-
--- Behind the item of a place to which a walk went on: its record stands before that.
-pub skipped : (table : Table) (old new : WalkPosition) (place steps end : ℕ) (item : List ℕ) → old.table ≡ table → table.header.minimum_index ≤ old.index → old.index + steps ≡ table.header.minimum_index + place
-    → nth_item old.table (steps_taken old + steps) ≡ Ok item → new ≡ record old { index = old.index + steps + 1 } → IsPlace new.table new.index end
-    → (length item ≤ end) × (record { offset = end - length item; length = length item } ≡ record_at table place item)
-skipped table old new place steps end item same least goes is moved stands =
-    let table_is : new.table ≡ table = ap (λ (s : WalkPosition). s.table) moved ∙ same in
-    let here : IsPlace table new.index end = subst (λ (t : Table). IsPlace t new.index end) table_is stands in
-    let next : new.index ≡ table.header.minimum_index + place + 1 = omega (arith, ap (λ (s : WalkPosition). s.index) moved, goes) in
-    let first : old.table.header.minimum_index ≡ table.header.minimum_index = ap (λ (t : Table). t.header.minimum_index) same in
-    let n : steps_taken old + steps ≡ place = omega (arith, first, goes, least) in
-    let found : nth_item table place ≡ Ok item = ap (λ (t : Table). nth_item t place) (sym same) ∙ ap (nth_item old.table) (sym n) ∙ is in
-    record_placed table place new.index end item here next found
+    ∙ ap (λ (s : WalkPosition). ok {A = Option RecordPlace × WalkPosition} (Some place, s))
+    (moved ∙ ap (λ (i : ℕ). record start { index = i }) (sym next))

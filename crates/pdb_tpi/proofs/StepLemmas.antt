@@ -105,10 +105,6 @@ at_end : (stand : WalkPosition) (rest : List ℕ) (new : WalkPosition) → stopp
 at_end stand [] new e = refl
 at_end stand (byte ∷ rest) new e = let none : Option (ℕ × List ℕ) = None in absurd (ok_is_no_err (none, new) (fault_of (byte ∷ rest)) (sym e))
 
-at_fault : (stand : WalkPosition) (rest : List ℕ) (fault : Refusal) → stopped stand rest ≡ Err fault → fault_of rest ≡ fault
-at_fault stand [] fault e = let none : Option (ℕ × List ℕ) = None in absurd (ok_is_no_err (none, stand) fault e)
-at_fault stand (byte ∷ rest) fault e = err_is {A = Option (ℕ × List ℕ) × WalkPosition} (fault_of (byte ∷ rest)) fault e
-
 -- no byte is left
 pub none_left : (bytes : List ℕ) → eqb (length bytes) 0 ≡ true → bytes ≡ []
 none_left [] e = refl
@@ -120,47 +116,77 @@ some_left (byte ∷ bytes) e none = cc
 
 -- ---- what callers learn of a step
 
--- an item that was given is in the walk, and the iterator goes on behind it
-pub step_some : {X : Type 0} (seen : X → ℕ × List ℕ) (old : WalkPosition) (x : X) (new : WalkPosition) → IsStep seen old (Ok (Some x)) new → steps_taken old < length (walk old.table) × (new ≡ record old { index = old.index + 1 })
+some_is : (x y : ℕ × List ℕ) → Some x ≡ Some y → x ≡ y
+some_is x y e = cc
+
+-- An item that a step returned is that of the walk before which the iterator stood, and the iterator goes on behind
+-- it.
+pub record IsGiven {X : Type 0} (seen : X → ℕ × List ℕ) (old : WalkPosition) (x : X) (new : WalkPosition) : Type 0 where
+  pub within : steps_taken old < length (walk old.table)
+  pub there : slice_get (walk old.table) (steps_taken old) ≡ Some (seen x).1
+  pub index : old.index ≡ (seen x).0
+  pub moved : new ≡ record old { index = old.index + 1 }
+
+pub step_some : {X : Type 0} (seen : X → ℕ × List ℕ) (old : WalkPosition) (x : X) (new : WalkPosition)
+    → IsStep seen old (Ok (Some x)) new → IsGiven seen old x new
 step_some seen old x new step = elim ((slice_get_cases (walk old.table) (steps_taken old)).1) [
   | inl here ↦
+      let item : ℕ × List ℕ = (old.index, here.0) in
       let moved : WalkPosition = record old { index = old.index + 1 } in
-      let is : (Some (old.index, here.0), moved) ≡ (Some (seen x), new) = ok_is (Some (old.index, here.0), moved) (Some (seen x), new) (sym (step_gives old here.0 (nth_some old.table (steps_taken old) here.0 here.2)) ∙ step.gives) in
-      (here.1, sym (ap (λ (p : Option (ℕ × List ℕ) × WalkPosition). p.1) is))
+      let gives = step_gives old here.0 (nth_some old.table (steps_taken old) here.0 here.2) in
+      let is : (Some item, moved) ≡ (Some (seen x), new) =
+      ok_is (Some item, moved) (Some (seen x), new) (sym gives ∙ step.gives) in
+      let same : item ≡ seen x =
+      some_is item (seen x) (ap (λ (p : Option (ℕ × List ℕ) × WalkPosition). p.0) is) in
+      record {
+        within = here.1;
+        there = here.2 ∙ ap (λ (p : ℕ × List ℕ). Some p.1) same;
+        index = ap (λ (p : ℕ × List ℕ). p.0) same;
+        moved = sym (ap (λ (p : Option (ℕ × List ℕ) × WalkPosition). p.1) is);
+      }
   | inr past ↦ absurd (no_item old (walk_rest old.table) (seen x) new (sym (step_stops old past.1) ∙ step.gives))
 ]
 
-abbrev item_in : Option (ℕ × List ℕ) → Answer (List ℕ)
-item_in (Some item) = Ok item.1
-item_in None = Err unexpected_eof
-
--- and is that of its place
-pub step_item : {X : Type 0} (seen : X → ℕ × List ℕ) (old : WalkPosition) (x : X) (new : WalkPosition) → IsStep seen old (Ok (Some x)) new → nth_item old.table (steps_taken old) ≡ Ok (seen x).1
-step_item seen old x new step = elim ((slice_get_cases (walk old.table) (steps_taken old)).1) [
-  | inl here ↦
-      let moved : WalkPosition = record old { index = old.index + 1 } in
-      let is : (Some (old.index, here.0), moved) ≡ (Some (seen x), new) = ok_is (Some (old.index, here.0), moved) (Some (seen x), new) (sym (step_gives old here.0 (nth_some old.table (steps_taken old) here.0 here.2)) ∙ step.gives) in
-      nth_some old.table (steps_taken old) here.0 here.2 ∙ ap (λ (p : Option (ℕ × List ℕ) × WalkPosition). item_in p.0) is
-  | inr past ↦ absurd (no_item old (walk_rest old.table) (seen x) new (sym (step_stops old past.1) ∙ step.gives))
-]
-
--- at the end every item of the walk was given, and no byte is left
-pub step_none : {X : Type 0} (seen : X → ℕ × List ℕ) (old new : WalkPosition) → IsStep seen old (Ok None) new → (length (walk old.table) ≤ steps_taken old) × (walk_rest old.table ≡ [])
+-- at the end every item of the walk was given, no byte is left, and the iterator stays
+pub step_none : {X : Type 0} (seen : X → ℕ × List ℕ) (old new : WalkPosition) → IsStep seen old (Ok None) new
+    → (length (walk old.table) ≤ steps_taken old) × (walk_rest old.table ≡ []) × (new ≡ old)
 step_none seen old new step = elim ((slice_get_cases (walk old.table) (steps_taken old)).1) [
   | inl here ↦
       let moved : WalkPosition = record old { index = old.index + 1 } in
       let given : Option (ℕ × List ℕ) × WalkPosition = (Some (old.index, here.0), moved) in
       let ended : Option (ℕ × List ℕ) × WalkPosition = (None, new) in
-      let is : given ≡ ended = ok_is given ended (sym (step_gives old here.0 (nth_some old.table (steps_taken old) here.0 here.2)) ∙ step.gives) in
+      let gives = step_gives old here.0 (nth_some old.table (steps_taken old) here.0 here.2) in
+      let is : given ≡ ended = ok_is given ended (sym gives ∙ step.gives) in
       absurd (some_is_none (old.index, here.0) (ap (λ (p : Option (ℕ × List ℕ) × WalkPosition). p.0) is))
-  | inr past ↦ (past.0, at_end old (walk_rest old.table) new (sym (step_stops old past.1) ∙ step.gives))
+  | inr past ↦
+      let is : stopped old (walk_rest old.table) ≡ Ok (None, new) = sym (step_stops old past.1) ∙ step.gives in
+      let rest = at_end old (walk_rest old.table) new is in
+      let stays : (None, old) ≡ (None, new) =
+      ok_is {A = Option (ℕ × List ℕ) × WalkPosition} (None, old) (None, new) (sym (ap (stopped old) rest) ∙ is) in
+      (past.0, rest, sym (ap (λ (p : Option (ℕ × List ℕ) × WalkPosition). p.1) stays))
 ]
 
--- a fault comes behind every item of the walk, and is that of its rest
-pub step_err : {X : Type 0} (seen : X → ℕ × List ℕ) (old new : WalkPosition) (e : Error) → IsStep seen old (Err e) new → (length (walk old.table) ≤ steps_taken old) × (fault_of (walk_rest old.table) ≡ refusal_of e)
+-- A fault comes behind every item of the walk, where bytes are left that begin with no item.
+pub record IsFaulted (old : WalkPosition) (fault : Refusal) : Type 0 where
+  pub past : length (walk old.table) ≤ steps_taken old
+  pub some : walk_rest old.table ≢ []
+  pub is : fault_of (walk_rest old.table) ≡ fault
+
+faulted_by : (stand : WalkPosition) (rest : List ℕ) (fault : Refusal) → stopped stand rest ≡ Err fault
+    → (rest ≢ []) × (fault_of rest ≡ fault)
+faulted_by stand [] fault e =
+    let none : Option (ℕ × List ℕ) = None in absurd (ok_is_no_err (none, stand) fault e)
+faulted_by stand (byte ∷ rest) fault e =
+    (λ none. cc, err_is {A = Option (ℕ × List ℕ) × WalkPosition} (fault_of (byte ∷ rest)) fault e)
+
+pub step_err : {X : Type 0} (seen : X → ℕ × List ℕ) (old new : WalkPosition) (e : Error)
+    → IsStep seen old (Err e) new → IsFaulted old (refusal_of e)
 step_err seen old new e step = elim ((slice_get_cases (walk old.table) (steps_taken old)).1) [
   | inl here ↦
       let moved : WalkPosition = record old { index = old.index + 1 } in
-      absurd (ok_is_no_err (Some (old.index, here.0), moved) (refusal_of e) (sym (step_gives old here.0 (nth_some old.table (steps_taken old) here.0 here.2)) ∙ step.gives))
-  | inr past ↦ (past.0, at_fault old (walk_rest old.table) (refusal_of e) (sym (step_stops old past.1) ∙ step.gives))
+      let gives = step_gives old here.0 (nth_some old.table (steps_taken old) here.0 here.2) in
+      absurd (ok_is_no_err (Some (old.index, here.0), moved) (refusal_of e) (sym gives ∙ step.gives))
+  | inr past ↦
+      let stops = faulted_by old (walk_rest old.table) (refusal_of e) (sym (step_stops old past.1) ∙ step.gives) in
+      record { past = past.0; some = stops.0; is = stops.1 }
 ]

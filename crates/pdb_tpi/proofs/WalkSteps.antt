@@ -26,41 +26,34 @@ place_there table n = omega arith
 one_step : {X : Type 0} (seen : X → ℕ × List ℕ) (table : Table) (n : ℕ) (result : Result (Option X) Error) (next : WalkPosition) → IsStep seen (stand_at table n) result next → IsOneStep seen table n result next
 one_step seen table n (Ok (Some x)) next step =
     let old = stand_at table n in
-    let there = place_there table n in
-    let moves = step_some seen old x next step in
-    elim ((slice_get_cases (walk table) n).1) [
-      | inl here ↦
-          let get : slice_get (walk table) (steps_taken old) ≡ Some here.0 = rw there here.2 in
-          let moved : WalkPosition = record old { index = old.index + 1 } in
-          let is = ok_is (Some (old.index, here.0), moved) (Some (seen x), next) (sym (step_gives old here.0 (nth_some table (steps_taken old) here.0 get)) ∙ step.gives) in
-          let seen_is : Some (old.index, here.0) ≡ Some (seen x) = ap (λ (p : Option (ℕ × List ℕ) × WalkPosition). p.0) is in
-          let index_is : old.index + 1 ≡ table.header.minimum_index + (n + 1) = omega arith in
-          record {
-            at_place = inl (record { item = here.0; in_walk = here.2; given = x; is = refl; same = cc });
-            goes_on = inl (moves.1 ∙ ap (λ (i : ℕ). record old { index = i }) index_is);
-          }
-      | inr past ↦ absurd (let within = moves.0 in omega (arith, past.0, there))
-    ]
+    let given = step_some seen old x next step in
+    let index_is : old.index + 1 ≡ table.header.minimum_index + (n + 1) = omega arith in
+    record {
+      at_place = inl (record {
+        item = (seen x).1;
+        in_walk = rw (place_there table n) at given.there;
+        given = x;
+        is = refl;
+        same = ap (λ (i : ℕ). (i, (seen x).1)) (sym given.index);
+      });
+      goes_on = inl (given.moved ∙ ap (λ (i : ℕ). record old { index = i }) index_is);
+    }
 one_step seen table n (Ok None) next step =
     let old = stand_at table n in
     let there = place_there table n in
     let ended = step_none seen old next step in
     let past : length (walk table) ≤ n = let h = ended.0 in omega (arith, there) in
-    let none : slice_get (walk table) (steps_taken old) ≡ None = rw there (slice_get_past (walk table) n past) in
-    let kept : (None, old) ≡ (None, next) = ok_is {A = Option (ℕ × List ℕ) × WalkPosition} (None, old) (None, next) (sym (step_stops old none ∙ ap (stopped old) ended.1) ∙ step.gives) in
     record {
       at_place = inr (past, inl (ended.1, refl));
-      goes_on = inr (past, sym (ap (λ (p : Option (ℕ × List ℕ) × WalkPosition). p.1) kept));
+      goes_on = inr (past, ended.2);
     }
 one_step seen table n (Err e) next step =
     let old = stand_at table n in
     let there = place_there table n in
     let refused = step_err seen old next e step in
-    let past : length (walk table) ≤ n = let h = refused.0 in omega (arith, there) in
-    let none : slice_get (walk table) (steps_taken old) ≡ None = rw there (slice_get_past (walk table) n past) in
-    let some : walk_rest table ≢ [] = λ empty. ok_is_no_err {A = Option (ℕ × List ℕ) × WalkPosition} (None, old) (refusal_of e) (sym (step_stops old none ∙ ap (stopped old) empty) ∙ step.gives) in
+    let past : length (walk table) ≤ n = let h = refused.past in omega (arith, there) in
     record {
-      at_place = inr (past, inr (some, record { error = e; is = refl; same = sym refused.1 }));
+      at_place = inr (past, inr (refused.some, record { error = e; is = refl; same = sym refused.is }));
       goes_on = inr (past, step.kept);
     }
 

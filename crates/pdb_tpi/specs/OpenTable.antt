@@ -1,5 +1,5 @@
 -- Where the records of a table stand in its stream, and what a table that stays open keeps.
-use Rattle.std.specs.Prelude.{◌≡◌, ℕ, ◌+◌, ◌-◌, nat_lt, if◌then◌else◌, List, length, take, drop, slice_index, vec_capacity, Option, Some, None, Ok}
+use Rattle.std.specs.Prelude.{◌≡◌, ℕ, ◌+◌, ◌-◌, ◌<◌, nat_lt, if◌then◌else◌, List, length, take, drop, slice_index, vec_capacity, Option, Some, None, Ok}
 use Rattle.std.specs.List.{sum_by}
 use Rattle.std.specs.Option.{option_map}
 use Rattle.pdb_base.specs.Answer.{Answer, ◌>>=◌}
@@ -40,4 +40,5 @@ step_located stand = step_of stand >>= λ step. Ok (option_map (λ item. record_
 -- What an open table keeps: where the blocks begin that look-ups know, and where its walk stands.
 pub record IsOpen (table : Table) (positions : List ℕ) (capacity index position : ℕ) : Type 0 where
   pub blocks : ArePlaces table positions capacity
+  pub some : table.header.minimum_index < table.header.maximum_index → 0 < length positions
   pub place : IsPlace table index position

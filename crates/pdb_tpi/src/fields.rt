@@ -43,11 +43,11 @@ impl<'f, 't> Types<'f, 't> {
     /// Looks up the type of an index.
     fn look_up(self, index: TypeIndex) -> Result<Type<'t>>
         ensures item { Gives bytes_of result (answers self.entry index.0) }
-        ensures index { IfOk result (λ item. (index_of item).0 ≡ index.0) }
+        ensures index { IfOk result (λ item. index_of item ≡ index) }
     {
         match self {
             Types::Known(finder) => finder.find(index),
-            Types::All(table) => table.item(index.0),
+            Types::All(table) => table.item(index),
         }
     }
 }

@@ -1,13 +1,15 @@
 //! Finders, which look up items of a table by their indexes.
 
-ghost use Rattle.std.specs.Prelude.{◌≡◌, ◌+◌, ◌≤◌, All, length, map, nat_lt, vec_capacity, IsOk, IfOk, Ok};
+ghost use Rattle.std.specs.Prelude.{◌≡◌, ◌+◌, ◌-◌, ◌*◌, ◌/◌, ◌<◌, ◌≤◌, ℕ, All, length, map, min, slice_index};
+ghost use Rattle.std.specs.Prelude.{vec_capacity, IsOk, IfOk, Ok};
 ghost use Rattle.pdb_base.specs.Answer.{Answers, Gives};
 ghost use Rattle.pdb_base.specs.Count.{calls_of, after_calls};
 ghost use Rattle.pdb_tpi.specs.Item.{bytes_of, index_of};
-ghost use Rattle.pdb_tpi.specs.Steps.{WalkPosition};
+ghost use Rattle.pdb_tpi.specs.Steps.{WalkPosition, nth_item};
 ghost use Rattle.pdb_tpi.specs.Table.{count_of};
-ghost use Rattle.pdb_tpi.specs.Place.{ArePlaces};
-ghost use Rattle.pdb_tpi.specs.Finder.{FinderState, known_when_new, known_after, known_of, max_index_of, most_blocks, find_of, reads_of};
+ghost use Rattle.pdb_tpi.specs.Place.{ArePlaces, IsPlace};
+ghost use Rattle.pdb_tpi.specs.Finder.{FinderState, first_of, known_when_new, known_after, known_of, max_index_of};
+ghost use Rattle.pdb_tpi.specs.Finder.{most_blocks, find_of, reads_between, reads_of};
 
 use crate::item::Item;
 use crate::item_information::ItemInformation;
@@ -45,6 +47,24 @@ impl<'t, I> Model for ItemFinder<'t, I> {
 }
 
 impl<I: ItemIndex> ItemInformation<I> {
+    /// Returns the position of the first block if the header counts any index, with room for those
+    /// of all blocks that can be known.
+    ///
+    /// # Errors
+    /// Fails as `finder` does.
+    pub(crate) fn positions(&self, alloc: Global) -> Result<Vec<u32>>
+        ensures positions { Answers (λ positions. length positions.items) result (Ok (known_when_new self.now)) }
+        ensures places { IfOk result (λ positions. ArePlaces self.now positions.items (vec_capacity positions)) }
+        ensures uncounted { count_of self.now ≡ 0 → IsOk result }
+    {
+        let header = self.header();
+        let mut positions = Vec::with_capacity(alloc, self.most_blocks())?;
+        if !self.is_empty() {
+            positions.push_reserved(header.header_size);
+        }
+        Ok(positions)
+    }
+
     /// Returns a finder of this table. It knows the first block if the header counts any index.
     ///
     /// It asks for memory once: for the positions of as many blocks as the header counts, but no
@@ -58,47 +78,41 @@ impl<I: ItemIndex> ItemInformation<I> {
         ensures few { IfOk result (λ finder. finder.known ≤ most_blocks self.now) }
         ensures uncounted { count_of self.now ≡ 0 → IsOk result }
     {
-        let header = self.header();
-        let mut positions = Vec::with_capacity(alloc, self.most_blocks())?;
-        if !self.is_empty() {
-            positions.push_reserved(header.header_size);
-        }
         Ok(ItemFinder {
             table: self,
-            positions,
+            positions: self.positions(alloc)?,
         })
+    }
+
+    /// Returns the item at a place in the walk, and the position behind it, and counts the lengths
+    /// that are read. The walk to it begins at the last of these blocks that is not behind it.
+    pub(crate) fn item_at(
+        &self,
+        positions: &[u32],
+        place: u32,
+        count: &mut Count,
+    ) -> Result<(Item<'_, I>, usize)>
+        requires some { 0 < length positions.now }
+        requires places { (block : ℕ) → block < length positions.now →
+            IsPlace self.now (first_of self.now block) (slice_index positions.now block) }
+        ensures item { Gives (λ found. bytes_of found.0) result (nth_item self.now place) }
+        ensures index { IfOk result (λ found.
+            I.number (index_of found.0) ≡ self.now.header.minimum_index + place) }
+        ensures end { IfOk result (λ found. IsPlace self.now (self.now.header.minimum_index + place + 1) found.1) }
+        ensures counted { let block = min (place / 8) (length positions.now - 1) in
+            calls_of count.new ≡ after_calls (reads_between self.now (8 * block) place) (calls_of count.old) }
+    {
+        let header = self.header();
+        let block = ((place / BLOCK_LEN) as usize).min(positions.len() - 1);
+        let first = header.minimum_index as u64 + block as u64 * BLOCK_LEN as u64;
+        let mut items = ItemIter::at(self, first, positions[block] as usize);
+        let item = items.nth(place - block as u32 * BLOCK_LEN, count)?;
+        let (_, end) = items.place();
+        Ok((item, end))
     }
 }
 
 impl<'t, I: ItemIndex> ItemFinder<'t, I> {
-    /// Returns a finder of a table that knows the blocks at these positions, which a finder of the
-    /// same table returned from `into_positions`.
-    pub(crate) fn with_positions(table: &'t ItemInformation<I>, positions: Vec<u32>) -> Self
-        requires { ArePlaces table.now positions.items (vec_capacity positions) }
-        ensures { result ≡ record { table = table.now; known = length positions.items } }
-    {
-        ItemFinder { table, positions }
-    }
-
-    /// Returns the positions at which the blocks begin that the finder knows.
-    pub(crate) fn into_positions(self) -> Vec<u32>
-        ensures places { ArePlaces self.entry.table result.items (vec_capacity result) }
-        ensures known { length result.items ≡ self.entry.known }
-    {
-        let ItemFinder {
-            table: _,
-            positions,
-        } = self;
-        positions
-    }
-
-    /// Returns whether the finder knows a block, counted from 0.
-    pub(crate) fn knows(&self, block: usize) -> bool
-        ensures { result ≡ nat_lt block self.now.known }
-    {
-        block < self.positions.len()
-    }
-
     /// Returns the last index of the blocks that are known, or 0 if none is.
     pub fn max_index(&self) -> I
         ensures index { I.number result ≡ max_index_of self.now.table self.now.known }
@@ -155,6 +169,7 @@ impl<'t, I: ItemIndex> ItemFinder<'t, I> {
     /// Fails with `TypeNotFound` for an index from the maximum on, with `TypeNotIndexed` if the
     /// index is in no block that is known, with the fault at which the walk stops if that is before
     /// the item, and with `UnexpectedEof` if the walk ends before the item.
+    #[tactic(auto, unfolding(crate::specs::Finder::find_of, crate::specs::Finder::item_of, crate::specs::Finder::reads_of))]
     pub fn find_counted(&self, index: I, count: &mut Count) -> Result<Item<'t, I>>
         ensures item { Gives bytes_of result (find_of self.now.table self.now.known (I.number index)) }
         ensures index { IfOk result (λ item. index_of item ≡ index) }
@@ -175,12 +190,11 @@ impl<'t, I: ItemIndex> ItemFinder<'t, I> {
             return Err(Error::TypeNotFound(number));
         }
         let place = number - header.minimum_index;
-        let block = place / BLOCK_LEN;
-        let Some(position) = self.positions.get(block as usize) else {
+        if self.positions.len() <= (place / BLOCK_LEN) as usize {
             return Err(Error::TypeNotIndexed(number, self.max_index().into()));
-        };
-        let first = header.minimum_index + block * BLOCK_LEN;
-        ItemIter::at(table, first as u64, *position as usize).nth(place % BLOCK_LEN, count)
+        }
+        let (item, _) = table.item_at(&self.positions, place, count)?;
+        Ok(item)
     }
 
     /// Returns the item of an index.

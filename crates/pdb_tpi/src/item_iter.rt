@@ -114,15 +114,6 @@ impl<'t, I: ItemIndex> ItemIter<'t, I> {
         }
         self.read(count)
     }
-
-    /// Returns the same item as `nth`, without counting lengths.
-    pub(crate) fn skip(&mut self, steps: u32) -> Result<Item<'t, I>>
-        ensures item { Gives bytes_of result (nth_item self.old.table (steps_taken self.old + steps)) }
-        ensures index { IfOk result (λ item. I.number (index_of item) ≡ self.old.index + steps) }
-        ensures moved { IfOk result (λ _. self.new ≡ record self.old { index = self.old.index + steps + 1 }) }
-    {
-        self.nth(steps, &mut Count::new())
-    }
 }
 
 impl<'t, I: ItemIndex> FallibleIterator for ItemIter<'t, I> {

@@ -1,22 +1,19 @@
 //! Tables that stay open between look-ups and steps of a walk.
 
-ghost use Rattle.std.specs.Prelude.{◌≡◌, ◌+◌, ◌-◌, ◌≤◌, ◌<◌, ℕ, Ok, IfOk, OnErr, length, slice_index, vec_capacity};
+ghost use Rattle.std.specs.Prelude.{◌≡◌, ◌-◌, ◌≤◌, ◌<◌, Ok, IfOk, OnErr};
 ghost use Rattle.pdb_base.specs.Answer.{Answers, Gives};
-ghost use Rattle.pdb_tpi.specs.Finder.{first_of, item_of};
+ghost use Rattle.pdb_tpi.specs.Finder.{item_of};
 ghost use Rattle.pdb_tpi.specs.Item.{bytes_of, index_of};
-ghost use Rattle.pdb_tpi.specs.OpenTable.{bytes_at, located, record_at, step_located};
-ghost use Rattle.pdb_tpi.specs.Place.{ArePlaces, IsPlace};
+ghost use Rattle.pdb_tpi.specs.OpenTable.{bytes_at, located, step_located};
 ghost use Rattle.pdb_tpi.specs.StepLaws.{first_stand};
-ghost use Rattle.pdb_tpi.specs.Steps.{nth_item};
 
-use crate::finder::{BLOCK_LEN, ItemFinder, PRIMITIVE};
+use crate::finder::{BLOCK_LEN, PRIMITIVE};
 use crate::item::Item;
 use crate::item_information::ItemInformation;
 use crate::item_iter::ItemIter;
-use pdb_base::{Error, FallibleIterator, ItemIndex, Result};
+use pdb_base::{Count, Error, FallibleIterator, ItemIndex, Result};
 use std::alloc::Global;
 use std::marker::Model;
-use std::mem::replace;
 
 /// Where a record stands in the stream of its table.
 #[derive(Clone, Copy, Debug, PartialEq, Eq)]
@@ -67,48 +64,6 @@ fn record_before(end: usize, len: usize) -> RecordPlace
     }
 }
 
-/// Returns an iterator that stands before the last item whose position is known, among the items up
-/// to a place in the walk.
-fn start<'t, I: ItemIndex>(
-    table: &'t ItemInformation<I>,
-    positions: &[u32],
-    place: u32,
-) -> ItemIter<'t, I>
-    requires { (block : ℕ) → block < length positions.now →
-        IsPlace table.now (first_of table.now block) (slice_index positions.now block) }
-    ensures table { result.table ≡ table.now }
-    ensures least { table.now.header.minimum_index ≤ result.index }
-    ensures most { result.index ≤ table.now.header.minimum_index + place }
-{
-    let Some(last) = positions.len().checked_sub(1) else {
-        return table.iter();
-    };
-    let block = last.min((place / BLOCK_LEN) as usize);
-    let first = table.header().minimum_index as u64 + block as u64 * BLOCK_LEN as u64;
-    ItemIter::at(table, first, positions[block] as usize)
-}
-
-/// Returns where the blocks begin up to the one of a place in the walk, as far as there are any,
-/// from those positions that are known already.
-fn learned<I: ItemIndex>(table: &ItemInformation<I>, positions: Vec<u32>, place: u32) -> Vec<u32>
-    requires { ArePlaces table.now positions.items (vec_capacity positions) }
-    ensures { ArePlaces table.now result.items (vec_capacity result) }
-{
-    let block = (place / BLOCK_LEN) as usize;
-    let mut items = start(table, &positions, place);
-    let mut finder = ItemFinder::with_positions(table, positions);
-    for _ in 0..u32::MAX {
-        if finder.knows(block) {
-            break;
-        }
-        let Ok(Some(_)) = items.next() else {
-            break;
-        };
-        finder.update(&items);
-    }
-    finder.into_positions()
-}
-
 impl<I: ItemIndex> OpenTable<I> {
     /// Keeps a table open, with its walk before the first item.
     ///
@@ -117,7 +72,7 @@ impl<I: ItemIndex> OpenTable<I> {
     pub fn new(alloc: Global, items: ItemInformation<I>) -> Result<Self>
         ensures { Answers (λ table. table) result (Ok (first_stand items)) }
     {
-        let positions = items.finder(alloc)?.into_positions();
+        let positions = items.positions(alloc)?;
         let (index, position) = items.iter().place();
         Ok(OpenTable {
             items,
@@ -142,39 +97,27 @@ impl<I: ItemIndex> OpenTable<I> {
         self.index
     }
 
-    /// Learns where items stand, up to the one of an index, as far as there are any. Later look-ups
-    /// of that index read at most eight lengths.
-    pub fn learn(&mut self, alloc: Global, index: u32)
+    /// Learns where items stand, up to the one of an index, as far as there are any, for later
+    /// look-ups.
+    pub fn learn(&mut self, index: I)
         ensures { self.new ≡ self.old }
     {
         let header = self.items.header();
-        if index < header.minimum_index || index >= header.maximum_index {
+        let number: u32 = index.into();
+        if number < header.minimum_index || number >= header.maximum_index {
             return;
         }
-        let place = index - header.minimum_index;
-        if self.positions.len() <= (place / BLOCK_LEN) as usize {
-            let positions = replace(&mut self.positions, Vec::new(alloc));
-            self.positions = learned(&self.items, positions, place);
+        let last = (number - header.minimum_index) / BLOCK_LEN;
+        for block in self.positions.len() as u32..last + 1 {
+            let behind = block * BLOCK_LEN - 1;
+            let Ok((_, end)) = self
+                .items
+                .item_at(&self.positions, behind, &mut Count::new())
+            else {
+                return;
+            };
+            self.positions.push_reserved(end as u32);
         }
-    }
-
-    /// Returns the item at a place in the walk and where its record stands, or the fault at which
-    /// the walk stops before it.
-    #[inline(always)]
-    fn nth(&self, place: u32) -> Result<(Item<'_, I>, RecordPlace)>
-        ensures item { Gives (λ found. bytes_of found.0) result (nth_item self.now.table place) }
-        ensures index { IfOk result (λ found.
-            I.number (index_of found.0) ≡ self.now.table.header.minimum_index + place) }
-        ensures record { IfOk result (λ found. found.1 ≡ record_at self.now.table place (bytes_of found.0)) }
-    {
-        let minimum = self.items.header().minimum_index;
-        let mut items = start(&self.items, &self.positions, place);
-        let (from, _) = items.place();
-        let steps = (minimum as u64 + place as u64 - from) as u32;
-        let item = items.skip(steps)?;
-        let (_, end) = items.place();
-        let record = record_before(end, item.len());
-        Ok((item, record))
     }
 
     /// Returns where the record of an index stands in the stream of the table. Returns None for an
@@ -185,41 +128,38 @@ impl<I: ItemIndex> OpenTable<I> {
     /// the walk stops if that is before the item, and with `UnexpectedEof` if the walk ends before
     /// the item.
     #[tactic(auto, unfolding(crate::specs::Finder::item_of))]
-    pub fn find(&self, index: u32) -> Result<Option<RecordPlace>>
-        ensures { Gives (λ place. place) result (located self.now.table index) }
+    pub fn find(&self, index: I) -> Result<Option<RecordPlace>>
+        ensures { Gives (λ place. place) result (located self.now.table (I.number index)) }
     {
         let header = self.items.header();
-        if index < header.minimum_index {
+        let number: u32 = index.into();
+        if number < header.minimum_index {
             return Ok(None);
         }
-        if index >= header.maximum_index {
-            return Err(Error::TypeNotFound(index));
+        if number >= header.maximum_index {
+            return Err(Error::TypeNotFound(number));
         }
-        let (_, place) = self.nth(index - header.minimum_index)?;
-        Ok(Some(place))
+        let place = number - header.minimum_index;
+        let (item, end) = self
+            .items
+            .item_at(&self.positions, place, &mut Count::new())?;
+        Ok(Some(record_before(end, item.len())))
     }
 
-    /// Returns the item of an index, wherever in the table it stands.
+    /// Returns the item of an index, wherever in the table it stands. The bytes of a primitive type
+    /// are ff ff.
     ///
     /// # Errors
     /// Fails as `find` does.
-    #[tactic(auto, unfolding(crate::specs::Finder::item_of))]
-    pub fn item(&self, index: u32) -> Result<Item<'_, I>>
-        ensures item { Gives bytes_of result (item_of self.now.table index) }
-        ensures index { IfOk result (λ item. I.number (index_of item) ≡ index) }
+    pub fn item(&self, index: I) -> Result<Item<'_, I>>
+        ensures item { Gives bytes_of result (item_of self.now.table (I.number index)) }
+        ensures index { IfOk result (λ item. index_of item ≡ index) }
     {
-        let header = self.items.header();
-        if index < header.minimum_index {
-            return Ok(Item {
-                index: I::from(index),
-                bytes: PRIMITIVE,
-            });
-        }
-        if index >= header.maximum_index {
-            return Err(Error::TypeNotFound(index));
-        }
-        let (item, _) = self.nth(index - header.minimum_index)?;
-        Ok(item)
+        let bytes = match self.find(index)? {
+            Some(place) => self.bytes_at(place),
+            None => PRIMITIVE,
+        };
+        Ok(Item { index, bytes })
     }
 
     /// Returns where the next record of the walk stands in the stream of the table, or None behind
@@ -232,14 +172,13 @@ impl<I: ItemIndex> OpenTable<I> {
         ensures kept { OnErr result (self.new ≡ self.old) }
     {
         let mut items = ItemIter::at(&self.items, self.index, self.position);
-        let given = items.next()?;
+        let Some(item) = items.next()? else {
+            return Ok(None);
+        };
         let (index, end) = items.place();
         self.index = index;
         self.position = end;
-        match given {
-            Some(item) => return Ok(Some(record_before(end, item.len()))),
-            None => return Ok(None),
-        }
+        Ok(Some(record_before(end, item.len())))
     }
 
     /// Returns the bytes of the stream at a place, such as that of a record, as many of them as

@@ -633,11 +633,12 @@ fn open_answers(alloc: Global, open: &OpenTable<TypeIndex>, ask: &OpenAsk) -> Re
         OpenAsk::Index(index, count) => {
             Ok(open.index() == *index && open.items().len() == *count)
         }
-        OpenAsk::Find(index, want) => Ok(is_at(open.find(*index), *want)),
+        OpenAsk::Find(index, want) => Ok(is_at(open.find(TypeIndex(*index)), *want)),
         OpenAsk::NotFound(index) => {
-            Ok(matches!(open.find(*index), Err(Error::TypeNotFound(bad)) if bad == *index))
+            let found = open.find(TypeIndex(*index));
+            Ok(matches!(found, Err(Error::TypeNotFound(bad)) if bad == *index))
         }
-        OpenAsk::Len(index, len) => Ok(is_long(open.item(*index), *len)),
+        OpenAsk::Len(index, len) => Ok(is_long(open.item(TypeIndex(*index)), *len)),
         OpenAsk::Fields(index, want) => {
             has_fields(alloc, open.fields(alloc, TypeIndex(*index)), want)
         }
@@ -654,7 +655,7 @@ fn open_does(alloc: Global, open: &mut OpenTable<TypeIndex>, ask: &OpenAsk) -> R
             Ok(true)
         }
         OpenAsk::Learn(index) => {
-            open.learn(alloc, *index);
+            open.learn(TypeIndex(*index));
             Ok(true)
         }
         _ => open_answers(alloc, open, ask),

@@ -4,8 +4,8 @@ use Rattle.std.proofs.lemmas.Bool.{cases_lt, false≢true}
 use Rattle.pdb_tpi.specs.declared.header.Header.{Header}
 use Rattle.pdb_tpi.specs.Table.{count_of}
 use Rattle.pdb_tpi.proofs.FinderLemmas.{some_blocks, no_blocks, places_none, places_first}
-use Rattle.pdb_tpi.proofs.item_information.ItemInformation.finder.Goals.{then-not-is_empty, else-not-is_empty}
-use Rattle.pdb_tpi.proofs.item_information.ItemInformation.finder.Goals as goal
+use Rattle.pdb_tpi.proofs.item_information.ItemInformation.positions.Goals.{then-not-is_empty, else-not-is_empty}
+use Rattle.pdb_tpi.proofs.item_information.ItemInformation.positions.Goals as goal
 
 -- a table that isn't empty counts an index
 some : (count : ℕ) → (count ≡ 0 → IsTrue false) → 0 < count
@@ -16,8 +16,8 @@ push_reserved-requires g c =
     let room = some_blocks c.args.self.now (some (count_of c.args.self.now) c.if-not-is_empty.ensures.1) in
     omega (arith, room, c.most_blocks.ensures, c.in_ok-positions.ensures.len, c.in_ok-positions.ensures.exact)
 
-pub invariant_of-result : goal.invariant_of-result
-invariant_of-result g c = elim c.if-not-is_empty.branch [
+pub returns-clause-places : goal.returns-clause-places
+returns-clause-places g c = elim c.if-not-is_empty.branch [
   | then-not-is_empty w ↦
       let places = places_first c.args.self.now (vec_capacity w.push_reserved.new.self) c.header-header.ensures.sound (some (count_of c.args.self.now) w.if-not-is_empty.ensures.1)
       (omega (arith, c.most_blocks.ensures, c.in_ok-positions.ensures.exact, w.push_reserved.ensures.capacity)) in
