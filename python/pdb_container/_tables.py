@@ -7,13 +7,18 @@ from typing import Iterator, List, Optional, Union
 
 from . import _sys
 from ._library import Opened, PdbError, items, library, named_items, value
-from ._sys import Fault, IdShape, Shape, Status
+from ._sys import Fault, IdShape, Shape, Stands, Status
 
 TYPES, IDS = 2, 4  # the streams of both tables
 FIRST_RECORD = 0x1000  # the indexes below it are those of primitive types
 FORWARD = 1 << 7  # of the properties: only declared
 BATCH = 512  # the records that a walk takes from the library at a time
 LONGEST = 65_535  # bytes of a record, and so of its name
+
+# The bits that say which numbers a row has.
+NUMBER, KIND, ATTRIBUTES, PROPERTIES, COUNT = (int(Stands[it]) for it in "NUMBER KIND ATTRIBUTES PROPERTIES COUNT".split())
+TYPE_INDEX, SECOND_INDEX, THIRD_INDEX = int(Stands.TYPE_INDEX), int(Stands.SECOND_INDEX), int(Stands.THIRD_INDEX)
+LIST_INDEX, EXTRA = int(Stands.LIST_INDEX), int(Stands.EXTRA)
 
 _TYPE = struct.Struct("<6IQ11I4x")
 _FIELD = struct.Struct("<Q11I4xQI4x")
@@ -71,16 +76,16 @@ class Row:
 def _numbers(number, stands, kind, attributes, properties, count, type_index, second_index, third_index, list_index, extra):
     """The numbers that a record has, in the order of Row."""
     return (
-        number if stands & 512 else None,
-        kind if stands & 1 else None,
-        attributes if stands & 2 else None,
-        properties if stands & 4 else None,
-        count if stands & 8 else None,
-        type_index if stands & 16 else None,
-        second_index if stands & 32 else None,
-        third_index if stands & 64 else None,
-        list_index if stands & 128 else None,
-        extra if stands & 256 else None,
+        number if stands & NUMBER else None,
+        kind if stands & KIND else None,
+        attributes if stands & ATTRIBUTES else None,
+        properties if stands & PROPERTIES else None,
+        count if stands & COUNT else None,
+        type_index if stands & TYPE_INDEX else None,
+        second_index if stands & SECOND_INDEX else None,
+        third_index if stands & THIRD_INDEX else None,
+        list_index if stands & LIST_INDEX else None,
+        extra if stands & EXTRA else None,
     )
 
 
@@ -338,7 +343,7 @@ class Ids:
             raise PdbError(self._stop, self.number)
 
     def _place(self, at: int):
-        """Where a record stands: behind two bytes that give its length."""
+        """Where a record is: after two bytes that give its length."""
         position = self._positions[at]
         return position + 2, int.from_bytes(self.stream[position : position + 2], "little")
 

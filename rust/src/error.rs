@@ -72,9 +72,9 @@ errors! {
         /// Tells which stream, in the text of the error.
         text: first
     }
-    /// The file ends too soon, or memory to read it was refused.
+    /// The file ends too soon, or an allocation to read it failed.
     PDB_IO_ERROR Io {
-        /// 1 where the file ends too soon, 2 where memory was refused.
+        /// 1 where the file ends too soon, 2 where an allocation failed.
         why: first
     }
     /// The bytes end before the value that is to be read from them does.

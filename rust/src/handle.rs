@@ -65,7 +65,7 @@ pub(crate) fn items<T: Clone + Default>(
     }
 }
 
-/// The same of a call that also copies the names of the items, one behind another.
+/// The same of a call that also copies the names of the items, one after another.
 pub(crate) fn named_items<T: Clone + Default>(
     mut call: impl FnMut(*mut T, usize, *mut usize, *mut u8, usize, *mut usize, *mut sys::Fault) -> u32,
 ) -> Result<Option<(Vec<T>, Vec<u8>)>> {

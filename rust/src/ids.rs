@@ -54,7 +54,7 @@ impl Ids {
     }
 
     fn at(&self, index: u32, position: u32) -> Result<Id<'_>> {
-        // Two bytes give the length, and behind them stands the record, which the library has found there.
+        // Two bytes give the length of the record that follows them, which the library has found there.
         let item = &self.stream[position as usize..];
         let record = &item[2..][..usize::from(u16::from_le_bytes([item[0], item[1]]))];
         let row = value(|row, fault| unsafe { sys::pdb_id_row(record.as_ptr(), record.len(), row, fault) })?;
@@ -71,8 +71,8 @@ impl<'t> IntoIterator for &'t Ids {
     }
 }
 
-/// Each id of a table. A record that can't be read is an error, and the iterator goes on behind it; after an error of
-/// the table itself it ends.
+/// Each id of a table. A record that can't be read is an error, and the iterator goes on; after an error of the
+/// table itself it ends.
 #[derive(Debug, Clone)]
 pub struct IdIter<'t> {
     ids: &'t Ids,

@@ -11,7 +11,7 @@
 //!     match ty {
 //!         Ok(ty) if ty.is_definition() => println!("{:#x} {}", ty.index, ty.name()?.unwrap_or_default()),
 //!         Ok(_) => {}
-//!         // A record of a kind that is not read; the iterator goes on behind it.
+//!         // A record of a kind that is not read; the iterator goes on.
 //!         Err(error) => eprintln!("{error}"),
 //!     }
 //! }

@@ -118,8 +118,8 @@ impl<'t> IntoIterator for &'t Types {
     }
 }
 
-/// Each type of a table. A record that can't be read is an error, and the iterator goes on behind it; after an error
-/// of the table itself it ends.
+/// Each type of a table. A record that can't be read is an error, and the iterator goes on; after an error of the
+/// table itself it ends.
 #[derive(Debug)]
 pub struct TypeIter<'t> {
     types: &'t Types,

@@ -66,8 +66,8 @@ fn types_and_their_fields() {
     assert_eq!(types.get(0x74).unwrap().shape(), Shape::Primitive);
     assert_eq!(types.get(0x74).unwrap().name(), Ok(None));
     assert_eq!(types.find("Missing").unwrap(), None);
-    let behind = 0x1000 + types.count();
-    assert_eq!(types.get(behind), Err(Error::TypeNotFound { index: behind }));
+    let after_last = 0x1000 + types.count();
+    assert_eq!(types.get(after_last), Err(Error::TypeNotFound { index: after_last }));
     assert_eq!(types.fields(derived.index), Err(Error::UnimplementedTypeKind { kind: 0x1504 }));
 }
 
