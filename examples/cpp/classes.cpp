@@ -20,7 +20,7 @@ constexpr uint32_t types_stream = 2;
 constexpr uint32_t forward = 1 << 7; // of the properties: only declared
 constexpr size_t most = 5;
 
-// Throws what the library refused, in its own words.
+// Throws an error of the library, in its own words.
 void expect(bool is_well, const pdb_fault &about) {
     if (is_well) return;
     uint8_t room[200];
@@ -43,11 +43,17 @@ template <class T, class Call> std::vector<T> answer(Call call) {
     return room;
 }
 
+// The address of bytes, which is not null even where there are none.
+const uint8_t *at(const Bytes &bytes) {
+    static const uint8_t none[1] = {};
+    return bytes.empty() ? none : bytes.data();
+}
+
 // The header and the directory of a file, closed where it goes out of scope.
 struct File {
     explicit File(const Bytes &file) {
         pdb_fault fault{};
-        expect(pdb_file_open(file.data(), file.size(), &handle, &fault) == PDB_OK, fault);
+        expect(pdb_file_open(at(file), file.size(), &handle, &fault) == PDB_OK, fault);
     }
     ~File() { pdb_close(&handle); }
     File(const File &) = delete;
@@ -67,17 +73,17 @@ class Types {
     explicit Types(const Bytes &file) {
         File opened(file);
         stream = answer<uint8_t>([&](uint8_t *room, size_t size, size_t *count, pdb_fault *fault) {
-            return pdb_file_stream(&opened.handle, file.data(), file.size(), types_stream, SIZE_MAX, room, size, count, fault);
+            return pdb_file_stream(&opened.handle, at(file), file.size(), types_stream, SIZE_MAX, room, size, count, fault);
         });
         pdb_fault fault{};
-        expect(pdb_table_open(stream.data(), stream.size(), &table, &fault) == PDB_OK, fault);
+        expect(pdb_table_open(at(stream), stream.size(), &table, &fault) == PDB_OK, fault);
     }
 
     ~Types() { pdb_close(&table); }
     Types(const Types &) = delete;
     Types &operator=(const Types &) = delete;
 
-    // Calls with the index and the row of each type, from the first on.
+    // Calls with the index and the row of each type, from the first on, but not of a kind that is not read.
     template <class Call> void walk(Call call) {
         uint32_t status = PDB_OK;
         pdb_record record{};
@@ -86,8 +92,9 @@ class Types {
         while ((status = pdb_table_next(&table, &record, &fault)) != PDB_NOWHERE) {
             expect(status == PDB_OK, fault);
             pdb_row row{};
-            expect(pdb_type_row(&stream[record.offset], record.length, record.index, &row, &fault) == PDB_OK, fault);
-            call(record.index, row);
+            status = pdb_type_row(&stream[record.offset], record.length, record.index, &row, &fault);
+            if (status == PDB_OK) call(record.index, row);
+            else expect(status != PDB_OUT_OF_MEMORY, fault);
         }
     }
 

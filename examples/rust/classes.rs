@@ -1,37 +1,44 @@
 //! Prints the largest classes of a program database, each with its members.
 //!
-//!     rustc classes.rs -Lnative=FOLDER/lib
-//!     ./classes FILE
+//!     cd rust && cargo run --example classes -- ../examples/sample.pdb
 
-#[allow(dead_code)]
-mod pdb_container;
-
-use pdb_container::{CLASS, LIST_INDEX, MEMBER, Types};
 use std::cmp::Reverse;
 use std::error::Error;
 
-const FORWARD: u32 = 1 << 7; // of the properties: only declared
+use pdb_container::{Pdb, Shape};
+
 const MOST: usize = 5;
 
 fn main() -> Result<(), Box<dyn Error>> {
     let path = std::env::args_os().nth(1).ok_or("usage: classes FILE")?;
-    let mut types = Types::open(&std::fs::read(path)?)?;
-    let mut classes = Vec::new();
-    for (index, row) in types.rows()? {
-        if row.shape == CLASS && row.properties & FORWARD == 0 {
-            classes.push((index, row));
-        }
-    }
-    classes.sort_by_key(|(_, row)| Reverse(row.number));
-    for (index, row) in classes.into_iter().take(MOST) {
-        println!("{} {}", row.number, types.name(index)?.unwrap_or_default());
-        if row.stands & LIST_INDEX == 0 {
+    let bytes = std::fs::read(path)?;
+    let types = Pdb::parse(&bytes)?.types()?;
+    // Records of a kind that is not read are passed over.
+    let mut classes: Vec<_> = types
+        .iter()
+        .flatten()
+        .filter(|it| it.shape() == Shape::Class && it.is_definition())
+        .collect();
+    classes.sort_by_key(|it| Reverse(it.row.number()));
+    for class in classes.iter().take(MOST) {
+        println!(
+            "{} {}",
+            class.row.number().unwrap_or_default(),
+            class.name()?.unwrap_or_default()
+        );
+        let Some(list) = class.row.list_index() else {
             continue;
-        }
-        for field in types.fields(row.list_index)? {
-            if field.row.shape == MEMBER {
-                println!("  +{} {}", field.row.number, field.name);
-            }
+        };
+        for field in types
+            .fields(list)?
+            .iter()
+            .filter(|it| it.shape() == Shape::Member)
+        {
+            println!(
+                "  +{} {}",
+                field.row.number().unwrap_or_default(),
+                field.name.unwrap_or_default()
+            );
         }
     }
     Ok(())

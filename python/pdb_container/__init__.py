@@ -1,0 +1,23 @@
+"""Reads Microsoft program databases (PDB) by a formally verified library.
+
+    import pdb_container
+
+    with pdb_container.open("program.pdb") as pdb:
+        for field in pdb.types["Derived"].fields:
+            print(field.shape.name, field.name, field.number)
+
+The calls of the library are proved: for any bytes they end, read within the bytes, and give the answer that a written
+grammar of the format gives, or its first error. This package calls them, and is not proved. What a file has open stays
+on the thread that opened it.
+"""
+
+from ._file import AddressMap, Frame, Frames, Information, Names, Omap, Pdb, Roles, Section, Stream, Streams, open
+from ._library import LibraryError, PdbError
+from ._sys import IdShape, Shape, Status
+from ._tables import Field, Id, Ids, Row, Type, Types
+
+__version__ = "0.1.0"
+__all__ = [
+    "AddressMap", "Field", "Frame", "Frames", "Id", "IdShape", "Ids", "Information", "LibraryError", "Names", "Omap",
+    "Pdb", "PdbError", "Roles", "Row", "Section", "Shape", "Status", "Stream", "Streams", "Type", "Types", "open",
+]  # fmt: skip

@@ -1,0 +1,413 @@
+"""A program database, and the parts of it that are no tables of records."""
+
+import builtins
+import mmap
+import os
+import uuid
+from collections.abc import Sequence
+from ctypes import byref, c_size_t, c_uint8, c_uint32, string_at
+from dataclasses import dataclass
+from functools import cached_property
+from typing import Dict, Iterator, List, Optional, Tuple, Union
+
+from . import _sys
+from ._library import Lent, Opened, PdbError, items, library, named_items, value
+from ._sys import Fault, Status
+from ._tables import IDS, TYPES, Ids, Types
+
+NO_STREAM = 0xFFFF
+
+
+@dataclass(frozen=True)
+class Information:
+    """The numbers that identify a file."""
+
+    version: int  # of the format, such as 20000404 for version 7
+    signature: int  # the time at which the file was made, in seconds since 1970
+    age: int  # how often the file was written
+    guid: uuid.UUID
+
+
+@dataclass(frozen=True)
+class Roles:
+    """The numbers of the streams in eleven roles, each None if the file has no such stream."""
+
+    fpo: Optional[int]
+    exception: Optional[int]
+    fixup: Optional[int]
+    omap_to_src: Optional[int]
+    omap_from_src: Optional[int]
+    section_headers: Optional[int]
+    token_rid_map: Optional[int]
+    xdata: Optional[int]
+    pdata: Optional[int]
+    framedata: Optional[int]
+    original_section_headers: Optional[int]
+
+
+@dataclass(frozen=True)
+class Section:
+    """The header of a section."""
+
+    name: str
+    virtual_size: int
+    virtual_address: int
+    size_of_raw_data: int
+    pointer_to_raw_data: int
+    pointer_to_relocations: int
+    pointer_to_line_numbers: int
+    number_of_relocations: int
+    number_of_line_numbers: int
+    characteristics: int
+
+
+@dataclass(frozen=True)
+class Frame:
+    """What a stack walker needs to know about the frame of a piece of code. What there is not is None."""
+
+    kind: int  # the number in StackFrameTypeEnum, or 255
+    code_start: int  # the address of the first byte of the code, in the original image
+    code_size: int
+    locals_size: int
+    params_size: int
+    prolog_size: int
+    saved_regs_size: int
+    max_stack_size: Optional[int]
+    has_structured_eh: bool
+    has_cpp_eh: bool
+    is_function_start: bool
+    uses_base_pointer: bool
+    program: Optional[int]  # the offset of the frame's program in the string table
+
+
+class Names:
+    """A string table: the name at an offset, or each offset and name, in their order."""
+
+    def __init__(self, stream: memoryview, room):
+        self._stream, self._kept = stream, room
+        self._table = Opened(library().pdb_names_open, room, len(stream))
+
+    def __getitem__(self, offset: int) -> str:
+        """The name at an offset. KeyError if no name is there."""
+        try:
+            place = value(_sys.Name, library().pdb_names_place, self._table.handle, offset)
+        except PdbError as error:
+            if error.status == Status.UNEXPECTED_EOF:
+                raise KeyError(offset) from None
+            raise
+        return str(self._stream[place.offset : place.offset + place.length], "utf-8", "replace")
+
+    def __iter__(self) -> Iterator[Tuple[int, str]]:
+        for offset in items(c_uint32, library().pdb_names_offsets, self._table.handle):
+            yield offset, self[offset]
+
+
+class _Ranges:
+    """What moves the addresses of a range."""
+
+    def _ranges(self, call, handle, addresses: range) -> List[range]:
+        return [range(it.start, it.end) for it in items(_sys.Span, call, handle, addresses.start, addresses.stop)]
+
+
+class Omap(_Ranges):
+    """A table of moved addresses."""
+
+    def __init__(self, stream: memoryview, room, number: Optional[int] = None):
+        self._table = Opened(library().pdb_omap_open, room, len(stream), stream=number)
+
+    def lookup(self, address: int) -> Optional[int]:
+        """The address to which the table moves an address, or None if it moves it nowhere."""
+        target = value(c_uint32, library().pdb_omap_lookup, self._table.handle, address)
+        return None if target is None else target.value
+
+    def ranges(self, addresses: range) -> List[range]:
+        """The ranges to which the table moves the addresses of a range: one for each record that moves some."""
+        return self._ranges(library().pdb_omap_ranges, self._table.handle, addresses)
+
+
+Place = Tuple[int, int]
+
+
+class AddressMap(_Ranges):
+    """The address map of a file: its sections, and the OMAP tables of a tool that rearranged the image.
+
+    An RVA is an address in the image as it is loaded, and an internal RVA is one in the original image, which the parts
+    of a program database refer to. A place is a section, counted from 1, and an offset in it. None says that there is
+    no answer.
+    """
+
+    def __init__(self, lent: Lent):
+        self._map = Opened(library().pdb_file_addresses, lent.at, lent.length)
+
+    def _address(self, name: str, *words: int) -> Optional[int]:
+        found = value(c_uint32, getattr(library(), name), self._map.handle, *words)
+        return None if found is None else found.value
+
+    def _place(self, name: str, *words: int) -> Optional[Place]:
+        found = value(_sys.Place, getattr(library(), name), self._map.handle, *words)
+        return None if found is None else (found.section, found.offset)
+
+    def rva_to_internal_rva(self, address: int) -> Optional[int]:
+        return self._address("pdb_rva_to_internal_rva", address)
+
+    def rva_to_section_offset(self, address: int) -> Optional[Place]:
+        return self._place("pdb_rva_to_section_offset", address)
+
+    def rva_to_internal_offset(self, address: int) -> Optional[Place]:
+        return self._place("pdb_rva_to_internal_offset", address)
+
+    def internal_rva_to_rva(self, address: int) -> Optional[int]:
+        return self._address("pdb_internal_rva_to_rva", address)
+
+    def internal_rva_to_section_offset(self, address: int) -> Optional[Place]:
+        return self._place("pdb_internal_rva_to_section_offset", address)
+
+    def internal_rva_to_internal_offset(self, address: int) -> Optional[Place]:
+        return self._place("pdb_internal_rva_to_internal_offset", address)
+
+    def section_offset_to_rva(self, section: int, offset: int) -> Optional[int]:
+        return self._address("pdb_section_offset_to_rva", section, offset)
+
+    def section_offset_to_internal_rva(self, section: int, offset: int) -> Optional[int]:
+        return self._address("pdb_section_offset_to_internal_rva", section, offset)
+
+    def section_offset_to_internal_offset(self, section: int, offset: int) -> Optional[Place]:
+        return self._place("pdb_section_offset_to_internal_offset", section, offset)
+
+    def internal_offset_to_internal_rva(self, section: int, offset: int) -> Optional[int]:
+        return self._address("pdb_internal_offset_to_internal_rva", section, offset)
+
+    def internal_offset_to_rva(self, section: int, offset: int) -> Optional[int]:
+        return self._address("pdb_internal_offset_to_rva", section, offset)
+
+    def internal_offset_to_section_offset(self, section: int, offset: int) -> Optional[Place]:
+        return self._place("pdb_internal_offset_to_section_offset", section, offset)
+
+    def rva_ranges(self, addresses: range) -> List[range]:
+        """Where the addresses of a range of the original image lie in the image as it is loaded."""
+        return self._ranges(library().pdb_rva_ranges, self._map.handle, addresses)
+
+    def internal_rva_ranges(self, addresses: range) -> List[range]:
+        """Where the addresses of a range of the image as it is loaded lie in the original image."""
+        return self._ranges(library().pdb_internal_rva_ranges, self._map.handle, addresses)
+
+
+class Frames:
+    """The frame table of a file, of both formats."""
+
+    def __init__(self, lent: Lent):
+        self._table = Opened(library().pdb_file_frames, lent.at, lent.length)
+
+    def at(self, address: int) -> Optional[Frame]:
+        """The first frame from an address of the original image on: the one at the address, or else the first above."""
+        it = value(_sys.Frame, library().pdb_frames_at, self._table.handle, address)
+        if it is None:
+            return None
+        sizes = it.code_start, it.code_size, it.locals_size, it.params_size, it.prolog_size, it.saved_regs_size
+        flags = map(bool, (it.has_structured_eh, it.has_cpp_eh, it.is_function_start, it.uses_base_pointer))
+        most = it.max_stack_size if it.has_max_stack_size else None
+        return Frame(it.kind, *sizes, most, *flags, it.program if it.has_program else None)
+
+
+class Stream:
+    """A stream of a file: its number, and its size in bytes as the directory gives it, None for one that is absent."""
+
+    def __init__(self, pdb: "Pdb", number: int, size: Optional[int]):
+        self._pdb, self.number, self.size = pdb, number, size
+
+    def __repr__(self) -> str:
+        return f"Stream(number={self.number}, size={self.size})"
+
+    def read(self, limit: Optional[int] = None) -> memoryview:
+        """Its bytes, at most `limit` of them."""
+        return self._pdb.stream(self.number, limit)
+
+    @property
+    def name(self) -> Optional[str]:
+        """The first of its names."""
+        return next((name for name, number in self._pdb.named_streams.items() if number == self.number), None)
+
+    @property
+    def role(self) -> Optional[str]:
+        """The name of its role in `Roles`."""
+        roles = self._pdb.roles
+        return next((role for role in roles.__dataclass_fields__ if getattr(roles, role) == self.number), None)
+
+
+class Streams(Sequence):
+    """The streams of a file, by their numbers."""
+
+    def __init__(self, pdb: "Pdb"):
+        self._pdb = pdb
+        self._count = value(c_uint32, library().pdb_file_stream_count, pdb._file.handle).value
+
+    def __len__(self) -> int:
+        return self._count
+
+    def __getitem__(self, number: int) -> Stream:
+        if not 0 <= number < self._count:
+            raise IndexError(number)
+        self._pdb._bytes()
+        try:
+            size = value(c_uint32, library().pdb_file_stream_size, self._pdb._file.handle, number).value
+        except PdbError as error:
+            if error.status != Status.STREAM_NOT_FOUND:
+                raise
+            size = None
+        return Stream(self._pdb, number, size)
+
+
+class Pdb:
+    """A program database over the bytes of any object that has a buffer, which are not copied."""
+
+    def __init__(self, data):
+        self._data = data
+        self._lent = Lent(data)
+        try:
+            self._file = Opened(library().pdb_file_open, self._lent.at, self._lent.length)
+        except BaseException:
+            self._lent.release()
+            raise
+        self.page_size: int = value(c_uint32, library().pdb_file_page_size, self._file.handle).value
+        self.streams = Streams(self)
+
+    def __enter__(self) -> "Pdb":
+        return self
+
+    def __exit__(self, *_):
+        self.close()
+
+    def close(self):
+        """Gives the bytes back. Tables that were opened before stay as they are."""
+        if self._lent is not None:
+            self._file.close()
+            self._lent.release()
+            self._lent = None
+            if isinstance(self._data, mmap.mmap):
+                self._data.close()
+            self._data = None
+
+    def _bytes(self) -> Tuple[int, int]:
+        if self._lent is None:
+            raise ValueError("the program database is closed")
+        return self._lent.at, self._lent.length
+
+    def _read(self, number: int, limit: Optional[int] = None):
+        most = 2**64 - 1 if limit is None else limit
+        words = self._file.handle, *self._bytes(), number, most
+        return items(c_uint8, library().pdb_file_stream, *words, stream=number)
+
+    def _in_role(self, role: str):
+        number = getattr(self.roles, role)
+        room = None if number is None else self._read(number)
+        return number, room, None if room is None else _view(room)
+
+    def stream(self, number: int, limit: Optional[int] = None) -> memoryview:
+        """The bytes of a stream, at most `limit` of them."""
+        return _view(self._read(number, limit))
+
+    def named_stream(self, name: Union[str, bytes]) -> memoryview:
+        """The bytes of the first stream with this name, such as `/names`."""
+        return _view(self._named(name))
+
+    def _named(self, name: Union[str, bytes]):
+        word = name.encode() if isinstance(name, str) else bytes(name)
+        return items(c_uint8, library().pdb_file_named_stream, *self._bytes(), word, len(word))
+
+    @cached_property
+    def information(self) -> Information:
+        it = value(_sys.Information, library().pdb_file_information, *self._bytes())
+        return Information(it.version, it.signature, it.age, uuid.UUID(bytes_le=bytes(it.guid)))
+
+    @cached_property
+    def named_streams(self) -> Dict[str, Optional[int]]:
+        """The number of the first stream of each name, None if the file gives none, in the file's order."""
+        rows, count, names = named_items(_sys.NamedStream, library().pdb_file_stream_names, *self._bytes())
+        streams: Dict[str, Optional[int]] = {}
+        at = 0
+        for row in rows[:count]:
+            name = bytes(names[at : at + row.name_length]).decode(errors="replace")
+            streams.setdefault(name, None if row.number == NO_STREAM else row.number)
+            at += row.name_length
+        return streams
+
+    @cached_property
+    def roles(self) -> Roles:
+        it = value(_sys.Roles, library().pdb_file_roles, *self._bytes())
+        numbers = (getattr(it, name) for name, _ in it._fields_)
+        return Roles(*(None if number == NO_STREAM else number for number in numbers))
+
+    @cached_property
+    def types(self) -> Types:
+        room = self._read(TYPES)
+        return Types(_view(room), room)
+
+    @cached_property
+    def ids(self) -> Ids:
+        room = self._read(IDS)
+        return Ids(_view(room), room)
+
+    @cached_property
+    def names(self) -> Names:
+        """The string table, which is the stream `/names`."""
+        room = self._named("/names")
+        return Names(_view(room), room)
+
+    @property
+    def sections(self) -> List[Section]:
+        """The headers of the sections of the image, none if the file has no such stream."""
+        return self._sections("section_headers")
+
+    @property
+    def original_sections(self) -> List[Section]:
+        """The headers of the sections that the image had before a tool rearranged it."""
+        return self._sections("original_section_headers")
+
+    def _sections(self, role: str) -> List[Section]:
+        number, room, stream = self._in_role(role)
+        if room is None:
+            return []
+        found = items(_sys.Section, library().pdb_sections, room, len(stream), stream=number)
+        names = [bytes(it.name).split(b"\0")[0].decode(errors="replace") for it in found]
+        rest = [name for name, _ in _sys.Section._fields_[1:]]
+        return [Section(name, *(getattr(it, word) for word in rest)) for name, it in zip(names, found)]
+
+    @property
+    def omap_to_src(self) -> Optional[Omap]:
+        """The table by which addresses of the image as it is loaded go to the original image."""
+        number, room, stream = self._in_role("omap_to_src")
+        return None if room is None else Omap(stream, room, number)
+
+    @property
+    def omap_from_src(self) -> Optional[Omap]:
+        """The table by which addresses of the original image go to the image as it is loaded."""
+        number, room, stream = self._in_role("omap_from_src")
+        return None if room is None else Omap(stream, room, number)
+
+    @cached_property
+    def address_map(self) -> AddressMap:
+        self._bytes()
+        return AddressMap(self._lent)
+
+    @cached_property
+    def frames(self) -> Frames:
+        self._bytes()
+        return Frames(self._lent)
+
+
+def _view(room) -> memoryview:
+    return memoryview(room).cast("B").toreadonly()
+
+
+def open(path: Union[str, bytes, os.PathLike]) -> Pdb:
+    """Opens a file, which is mapped and not read. It must not be shortened before it is closed."""
+    with builtins.open(path, "rb") as file:
+        # Only what has a size can be mapped: no empty file, and no pipe.
+        size = os.fstat(file.fileno()).st_size
+        data = mmap.mmap(file.fileno(), 0, access=mmap.ACCESS_READ) if size else file.read()
+    try:
+        return Pdb(data)
+    except BaseException:
+        if isinstance(data, mmap.mmap):
+            data.close()
+        raise

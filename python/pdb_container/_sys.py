@@ -1,0 +1,304 @@
+"""What include/pdb_container.h declares. tools/bindings writes this file."""
+
+from ctypes import Structure, c_size_t, c_uint8, c_uint16, c_uint32, c_uint64, c_void_p
+from enum import IntEnum
+
+
+class Status(IntEnum):
+    OK = 0
+    UNRECOGNIZED_FILE_FORMAT = 1
+    PAGE_REFERENCE_OUT_OF_RANGE = 2
+    INVALID_PAGE_SIZE = 3
+    STREAM_NOT_FOUND = 4
+    STREAM_NAME_NOT_FOUND = 5
+    INVALID_STREAM_LENGTH = 6
+    IO_ERROR = 7
+    UNEXPECTED_EOF = 8
+    UNIMPLEMENTED_FEATURE = 9
+    GLOBAL_SYMBOLS_NOT_FOUND = 10
+    SYMBOL_TOO_SHORT = 11
+    UNIMPLEMENTED_SYMBOL_KIND = 12
+    INVALID_TYPE_INFORMATION_HEADER = 13
+    TYPE_TOO_SHORT = 14
+    TYPE_NOT_FOUND = 15
+    TYPE_NOT_INDEXED = 16
+    UNIMPLEMENTED_TYPE_KIND = 17
+    NOT_A_CROSS_MODULE_REF = 18
+    CROSS_MODULE_REF_NOT_FOUND = 19
+    UNEXPECTED_NUMERIC_PREFIX = 20
+    ADDRESS_MAP_NOT_FOUND = 21
+    UNIMPLEMENTED_DEBUG_SUBSECTION = 22
+    UNIMPLEMENTED_FILE_CHECKSUM_KIND = 23
+    INVALID_FILE_CHECKSUM_OFFSET = 24
+    LINES_NOT_FOUND = 25
+    INVALID_COMPRESSED_ANNOTATION = 26
+    UNKNOWN_BINARY_ANNOTATION = 27
+    OUT_OF_MEMORY = 28
+    ALREADY_OPEN = 100
+    NOT_OPEN = 101
+    TOO_SMALL = 102
+    TOO_LONG = 103
+    NO_TEXT = 104
+    NOWHERE = 105
+
+
+class Shape(IntEnum):
+    PRIMITIVE = 0
+    CLASS = 1
+    MEMBER = 2
+    MEMBER_FUNCTION = 3
+    OVERLOADED_METHOD = 4
+    METHOD = 5
+    STATIC_MEMBER = 6
+    NESTED = 7
+    BASE_CLASS = 8
+    VIRTUAL_BASE_CLASS = 9
+    VIRTUAL_FUNCTION_TABLE_POINTER = 10
+    PROCEDURE = 11
+    POINTER = 12
+    MODIFIER = 13
+    ENUMERATION = 14
+    ENUMERATE = 15
+    ARRAY = 16
+    UNION = 17
+    BITFIELD = 18
+    FIELD_LIST = 19
+    ARGUMENT_LIST = 20
+    METHOD_LIST = 21
+    VIRTUAL_TABLE_SHAPE = 22
+
+
+class IdShape(IntEnum):
+    FUNCTION = 0
+    MEMBER_FUNCTION = 1
+    BUILD_INFO = 2
+    STRING_LIST = 3
+    STRING = 4
+    TYPE_SOURCE = 5
+
+
+class Stands(IntEnum):
+    KIND = 1
+    ATTRIBUTES = 2
+    PROPERTIES = 4
+    COUNT = 8
+    TYPE_INDEX = 16
+    SECOND_INDEX = 32
+    THIRD_INDEX = 64
+    LIST_INDEX = 128
+    EXTRA = 256
+    NUMBER = 512
+
+
+class Fault(Structure):
+    _fields_ = [
+        ("status", c_uint32),
+        ("first", c_uint32),
+        ("second", c_uint32),
+    ]
+
+
+class Handle(Structure):
+    _fields_ = [
+        ("held", c_void_p),
+        ("kind", c_uint32),
+    ]
+
+
+class Information(Structure):
+    _fields_ = [
+        ("version", c_uint32),
+        ("signature", c_uint32),
+        ("age", c_uint32),
+        ("guid", c_uint8 * 16),
+    ]
+
+
+class NamedStream(Structure):
+    _fields_ = [
+        ("name_length", c_size_t),
+        ("number", c_uint32),
+    ]
+
+
+class Roles(Structure):
+    _fields_ = [
+        ("fpo", c_uint16),
+        ("exception", c_uint16),
+        ("fixup", c_uint16),
+        ("omap_to_src", c_uint16),
+        ("omap_from_src", c_uint16),
+        ("section_headers", c_uint16),
+        ("token_rid_map", c_uint16),
+        ("xdata", c_uint16),
+        ("pdata", c_uint16),
+        ("framedata", c_uint16),
+        ("original_section_headers", c_uint16),
+    ]
+
+
+class Name(Structure):
+    _fields_ = [
+        ("offset", c_size_t),
+        ("length", c_size_t),
+    ]
+
+
+class Span(Structure):
+    _fields_ = [
+        ("start", c_uint32),
+        ("end", c_uint32),
+    ]
+
+
+class Section(Structure):
+    _fields_ = [
+        ("name", c_uint8 * 8),
+        ("virtual_size", c_uint32),
+        ("virtual_address", c_uint32),
+        ("size_of_raw_data", c_uint32),
+        ("pointer_to_raw_data", c_uint32),
+        ("pointer_to_relocations", c_uint32),
+        ("pointer_to_line_numbers", c_uint32),
+        ("number_of_relocations", c_uint16),
+        ("number_of_line_numbers", c_uint16),
+        ("characteristics", c_uint32),
+    ]
+
+
+class Place(Structure):
+    _fields_ = [
+        ("offset", c_uint32),
+        ("section", c_uint32),
+    ]
+
+
+class Frame(Structure):
+    _fields_ = [
+        ("kind", c_uint32),
+        ("code_start", c_uint32),
+        ("code_size", c_uint32),
+        ("locals_size", c_uint32),
+        ("params_size", c_uint32),
+        ("prolog_size", c_uint32),
+        ("saved_regs_size", c_uint32),
+        ("has_max_stack_size", c_uint32),
+        ("max_stack_size", c_uint32),
+        ("has_structured_eh", c_uint32),
+        ("has_cpp_eh", c_uint32),
+        ("is_function_start", c_uint32),
+        ("uses_base_pointer", c_uint32),
+        ("has_program", c_uint32),
+        ("program", c_uint32),
+    ]
+
+
+class Record(Structure):
+    _fields_ = [
+        ("index", c_uint32),
+        ("offset", c_uint32),
+        ("length", c_uint32),
+    ]
+
+
+class Table(Structure):
+    _fields_ = [
+        ("first_index", c_uint32),
+        ("maximum_index", c_uint32),
+        ("stop", Fault),
+    ]
+
+
+class Row(Structure):
+    _fields_ = [
+        ("number", c_uint64),
+        ("shape", c_uint32),
+        ("stands", c_uint32),
+        ("kind", c_uint32),
+        ("attributes", c_uint32),
+        ("properties", c_uint32),
+        ("count", c_uint32),
+        ("type_index", c_uint32),
+        ("second_index", c_uint32),
+        ("third_index", c_uint32),
+        ("list_index", c_uint32),
+        ("extra", c_uint32),
+    ]
+
+
+class Type(Structure):
+    _fields_ = [
+        ("place", Record),
+        ("fault", Fault),
+        ("row", Row),
+    ]
+
+
+class Field(Structure):
+    _fields_ = [
+        ("row", Row),
+        ("name_length", c_size_t),
+        ("has_name", c_uint32),
+    ]
+
+
+# The result and the parameters of each call. A pointer is an address.
+FUNCTIONS = {
+    "pdb_error_text": (c_uint32, [c_void_p, c_void_p, c_size_t, c_void_p, c_void_p]),
+    "pdb_close": (None, [c_void_p]),
+    "pdb_file_open": (c_uint32, [c_void_p, c_size_t, c_void_p, c_void_p]),
+    "pdb_file_page_size": (c_uint32, [c_void_p, c_void_p, c_void_p]),
+    "pdb_file_stream_count": (c_uint32, [c_void_p, c_void_p, c_void_p]),
+    "pdb_file_stream_size": (c_uint32, [c_void_p, c_uint32, c_void_p, c_void_p]),
+    "pdb_file_stream": (c_uint32, [c_void_p, c_void_p, c_size_t, c_uint32, c_size_t, c_void_p, c_size_t, c_void_p, c_void_p]),
+    "pdb_file_information": (c_uint32, [c_void_p, c_size_t, c_void_p, c_void_p]),
+    "pdb_file_stream_names": (c_uint32, [c_void_p, c_size_t, c_void_p, c_size_t, c_void_p, c_void_p, c_size_t, c_void_p, c_void_p]),
+    "pdb_file_named_stream": (c_uint32, [c_void_p, c_size_t, c_void_p, c_size_t, c_void_p, c_size_t, c_void_p, c_void_p]),
+    "pdb_file_roles": (c_uint32, [c_void_p, c_size_t, c_void_p, c_void_p]),
+    "pdb_names_open": (c_uint32, [c_void_p, c_size_t, c_void_p, c_void_p]),
+    "pdb_file_names": (c_uint32, [c_void_p, c_size_t, c_void_p, c_void_p]),
+    "pdb_names_get": (c_uint32, [c_void_p, c_uint32, c_void_p, c_size_t, c_void_p, c_void_p]),
+    "pdb_names_place": (c_uint32, [c_void_p, c_uint32, c_void_p, c_void_p]),
+    "pdb_names_places": (c_uint32, [c_void_p, c_void_p, c_size_t, c_void_p, c_size_t, c_void_p, c_void_p]),
+    "pdb_names_offsets": (c_uint32, [c_void_p, c_void_p, c_size_t, c_void_p, c_void_p]),
+    "pdb_omap_open": (c_uint32, [c_void_p, c_size_t, c_void_p, c_void_p]),
+    "pdb_omap_lookup": (c_uint32, [c_void_p, c_uint32, c_void_p, c_void_p]),
+    "pdb_omap_ranges": (c_uint32, [c_void_p, c_uint32, c_uint32, c_void_p, c_size_t, c_void_p, c_void_p]),
+    "pdb_sections": (c_uint32, [c_void_p, c_size_t, c_void_p, c_size_t, c_void_p, c_void_p]),
+    "pdb_file_addresses": (c_uint32, [c_void_p, c_size_t, c_void_p, c_void_p]),
+    "pdb_rva_to_internal_rva": (c_uint32, [c_void_p, c_uint32, c_void_p, c_void_p]),
+    "pdb_rva_to_section_offset": (c_uint32, [c_void_p, c_uint32, c_void_p, c_void_p]),
+    "pdb_rva_to_internal_offset": (c_uint32, [c_void_p, c_uint32, c_void_p, c_void_p]),
+    "pdb_internal_rva_to_rva": (c_uint32, [c_void_p, c_uint32, c_void_p, c_void_p]),
+    "pdb_internal_rva_to_section_offset": (c_uint32, [c_void_p, c_uint32, c_void_p, c_void_p]),
+    "pdb_internal_rva_to_internal_offset": (c_uint32, [c_void_p, c_uint32, c_void_p, c_void_p]),
+    "pdb_section_offset_to_rva": (c_uint32, [c_void_p, c_uint16, c_uint32, c_void_p, c_void_p]),
+    "pdb_section_offset_to_internal_rva": (c_uint32, [c_void_p, c_uint16, c_uint32, c_void_p, c_void_p]),
+    "pdb_section_offset_to_internal_offset": (c_uint32, [c_void_p, c_uint16, c_uint32, c_void_p, c_void_p]),
+    "pdb_internal_offset_to_internal_rva": (c_uint32, [c_void_p, c_uint16, c_uint32, c_void_p, c_void_p]),
+    "pdb_internal_offset_to_rva": (c_uint32, [c_void_p, c_uint16, c_uint32, c_void_p, c_void_p]),
+    "pdb_internal_offset_to_section_offset": (c_uint32, [c_void_p, c_uint16, c_uint32, c_void_p, c_void_p]),
+    "pdb_rva_ranges": (c_uint32, [c_void_p, c_uint32, c_uint32, c_void_p, c_size_t, c_void_p, c_void_p]),
+    "pdb_internal_rva_ranges": (c_uint32, [c_void_p, c_uint32, c_uint32, c_void_p, c_size_t, c_void_p, c_void_p]),
+    "pdb_file_frames": (c_uint32, [c_void_p, c_size_t, c_void_p, c_void_p]),
+    "pdb_frames_at": (c_uint32, [c_void_p, c_uint32, c_void_p, c_void_p]),
+    "pdb_table_open": (c_uint32, [c_void_p, c_size_t, c_void_p, c_void_p]),
+    "pdb_table_first_index": (c_uint32, [c_void_p, c_void_p, c_void_p]),
+    "pdb_table_count": (c_uint32, [c_void_p, c_void_p, c_void_p]),
+    "pdb_table_find": (c_uint32, [c_void_p, c_uint32, c_void_p, c_void_p]),
+    "pdb_table_next": (c_uint32, [c_void_p, c_void_p, c_void_p]),
+    "pdb_table_rewind": (c_uint32, [c_void_p, c_void_p]),
+    "pdb_table_positions": (c_uint32, [c_void_p, c_size_t, c_void_p, c_size_t, c_void_p, c_void_p, c_void_p]),
+    "pdb_type_row": (c_uint32, [c_void_p, c_size_t, c_uint32, c_void_p, c_void_p]),
+    "pdb_table_next_types": (c_uint32, [c_void_p, c_void_p, c_size_t, c_void_p, c_void_p]),
+    "pdb_type_name": (c_uint32, [c_void_p, c_size_t, c_uint32, c_void_p, c_size_t, c_void_p, c_void_p]),
+    "pdb_type_arguments": (c_uint32, [c_void_p, c_size_t, c_uint32, c_void_p, c_size_t, c_void_p, c_void_p]),
+    "pdb_type_unique_name": (c_uint32, [c_void_p, c_size_t, c_uint32, c_void_p, c_size_t, c_void_p, c_void_p]),
+    "pdb_type_dimensions": (c_uint32, [c_void_p, c_size_t, c_uint32, c_void_p, c_size_t, c_void_p, c_void_p]),
+    "pdb_type_methods": (c_uint32, [c_void_p, c_size_t, c_uint32, c_void_p, c_size_t, c_void_p, c_void_p]),
+    "pdb_type_fields": (c_uint32, [c_void_p, c_size_t, c_uint32, c_void_p, c_size_t, c_void_p, c_void_p, c_size_t, c_void_p, c_void_p]),
+    "pdb_fields": (c_uint32, [c_void_p, c_uint32, c_void_p, c_size_t, c_void_p, c_void_p, c_size_t, c_void_p, c_void_p]),
+    "pdb_id_row": (c_uint32, [c_void_p, c_size_t, c_void_p, c_void_p]),
+    "pdb_id_name": (c_uint32, [c_void_p, c_size_t, c_void_p, c_size_t, c_void_p, c_void_p]),
+    "pdb_id_list": (c_uint32, [c_void_p, c_size_t, c_void_p, c_size_t, c_void_p, c_void_p]),
+}

@@ -1,0 +1,322 @@
+"""Reads examples/sample.pdb, and copies of it with damage."""
+
+import contextlib
+import io
+import mmap
+import os
+import pathlib
+import random
+import subprocess
+import sys
+import tempfile
+import threading
+import unittest
+from unittest import mock
+
+import pdb_container
+from pdb_container import IdShape, Pdb, PdbError, Shape, Status
+from pdb_container.__main__ import main
+
+SAMPLE = pathlib.Path(__file__).resolve().parents[2] / "examples" / "sample.pdb"
+PACKAGE = SAMPLE.parents[1] / "python"
+
+
+def read_types(pdb):
+    for it in pdb.types:
+        if it.error is None:
+            words = it.record, it.name, it.unique_name, it.arguments, it.dimensions, it.methods
+            with contextlib.suppress(PdbError):
+                words += (it.fields,)
+            str((it, words))
+
+
+def read_ids(pdb):
+    for it in pdb.ids:
+        if it.error is None:
+            str((it, it.record, it.name, it.ids))
+
+
+# What reads each part of a file.
+EVERYTHING = [
+    lambda pdb: [stream.read() for stream in pdb.streams if stream.size is not None],
+    lambda pdb: (pdb.information, pdb.named_streams, pdb.roles),
+    lambda pdb: [(stream.name, stream.role) for stream in pdb.streams],
+    lambda pdb: list(pdb.names),
+    lambda pdb: pdb.sections + pdb.original_sections,
+    lambda pdb: pdb.omap_to_src and pdb.omap_to_src.ranges(range(0x1000, 0x3000)),
+    lambda pdb: [pdb.address_map.rva_to_internal_offset(it) for it in range(0x1000, 0x1200)],
+    lambda pdb: pdb.address_map.rva_ranges(range(0x1000, 0x3000)),
+    lambda pdb: [pdb.frames.at(it) for it in range(0x1000, 0x1200)],
+    read_types,
+    read_ids,
+    lambda pdb: pdb.types.get("Derived"),
+]
+
+
+class OfFile(unittest.TestCase):
+    def setUp(self):
+        self.pdb = pdb_container.open(SAMPLE)
+        self.addCleanup(self.pdb.close)
+
+    def test_header(self):
+        self.assertEqual(self.pdb.page_size, 512)
+        self.assertEqual(len(self.pdb.streams), 20)
+        self.assertEqual([it.number for it in self.pdb.streams], list(range(20)))
+        self.assertEqual((self.pdb.streams[0].size, self.pdb.streams[1].size), (0, 93))
+        self.assertEqual((self.pdb.streams[14].name, self.pdb.streams[14].role), ("/names", None))
+        self.assertEqual((self.pdb.streams[17].name, self.pdb.streams[17].role), (None, "omap_from_src"))
+        with self.assertRaises(IndexError):
+            self.pdb.streams[20]
+        self.assertEqual(self.pdb.information.version, 20000404)
+        self.assertEqual(self.pdb.information.age, 1)
+        self.assertEqual(self.pdb.information.guid.bytes_le, bytes(self.pdb.stream(1)[12:28]))
+
+    def test_streams(self):
+        self.assertEqual(len(self.pdb.stream(10)), 160)
+        self.assertEqual(bytes(self.pdb.stream(10, 5)), b".text")
+        self.assertEqual(bytes(self.pdb.streams[10].read(5)), b".text")
+        with self.assertRaises(PdbError) as raised:
+            self.pdb.stream(99)
+        error = raised.exception
+        self.assertIsInstance(error, ValueError)
+        self.assertEqual((error.status, error.first, error.stream, error.offset), (Status.STREAM_NOT_FOUND, 99, 99, None))
+        self.assertIn("[stream 99]", str(error))
+
+    def test_names_and_roles_of_streams(self):
+        self.assertEqual(self.pdb.named_streams, {"/LinkInfo": 5, "/names": 14})
+        self.assertEqual(bytes(self.pdb.named_stream("/names")), bytes(self.pdb.stream(14)))
+        self.assertEqual(self.pdb.roles.framedata, 11)
+        self.assertEqual(self.pdb.roles.fpo, 19)
+        self.assertIsNone(self.pdb.roles.pdata)
+        with self.assertRaises(PdbError):
+            self.pdb.named_stream("/none")
+
+    def test_types(self):
+        types = list(self.pdb.types)
+        self.assertEqual(len(types), len(self.pdb.types))
+        self.assertEqual([it.index for it in types], list(range(0x1000, 0x1000 + len(types))))
+        self.assertTrue(all(it.error is None for it in types))
+        self.assertEqual(types[5], self.pdb.types[types[5].index])
+        self.assertEqual(self.pdb.types[0x74].shape, Shape.PRIMITIVE)
+        self.assertIn("Derived", self.pdb.types)
+        self.assertNotIn("Missing", self.pdb.types)
+        self.assertIsNone(self.pdb.types.get(0x99999))
+        with self.assertRaises(KeyError):
+            self.pdb.types[0x1000 + len(types)]
+
+    def test_walks_beside_one_another(self):
+        pairs = [(one.index, other.index) for one, other in zip(self.pdb.types, self.pdb.types)]
+        self.assertTrue(all(one == other for one, other in pairs))
+        self.assertEqual(len(pairs), len(self.pdb.types))
+        for it in self.pdb.types:
+            self.assertEqual(next(iter(self.pdb.types)).index, self.pdb.types.first_index)
+            break
+
+    def test_class(self):
+        derived = self.pdb.types["Derived"]
+        self.assertEqual((derived.shape, derived.number, derived.name, derived.unique_name), (Shape.CLASS, 128, "Derived", ".?AVDerived@@"))
+        self.assertFalse(derived.is_forward)
+        self.assertTrue(self.pdb.types[0x1000].is_forward)
+        shapes = [field.shape for field in derived.fields[:3]]
+        self.assertEqual(shapes, [Shape.BASE_CLASS, Shape.BASE_CLASS, Shape.VIRTUAL_BASE_CLASS])
+        members = {field.name: field for field in derived.fields if field.shape is Shape.MEMBER}
+        self.assertEqual(list(members), ["grid", "flags", "compare", "measure", "axis", "watched", "inner", "state"])
+        self.assertEqual(members["state"].number, 104)
+        grid = self.pdb.types[members["grid"].type_index]
+        self.assertEqual((grid.shape, grid.dimensions), (Shape.ARRAY, [48]))
+        compare = self.pdb.types[self.pdb.types[members["compare"].type_index].type_index]
+        self.assertEqual(compare.shape, Shape.PROCEDURE)
+        self.assertEqual(len(self.pdb.types[compare.list_index].arguments), 2)
+        scale = next(field for field in derived.fields if field.name == "scale")
+        self.assertEqual(len(self.pdb.types[scale.list_index].methods), 2)
+        self.assertIsNone(derived.arguments)
+
+    def test_bit_field(self):
+        high = self.pdb.types["Flags"].fields[1]
+        bits = self.pdb.types[high.type_index]
+        self.assertEqual((high.name, bits.shape, bits.count, bits.extra), ("high", Shape.BITFIELD, 13, 3))
+
+    def test_list_that_continues(self):
+        code = self.pdb.types["Code"]
+        self.assertEqual(len(code.fields), 800)
+        self.assertEqual([field.value for field in code.fields], list(range(800)))
+        self.assertIsNotNone(self.pdb.types[code.list_index].list_index)
+        # Clang writes the number -5 without its sign.
+        self.assertEqual([field.value for field in self.pdb.types["shapes::Limit"].fields], [0xFFFFFFFB, 70000])
+
+    def test_ids(self):
+        ids = list(self.pdb.ids)
+        self.assertEqual(len(ids), len(self.pdb.ids))
+        functions = [it.name for it in ids if it.shape is IdShape.FUNCTION]
+        self.assertIn("mainCRTStartup", functions)
+        build = next(it for it in ids if it.shape is IdShape.BUILD_INFO)
+        self.assertEqual(self.pdb.ids[build.ids[2]].name, "sample.cpp")
+        self.assertIn(0x1000, self.pdb.ids)
+        with self.assertRaises(KeyError):
+            self.pdb.ids[0xFFF]
+
+    def test_names(self):
+        names = dict(self.pdb.names)
+        self.assertIn("/sample/sample.cpp", names.values())
+        for offset, name in names.items():
+            self.assertEqual(self.pdb.names[offset], name)
+        with self.assertRaises(KeyError):
+            self.pdb.names[1 << 20]
+
+    def test_addresses(self):
+        self.assertEqual([it.name for it in self.pdb.sections], [".text", ".rdata", ".data", ".reloc"])
+        self.assertNotEqual(self.pdb.sections[0], self.pdb.original_sections[0])
+        by_map, to_src, from_src = self.pdb.address_map, self.pdb.omap_to_src, self.pdb.omap_from_src
+        for address in range(0x1000, 0x1190):
+            original = by_map.rva_to_internal_rva(address)
+            self.assertEqual(original, to_src.lookup(address))
+            self.assertEqual(from_src.lookup(original), address)
+            self.assertEqual(by_map.internal_rva_to_rva(original), address)
+        self.assertIsNone(by_map.internal_rva_to_rva(0x1012))
+        self.assertEqual(by_map.rva_to_section_offset(0x1005), (1, 5))
+        self.assertEqual(by_map.section_offset_to_rva(1, 5), 0x1005)
+        moved = by_map.internal_rva_ranges(range(0x1000, 0x1020))
+        self.assertEqual([address for it in moved for address in it], [to_src.lookup(it) for it in range(0x1000, 0x1020)])
+        self.assertEqual(to_src.ranges(range(0x1000, 0x1020)), moved)
+
+    def test_frames(self):
+        older, newer = self.pdb.frames.at(0x1000), self.pdb.frames.at(0x10B1)
+        self.assertEqual((older.code_start, older.code_size, older.program), (0x1000, 16, None))
+        self.assertEqual((newer.code_start, newer.saved_regs_size), (0x10B1, 4))
+        self.assertIn("$esi", self.pdb.names[newer.program])
+        self.assertIsNone(self.pdb.frames.at(0x100000))
+
+
+class OfInput(unittest.TestCase):
+    def test_kinds_of_input(self):
+        data = SAMPLE.read_bytes()
+        with open(SAMPLE, "rb") as file, mmap.mmap(file.fileno(), 0, access=mmap.ACCESS_READ) as mapped:
+            for whole in (data, bytearray(data), memoryview(data), mapped):
+                with self.subTest(kind=type(whole)), Pdb(whole) as pdb:
+                    self.assertEqual(pdb.types["Derived"].number, 128)
+                    del pdb
+        for path in (SAMPLE, str(SAMPLE), os.fsencode(SAMPLE)):
+            with pdb_container.open(path) as pdb:
+                self.assertEqual(pdb.page_size, 512)
+
+    def test_closed(self):
+        pdb = pdb_container.open(SAMPLE)
+        types = pdb.types
+        pdb.close()
+        pdb.close()
+        self.assertEqual(types["Derived"].number, 128)
+        with self.assertRaises(ValueError):
+            pdb.stream(1)
+        with self.assertRaises(ValueError):
+            pdb.frames
+
+    def test_no_program_database(self):
+        for data in (b"", b"MZ" * 4096):
+            with self.assertRaises(PdbError) as raised:
+                Pdb(data)
+            self.assertEqual(raised.exception.status, Status.UNRECOGNIZED_FILE_FORMAT)
+        with tempfile.NamedTemporaryFile() as empty, self.assertRaises(PdbError):
+            pdb_container.open(empty.name)
+        with self.assertRaises(FileNotFoundError):
+            pdb_container.open(SAMPLE.with_name("none.pdb"))
+        with self.assertRaises(TypeError):
+            Pdb("text")
+
+    def test_a_record_that_cannot_be_read(self):
+        # A type becomes an LF_LABEL, which the library doesn't read.
+        with pdb_container.open(SAMPLE) as pdb:
+            record = next(it for it in pdb.types if it.shape is Shape.MODIFIER)
+            place, stream = bytes(record.record), bytes(pdb.stream(2))
+        data = SAMPLE.read_bytes()
+        self.assertEqual(data.count(place), 1)
+        with Pdb(data.replace(place, b"\x0e\x00" + place[2:])) as pdb:
+            types = list(pdb.types)
+            self.assertEqual(len(types), len(pdb.types))
+            (failed,) = [it for it in types if it.error]
+            error = failed.error
+            self.assertEqual((failed.index, failed.shape), (record.index, None))
+            self.assertEqual((error.status, error.first), (Status.UNIMPLEMENTED_TYPE_KIND, 0xE))
+            self.assertEqual((error.stream, error.offset), (2, stream.index(place)))
+            with self.assertRaises(PdbError):
+                pdb.types[record.index]
+
+    def test_a_table_that_is_damaged(self):
+        # The header, two items, and the length of the third, which becomes too short for its kind.
+        with pdb_container.open(SAMPLE) as pdb:
+            front = bytes(pdb.stream(2, 110))
+        data = SAMPLE.read_bytes()
+        self.assertEqual(data.count(front), 1)
+        with Pdb(data.replace(front, front[:108] + b"\x01" + front[109:])) as pdb:
+            types = iter(pdb.types)
+            self.assertEqual([next(types).index, next(types).index], [0x1000, 0x1001])
+            with self.assertRaises(PdbError) as raised:
+                next(types)
+            self.assertEqual((raised.exception.status, raised.exception.stream), (Status.TYPE_TOO_SHORT, 2))
+            self.assertEqual(list(types), [])
+
+    def test_damaged_files(self):
+        data, failed = SAMPLE.read_bytes(), 0
+        for seed in range(40):
+            numbers, copy = random.Random(seed), bytearray(data)
+            # The first pages have the header, the directory and short streams.
+            for _ in range(numbers.choice([1, 4, 40])):
+                copy[numbers.choice([numbers.randrange(len(copy)), numbers.randrange(16384)])] = numbers.choice([0, 1, 0x80, 0xFF])
+            with contextlib.suppress(PdbError), Pdb(copy) as pdb:
+                for part in EVERYTHING:
+                    try:
+                        part(pdb)
+                    except PdbError:
+                        failed += 1
+        self.assertGreater(failed, 0)
+
+    def test_another_thread(self):
+        raised = []
+
+        def use(pdb):
+            try:
+                pdb.stream(1)
+            except RuntimeError as error:
+                raised.append(error)
+
+        with pdb_container.open(SAMPLE) as pdb:
+            thread = threading.Thread(target=use, args=[pdb])
+            thread.start()
+            thread.join()
+        self.assertEqual(len(raised), 1)
+
+
+class OfProgram(unittest.TestCase):
+    def run_main(self, *words):
+        out, err = io.StringIO(), io.StringIO()
+        with mock.patch.object(sys, "argv", ["pdb_container", *map(str, words)]), contextlib.redirect_stdout(out), contextlib.redirect_stderr(err):
+            return main(), out.getvalue(), err.getvalue()
+
+    def test_answers(self):
+        status, out, err = self.run_main(SAMPLE)
+        self.assertEqual((status, err), (0, ""))
+        self.assertIn("stream 14: 176 bytes /names", out)
+        status, out, err = self.run_main(SAMPLE, "Point", "shapes::Limit")
+        self.assertEqual((status, err), (0, ""))
+        self.assertIn("  member y 4\n", out)
+        self.assertIn("  enumerate Most 70000\n", out)
+
+    def test_misuse(self):
+        self.assertEqual(self.run_main()[0], 2)
+        self.assertEqual(self.run_main("--help")[0], 0)
+        for words in ([SAMPLE, "Missing"], [SAMPLE.with_name("none.pdb")], [__file__]):
+            status, out, err = self.run_main(*words)
+            self.assertEqual((status, out, err.count("\n")), (1, "", 1), err)
+
+    def test_library(self):
+        with tempfile.TemporaryDirectory() as room:
+            no_library = pathlib.Path(room, "libpdb_container.so.9")
+            no_library.write_text("no library\n")
+            for library in (no_library, pathlib.Path(room, "none.so"), "libc.so.6"):
+                env = {**os.environ, "PYTHONPATH": str(PACKAGE), "PDB_CONTAINER": str(library)}
+                words = [sys.executable, "-m", "pdb_container", str(SAMPLE)]
+                ran = subprocess.run(words, env=env, capture_output=True, text=True, timeout=60)
+                self.assertEqual((ran.returncode, ran.stdout, ran.stderr.count("\n")), (1, "", 1), ran.stderr)
+
+
+if __name__ == "__main__":
+    unittest.main()

@@ -1,0 +1,270 @@
+use std::fmt;
+
+use crate::addresses::{AddressMap, Omap, Section, sections};
+use crate::error::{Error, Result};
+use crate::frames::Frames;
+use crate::handle::{Handle, items, named_items, value};
+use crate::ids::Ids;
+use crate::names::{Name, Names};
+use crate::sys;
+use crate::types::Types;
+
+const TYPES: u32 = 2;
+const IDS: u32 = 4;
+const NO_STREAM: u32 = 0xffff;
+
+/// A program database over bytes that it borrows: its header and its directory are kept.
+#[derive(Debug)]
+pub struct Pdb<'f> {
+    bytes: &'f [u8],
+    file: Handle,
+    page_size: u32,
+    stream_count: u32,
+}
+
+impl<'f> Pdb<'f> {
+    /// Reads the header and the directory of a file.
+    pub fn parse(bytes: &'f [u8]) -> Result<Pdb<'f>> {
+        // SAFETY: the slice is as long as it says, and the handle is all zero; so in all of this file.
+        let file = Handle::open(|file, fault| unsafe { sys::pdb_file_open(bytes.as_ptr(), bytes.len(), file, fault) })?;
+        let page_size = value(|size, fault| unsafe { sys::pdb_file_page_size(file.get(), size, fault) })?;
+        let stream_count = value(|count, fault| unsafe { sys::pdb_file_stream_count(file.get(), count, fault) })?;
+        Ok(Pdb {
+            bytes,
+            file,
+            page_size: page_size.unwrap_or_default(),
+            stream_count: stream_count.unwrap_or_default(),
+        })
+    }
+
+    /// The bytes of the file.
+    pub fn bytes(&self) -> &'f [u8] {
+        self.bytes
+    }
+
+    /// The size of the file's pages in bytes.
+    pub fn page_size(&self) -> u32 {
+        self.page_size
+    }
+
+    /// How many streams the directory has, including absent ones. Their numbers are those below this count.
+    pub fn stream_count(&self) -> u32 {
+        self.stream_count
+    }
+
+    /// The size of a stream in bytes, as the directory gives it.
+    pub fn stream_size(&self, number: u32) -> Result<u32> {
+        let size = value(|size, fault| unsafe { sys::pdb_file_stream_size(self.file.get(), number, size, fault) })?;
+        size.ok_or(Error::StreamNotFound { number })
+    }
+
+    /// The bytes of a stream.
+    pub fn stream(&self, number: u32) -> Result<Vec<u8>> {
+        self.stream_prefix(number, usize::MAX)
+    }
+
+    /// The bytes of a stream, at most `limit` of them.
+    pub fn stream_prefix(&self, number: u32, limit: usize) -> Result<Vec<u8>> {
+        let (at, length) = (self.bytes.as_ptr(), self.bytes.len());
+        let bytes = items(|room, size, count, fault| unsafe {
+            sys::pdb_file_stream(self.file.get(), at, length, number, limit, room, size, count, fault)
+        })?;
+        Ok(bytes.unwrap_or_default())
+    }
+
+    /// The numbers that identify the file.
+    pub fn information(&self) -> Result<Information> {
+        let found = value(|to: *mut sys::Information, fault| unsafe {
+            sys::pdb_file_information(self.bytes.as_ptr(), self.bytes.len(), to, fault)
+        })?;
+        let sys::Information { version, signature, age, guid } = found.unwrap_or_default();
+        Ok(Information { version, signature, age, guid: Guid(guid) })
+    }
+
+    /// The streams that have names, in the order in which the file lists them.
+    pub fn named_streams(&self) -> Result<Vec<NamedStream>> {
+        let found = named_items(|rows: *mut sys::NamedStream, length, count, names, room, size, fault| unsafe {
+            sys::pdb_file_stream_names(
+                self.bytes.as_ptr(),
+                self.bytes.len(),
+                rows,
+                length,
+                count,
+                names,
+                room,
+                size,
+                fault,
+            )
+        })?;
+        let (rows, names) = found.unwrap_or_default();
+        let mut from = 0;
+        let streams = rows.iter().map(|row| {
+            let name = names[from..from + row.name_length].to_vec();
+            from += row.name_length;
+            NamedStream { name, number: Some(row.number).filter(|it| *it != NO_STREAM) }
+        });
+        Ok(streams.collect())
+    }
+
+    /// The bytes of the first stream with this name, such as `/names`.
+    pub fn named_stream(&self, name: impl AsRef<[u8]>) -> Result<Vec<u8>> {
+        let name = name.as_ref();
+        let bytes = items(|room, size, count, fault| unsafe {
+            sys::pdb_file_named_stream(
+                self.bytes.as_ptr(),
+                self.bytes.len(),
+                name.as_ptr(),
+                name.len(),
+                room,
+                size,
+                count,
+                fault,
+            )
+        })?;
+        Ok(bytes.unwrap_or_default())
+    }
+
+    /// The numbers of the streams in eleven roles.
+    pub fn roles(&self) -> Result<Roles> {
+        let found = value(|to: *mut sys::Roles, fault| unsafe {
+            sys::pdb_file_roles(self.bytes.as_ptr(), self.bytes.len(), to, fault)
+        })?;
+        Ok(Roles::of(&found.unwrap_or_default()))
+    }
+
+    /// The table of types.
+    pub fn types(&self) -> Result<Types> {
+        Types::open(self.stream(TYPES)?)
+    }
+
+    /// The table of ids.
+    pub fn ids(&self) -> Result<Ids> {
+        Ids::open(self.stream(IDS)?)
+    }
+
+    /// The string table, which is the stream `/names`.
+    pub fn names(&self) -> Result<Names> {
+        Names::parse(self.named_stream("/names")?)
+    }
+
+    /// The headers of the sections of the image, none if the file has no such stream.
+    pub fn sections(&self) -> Result<Vec<Section>> {
+        self.in_role(self.roles()?.section_headers, sections)
+    }
+
+    /// The headers of the sections that the image had before a tool rearranged it, none if the file has no such stream.
+    pub fn original_sections(&self) -> Result<Vec<Section>> {
+        self.in_role(self.roles()?.original_section_headers, sections)
+    }
+
+    /// The OMAP table by which addresses of the image as it is loaded go to the original image, if the file has one.
+    pub fn omap_to_src(&self) -> Result<Option<Omap>> {
+        self.in_role(self.roles()?.omap_to_src, |stream| Omap::parse(stream).map(Some))
+    }
+
+    /// The OMAP table by which addresses of the original image go to the image as it is loaded, if the file has one.
+    pub fn omap_from_src(&self) -> Result<Option<Omap>> {
+        self.in_role(self.roles()?.omap_from_src, |stream| Omap::parse(stream).map(Some))
+    }
+
+    fn in_role<T: Default>(&self, number: Option<u16>, read: impl FnOnce(&[u8]) -> Result<T>) -> Result<T> {
+        match number {
+            Some(number) => read(&self.stream(number.into())?),
+            None => Ok(T::default()),
+        }
+    }
+
+    /// The address map: the sections, and the OMAP tables of a tool that rearranged the image.
+    pub fn address_map(&self) -> Result<AddressMap> {
+        AddressMap::open(self.bytes)
+    }
+
+    /// The frame table.
+    pub fn frames(&self) -> Result<Frames> {
+        Frames::open(self.bytes)
+    }
+}
+
+/// The numbers that identify a file.
+#[derive(Debug, Clone, Copy, PartialEq, Eq)]
+pub struct Information {
+    /// The version of the format, such as 20000404 for version 7.
+    pub version: u32,
+    /// The time at which the file was made, in seconds since 1970.
+    pub signature: u32,
+    /// How often the file was written.
+    pub age: u32,
+    /// What an image that belongs to the file names.
+    pub guid: Guid,
+}
+
+/// A GUID, by its bytes as they stand in the file. It is printed as `01234567-89AB-CDEF-0123-456789ABCDEF`.
+#[derive(Debug, Clone, Copy, PartialEq, Eq, Hash)]
+pub struct Guid(pub [u8; 16]);
+
+impl fmt::Display for Guid {
+    fn fmt(&self, f: &mut fmt::Formatter<'_>) -> fmt::Result {
+        let [a, b, c, d, e, g, h, i, rest @ ..] = self.0;
+        write!(f, "{:08X}", u32::from_le_bytes([a, b, c, d]))?;
+        write!(f, "-{:04X}-{:04X}-", u16::from_le_bytes([e, g]), u16::from_le_bytes([h, i]))?;
+        for (at, byte) in rest.iter().enumerate() {
+            write!(f, "{}{byte:02X}", if at == 2 { "-" } else { "" })?;
+        }
+        Ok(())
+    }
+}
+
+/// A stream that has a name.
+#[derive(Debug, Clone, PartialEq, Eq)]
+pub struct NamedStream {
+    /// The bytes of its name.
+    pub name: Vec<u8>,
+    /// Its number, if the file gives one.
+    pub number: Option<u32>,
+}
+
+impl NamedStream {
+    /// Its name.
+    pub fn name(&self) -> Name<'_> {
+        Name::new(&self.name)
+    }
+}
+
+macro_rules! roles {
+    ($($(#[$about:meta])* $role:ident)*) => {
+        /// The numbers of the streams in eleven roles, each None if the file has no such stream.
+        #[derive(Debug, Clone, Copy, Default, PartialEq, Eq)]
+        pub struct Roles { $($(#[$about])* pub $role: Option<u16>,)* }
+
+        impl Roles {
+            fn of(roles: &sys::Roles) -> Roles {
+                Roles { $($role: Some(roles.$role).filter(|it| u32::from(*it) != NO_STREAM),)* }
+            }
+        }
+    };
+}
+
+roles! {
+    /// Frames in the older format.
+    fpo
+    /// Exception data.
+    exception
+    /// Fixups.
+    fixup
+    /// The OMAP table from the image as it is loaded to the original one.
+    omap_to_src
+    /// The OMAP table from the original image to the image as it is loaded.
+    omap_from_src
+    /// The section headers of the image as it is loaded.
+    section_headers
+    /// Tokens of managed code.
+    token_rid_map
+    /// Data for unwinding.
+    xdata
+    /// The table of functions for unwinding.
+    pdata
+    /// Frames in the newer format.
+    framedata
+    /// The section headers of the original image.
+    original_section_headers
+}

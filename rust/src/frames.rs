@@ -1,0 +1,24 @@
+use crate::error::Result;
+use crate::handle::{Handle, value};
+use crate::sys;
+
+/// What a stack walker needs to know about the frame of a piece of code.
+pub type Frame = sys::Frame;
+
+/// The frame table of a file, of both formats.
+#[derive(Debug)]
+pub struct Frames(Handle);
+
+impl Frames {
+    pub(crate) fn open(file: &[u8]) -> Result<Frames> {
+        // SAFETY: the slice is as long as it says, and the handle is all zero.
+        Handle::open(|frames, fault| unsafe { sys::pdb_file_frames(file.as_ptr(), file.len(), frames, fault) })
+            .map(Frames)
+    }
+
+    /// The first frame from an address of the original image on: the one at the address, or else the first above it.
+    pub fn at(&self, address: u32) -> Result<Option<Frame>> {
+        // SAFETY: the handle is open, and no other call has it.
+        value(|frame, fault| unsafe { sys::pdb_frames_at(self.0.get(), address, frame, fault) })
+    }
+}

@@ -1,0 +1,91 @@
+use std::cell::UnsafeCell;
+
+use crate::error::{Error, Result};
+use crate::sys;
+
+/// What the library keeps open, which is closed once, when this is dropped.
+///
+/// A handle stays on the thread that opened it, and no two calls have it at once: it is neither `Send` nor `Sync`,
+/// since it has a raw pointer, and no call of the library calls back.
+#[derive(Debug)]
+pub(crate) struct Handle(UnsafeCell<sys::Handle>);
+
+impl Handle {
+    /// Opens a handle by a call.
+    pub fn open(call: impl FnOnce(*mut sys::Handle, *mut sys::Fault) -> u32) -> Result<Handle> {
+        let handle = Handle(UnsafeCell::new(sys::Handle { held: std::ptr::null_mut(), kind: 0 }));
+        let mut fault = sys::Fault::default();
+        match call(handle.get(), &mut fault) {
+            sys::PDB_OK => Ok(handle),
+            _ => Err(Error::of(&fault)),
+        }
+    }
+
+    pub fn get(&self) -> *mut sys::Handle {
+        self.0.get()
+    }
+}
+
+impl Drop for Handle {
+    fn drop(&mut self) {
+        // SAFETY: the handle is all zero, or the library opened it; this value alone has it.
+        unsafe { sys::pdb_close(self.get()) }
+    }
+}
+
+/// What a call writes: a value that it fills in, or None where there is no answer.
+pub(crate) fn value<T: Default>(call: impl FnOnce(*mut T, *mut sys::Fault) -> u32) -> Result<Option<T>> {
+    let (mut value, mut fault) = (T::default(), sys::Fault::default());
+    match call(&mut value, &mut fault) {
+        sys::PDB_OK => Ok(Some(value)),
+        sys::PDB_NOWHERE => Ok(None),
+        _ => Err(Error::of(&fault)),
+    }
+}
+
+/// What a call copies into an array, of which it gets the address, the length, and the place for the number of items:
+/// it is called for that number, and then for the items. None where there is no answer.
+pub(crate) fn items<T: Clone + Default>(
+    mut call: impl FnMut(*mut T, usize, *mut usize, *mut sys::Fault) -> u32,
+) -> Result<Option<Vec<T>>> {
+    let (mut room, mut count, mut fault) = (Vec::new(), 0, sys::Fault::default());
+    loop {
+        match call(room.as_mut_ptr(), room.len(), &mut count, &mut fault) {
+            sys::PDB_OK => {
+                room.truncate(count);
+                return Ok(Some(room));
+            }
+            sys::PDB_NOWHERE => return Ok(None),
+            sys::PDB_TOO_SMALL => {
+                room.try_reserve_exact(count).map_err(|_| Error::OutOfMemory)?;
+                room.resize(count, T::default());
+            }
+            _ => return Err(Error::of(&fault)),
+        }
+    }
+}
+
+/// The same of a call that also copies the names of the items, one after another.
+pub(crate) fn named_items<T: Clone + Default>(
+    mut call: impl FnMut(*mut T, usize, *mut usize, *mut u8, usize, *mut usize, *mut sys::Fault) -> u32,
+) -> Result<Option<(Vec<T>, Vec<u8>)>> {
+    let (mut room, mut names) = (Vec::new(), Vec::new());
+    let (mut count, mut size, mut fault) = (0, 0, sys::Fault::default());
+    loop {
+        match call(room.as_mut_ptr(), room.len(), &mut count, names.as_mut_ptr(), names.len(), &mut size, &mut fault) {
+            sys::PDB_OK => {
+                room.truncate(count);
+                names.truncate(size);
+                return Ok(Some((room, names)));
+            }
+            sys::PDB_NOWHERE => return Ok(None),
+            sys::PDB_TOO_SMALL => {
+                room.try_reserve_exact(count).map_err(|_| Error::OutOfMemory)?;
+                names.try_reserve_exact(size).map_err(|_| Error::OutOfMemory)?;
+                room.resize(count, T::default());
+                names.resize(size, 0);
+            }
+            _ => return Err(Error::of(&fault)),
+        }
+    }
+}

@@ -1,0 +1,47 @@
+//! Reads Microsoft program databases (PDB) by a formally verified library.
+//!
+//! [`Pdb::parse`] reads a file's bytes, and everything else is reached from it: the streams, the tables of types and
+//! of ids, the string table, the section headers, the translation of addresses, and the frames.
+//!
+//! ```
+//! let bytes = std::fs::read("../examples/sample.pdb")?;
+//! let pdb = pdb_container::Pdb::parse(&bytes)?;
+//! let types = pdb.types()?;
+//! for ty in types.iter() {
+//!     match ty {
+//!         Ok(ty) if ty.is_definition() => println!("{:#x} {}", ty.index, ty.name()?.unwrap_or_default()),
+//!         Ok(_) => {}
+//!         // A record of a kind that is not read; the iterator goes on.
+//!         Err(error) => eprintln!("{error}"),
+//!     }
+//! }
+//! # Ok::<(), Box<dyn std::error::Error>>(())
+//! ```
+//!
+//! The calls of the library are proved: for any bytes they end, read within the bytes, and give the answer that a
+//! written grammar of the format gives, or its first error. This crate calls them, and is not proved.
+//!
+//! Values that keep something open in the library stay on the thread that opened it: they are neither `Send` nor
+//! `Sync`. Threads that read one file each open it for themselves, over the same bytes.
+#![warn(missing_docs)]
+
+mod addresses;
+mod error;
+mod file;
+mod frames;
+mod handle;
+mod ids;
+mod names;
+mod row;
+#[rustfmt::skip]
+pub mod sys;
+mod types;
+
+pub use addresses::{AddressMap, Omap, Section};
+pub use error::{Error, Result};
+pub use file::{Guid, Information, NamedStream, Pdb, Roles};
+pub use frames::{Frame, Frames};
+pub use ids::{Id, IdIter, Ids};
+pub use names::{Name, Names};
+pub use row::{IdShape, Row, Shape};
+pub use types::{Field, Fields, Type, TypeIter, Types};

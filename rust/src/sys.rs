@@ -1,0 +1,296 @@
+//! The calls of `include/pdb_container.h`, which says what each does and what a caller owes.
+//! `tools/bindings` writes this file.
+
+#![allow(missing_docs)]
+
+use std::ffi::c_void;
+
+#[repr(C)]
+#[derive(Debug, Clone, Copy, Default, PartialEq, Eq)]
+pub struct Fault {
+    pub status: u32,
+    pub first: u32,
+    pub second: u32,
+}
+
+#[repr(C)]
+#[derive(Debug)]
+pub struct Handle {
+    pub held: *mut c_void,
+    pub kind: u32,
+}
+
+#[repr(C)]
+#[derive(Debug, Clone, Copy, Default, PartialEq, Eq)]
+pub struct Information {
+    pub version: u32,
+    pub signature: u32,
+    pub age: u32,
+    pub guid: [u8; 16],
+}
+
+#[repr(C)]
+#[derive(Debug, Clone, Copy, Default, PartialEq, Eq)]
+pub struct NamedStream {
+    pub name_length: usize,
+    pub number: u32,
+}
+
+#[repr(C)]
+#[derive(Debug, Clone, Copy, Default, PartialEq, Eq)]
+pub struct Roles {
+    pub fpo: u16,
+    pub exception: u16,
+    pub fixup: u16,
+    pub omap_to_src: u16,
+    pub omap_from_src: u16,
+    pub section_headers: u16,
+    pub token_rid_map: u16,
+    pub xdata: u16,
+    pub pdata: u16,
+    pub framedata: u16,
+    pub original_section_headers: u16,
+}
+
+#[repr(C)]
+#[derive(Debug, Clone, Copy, Default, PartialEq, Eq)]
+pub struct Name {
+    pub offset: usize,
+    pub length: usize,
+}
+
+#[repr(C)]
+#[derive(Debug, Clone, Copy, Default, PartialEq, Eq)]
+pub struct Span {
+    pub start: u32,
+    pub end: u32,
+}
+
+#[repr(C)]
+#[derive(Debug, Clone, Copy, Default, PartialEq, Eq)]
+pub struct Section {
+    pub name: [u8; 8],
+    pub virtual_size: u32,
+    pub virtual_address: u32,
+    pub size_of_raw_data: u32,
+    pub pointer_to_raw_data: u32,
+    pub pointer_to_relocations: u32,
+    pub pointer_to_line_numbers: u32,
+    pub number_of_relocations: u16,
+    pub number_of_line_numbers: u16,
+    pub characteristics: u32,
+}
+
+#[repr(C)]
+#[derive(Debug, Clone, Copy, Default, PartialEq, Eq)]
+pub struct Place {
+    pub offset: u32,
+    pub section: u32,
+}
+
+#[repr(C)]
+#[derive(Debug, Clone, Copy, Default, PartialEq, Eq)]
+pub struct Frame {
+    pub kind: u32,
+    pub code_start: u32,
+    pub code_size: u32,
+    pub locals_size: u32,
+    pub params_size: u32,
+    pub prolog_size: u32,
+    pub saved_regs_size: u32,
+    pub has_max_stack_size: u32,
+    pub max_stack_size: u32,
+    pub has_structured_eh: u32,
+    pub has_cpp_eh: u32,
+    pub is_function_start: u32,
+    pub uses_base_pointer: u32,
+    pub has_program: u32,
+    pub program: u32,
+}
+
+#[repr(C)]
+#[derive(Debug, Clone, Copy, Default, PartialEq, Eq)]
+pub struct Record {
+    pub index: u32,
+    pub offset: u32,
+    pub length: u32,
+}
+
+#[repr(C)]
+#[derive(Debug, Clone, Copy, Default, PartialEq, Eq)]
+pub struct Table {
+    pub first_index: u32,
+    pub maximum_index: u32,
+    pub stop: Fault,
+}
+
+#[repr(C)]
+#[derive(Debug, Clone, Copy, Default, PartialEq, Eq)]
+pub struct Row {
+    pub number: u64,
+    pub shape: u32,
+    pub stands: u32,
+    pub kind: u32,
+    pub attributes: u32,
+    pub properties: u32,
+    pub count: u32,
+    pub type_index: u32,
+    pub second_index: u32,
+    pub third_index: u32,
+    pub list_index: u32,
+    pub extra: u32,
+}
+
+#[repr(C)]
+#[derive(Debug, Clone, Copy, Default, PartialEq, Eq)]
+pub struct Type {
+    pub place: Record,
+    pub fault: Fault,
+    pub row: Row,
+}
+
+#[repr(C)]
+#[derive(Debug, Clone, Copy, Default, PartialEq, Eq)]
+pub struct Field {
+    pub row: Row,
+    pub name_length: usize,
+    pub has_name: u32,
+}
+
+pub const PDB_OK: u32 = 0;
+pub const PDB_UNRECOGNIZED_FILE_FORMAT: u32 = 1;
+pub const PDB_PAGE_REFERENCE_OUT_OF_RANGE: u32 = 2;
+pub const PDB_INVALID_PAGE_SIZE: u32 = 3;
+pub const PDB_STREAM_NOT_FOUND: u32 = 4;
+pub const PDB_STREAM_NAME_NOT_FOUND: u32 = 5;
+pub const PDB_INVALID_STREAM_LENGTH: u32 = 6;
+pub const PDB_IO_ERROR: u32 = 7;
+pub const PDB_UNEXPECTED_EOF: u32 = 8;
+pub const PDB_UNIMPLEMENTED_FEATURE: u32 = 9;
+pub const PDB_GLOBAL_SYMBOLS_NOT_FOUND: u32 = 10;
+pub const PDB_SYMBOL_TOO_SHORT: u32 = 11;
+pub const PDB_UNIMPLEMENTED_SYMBOL_KIND: u32 = 12;
+pub const PDB_INVALID_TYPE_INFORMATION_HEADER: u32 = 13;
+pub const PDB_TYPE_TOO_SHORT: u32 = 14;
+pub const PDB_TYPE_NOT_FOUND: u32 = 15;
+pub const PDB_TYPE_NOT_INDEXED: u32 = 16;
+pub const PDB_UNIMPLEMENTED_TYPE_KIND: u32 = 17;
+pub const PDB_NOT_A_CROSS_MODULE_REF: u32 = 18;
+pub const PDB_CROSS_MODULE_REF_NOT_FOUND: u32 = 19;
+pub const PDB_UNEXPECTED_NUMERIC_PREFIX: u32 = 20;
+pub const PDB_ADDRESS_MAP_NOT_FOUND: u32 = 21;
+pub const PDB_UNIMPLEMENTED_DEBUG_SUBSECTION: u32 = 22;
+pub const PDB_UNIMPLEMENTED_FILE_CHECKSUM_KIND: u32 = 23;
+pub const PDB_INVALID_FILE_CHECKSUM_OFFSET: u32 = 24;
+pub const PDB_LINES_NOT_FOUND: u32 = 25;
+pub const PDB_INVALID_COMPRESSED_ANNOTATION: u32 = 26;
+pub const PDB_UNKNOWN_BINARY_ANNOTATION: u32 = 27;
+pub const PDB_OUT_OF_MEMORY: u32 = 28;
+pub const PDB_ALREADY_OPEN: u32 = 100;
+pub const PDB_NOT_OPEN: u32 = 101;
+pub const PDB_TOO_SMALL: u32 = 102;
+pub const PDB_TOO_LONG: u32 = 103;
+pub const PDB_NO_TEXT: u32 = 104;
+pub const PDB_NOWHERE: u32 = 105;
+
+pub const PDB_PRIMITIVE: u32 = 0;
+pub const PDB_CLASS: u32 = 1;
+pub const PDB_MEMBER: u32 = 2;
+pub const PDB_MEMBER_FUNCTION: u32 = 3;
+pub const PDB_OVERLOADED_METHOD: u32 = 4;
+pub const PDB_METHOD: u32 = 5;
+pub const PDB_STATIC_MEMBER: u32 = 6;
+pub const PDB_NESTED: u32 = 7;
+pub const PDB_BASE_CLASS: u32 = 8;
+pub const PDB_VIRTUAL_BASE_CLASS: u32 = 9;
+pub const PDB_VIRTUAL_FUNCTION_TABLE_POINTER: u32 = 10;
+pub const PDB_PROCEDURE: u32 = 11;
+pub const PDB_POINTER: u32 = 12;
+pub const PDB_MODIFIER: u32 = 13;
+pub const PDB_ENUMERATION: u32 = 14;
+pub const PDB_ENUMERATE: u32 = 15;
+pub const PDB_ARRAY: u32 = 16;
+pub const PDB_UNION: u32 = 17;
+pub const PDB_BITFIELD: u32 = 18;
+pub const PDB_FIELD_LIST: u32 = 19;
+pub const PDB_ARGUMENT_LIST: u32 = 20;
+pub const PDB_METHOD_LIST: u32 = 21;
+pub const PDB_VIRTUAL_TABLE_SHAPE: u32 = 22;
+
+pub const PDB_ID_FUNCTION: u32 = 0;
+pub const PDB_ID_MEMBER_FUNCTION: u32 = 1;
+pub const PDB_ID_BUILD_INFO: u32 = 2;
+pub const PDB_ID_STRING_LIST: u32 = 3;
+pub const PDB_ID_STRING: u32 = 4;
+pub const PDB_ID_TYPE_SOURCE: u32 = 5;
+
+pub const PDB_KIND: u32 = 1;
+pub const PDB_ATTRIBUTES: u32 = 2;
+pub const PDB_PROPERTIES: u32 = 4;
+pub const PDB_COUNT: u32 = 8;
+pub const PDB_TYPE_INDEX: u32 = 16;
+pub const PDB_SECOND_INDEX: u32 = 32;
+pub const PDB_THIRD_INDEX: u32 = 64;
+pub const PDB_LIST_INDEX: u32 = 128;
+pub const PDB_EXTRA: u32 = 256;
+pub const PDB_NUMBER: u32 = 512;
+
+unsafe extern "C" {
+    pub fn pdb_error_text(about: *const Fault, room: *mut u8, room_length: usize, length: *mut usize, fault: *mut Fault) -> u32;
+    pub fn pdb_close(handle: *mut Handle);
+    pub fn pdb_file_open(bytes: *const u8, bytes_length: usize, file: *mut Handle, fault: *mut Fault) -> u32;
+    pub fn pdb_file_page_size(file: *mut Handle, page_size: *mut u32, fault: *mut Fault) -> u32;
+    pub fn pdb_file_stream_count(file: *mut Handle, count: *mut u32, fault: *mut Fault) -> u32;
+    pub fn pdb_file_stream_size(file: *mut Handle, number: u32, size: *mut u32, fault: *mut Fault) -> u32;
+    pub fn pdb_file_stream(file: *mut Handle, bytes: *const u8, bytes_length: usize, number: u32, limit: usize, room: *mut u8, room_length: usize, length: *mut usize, fault: *mut Fault) -> u32;
+    pub fn pdb_file_information(file: *const u8, file_length: usize, information: *mut Information, fault: *mut Fault) -> u32;
+    pub fn pdb_file_stream_names(file: *const u8, file_length: usize, rows: *mut NamedStream, rows_length: usize, count: *mut usize, names: *mut u8, names_length: usize, size: *mut usize, fault: *mut Fault) -> u32;
+    pub fn pdb_file_named_stream(file: *const u8, file_length: usize, name: *const u8, name_length: usize, room: *mut u8, room_length: usize, length: *mut usize, fault: *mut Fault) -> u32;
+    pub fn pdb_file_roles(file: *const u8, file_length: usize, roles: *mut Roles, fault: *mut Fault) -> u32;
+    pub fn pdb_names_open(stream: *const u8, stream_length: usize, names: *mut Handle, fault: *mut Fault) -> u32;
+    pub fn pdb_file_names(file: *const u8, file_length: usize, names: *mut Handle, fault: *mut Fault) -> u32;
+    pub fn pdb_names_get(names: *mut Handle, offset: u32, room: *mut u8, room_length: usize, length: *mut usize, fault: *mut Fault) -> u32;
+    pub fn pdb_names_place(names: *mut Handle, offset: u32, place: *mut Name, fault: *mut Fault) -> u32;
+    pub fn pdb_names_places(names: *mut Handle, offsets: *const u32, offsets_length: usize, room: *mut Name, room_length: usize, length: *mut usize, fault: *mut Fault) -> u32;
+    pub fn pdb_names_offsets(names: *mut Handle, room: *mut u32, room_length: usize, length: *mut usize, fault: *mut Fault) -> u32;
+    pub fn pdb_omap_open(stream: *const u8, stream_length: usize, omap: *mut Handle, fault: *mut Fault) -> u32;
+    pub fn pdb_omap_lookup(omap: *mut Handle, address: u32, target: *mut u32, fault: *mut Fault) -> u32;
+    pub fn pdb_omap_ranges(omap: *mut Handle, start: u32, end: u32, room: *mut Span, room_length: usize, length: *mut usize, fault: *mut Fault) -> u32;
+    pub fn pdb_sections(stream: *const u8, stream_length: usize, room: *mut Section, room_length: usize, count: *mut usize, fault: *mut Fault) -> u32;
+    pub fn pdb_file_addresses(file: *const u8, file_length: usize, addresses: *mut Handle, fault: *mut Fault) -> u32;
+    pub fn pdb_rva_to_internal_rva(addresses: *mut Handle, address: u32, answer: *mut u32, fault: *mut Fault) -> u32;
+    pub fn pdb_rva_to_section_offset(addresses: *mut Handle, address: u32, place: *mut Place, fault: *mut Fault) -> u32;
+    pub fn pdb_rva_to_internal_offset(addresses: *mut Handle, address: u32, place: *mut Place, fault: *mut Fault) -> u32;
+    pub fn pdb_internal_rva_to_rva(addresses: *mut Handle, address: u32, answer: *mut u32, fault: *mut Fault) -> u32;
+    pub fn pdb_internal_rva_to_section_offset(addresses: *mut Handle, address: u32, place: *mut Place, fault: *mut Fault) -> u32;
+    pub fn pdb_internal_rva_to_internal_offset(addresses: *mut Handle, address: u32, place: *mut Place, fault: *mut Fault) -> u32;
+    pub fn pdb_section_offset_to_rva(addresses: *mut Handle, section: u16, offset: u32, answer: *mut u32, fault: *mut Fault) -> u32;
+    pub fn pdb_section_offset_to_internal_rva(addresses: *mut Handle, section: u16, offset: u32, answer: *mut u32, fault: *mut Fault) -> u32;
+    pub fn pdb_section_offset_to_internal_offset(addresses: *mut Handle, section: u16, offset: u32, place: *mut Place, fault: *mut Fault) -> u32;
+    pub fn pdb_internal_offset_to_internal_rva(addresses: *mut Handle, section: u16, offset: u32, answer: *mut u32, fault: *mut Fault) -> u32;
+    pub fn pdb_internal_offset_to_rva(addresses: *mut Handle, section: u16, offset: u32, answer: *mut u32, fault: *mut Fault) -> u32;
+    pub fn pdb_internal_offset_to_section_offset(addresses: *mut Handle, section: u16, offset: u32, place: *mut Place, fault: *mut Fault) -> u32;
+    pub fn pdb_rva_ranges(addresses: *mut Handle, start: u32, end: u32, room: *mut Span, room_length: usize, length: *mut usize, fault: *mut Fault) -> u32;
+    pub fn pdb_internal_rva_ranges(addresses: *mut Handle, start: u32, end: u32, room: *mut Span, room_length: usize, length: *mut usize, fault: *mut Fault) -> u32;
+    pub fn pdb_file_frames(file: *const u8, file_length: usize, frames: *mut Handle, fault: *mut Fault) -> u32;
+    pub fn pdb_frames_at(frames: *mut Handle, address: u32, frame: *mut Frame, fault: *mut Fault) -> u32;
+    pub fn pdb_table_open(stream: *const u8, stream_length: usize, table: *mut Handle, fault: *mut Fault) -> u32;
+    pub fn pdb_table_first_index(table: *mut Handle, index: *mut u32, fault: *mut Fault) -> u32;
+    pub fn pdb_table_count(table: *mut Handle, count: *mut u32, fault: *mut Fault) -> u32;
+    pub fn pdb_table_find(table: *mut Handle, index: u32, record: *mut Record, fault: *mut Fault) -> u32;
+    pub fn pdb_table_next(table: *mut Handle, record: *mut Record, fault: *mut Fault) -> u32;
+    pub fn pdb_table_rewind(table: *mut Handle, fault: *mut Fault) -> u32;
+    pub fn pdb_table_positions(stream: *const u8, stream_length: usize, positions: *mut u32, positions_length: usize, count: *mut usize, table: *mut Table, fault: *mut Fault) -> u32;
+    pub fn pdb_type_row(record: *const u8, record_length: usize, index: u32, row: *mut Row, fault: *mut Fault) -> u32;
+    pub fn pdb_table_next_types(table: *mut Handle, types: *mut Type, types_length: usize, count: *mut usize, fault: *mut Fault) -> u32;
+    pub fn pdb_type_name(record: *const u8, record_length: usize, index: u32, room: *mut u8, room_length: usize, length: *mut usize, fault: *mut Fault) -> u32;
+    pub fn pdb_type_arguments(record: *const u8, record_length: usize, index: u32, room: *mut u32, room_length: usize, length: *mut usize, fault: *mut Fault) -> u32;
+    pub fn pdb_type_unique_name(record: *const u8, record_length: usize, index: u32, room: *mut u8, room_length: usize, length: *mut usize, fault: *mut Fault) -> u32;
+    pub fn pdb_type_dimensions(record: *const u8, record_length: usize, index: u32, room: *mut u32, room_length: usize, length: *mut usize, fault: *mut Fault) -> u32;
+    pub fn pdb_type_methods(record: *const u8, record_length: usize, index: u32, room: *mut Row, room_length: usize, length: *mut usize, fault: *mut Fault) -> u32;
+    pub fn pdb_type_fields(record: *const u8, record_length: usize, index: u32, rows: *mut Field, rows_length: usize, count: *mut usize, names: *mut u8, names_length: usize, size: *mut usize, fault: *mut Fault) -> u32;
+    pub fn pdb_fields(table: *mut Handle, index: u32, rows: *mut Field, rows_length: usize, count: *mut usize, names: *mut u8, names_length: usize, size: *mut usize, fault: *mut Fault) -> u32;
+    pub fn pdb_id_row(record: *const u8, record_length: usize, row: *mut Row, fault: *mut Fault) -> u32;
+    pub fn pdb_id_name(record: *const u8, record_length: usize, room: *mut u8, room_length: usize, length: *mut usize, fault: *mut Fault) -> u32;
+    pub fn pdb_id_list(record: *const u8, record_length: usize, room: *mut u32, room_length: usize, length: *mut usize, fault: *mut Fault) -> u32;
+}
