@@ -1,7 +1,7 @@
 -- Replies to queries one after another.
-use Rattle.std.proofs.Common.{◌≡◌, ℕ, List, [], ◌∷◌, ◌++◌, arith}
+use Rattle.std.proofs.Common.{◌≡◌, ℕ, List, [], ◌∷◌, ◌++◌}
 use Rattle.std.specs.Prelude.{IsTrue}
-use Rattle.pdb_msf.specs.Source.{State, IsKept, HasFailed}
+use Rattle.pdb_msf.specs.Source.{State, IsKept}
 use Rattle.pdb_msf.specs.File.{Opened, stream_of}
 use Rattle.pdb_msf.specs.Header.{Head}
 use Rattle.pdb_container.specs.declared.query.Query.{Query}
@@ -21,18 +21,10 @@ one_more failed file head [] (r ∷ replies) query reply are is = absurd are
 one_more failed file head (q ∷ queries) [] query reply are is = absurd are
 one_more failed file head (q ∷ queries) (r ∷ replies) query reply are is = (are.0, one_more failed file head queries replies query reply are.1 is)
 
--- a reply of the source as it is now is one of the source as it was first
-pub reply_of_first : (first old new : State) (before head : Head) (query : Query) (reply : Reply) → IsKept first old → head ≡ before → IsKept old new
-    → IsReply (HasFailed old new) reply (reply_of old.bytes head query) → IsReply (¬ IsTrue first.is_sound) reply (reply_of first.bytes before query)
-reply_of_first first old new before head query reply kept same next is =
-    let unsound : HasFailed old new → ¬ IsTrue first.is_sound = λ failed sound. let faults = (next.sound (kept.sound sound).0).1 in omega (arith, failed) in
-    rw (← kept.bytes, ← same) (IsReply-weaker _ _ reply _ unsound is)
-
--- the reply of the last read is one of the source as it was first
-pub last_reply_of_first : (first old : State) (before head : Head) (query : Query) (reply : Reply) → IsKept first old → head ≡ before
-    → IsReply (¬ IsTrue old.is_sound) reply (reply_of old.bytes head query) → IsReply (¬ IsTrue first.is_sound) reply (reply_of first.bytes before query)
-last_reply_of_first first old before head query reply kept same is =
-    rw (← kept.bytes, ← same) (IsReply-weaker _ _ reply _ (λ unsound sound. unsound (kept.sound sound).0) is)
+-- a reply of a source as it was left is one of the source as it was first
+pub reply_of_first : (failed : Type 0) (first old : State) (before head : Head) (query : Query) (reply : Reply) → IsKept first old → head ≡ before
+    → (failed → ¬ IsTrue first.is_sound) → IsReply failed reply (reply_of old.bytes head query) → IsReply (¬ IsTrue first.is_sound) reply (reply_of first.bytes before query)
+reply_of_first failed first old before head query reply kept same unsound is = rw (← kept.bytes, ← same) (IsReply-weaker _ _ reply _ unsound is)
 
 -- tables of a file that stays open are still its tables
 pub same_tables : {S : Type 0} (state : S → State) (old new : Opened S) (tables : OpenTables) → StaysOpen state old new

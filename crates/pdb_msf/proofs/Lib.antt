@@ -9,7 +9,7 @@ pub mod PlaceLemmas
 pub mod LawLemmas
 pub mod KindLemmas
 pub mod AskedLemmas
-pub mod Kept
+pub mod lemmas
 pub mod MagicLemmas
 pub mod StreamLaws
 pub mod LayoutLemmas

@@ -16,7 +16,7 @@ use Rattle.pdb_msf.specs.Header.{Head, directory_pages}
 use Rattle.pdb_msf.specs.Directory.{Entry, absent, directory_of, entry_of, limited, place_in, sizes_of, start_of}
 use Rattle.pdb_msf.specs.File.{stream_of}
 use Rattle.pdb_msf.specs.Laws.{AreGood, IsDirectory, IsStream, Moment, IsLater, AnswersAlike, AgreeUnless}
-use Rattle.pdb_msf.proofs.Kept.{kept_here, kept_then}
+use Rattle.pdb_msf.proofs.lemmas.Kept.{kept_here, kept_then}
 use Rattle.pdb_msf.proofs.PlaceLemmas.{HasSize, entry_found, stands}
 use Rattle.pdb_msf.proofs.LawLemmas.{are_good, found_there, scatters, word_there}
 

@@ -314,7 +314,7 @@ pub(crate) fn view_front<S: Source>(source: &mut S, alloc: Global, size: usize) 
 /// that locate the directory that is missing or bad.
 ///
 /// Fails with `OutOfMemory` if memory is asked for and refused.
-#[tactic(auto, unfolding(crate::specs::Header::opened), using(crate::proofs::Kept::unsound))]
+#[tactic(auto, unfolding(crate::specs::Header::opened), using(crate::proofs::lemmas::Kept::unsound))]
 pub fn open_msf<S: Source + Drop>(alloc: Global, mut source: S) -> Result<BigMSF<S>>
     ensures head { AnswersUnless (¬ IsTrue (S.state source).is_sound)
         (λ m. m.head) result (opened (S.state source).bytes) }
