@@ -42,11 +42,7 @@ impl MapStreams {
 /// Reads the address map from the given streams. Without original section headers, the original
 /// image has no sections.
 #[tactic(auto, unfolding(crate::specs::Given::given_map))]
-fn given_map<S: Source>(
-    alloc: Global,
-    file: &mut PDB<S>,
-    streams: MapStreams,
-) -> Result<AddressMap>
+fn given_map<S: Source>(alloc: Global, file: &mut PDB<S>, streams: MapStreams) -> Result<AddressMap>
     ensures { ReadsFile S.state file.old file.new (λ map. map) result (λ file head. given_map file head streams) }
 {
     let sections = file.numbered_sections(alloc, streams.sections)?;

@@ -8,7 +8,7 @@ use crate::given::{MapStreams, map_in};
 use crate::made::{made_of_internal, made_of_loaded};
 use crate::written::write_made;
 use pdb_base::Result;
-use pdb_msf::BigMSF;
+use pdb_file::PDB;
 use pdb_rows::Form;
 use pdb_space::{AddressMap, PdbInternalRva, Rva};
 use std::alloc::Global;
@@ -41,7 +41,7 @@ fn write_map<W: Write>(
 /// `IoError` if the writer fails, and with `OutOfMemory` if memory is refused.
 pub fn list_map<W: Write>(
     alloc: Global,
-    mut file: BigMSF<Vec<u8>>,
+    mut file: PDB<Vec<u8>>,
     address: u32,
     streams: MapStreams,
     form: Form,

@@ -2,19 +2,18 @@
 //! role that has no stream, nothing is listed.
 
 ghost use Rattle.std.specs.Prelude.{◌≡◌};
-ghost use Rattle.pdb_base.specs.Answer.{AnswersUnless};
-ghost use Rattle.pdb_msf.specs.Source.{HasFailed, IsKept};
+ghost use Rattle.pdb_msf.specs.File.{ReadsFile};
 ghost use Rattle.pdb_tables.specs.Files.{file_frames, file_names, file_sections, frames_in, names_in};
 ghost use Rattle.pdb_tables.specs.Listing.{IsListed};
 
 use crate::frames::write_frames;
 use crate::names::write_table;
 use crate::sections::write_sections;
-use crate::streams::{numbered, section_number};
+use crate::streams::section_number;
 use pdb_base::Result;
-use pdb_file::{frame_table, string_table};
+use pdb_file::PDB;
 use pdb_frames::FrameTable;
-use pdb_msf::{BigMSF, Msf, Source};
+use pdb_msf::{Msf, Source};
 use pdb_rows::Form;
 use pdb_space::StringTable;
 use std::alloc::Global;
@@ -29,7 +28,7 @@ use std::io::Write;
 #[tactic(auto, unfolding(crate::specs::Files::file_sections), using(crate::proofs::ListedLemmas::refused_listed))]
 pub fn list_sections<S: Source + Drop, W: Write>(
     alloc: Global,
-    mut file: BigMSF<S>,
+    mut file: PDB<S>,
     stream: Option<u32>,
     form: Form,
     out: &mut W,
@@ -38,7 +37,7 @@ pub fn list_sections<S: Source + Drop, W: Write>(
         (W.contents out.old) (W.contents out.new) result }
 {
     let number = section_number(alloc, &mut file, stream)?;
-    match numbered(alloc, &mut file, number)? {
+    match file.numbered_stream(alloc, number)? {
         Some(stream) => write_sections(alloc, &stream, form, out),
         None => Ok(()),
     }
@@ -46,18 +45,13 @@ pub fn list_sections<S: Source + Drop, W: Write>(
 
 /// Reads the string table in a stream, or in the one named `/names` if no stream is given.
 #[tactic(auto, unfolding(crate::specs::Files::names_in))]
-fn names_in<S: Source>(
-    alloc: Global,
-    file: &mut BigMSF<S>,
-    stream: Option<u32>,
-) -> Result<StringTable>
-    ensures names { AnswersUnless (HasFailed (S.state file.old.source) (S.state file.new.source))
-        (λ names. names) result
-        (names_in (S.state file.old.source).bytes file.old.head stream) }
+fn names_in<S: Source>(alloc: Global, file: &mut PDB<S>, stream: Option<u32>) -> Result<StringTable>
+    ensures { ReadsFile S.state file.old file.new (λ names. names) result
+        (λ file head. names_in file head stream) }
 {
     match stream {
         Some(number) => StringTable::parse(file.get(alloc, number, None)?),
-        None => string_table(alloc, file),
+        None => file.string_table(alloc),
     }
 }
 
@@ -71,7 +65,7 @@ fn names_in<S: Source>(
 #[tactic(auto, unfolding(crate::specs::Files::file_names), using(crate::proofs::ListedLemmas::refused_listed))]
 pub fn list_names<S: Source + Drop, W: Write>(
     alloc: Global,
-    mut file: BigMSF<S>,
+    mut file: PDB<S>,
     stream: Option<u32>,
     form: Form,
     out: &mut W,
@@ -91,14 +85,14 @@ pub fn list_names<S: Source + Drop, W: Write>(
 #[tactic(auto, unfolding(crate::specs::Files::file_frames), using(crate::proofs::ListedLemmas::refused_listed))]
 pub fn list_frames<S: Source + Drop, W: Write>(
     alloc: Global,
-    mut file: BigMSF<S>,
+    mut file: PDB<S>,
     form: Form,
     out: &mut W,
 ) -> Result<()>
     ensures { IsListed (file_frames form (S.state file.source).bytes file.head)
         (W.contents out.old) (W.contents out.new) result }
 {
-    let table = frame_table(alloc, &mut file)?;
+    let table = file.frame_table(alloc)?;
     write_frames(alloc, &table, form, out)
 }
 
@@ -111,7 +105,7 @@ pub fn list_frames<S: Source + Drop, W: Write>(
 #[tactic(auto, unfolding(crate::specs::Files::frames_in), using(crate::proofs::ListedLemmas::refused_listed))]
 pub fn list_frames_in<S: Source + Drop, W: Write>(
     alloc: Global,
-    mut file: BigMSF<S>,
+    mut file: PDB<S>,
     old: Option<u32>,
     new: Option<u32>,
     form: Form,
@@ -120,8 +114,8 @@ pub fn list_frames_in<S: Source + Drop, W: Write>(
     ensures { IsListed (frames_in form (S.state file.source).bytes file.head old new)
         (W.contents out.old) (W.contents out.new) result }
 {
-    let old = numbered(alloc, &mut file, old)?;
-    let new = numbered(alloc, &mut file, new)?;
+    let old = file.numbered_stream(alloc, old)?;
+    let new = file.numbered_stream(alloc, new)?;
     let table = FrameTable::parse(old, new)?;
     write_frames(alloc, &table, form, out)
 }

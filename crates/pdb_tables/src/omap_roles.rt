@@ -11,8 +11,8 @@ ghost use Rattle.pdb_tables.specs.Listing.{IsListed};
 
 use crate::omap::write_omap;
 use pdb_base::{Error, Result};
-use pdb_file::{DBIExtraStreams, extra_streams};
-use pdb_msf::{BigMSF, Msf, Source};
+use pdb_file::{DBIExtraStreams, PDB};
+use pdb_msf::{Msf, Source};
 use pdb_rows::{Form, Row, Value, field, write_row};
 use std::alloc::Global;
 use std::io::Write;
@@ -47,7 +47,7 @@ fn write_role<W: Write>(
 /// Lists the records of the OMAP table in a stream, and then whether their sources never decrease.
 fn list_numbered<S: Source, W: Write>(
     alloc: Global,
-    file: &mut BigMSF<S>,
+    file: &mut PDB<S>,
     number: u32,
     form: Form,
     out: &mut W,
@@ -65,7 +65,7 @@ fn list_numbered<S: Source, W: Write>(
 /// Lists nothing if no stream has the role.
 fn list_role<S: Source, W: Write>(
     alloc: Global,
-    file: &mut BigMSF<S>,
+    file: &mut PDB<S>,
     role: &'static str,
     number: Option<u32>,
     form: Form,
@@ -86,7 +86,7 @@ fn list_role<S: Source, W: Write>(
 /// Lists the records of both OMAP tables, each table after a line with its role and its stream.
 fn list_both<S: Source, W: Write>(
     alloc: Global,
-    file: &mut BigMSF<S>,
+    file: &mut PDB<S>,
     roles: &DBIExtraStreams,
     form: Form,
     out: &mut W,
@@ -114,7 +114,7 @@ fn list_both<S: Source, W: Write>(
 #[tactic(auto, unfolding(crate::specs::Files::file_omap), using(crate::proofs::ListedLemmas::refused_listed))]
 pub fn list_omap<S: Source + Drop, W: Write>(
     alloc: Global,
-    mut file: BigMSF<S>,
+    mut file: PDB<S>,
     stream: Option<u32>,
     form: Form,
     out: &mut W,
@@ -125,7 +125,7 @@ pub fn list_omap<S: Source + Drop, W: Write>(
     match stream {
         Some(number) => list_numbered(alloc, &mut file, number, form, out),
         None => {
-            let roles = extra_streams(alloc, &mut file)?;
+            let roles = file.extra_streams(alloc)?;
             list_both(alloc, &mut file, &roles, form, out)
         }
     }
