@@ -39,16 +39,6 @@ reworded read Is To Fails Refused agrees there back fault cause = record {
   fails = λ bytes e is. agrees.fails bytes e (cause bytes e is);
 }
 
--- the same grammar, by a reader that answers the same
-pub reread : {A : Type 0} (read other : List ℕ → Answer (A × List ℕ)) (Is : List ℕ → A → List ℕ → Type 0) (Fails : List ℕ → Refusal → Type 0)
-    → Agrees read Is Fails → ((bytes : List ℕ) → other bytes ≡ read bytes) → Agrees other Is Fails
-reread read other Is Fails agrees same = record {
-  found = λ bytes x rest is. agrees.found bytes x rest (sym (same bytes) ∙ is);
-  only = λ bytes x rest is. same bytes ∙ agrees.only bytes x rest is;
-  failed = λ bytes e is. agrees.failed bytes e (sym (same bytes) ∙ is);
-  fails = λ bytes e is. same bytes ∙ agrees.fails bytes e is;
-}
-
 -- nothing is read, and a value is answered
 pub given : {A : Type 0} (a : A) → Agrees (λ bytes. ok (a, bytes)) (λ bytes x rest. (a ≡ x) × (bytes ≡ rest)) (λ bytes e. ⊥)
 given {A} a = record {

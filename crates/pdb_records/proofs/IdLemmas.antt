@@ -1,11 +1,10 @@
 -- Id records that are lists.
-use Rattle.std.specs.Prelude.{IsOkAnd}
 use Rattle.std.proofs.Common.{◌≡◌, inl, inr, ℕ, ◌*◌, ◌≤◌, List, length, refl, sym, ap, ◌∙◌, arith, Option, Some, None, Result, Ok, Err, IfOk}
 use Rattle.pdb_base.specs.declared.error.Error.{Error}
 use Rattle.pdb_base.specs.declared.error.Error.TheVariants as errors
 use Rattle.pdb_base.specs.Refusal.{refusal_of, unexpected_eof}
-use Rattle.pdb_base.specs.Answer.{Answer, Answers, ◌>>=◌}
-use Rattle.pdb_base.specs.Memory.{LacksOnlyIf, HasItem}
+use Rattle.pdb_base.specs.Answer.{Answer, Answers}
+use Rattle.pdb_base.specs.Memory.{LacksOnlyIf}
 use Rattle.pdb_base.specs.Reading.{number_at}
 use Rattle.pdb_base.specs.Spelling.{SpellsNumber}
 use Rattle.pdb_base.proofs.lemmas.Collected.{ok, ok_is_no_err, err_is}
@@ -16,7 +15,6 @@ use Rattle.pdb_records.proofs.TakesLemmas.{begins_length}
 use Rattle.pdb_values.specs.declared.id_data.IdData.{IdData}
 use Rattle.pdb_values.specs.IdValue.{IdValue, id_value}
 use Rattle.pdb_values.specs.IdValue as values
-use Rattle.pdb_values.specs.Items.{HasIdListItem}
 use Rattle.pdb_records.specs.declared.id_leaf.IdLeaf.{IdLeaf}
 use Rattle.pdb_records.specs.declared.id_leaf.IdLeaf.TheVariants.{Plain, BuildInfo, StringList}
 use Rattle.pdb_records.specs.declared.parse.counted.CountWidth.TheVariants.{Bits16, Bits32}
@@ -53,12 +51,6 @@ refuses_cut bytes rest (Err e) (inl is) want cut = ap (λ (d : Error). Err d) (e
 refuses_cut bytes rest (Err e) (inr lacks) want cut = absurd (rw (cut_at bytes cut) at want (ap (λ (d : Error). Err d) lacks))
 
 -- ---- memory is asked for only where a list with an item is assigned
-
--- a list with an item is an id with one
-pub list_said : {A : Type 0} (made : List A → IdValue) (list : Answer (List A × List ℕ)) → ((xs : List A) → HasItem xs → HasIdListItem (made xs)) → IsOkAnd list (λ read. HasItem read.0)
-    → SaysIdItem (list >>= λ xs. ok (made xs.0, xs.1))
-list_said made (Ok xs) keeps item = keeps xs.0 item
-list_said made (Err e) keeps item = absurd item
 
 list_meant : (bytes : List ℕ) (answer : Answer (IdValue × List ℕ)) → id_at bytes ≡ answer → SaysIdItem answer → HoldsIdItem bytes
 list_meant bytes (Ok read) is list = (read.0, read.1, ids_agree.found bytes read.0 read.1 is, list)

@@ -63,10 +63,6 @@ passes_no_want meant result cause needed never is passed want = absurd (no_want 
 pub wants_on : {X Y : Type 0} (result : Result Y Error) (cause : Error) (needed : Type 0) → LacksOnlyIf (refused {X = X} cause) needed → IsErrAnd result (λ e. e ≡ cause) → LacksOnlyIf result needed
 wants_on {X} result cause needed held passed want = held (ap (λ (e : Error). refused {X = X} e) (cause_is cause OutOfMemory (sym (passed_on result cause passed) ∙ want)))
 
--- so does one that is answered as it is
-pub wants_as : {X Y : Type 0} (cause : Error) (needed : Type 0) → LacksOnlyIf (refused {X = X} cause) needed → LacksOnlyIf (refused {X = Y} cause) needed
-wants_as {X} cause needed held want = held (ap (λ (e : Error). refused {X = X} e) (cause_is cause OutOfMemory want))
-
 -- nor does a row that makes a value
 made_no_want : {A B : Type 0} (made : A → B) (read : Answer (A × List ℕ)) → read ≢ Err out_of_memory → (read >>= λ value. ok {A = B × List ℕ} (made value.0, value.1)) ≢ Err out_of_memory
 made_no_want {A} {B} made (Ok value) never is = ok_is_no_err {A = B × List ℕ} (made value.0, value.1) out_of_memory is

@@ -60,9 +60,6 @@ to_end_stops {A} read before (byte ∷ bytes) e some is =
 
 -- ---- so many
 
-pub repeated_starts : {A : Type 0} (read : List ℕ → Answer (A × List ℕ)) (count : ℕ) (bytes : List ℕ) → repeated read count bytes ≡ behind [] (repeated read count bytes)
-repeated_starts read count bytes = sym (behind_none (repeated read count bytes))
-
 pub repeated_step : {A : Type 0} (read : List ℕ → Answer (A × List ℕ)) (before : List A) (count : ℕ) (bytes : List ℕ) (x : A) (rest : List ℕ) → 0 < count → read bytes ≡ Ok (x, rest)
     → behind before (repeated read count bytes) ≡ behind (before ++ x ∷ []) (repeated read (count - 1) rest)
 repeated_step {A} read before zero bytes x rest some is = absurd (omega (arith, some))
@@ -72,9 +69,6 @@ repeated_step {A} read before (suc count) bytes x rest some is =
     ap (λ (r : Answer (List A × List ℕ)). behind before r) one
     ∙ behind_more before x (repeated read count rest)
     ∙ ap (λ (n : ℕ). behind (before ++ x ∷ []) (repeated read n rest)) (sym less)
-
-pub repeated_ends : {A : Type 0} (read : List ℕ → Answer (A × List ℕ)) (before : List A) (bytes : List ℕ) → behind before (repeated read 0 bytes) ≡ Ok (before, bytes)
-repeated_ends {A} read before bytes = ap (λ (xs : List A). ok (xs, bytes)) (append-nil before)
 
 pub repeated_stops : {A : Type 0} (read : List ℕ → Answer (A × List ℕ)) (before : List A) (count : ℕ) (bytes : List ℕ) (e : Refusal) → 0 < count → read bytes ≡ Err e → behind before (repeated read count bytes) ≡ Err e
 repeated_stops {A} read before zero bytes e some is = absurd (omega (arith, some))

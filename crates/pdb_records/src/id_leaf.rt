@@ -29,10 +29,7 @@ impl IdLeaf {
         match number {
             LF_BUILDINFO => Some(IdLeaf::BuildInfo),
             LF_SUBSTR_LIST => Some(IdLeaf::StringList),
-            _ => match PlainIdLeaf::from_number(number) {
-                Some(leaf) => Some(IdLeaf::Plain(leaf)),
-                None => None,
-            },
+            _ => PlainIdLeaf::from_number(number).map(|leaf| IdLeaf::Plain(leaf)),
         }
     }
 }

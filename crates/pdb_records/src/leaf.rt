@@ -34,10 +34,7 @@ impl Leaf {
             LF_METHODLIST => Some(Leaf::MethodList),
             LF_ARRAY | LF_ARRAY_ST => Some(Leaf::Array(false)),
             LF_STRIDED_ARRAY => Some(Leaf::Array(true)),
-            _ => match PlainLeaf::from_number(number) {
-                Some(leaf) => Some(Leaf::Plain(leaf)),
-                None => None,
-            },
+            _ => PlainLeaf::from_number(number).map(|leaf| Leaf::Plain(leaf)),
         }
     }
 }

@@ -33,7 +33,7 @@ pub(crate) fn parse_pointer<'t>(buffer: &mut ParseBuffer<'t>) -> Result<TypeData
     }))
 }
 
-/// Reads a type with qualifiers.
+/// Reads a type with modifiers.
 #[tactic(auto, unfolding(crate::specs::Row::row, crate::specs::Rows::modifier_row))]
 pub(crate) fn parse_modifier<'t>(buffer: &mut ParseBuffer<'t>) -> Result<TypeData<'t>>
     ensures { Gives (λ t. (type_value t, left buffer.new)) result (plain_at modifier_row (left buffer.old)) }

@@ -40,6 +40,10 @@ fn field_list<'t>(fields: Vec<TypeData<'t>>, continuation: Option<TypeIndex>) ->
     })
 }
 
+/// About the size in bytes of a short entry, by which the first entry of a list reserves memory for
+/// those behind it.
+const ENTRY_SIZE: usize = 16;
+
 /// Reads entries to the end of the bytes, and returns them as a list of fields.
 #[inline(never)]
 pub fn parse_field_list<'t>(alloc: Global, buffer: &mut ParseBuffer<'t>) -> Result<TypeData<'t>>
@@ -55,13 +59,12 @@ pub fn parse_field_list<'t>(alloc: Global, buffer: &mut ParseBuffer<'t>) -> Resu
             skip_padding(buffer)?;
             continue;
         }
-        match parse_behind_leaf(alloc, buffer, number) {
-            Ok(field) => {
-                skip_padding(buffer)?;
-                fields.push(field)?;
-            }
-            Err(error) => return Err(error),
+        let field = parse_behind_leaf(alloc, buffer, number)?;
+        skip_padding(buffer)?;
+        if fields.is_empty() {
+            fields.reserve(1 + buffer.len() / ENTRY_SIZE)?;
         }
+        fields.push(field)?;
     }
     Ok(field_list(fields, continuation))
 }

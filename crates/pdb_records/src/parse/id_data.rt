@@ -30,14 +30,14 @@ fn parse_id_leaf<'t>(
 {
     match leaf {
         IdLeaf::Plain(leaf) => parse_plain_id(buffer, number, leaf),
-        IdLeaf::BuildInfo => match parse_counted(alloc, buffer, CountWidth::Bits16) {
-            Ok(arguments) => Ok(IdData::BuildInfo(BuildInfoId { arguments })),
-            Err(error) => Err(error),
-        },
-        IdLeaf::StringList => match parse_counted(alloc, buffer, CountWidth::Bits32) {
-            Ok(substrings) => Ok(IdData::StringList(StringListId { substrings })),
-            Err(error) => Err(error),
-        },
+        IdLeaf::BuildInfo => {
+            let arguments = parse_counted(alloc, buffer, CountWidth::Bits16)?;
+            Ok(IdData::BuildInfo(BuildInfoId { arguments }))
+        }
+        IdLeaf::StringList => {
+            let substrings = parse_counted(alloc, buffer, CountWidth::Bits32)?;
+            Ok(IdData::StringList(StringListId { substrings }))
+        }
     }
 }
 

@@ -68,7 +68,7 @@ pub enum PlainLeaf {
     /// The type of a function.
     Procedure,
 
-    /// A type with qualifiers.
+    /// A type with modifiers.
     Modifier,
 
     /// An enumeration.

@@ -29,14 +29,11 @@ fn parse_leaf<'t>(
 {
     match leaf {
         Leaf::Plain(leaf) => parse_plain(buffer, number, leaf),
-        Leaf::ArgumentList => match parse_counted(alloc, buffer, CountWidth::Bits32) {
-            Ok(arguments) => Ok(TypeData::ArgumentList(ArgumentList { arguments })),
-            Err(error) => Err(error),
-        },
-        Leaf::MethodList => match parse_method_list(alloc, buffer) {
-            Ok(list) => Ok(TypeData::MethodList(list)),
-            Err(error) => Err(error),
-        },
+        Leaf::ArgumentList => {
+            let arguments = parse_counted(alloc, buffer, CountWidth::Bits32)?;
+            Ok(TypeData::ArgumentList(ArgumentList { arguments }))
+        }
+        Leaf::MethodList => Ok(TypeData::MethodList(parse_method_list(alloc, buffer)?)),
         Leaf::Array(strided) => Ok(TypeData::Array(parse_array(alloc, buffer, strided)?)),
     }
 }

@@ -33,13 +33,8 @@ pub fn skip_field_list(alloc: Global, buffer: &mut ParseBuffer<'_>) -> Result<Op
             skip_padding(buffer)?;
             continue;
         }
-        match parse_behind_leaf(alloc, buffer, number) {
-            Ok(field) => {
-                drop(field);
-                skip_padding(buffer)?;
-            }
-            Err(error) => return Err(error),
-        }
+        drop(parse_behind_leaf(alloc, buffer, number)?);
+        skip_padding(buffer)?;
     }
     Ok(continuation)
 }

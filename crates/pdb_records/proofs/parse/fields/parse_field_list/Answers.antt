@@ -1,4 +1,4 @@
-use Rattle.std.proofs.Common.{◌≢◌, [], ◌∷◌, ◌++◌, inl, inr, refl, ◌∙◌}
+use Rattle.std.proofs.Common.{◌≡◌, ◌≢◌, [], ◌∷◌, ◌++◌, inl, inr, refl, ◌∙◌}
 use Rattle.std.proofs.lemmas.Bool.{false≢true}
 use Rattle.pdb_base.specs.Place.{left}
 use Rattle.pdb_base.specs.Reading.{number_at}
@@ -12,7 +12,8 @@ use Rattle.pdb_records.specs.Fields.{field, continues}
 use Rattle.pdb_records.proofs.ShapeLaws.{shapes}
 use Rattle.pdb_records.proofs.NoWant.{number_no_want, row_no_want, padding_no_want}
 use Rattle.pdb_records.proofs.FieldLemmas.{fields_more, fields_same, continuation_same, continuation_last, no_leaf, continuation_at, no_continuation, cut_continuation, one_field_at, no_field, cut_field, entries_step, entry_shorter, field_list_all, field_list_stops, says_as_much}
-use Rattle.pdb_records.proofs.MemoryLemmas.{passes_no_want, wants_as, continuation_behind, field_there, field_holds}
+use Rattle.pdb_records.proofs.MemoryLemmas.{passes_no_want, wants_on, continuation_behind, field_there, field_holds}
+use Rattle.pdb_records.proofs.parse.fields.parse_field_list.Goals.{then-is_empty+in_ok-reserve, else-is_empty}
 use Rattle.pdb_records.proofs.parse.fields.parse_field_list.Goals as goal
 
 -- ---- no leaf
@@ -74,55 +75,64 @@ entries-preserved-then-number-eq-LF_INDEX c =
 
 -- ---- a field
 
-pub returns-in-Err-clause-read : goal.returns-in-Err-clause-read
-returns-in-Err-clause-read c =
+pub returns-in_err-field-clause-read : goal.returns-in_err-field-clause-read
+returns-in_err-field-clause-read c =
     let some : left c.entries.buffer ≢ [] = λ none. false≢true (c.entries-test.ensures.1 none) in
-    elim c.in-Err.ensures.read [
+    rw (passed_on _ _ c.from_residual-in_err-field.ensures.1) (elim c.in_err-field.ensures.read [
       | inl refused ↦
           let stops = no_field (left c.entries.buffer) _ _ _ c.in_ok-number.ensures.read c.if-number-eq-LF_INDEX.false refused in
           inl (field_list_stops (left c.args.buffer.now) c.entries.invariant.entries (left c.entries.buffer) _ c.entries.invariant.all some stops)
       | inr want ↦ inr want
-    ]
+    ])
 
-pub returns-in-Err-clause-memory : goal.returns-in-Err-clause-memory
-returns-in-Err-clause-memory c = λ want.
+pub returns-in_err-field-clause-memory : goal.returns-in_err-field-clause-memory
+returns-in_err-field-clause-memory c = λ want.
     field_holds (left c.args.buffer.now) (left c.entries.buffer) c.entries.invariant.begun (
       c.in_ok-number.number,
       left c.parse_u16.new.self,
       (shapes u16).found (left c.entries.buffer) _ _ c.in_ok-number.ensures.read,
-      wants_as c.in-Err.error _ c.in-Err.ensures.memory want,
+      wants_on _ _ _ c.in_err-field.ensures.memory c.from_residual-in_err-field.ensures.1 want,
     )
 
-pub returns-in_err-skip_padding-in-Ok-clause-read : goal.returns-in_err-skip_padding-in-Ok-clause-read
-returns-in_err-skip_padding-in-Ok-clause-read c =
+pub returns-in_err-skip_padding-2-clause-read : goal.returns-in_err-skip_padding-2-clause-read
+returns-in_err-skip_padding-2-clause-read c =
     let some : left c.entries.buffer ≢ [] = λ none. false≢true (c.entries-test.ensures.1 none) in
-    let refused = cut_field (left c.entries.buffer) _ _ _ _ _ c.in_ok-number.ensures.read c.if-number-eq-LF_INDEX.false c.in-Ok.ensures.read c.in_err-skip_padding-in-Ok.ensures in
-    rw (passed_on _ _ c.from_residual-in_err-skip_padding-in-Ok.ensures.1) (inl (field_list_stops (left c.args.buffer.now) c.entries.invariant.entries (left c.entries.buffer) _ c.entries.invariant.all some refused))
+    let refused = cut_field (left c.entries.buffer) _ _ _ _ _ c.in_ok-number.ensures.read c.if-number-eq-LF_INDEX.false c.in_ok-field.ensures.read c.in_err-skip_padding-2.ensures in
+    rw (passed_on _ _ c.from_residual-in_err-skip_padding-2.ensures.1) (inl (field_list_stops (left c.args.buffer.now) c.entries.invariant.entries (left c.entries.buffer) _ c.entries.invariant.all some refused))
 
-pub returns-in_err-skip_padding-in-Ok-clause-memory : goal.returns-in_err-skip_padding-in-Ok-clause-memory
-returns-in_err-skip_padding-in-Ok-clause-memory c =
+pub returns-in_err-skip_padding-2-clause-memory : goal.returns-in_err-skip_padding-2-clause-memory
+returns-in_err-skip_padding-2-clause-memory c =
     let end = left c.parse_behind_leaf.new.buffer in
-    passes_no_want (padding_at end) _ _ _ (padding_no_want end) c.in_err-skip_padding-in-Ok.ensures c.from_residual-in_err-skip_padding-in-Ok.ensures.1
+    passes_no_want (padding_at end) _ _ _ (padding_no_want end) c.in_err-skip_padding-2.ensures c.from_residual-in_err-skip_padding-2.ensures.1
 
-pub returns-in_err-push-in-Ok-clause-memory : goal.returns-in_err-push-in-Ok-clause-memory
-returns-in_err-push-in-Ok-clause-memory c = λ want.
-    let read = one_field_at (left c.entries.buffer) _ _ _ _ _ c.in_ok-number.ensures.read c.if-number-eq-LF_INDEX.false c.in-Ok.ensures.read c.in_ok-skip_padding-in-Ok.ensures in
+pub returns-in_err-reserve-clause-memory : goal.returns-in_err-reserve-clause-memory
+returns-in_err-reserve-clause-memory c = λ want.
+    let read = one_field_at (left c.entries.buffer) _ _ _ _ _ c.in_ok-number.ensures.read c.if-number-eq-LF_INDEX.false c.in_ok-field.ensures.read c.in_ok-skip_padding-2.ensures in
+    field_there (left c.args.buffer.now) (left c.entries.buffer) _ _ c.entries.invariant.begun read
+
+pub returns-in_err-push-clause-memory : goal.returns-in_err-push-clause-memory
+returns-in_err-push-clause-memory c = λ want.
+    let read = one_field_at (left c.entries.buffer) _ _ _ _ _ c.in_ok-number.ensures.read c.if-number-eq-LF_INDEX.false c.in_ok-field.ensures.read c.in_ok-skip_padding-2.ensures in
     field_there (left c.args.buffer.now) (left c.entries.buffer) _ _ c.entries.invariant.begun read
 
 pub entries-smaller : goal.entries-smaller
 entries-smaller c =
-    let read = one_field_at (left c.entries.buffer) _ _ _ _ _ c.in_ok-number.ensures.read c.if-number-eq-LF_INDEX.false c.in-Ok.ensures.read c.in_ok-skip_padding-in-Ok.ensures in
+    let read = one_field_at (left c.entries.buffer) _ _ _ _ _ c.in_ok-number.ensures.read c.if-number-eq-LF_INDEX.false c.in_ok-field.ensures.read c.in_ok-skip_padding-2.ensures in
     entry_shorter (left c.entries.buffer) _ _ read
 
 pub entries-preserved : goal.entries-preserved
 entries-preserved c =
     let so_far = c.entries.invariant in
-    let value = type_value c.in-Ok.field in
-    let read = one_field_at (left c.entries.buffer) _ _ value _ _ c.in_ok-number.ensures.read c.if-number-eq-LF_INDEX.false c.in-Ok.ensures.read c.in_ok-skip_padding-in-Ok.ensures in
-    rw c.in_ok-push-in-Ok.ensures.items (record {
+    let value = type_value c.in_ok-field.field in
+    let read = one_field_at (left c.entries.buffer) _ _ value _ _ c.in_ok-number.ensures.read c.if-number-eq-LF_INDEX.false c.in_ok-field.ensures.read c.in_ok-skip_padding-2.ensures in
+    let kept : c.if-is_empty.fields.items ≡ c.entries.fields.items = elim c.if-is_empty.branch [
+      | then-is_empty+in_ok-reserve w ↦ rw w.fields-is w.reserve.ensures.items
+      | else-is_empty w ↦ rw w.fields-is refl
+    ] in
+    rw (c.in_ok-push.ensures.items, kept) (record {
       entries = so_far.entries ++ field value ∷ [];
-      all = so_far.all ∙ entries_step so_far.entries (left c.entries.buffer) (field value) (left c.skip_padding-in-Ok.new.buffer) read;
-      fields = fields_more so_far.entries c.entries.fields.items c.in-Ok.field so_far.fields;
+      all = so_far.all ∙ entries_step so_far.entries (left c.entries.buffer) (field value) (left c.skip_padding-in-entries.new.buffer) read;
+      fields = fields_more so_far.entries c.entries.fields.items c.in_ok-field.field so_far.fields;
       continuation = continuation_same so_far.entries value ∙ so_far.continuation;
       begun = inr (field_there (left c.args.buffer.now) (left c.entries.buffer) _ _ so_far.begun read);
     })

@@ -14,7 +14,7 @@ use Rattle.pdb_records.specs.Fields.{field, continues}
 use Rattle.pdb_records.proofs.ShapeLaws.{shapes}
 use Rattle.pdb_records.proofs.NoWant.{number_no_want, row_no_want, padding_no_want}
 use Rattle.pdb_records.proofs.FieldLemmas.{continuation_same, continuation_last, no_leaf, continuation_at, no_continuation, cut_continuation, one_field_at, no_field, cut_field, entries_step, entry_shorter, skip_all, skip_stops}
-use Rattle.pdb_records.proofs.MemoryLemmas.{passes_no_want, wants_as, continuation_behind, field_there, field_holds}
+use Rattle.pdb_records.proofs.MemoryLemmas.{passes_no_want, wants_on, continuation_behind, field_there, field_holds}
 use Rattle.pdb_records.proofs.parse.skip.skip_field_list.Goals as goal
 
 -- ---- no leaf
@@ -75,49 +75,49 @@ entries-preserved-then-number-eq-LF_INDEX c =
 
 -- ---- a field
 
-pub returns-in-Err-clause-read : goal.returns-in-Err-clause-read
-returns-in-Err-clause-read c =
+pub returns-in_err-parse_behind_leaf-clause-read : goal.returns-in_err-parse_behind_leaf-clause-read
+returns-in_err-parse_behind_leaf-clause-read c =
     let some : left c.entries.buffer ≢ [] = λ none. false≢true (c.entries-test.ensures.1 none) in
-    elim c.in-Err.ensures.read [
+    rw (passed_on _ _ c.from_residual-in_err-parse_behind_leaf.ensures.1) (elim c.in_err-parse_behind_leaf.ensures.read [
       | inl refused ↦
           let stops = no_field (left c.entries.buffer) _ _ _ c.in_ok-number.ensures.read c.if-number-eq-LF_INDEX.false refused in
           inl (skip_stops (left c.args.buffer.now) c.entries.invariant.entries (left c.entries.buffer) _ c.entries.invariant.all some stops)
       | inr want ↦ inr want
-    ]
+    ])
 
-pub returns-in-Err-clause-memory : goal.returns-in-Err-clause-memory
-returns-in-Err-clause-memory c = λ want.
+pub returns-in_err-parse_behind_leaf-clause-memory : goal.returns-in_err-parse_behind_leaf-clause-memory
+returns-in_err-parse_behind_leaf-clause-memory c = λ want.
     field_holds (left c.args.buffer.now) (left c.entries.buffer) c.entries.invariant.begun (
       c.in_ok-number.number,
       left c.parse_u16.new.self,
       (shapes u16).found (left c.entries.buffer) _ _ c.in_ok-number.ensures.read,
-      wants_as c.in-Err.error _ c.in-Err.ensures.memory want,
+      wants_on _ _ _ c.in_err-parse_behind_leaf.ensures.memory c.from_residual-in_err-parse_behind_leaf.ensures.1 want,
     )
 
-pub returns-in_err-skip_padding-in-Ok-clause-read : goal.returns-in_err-skip_padding-in-Ok-clause-read
-returns-in_err-skip_padding-in-Ok-clause-read c =
+pub returns-in_err-skip_padding-2-clause-read : goal.returns-in_err-skip_padding-2-clause-read
+returns-in_err-skip_padding-2-clause-read c =
     let some : left c.entries.buffer ≢ [] = λ none. false≢true (c.entries-test.ensures.1 none) in
-    let refused = cut_field (left c.entries.buffer) _ _ _ _ _ c.in_ok-number.ensures.read c.if-number-eq-LF_INDEX.false c.in-Ok.ensures.read c.in_err-skip_padding-in-Ok.ensures in
-    rw (passed_on _ _ c.from_residual-in_err-skip_padding-in-Ok.ensures.1) (inl (skip_stops (left c.args.buffer.now) c.entries.invariant.entries (left c.entries.buffer) _ c.entries.invariant.all some refused))
+    let refused = cut_field (left c.entries.buffer) _ _ _ _ _ c.in_ok-number.ensures.read c.if-number-eq-LF_INDEX.false c.in_ok-parse_behind_leaf.ensures.read c.in_err-skip_padding-2.ensures in
+    rw (passed_on _ _ c.from_residual-in_err-skip_padding-2.ensures.1) (inl (skip_stops (left c.args.buffer.now) c.entries.invariant.entries (left c.entries.buffer) _ c.entries.invariant.all some refused))
 
-pub returns-in_err-skip_padding-in-Ok-clause-memory : goal.returns-in_err-skip_padding-in-Ok-clause-memory
-returns-in_err-skip_padding-in-Ok-clause-memory c =
+pub returns-in_err-skip_padding-2-clause-memory : goal.returns-in_err-skip_padding-2-clause-memory
+returns-in_err-skip_padding-2-clause-memory c =
     let end = left c.parse_behind_leaf.new.buffer in
-    passes_no_want (padding_at end) _ _ _ (padding_no_want end) c.in_err-skip_padding-in-Ok.ensures c.from_residual-in_err-skip_padding-in-Ok.ensures.1
+    passes_no_want (padding_at end) _ _ _ (padding_no_want end) c.in_err-skip_padding-2.ensures c.from_residual-in_err-skip_padding-2.ensures.1
 
 pub entries-smaller : goal.entries-smaller
 entries-smaller c =
-    let read = one_field_at (left c.entries.buffer) _ _ _ _ _ c.in_ok-number.ensures.read c.if-number-eq-LF_INDEX.false c.in-Ok.ensures.read c.in_ok-skip_padding-in-Ok.ensures in
+    let read = one_field_at (left c.entries.buffer) _ _ _ _ _ c.in_ok-number.ensures.read c.if-number-eq-LF_INDEX.false c.in_ok-parse_behind_leaf.ensures.read c.in_ok-skip_padding-2.ensures in
     entry_shorter (left c.entries.buffer) _ _ read
 
 pub entries-preserved : goal.entries-preserved
 entries-preserved c =
     let so_far = c.entries.invariant in
-    let value = type_value c.in-Ok.field in
-    let read = one_field_at (left c.entries.buffer) _ _ value _ _ c.in_ok-number.ensures.read c.if-number-eq-LF_INDEX.false c.in-Ok.ensures.read c.in_ok-skip_padding-in-Ok.ensures in
+    let value = type_value c.in_ok-parse_behind_leaf.field-0 in
+    let read = one_field_at (left c.entries.buffer) _ _ value _ _ c.in_ok-number.ensures.read c.if-number-eq-LF_INDEX.false c.in_ok-parse_behind_leaf.ensures.read c.in_ok-skip_padding-2.ensures in
     record {
       entries = so_far.entries ++ field value ∷ [];
-      all = so_far.all ∙ entries_step so_far.entries (left c.entries.buffer) (field value) (left c.skip_padding-in-Ok.new.buffer) read;
+      all = so_far.all ∙ entries_step so_far.entries (left c.entries.buffer) (field value) (left c.skip_padding-in-entries.new.buffer) read;
       continuation = continuation_same so_far.entries value ∙ so_far.continuation;
       begun = inr (field_there (left c.args.buffer.now) (left c.entries.buffer) _ _ so_far.begun read);
     }
