@@ -1,10 +1,9 @@
 -- What stands on a writer after each step of a walk.
-use Rattle.std.proofs.Common.{◌≡◌, inl, inr, ℕ, suc, ◌+◌, ◌-◌, ◌≤◌, ◌<◌, List, [], ◌∷◌, ◌++◌, length, take, drop, get_or, Option, Some, None, Ok, Err, refl, sym, ap, subst, ◌∙◌, arith, append_assoc, drop-cons, take-append-drop}
+use Rattle.std.proofs.Common.{◌≡◌, ℕ, suc, ◌+◌, ◌-◌, ◌≤◌, ◌<◌, List, [], ◌∷◌, ◌++◌, length, take, drop, get_or, Option, Some, None, Ok, Err, refl, sym, ap, subst, ◌∙◌, arith, append_assoc, drop-cons, take-append-drop}
 use Rattle.std.specs.Io.KnownBytes.{Appends}
 use Rattle.std.proofs.KnownBytes.{Appends-nil, Appends-trans}
 use Rattle.std.proofs.lemmas.List.{append-nil, take_all, take_more, length-take}
-use Rattle.std.proofs.lemmas.Option.{slice_get_cases}
-use Rattle.pdb_base.proofs.lemmas.Collected.{ok_is}
+use Rattle.std.proofs.lemmas.Option.{get_or_from_slice_get}
 use Rattle.pdb_listing.specs.Lines.{lines_from}
 use Rattle.pdb_base.specs.declared.error.Error.{Error}
 use Rattle.std.specs.declared.io.Error as io
@@ -12,8 +11,7 @@ use Rattle.pdb_base.specs.declared.error.Error.TheVariants.{IoError, OutOfMemory
 use Rattle.pdb_listing.specs.Listed.{IsWalked, all_lines, cut, lacking, lines_of, stopped, whole}
 use Rattle.pdb_rows.specs.Written.{IsPrefix}
 use Rattle.pdb_rows.proofs.lemmas.Written.{front_more}
-use Rattle.pdb_tpi.proofs.StepLemmas.{step_err, step_gives, step_none, step_some}
-use Rattle.pdb_tpi.proofs.WalkLemmas.{nth_some}
+use Rattle.pdb_tpi.proofs.StepLemmas.{step_err, step_none, step_some}
 use Rattle.pdb_tpi.specs.Steps.{WalkPosition, walk, walk_rest, steps_taken, IsStep}
 use Rattle.pdb_tpi.specs.Walk.{fault_of}
 use Rattle.pdb_tpi.specs.Table.{Table}
@@ -49,25 +47,6 @@ so_far_first line table stand out is =
     } in
     subst (λ (s : WalkPosition). IsSoFar line table s out out) (sym is) here
 
-some_is : {A : Type 0} (x y : A) → Some x ≡ Some y → x ≡ y
-some_is x y e = cc
-
--- the item that a step gives is the next of the walk
-step_item : {X : Type 0} (seen : X → ℕ × List ℕ) (old : WalkPosition) (x : X) (new : WalkPosition) → IsStep seen old (Ok (Some x)) new
-    → (steps_taken old < length (walk old.table)) × (get_or (walk old.table) (steps_taken old) (seen x).1 ≡ (seen x).1) × ((seen x).0 ≡ old.index)
-step_item {X} seen old x new step = elim ((slice_get_cases (walk old.table) (steps_taken old)).1) [
-  | inl here ↦
-      let moved : WalkPosition = record old { index = old.index + 1 } in
-      let next : ℕ × List ℕ = (old.index, here.0) in
-      let given : Option (ℕ × List ℕ) × WalkPosition = (Some next, moved) in
-      let taken : Option (ℕ × List ℕ) × WalkPosition = (Some (seen x), new) in
-      let is : given ≡ taken = ok_is given taken (sym (step_gives old here.0 (nth_some old.table (steps_taken old) here.0 here.2)) ∙ step.gives) in
-      let pair : next ≡ seen x = some_is next (seen x) (ap (λ (p : Option (ℕ × List ℕ) × WalkPosition). p.0) is) in
-      let item : here.0 ≡ (seen x).1 = ap (λ (p : ℕ × List ℕ). p.1) pair in
-      (here.1, subst (λ (bytes : List ℕ). get_or (walk old.table) (steps_taken old) bytes ≡ bytes) item here.3, sym (ap (λ (p : ℕ × List ℕ). p.0) pair))
-  | inr past ↦ let within = (step_some seen old x new step).0 in let beyond = past.0 in absurd (omega arith)
-]
-
 -- one item more stands there
 more_here : {X : Type 0} (seen : X → ℕ × List ℕ) (line : Line) (old new : WalkPosition) (x : X) (out mid out' : Option (List ℕ)) → IsSoFar line old.table old out mid → IsStep seen old (Ok (Some x)) new
     → Appends mid out' (line (seen x).0 (seen x).1) → IsSoFar line old.table new out out'
@@ -76,19 +55,19 @@ more_here {X} seen line old new x out mid out' so step appends =
     let items = walk table in
     let minimum = table.header.minimum_index in
     let count = steps_taken old in
-    let given = step_item seen old x new step in
-    let moved = step_some seen old x new step in
-    let next : new.index ≡ old.index + 1 = ap (λ (s : WalkPosition). s.index) moved.1 in
+    let given = step_some seen old x new step in
+    let item = get_or_from_slice_get items count (seen x).1 (seen x).1 given.there in
+    let next : new.index ≡ old.index + 1 = ap (λ (s : WalkPosition). s.index) given.moved in
     let least = so.least in
     let counted : count + 1 ≡ new.index - minimum = omega arith in
-    let within : count < length items = given.0 in
+    let within : count < length items = given.within in
     let long : length (take count items) ≡ count = simp length-take (omega arith) in
-    let at : minimum + length (take count items) ≡ (seen x).0 = let index = given.2 in omega arith in
+    let at : minimum + length (take count items) ≡ (seen x).0 = let index = given.index in omega arith in
     let all : lines_of line table (count + 1) ≡ lines_of line table count ++ line (seen x).0 (seen x).1 =
     ap (lines_from line minimum) (take_more items count (seen x).1 within)
     ∙ lines_more line minimum (take count items) (get_or items count (seen x).1)
     ∙ ap (λ (i : ℕ). lines_from line minimum (take count items) ++ line i (get_or items count (seen x).1)) at
-    ∙ ap (λ (bytes : List ℕ). lines_from line minimum (take count items) ++ line (seen x).0 bytes) given.1 in
+    ∙ ap (λ (bytes : List ℕ). lines_from line minimum (take count items) ++ line (seen x).0 bytes) item in
     let whole : Appends out out' (lines_of line table count ++ line (seen x).0 (seen x).1) = Appends-trans out mid out' (lines_of line table count) (line (seen x).0 (seen x).1) so.lines appends in
     record {
       same = step.stays;
@@ -125,18 +104,19 @@ cut_here {X} seen line old new x out mid out' so step front =
     let items = walk table in
     let minimum = table.header.minimum_index in
     let count = steps_taken old in
-    let given = step_item seen old x new step in
+    let given = step_some seen old x new step in
+    let item = get_or_from_slice_get items count (seen x).1 (seen x).1 given.there in
     let least = so.least in
-    let within : count < length items = given.0 in
+    let within : count < length items = given.within in
     let long : length (take count items) ≡ count = simp length-take (omega arith) in
-    let at : minimum + length (take count items) ≡ (seen x).0 = let index = given.2 in omega arith in
+    let at : minimum + length (take count items) ≡ (seen x).0 = let index = given.index in omega arith in
     let rest : List ℕ = lines_from line (minimum + length (take count items)) (drop count items) in
     let split : all_lines line table ≡ lines_of line table count ++ rest =
     ap (lines_from line minimum) (sym (take-append-drop count items)) ∙ lines_append line minimum (take count items) (drop count items) in
     let next : rest ≡ line (seen x).0 (seen x).1 ++ lines_from line (suc (seen x).0) (drop (suc count) items) =
     ap (lines_from line (minimum + length (take count items))) (drop-cons items count (seen x).1 within)
     ∙ ap (λ (i : ℕ). lines_from line i (get_or items count (seen x).1 ∷ drop (suc count) items)) at
-    ∙ ap (λ (bytes : List ℕ). lines_from line (seen x).0 (bytes ∷ drop (suc count) items)) given.1 in
+    ∙ ap (λ (bytes : List ℕ). lines_from line (seen x).0 (bytes ∷ drop (suc count) items)) item in
     front_more out mid out' (all_lines line table) (line (seen x).0 (seen x).1) (lines_from line (suc (seen x).0) (drop (suc count) items)) rest next (record { done = lines_of line table count; got = so.lines; left = split }) front
 
 -- where the writer fails within the next line
@@ -161,7 +141,9 @@ ends_whole seen line table old new out out' so step =
 pub ends_stopped : {X : Type 0} (seen : X → ℕ × List ℕ) (line : Line) (table : Table) (old new : WalkPosition) (fault : Error) (out out' : Option (List ℕ)) → IsSoFar line table old out out' → IsStep seen old (Err fault) new → IsWalked line table out out' (Err fault)
 ends_stopped seen line table old new fault out out' so step =
     let ended = step_err seen old new fault step in
-    stopped fault (ap (λ (t : Table). fault_of (walk_rest t)) (sym so.same) ∙ ended.1) (so_far_whole line table old out out' so ended.0)
+    stopped fault (λ none. ended.some (ap walk_rest so.same ∙ none))
+    (ap (λ (t : Table). fault_of (walk_rest t)) (sym so.same) ∙ ended.is)
+    (so_far_whole line table old out out' so ended.past)
 
 -- where memory is refused, the lines so far stand there
 pub ends_lacking : (line : Line) (table : Table) (stand : WalkPosition) (fault : Error) (out out' : Option (List ℕ)) → IsSoFar line table stand out out' → fault ≡ OutOfMemory → IsWalked line table out out' (Err fault)

@@ -1,5 +1,5 @@
 -- What a listing writes, and why it ended.
-use Rattle.std.specs.Prelude.{◌≡◌, ◌⊎◌, ℕ, List, [], ◌++◌, take, Option, Result, Ok, Err}
+use Rattle.std.specs.Prelude.{◌≡◌, ◌≢◌, ◌⊎◌, ℕ, List, [], ◌++◌, take, Option, Result, Ok, Err}
 use Rattle.std.specs.Io.KnownBytes.{Appends, Keeps}
 use Rattle.std.specs.declared.io.Error as io
 use Rattle.pdb_base.specs.Answer.{Answer}
@@ -28,12 +28,14 @@ Pushes (Err fault) old new meant = (meant ≡ Err (refusal_of fault)) ⊎ (fault
 
 -- A listing of a table, with a line for each item, ended in one of these ways:
 --   whole    the lines of all items were written, and no byte is left behind the items
---   stopped  the lines of all items were written, and the fault is the one at which the walk stops
+--   stopped  the lines of all items were written, and the fault is the one at which the walk stops, before bytes
+--            that are left
 --   lacking  memory was refused after the lines of some first items were written
 --   cut      the writer failed, and a front of the lines was written
 pub data IsWalked (line : ℕ → List ℕ → List ℕ) (table : Table) (out out' : Option (List ℕ)) : Result (Unit {0}) Error → Type 0 where
   whole : walk_rest table ≡ [] → Appends out out' (all_lines line table) → IsWalked line table out out' (Ok tt)
-  stopped : (fault : Error) → fault_of (walk_rest table) ≡ refusal_of fault → Appends out out' (all_lines line table) → IsWalked line table out out' (Err fault)
+  stopped : (fault : Error) → walk_rest table ≢ [] → fault_of (walk_rest table) ≡ refusal_of fault
+    → Appends out out' (all_lines line table) → IsWalked line table out out' (Err fault)
   lacking : (count : ℕ) → Appends out out' (lines_of line table count) → IsWalked line table out out' (Err OutOfMemory)
   cut : (cause : io.Error) → IsPrefix (all_lines line table) out out' → IsWalked line table out out' (Err (IoError cause))
 

@@ -5,9 +5,8 @@ ghost use Rattle.pdb_listing.specs.Listed.{IsListed, IsShown, IsWalked};
 
 use crate::line::push_id;
 use pdb_base::{FallibleIterator, IdIndex, Result, Stream};
-use pdb_container::look_up;
 use pdb_rows::{Form, id_row, push_fields, write_bytes};
-use pdb_tpi::IdInformation;
+use pdb_tpi::{IdInformation, OpenTable};
 use std::alloc::Global;
 use std::io::Write;
 
@@ -43,14 +42,14 @@ pub fn ids<W: Write>(alloc: Global, stream: Stream, form: Form, out: &mut W) -> 
 /// Looks up the id of an index in a table and writes it in full.
 fn show_id<W: Write>(
     alloc: Global,
-    table: &IdInformation,
+    ids: &OpenTable<IdIndex>,
     index: u32,
     form: Form,
     out: &mut W,
 ) -> Result<()>
-    ensures { IsShown (id_shown form index table.now) (W.contents out.old) (W.contents out.new) result }
+    ensures { IsShown (id_shown form index ids.now.table) (W.contents out.old) (W.contents out.new) result }
 {
-    let item = look_up(alloc, table, IdIndex(index))?;
+    let item = ids.item(IdIndex(index))?;
     let value = item.parse(alloc)?;
     let row = id_row(alloc, index, item.raw_kind(), &value)?;
     let mut text = Vec::new(alloc);
@@ -75,5 +74,6 @@ pub fn id_at<W: Write>(
     ensures { IsShown (id_at form index stream) (W.contents out.old) (W.contents out.new) result }
 {
     let table = IdInformation::parse(stream)?;
-    show_id(alloc, &table, index, form, out)
+    let ids = OpenTable::new(alloc, table)?;
+    show_id(alloc, &ids, index, form, out)
 }

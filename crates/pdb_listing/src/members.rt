@@ -13,9 +13,8 @@ ghost use Rattle.pdb_rows.specs.TypeRows.{listed_method_fields};
 ghost use Rattle.pdb_values.specs.TypeView.{type_value};
 
 use pdb_base::{Error, Result, TypeIndex};
-use pdb_container::look_up_fields;
 use pdb_rows::{Form, field_row, method_row, push_row};
-use pdb_tpi::TypeInformation;
+use pdb_tpi::OpenTable;
 use pdb_values::{MethodListEntry, TypeData};
 use std::alloc::Global;
 
@@ -62,20 +61,20 @@ fn push_methods(
 fn push_list(
     alloc: Global,
     form: Form,
-    table: &TypeInformation,
+    types: &OpenTable<TypeIndex>,
     list: TypeIndex,
     lines: &mut Vec<u8>,
 ) -> Result<()>
-    ensures { Pushes result lines.old.items lines.new.items (field_lines form table.now list.0) }
+    ensures { Pushes result lines.old.items lines.new.items (field_lines form types.now.table list.0) }
 {
-    let fields = look_up_fields(alloc, table, list)?;
+    let fields = types.fields(alloc, list)?;
     push_entries(alloc, form, fields.as_slice(), lines)?;
     Ok(())
 }
 
 /// Returns the list in which the fields of a type begin: the type itself if it is a list of fields,
 /// or the list that a class, a union or an enumeration names.
-fn list_of_fields(index: TypeIndex, value: &TypeData<'_>) -> Option<TypeIndex>
+pub(crate) fn list_of_fields(index: TypeIndex, value: &TypeData<'_>) -> Option<TypeIndex>
     ensures { option_map (λ list. list.0) result ≡ list_of_fields index.0 (type_value value.now) }
 {
     match value {
@@ -94,19 +93,19 @@ fn list_of_fields(index: TypeIndex, value: &TypeData<'_>) -> Option<TypeIndex>
 pub(crate) fn push_members(
     alloc: Global,
     form: Form,
-    table: &TypeInformation,
+    types: &OpenTable<TypeIndex>,
     index: TypeIndex,
     value: &TypeData<'_>,
     lines: &mut Vec<u8>,
 ) -> Result<()>
     ensures { Pushes result lines.old.items lines.new.items
-        (member_lines form table.now index.0 (type_value value.now)) }
+        (member_lines form types.now.table index.0 (type_value value.now)) }
 {
     if let TypeData::MethodList(list) = value {
         return push_methods(alloc, form, &list.methods, lines);
     }
     match list_of_fields(index, value) {
-        Some(list) => push_list(alloc, form, table, list, lines),
+        Some(list) => push_list(alloc, form, types, list, lines),
         None => Ok(()),
     }
 }

@@ -1,14 +1,15 @@
 //! Tables of types.
 
+ghost use Rattle.std.specs.Prelude.{◌≡◌, IfOk};
+ghost use Rattle.pdb_base.specs.Memory.{FailsOnlyForMemory};
 ghost use Rattle.pdb_listing.specs.Lines.{type_at, type_line, type_shown};
 ghost use Rattle.pdb_listing.specs.Listed.{IsListed, IsShown, IsWalked};
 
 use crate::line::push_type;
-use crate::members::push_members;
+use crate::members::{list_of_fields, push_members};
 use pdb_base::{FallibleIterator, Result, Stream, TypeIndex};
-use pdb_container::look_up;
 use pdb_rows::{Form, push_fields, type_row, write_bytes};
-use pdb_tpi::TypeInformation;
+use pdb_tpi::{OpenTable, TypeInformation};
 use std::alloc::Global;
 use std::io::Write;
 
@@ -46,25 +47,39 @@ pub fn types<W: Write>(alloc: Global, stream: Stream, form: Form, out: &mut W) -
     list_types(alloc, &table, form, out)
 }
 
+/// Opens a table for look-ups of the type of an index, and of the lists that hold its fields.
+fn opened(alloc: Global, table: TypeInformation, index: TypeIndex) -> Result<OpenTable<TypeIndex>>
+    ensures table { IfOk result (λ types. types.table ≡ table) }
+    ensures memory { FailsOnlyForMemory result }
+{
+    let mut types = OpenTable::new(alloc, table)?;
+    types.learn(index);
+    let value = types.item(index).and_then(|item| item.parse(alloc));
+    if let Ok(Some(list)) = value.map(|value| list_of_fields(index, &value)) {
+        types.learn(list);
+    }
+    Ok(types)
+}
+
 /// Looks up the type of an index in a table and writes it in full, and then a line for each of its
 /// members.
 fn show_type<W: Write>(
     alloc: Global,
-    table: &TypeInformation,
+    types: &OpenTable<TypeIndex>,
     index: u32,
     form: Form,
     out: &mut W,
 ) -> Result<()>
-    ensures { IsShown (type_shown form index table.now) (W.contents out.old) (W.contents out.new) result }
+    ensures { IsShown (type_shown form index types.now.table) (W.contents out.old) (W.contents out.new) result }
 {
-    let item = look_up(alloc, table, TypeIndex(index))?;
+    let item = types.item(TypeIndex(index))?;
     let value = item.parse(alloc)?;
     let row = type_row(alloc, index, item.raw_kind(), &value)?;
     let mut text = Vec::new(alloc);
     push_fields(form, &row, &mut text)?;
     write_bytes(&text, out)?;
     let mut lines = Vec::new(alloc);
-    push_members(alloc, form, table, TypeIndex(index), &value, &mut lines)?;
+    push_members(alloc, form, types, TypeIndex(index), &value, &mut lines)?;
     write_bytes(&lines, out)?;
     Ok(())
 }
@@ -87,5 +102,6 @@ pub fn type_at<W: Write>(
     ensures { IsShown (type_at form index stream) (W.contents out.old) (W.contents out.new) result }
 {
     let table = TypeInformation::parse(stream)?;
-    show_type(alloc, &table, index, form, out)
+    let types = opened(alloc, table, TypeIndex(index))?;
+    show_type(alloc, &types, index, form, out)
 }

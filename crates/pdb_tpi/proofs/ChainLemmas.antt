@@ -1,11 +1,11 @@
 -- Chains of lists of fields: what is answered of them, and how a loop follows one.
-use Rattle.std.proofs.Common.{◌≡◌, ◌⊎◌, inl, inr, ℕ, zero, suc, ◌<◌, ◌≤◌, false, List, [], ◌∷◌, ◌++◌, map, refl, sym, ap, ◌∙◌, subst, arith, Option, Some, None, Ok, Err}
+use Rattle.std.proofs.Common.{◌≡◌, ◌⊎◌, inl, inr, ℕ, zero, suc, ◌<◌, false, List, [], ◌∷◌, ◌++◌, map, refl, sym, ap, ◌∙◌, subst, arith, Option, Some, None, Ok, Err}
 use Rattle.std.specs.List.{flat_map}
 use Rattle.std.proofs.lemmas.Bool.{cases_lt, false≢true}
 use Rattle.std.specs.Ordering.{is_ge, nat_cmp}
 use Rattle.std.specs.declared.cmp.Ordering.TheVariants.{Equal, Greater}
 use Rattle.std.specs.Cmp.{nat_cmp_is}
-use Rattle.std.proofs.lemmas.List.{append_assoc, append-nil}
+use Rattle.std.proofs.lemmas.List.{append_assoc}
 use Rattle.std.proofs.lemmas.Grind.{flat_map-append}
 use Rattle.pdb_base.specs.declared.index.TypeIndex.{TypeIndex}
 use Rattle.std.specs.Global.{Vec}
@@ -54,12 +54,6 @@ follows_more look index fields above next list so_far below is =
     so_far
     ∙ ap (in_front fields) (goes_below (λ i. fields_of look i) above next below ∙ fields_listed look next.0 list is)
     ∙ twice_in_front fields list.fields (continued (λ i. fields_of look i) next.0 list.continuation)
-
-pub follows_whole : (look : LookUp) (index : ℕ) (fields : List TypeValue) (above : ℕ) → Follows look index fields above None → fields_of look index ≡ Ok fields
-follows_whole look index fields above so_far = so_far ∙ ap (λ (all : List TypeValue). ok all) (append-nil fields)
-
-pub follows_up : (look : LookUp) (index : ℕ) (fields : List TypeValue) (above : ℕ) (next : TypeIndex) → Follows look index fields above (Some next) → above ≤ next.0 → fields_of look index ≡ Err not_below
-follows_up look index fields above next so_far up = so_far ∙ ap (in_front fields) (goes_up (λ i. fields_of look i) above next up)
 
 pub follows_refused : (look : LookUp) (index : ℕ) (fields : List TypeValue) (above : ℕ) (next : TypeIndex) (e : Refusal) → Follows look index fields above (Some next) → next.0 < above → list_of look next.0 ≡ Err e → fields_of look index ≡ Err e
 follows_refused look index fields above next e so_far below is =

@@ -1,17 +1,16 @@
 -- What a finder knows, and what a look-up answers.
-use Rattle.std.proofs.Common.{◌≡◌, ℕ, ◌+◌, ◌-◌, ◌*◌, ◌/◌, ◌%◌, ◌≤◌, ◌<◌, ◌&&◌, Bool, true, false, leb, ltb, cond, List, [], ◌∷◌, ◌++◌, length, map, take, get_or, min, refl, sym, ap, subst, ◌∙◌, arith, Ok, Err, inl, inr}
+use Rattle.std.proofs.Common.{◌≡◌, ℕ, ◌+◌, ◌-◌, ◌*◌, ◌/◌, ◌%◌, ◌≤◌, ◌<◌, ◌&&◌, Bool, true, false, leb, ltb, cond, List, [], ◌∷◌, ◌++◌, length, map, take, get_or, min, refl, sym, ap, subst, ◌∙◌, arith, inl, inr}
 use Rattle.std.proofs.lemmas.Bool.{cases_lt, le-ltb, lt-ltb}
 use Rattle.std.proofs.lemmas.Bool.Decides.{nat_tests}
 use Rattle.std.proofs.lemmas.List.{get_or_push, get_or_append_left, length_push}
 use Rattle.std.proofs.lemmas.List.Folds.{fold-map}
 use Rattle.std.proofs.lemmas.List.Sums.{fold_more}
-use Rattle.pdb_base.specs.Refusal.{type_not_found, type_not_indexed}
 use Rattle.pdb_base.specs.Count.{after_calls}
 use Rattle.pdb_base.proofs.lemmas.Count.{few_calls}
 use Rattle.pdb_tpi.specs.Table.{Table, IsTable, count_of}
-use Rattle.pdb_tpi.specs.Steps.{WalkPosition, walk, walk_rest, nth_item, steps_taken}
+use Rattle.pdb_tpi.specs.Steps.{WalkPosition, walk, walk_rest, nth_item}
 use Rattle.pdb_tpi.specs.Place.{IsPlace, ArePlaces}
-use Rattle.pdb_tpi.specs.Finder.{first_of, block_of, has_index, max_index_of, known_after, known_of, item_of, find_of, reads_between, reads_of, most_blocks}
+use Rattle.pdb_tpi.specs.Finder.{first_of, block_of, has_index, known_after, known_of, item_of, find_of, reads_between, reads_of, most_blocks}
 use Rattle.pdb_tpi.proofs.TableLemmas.{place_first}
 
 -- ---- the positions that are kept
@@ -86,6 +85,35 @@ block_learned table positions capacity block end places is some place below =
     let room = room_for table (length positions) index end place first last in
     let reserved = places.reserved in
     (omega (arith, room), places_push table positions capacity index end places place first last)
+
+-- ---- what a look-up in a known block answers
+
+pub find_known : (table : Table) (known i first : ℕ) → first ≡ table.header.minimum_index → first ≤ i
+    → i < table.header.maximum_index → (i - first) / 8 < known → find_of table known i ≡ nth_item table (i - first)
+unfolding find_of item_of
+find_known table known i first e least below within =
+    let place : i - first ≡ i - table.header.minimum_index = ap (λ (n : ℕ). i - n) e in
+    let block : block_of table i < known = rw (← place) within in
+    let last : ltb i table.header.maximum_index ≡ true = lt-ltb i table.header.maximum_index below in
+    let above : ltb i table.header.minimum_index ≡ false = le-ltb i table.header.minimum_index (omega arith) in
+    let counted : leb table.header.minimum_index i ≡ true = grind (arith, nat_tests) in
+    let test : leb known (block_of table i) ≡ false = grind (arith, nat_tests) in
+    let before : leb table.header.maximum_index i ≡ false = grind (arith, nat_tests) in
+    rw (counted, last, test, above, before, place) refl
+
+-- and reads: the lengths from the start of the block on
+pub reads_known : (table : Table) (known i first held : ℕ) → first ≡ table.header.minimum_index → first ≤ i
+    → i < table.header.maximum_index → (i - first) / 8 < known → held ≡ known
+    → reads_of table known i ≡ reads_between table (8 * min ((i - first) / 8) (held - 1)) (i - first)
+unfolding reads_of
+reads_known table known i first held e least below within same =
+    let place : i - first ≡ i - table.header.minimum_index = ap (λ (n : ℕ). i - n) e in
+    let block : block_of table i < known = rw (← place) within in
+    let start : min ((i - first) / 8) (held - 1) ≡ (i - first) / 8 = omega arith in
+    let last : ltb i table.header.maximum_index ≡ true = lt-ltb i table.header.maximum_index below in
+    let counted : leb table.header.minimum_index i ≡ true = grind (arith, nat_tests) in
+    let test : ltb (block_of table i) known ≡ true = lt-ltb (block_of table i) known block in
+    rw (counted, last, test, start, place) refl
 
 -- ---- the walk within a block
 

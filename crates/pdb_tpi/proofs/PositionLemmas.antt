@@ -8,12 +8,12 @@ use Rattle.std.proofs.lemmas.List.Sums.{sum_by-cons, sum_by_more, sum_by-take-dr
 use Rattle.std.proofs.lemmas.Option.{slice_get_cases}
 use Rattle.std.specs.Option.{option_map, option_map_or}
 use Rattle.pdb_base.specs.Answer.{Answer, ◌>>=◌}
-use Rattle.pdb_base.specs.Refusal.{Refusal, type_not_found}
+use Rattle.pdb_base.specs.Refusal.{type_not_found}
 use Rattle.pdb_base.proofs.lemmas.Collected.{ok, ok_is, ok_is_no_err, bind_ok}
 use Rattle.pdb_tpi.specs.declared.open_table.RecordPlace.{RecordPlace}
 use Rattle.pdb_tpi.specs.Table.{Table}
 use Rattle.pdb_tpi.specs.Walk.{first_item, behind, items, rest, fault_of}
-use Rattle.pdb_tpi.specs.Steps.{WalkPosition, IsStep, steps_taken, step_of, room, body, walk, walk_rest, nth_item}
+use Rattle.pdb_tpi.specs.Steps.{WalkPosition, IsStep, steps_taken, room, body, walk, walk_rest, nth_item}
 use Rattle.pdb_tpi.specs.Place.{IsPlace}
 use Rattle.pdb_tpi.specs.Finder.{item_of}
 use Rattle.pdb_tpi.specs.OpenTable.{bytes_at, located, size_of, position_of, record_at, step_located}

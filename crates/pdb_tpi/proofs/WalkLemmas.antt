@@ -6,7 +6,6 @@ use Rattle.std.proofs.lemmas.Bool.Decides.{nat_tests}
 use Rattle.std.proofs.lemmas.List.{drop-drop, length-drop}
 use Rattle.std.proofs.lemmas.Option.{slice_get_past}
 use Rattle.pdb_base.specs.Refusal.{Refusal, type_not_found}
-use Rattle.pdb_base.specs.Answer.{Answer}
 use Rattle.pdb_base.proofs.lemmas.Collected.{err}
 use Rattle.pdb_base.specs.Count.{one_more}
 use Rattle.pdb_tpi.specs.Table.{Table}
@@ -42,15 +41,6 @@ items_full bytes = refl
 pub rest_full : (bytes : List ℕ) → rest 0 bytes ≡ bytes
 unfolding rest
 rest_full bytes = refl
-
--- a walk has no more items than it may
-few_from : (limit : ℕ) (bytes : List ℕ) (answer : Answer (List ℕ)) → first_item bytes ≡ answer → ((further : List ℕ) → length (items limit further) ≤ limit) → length (items (suc limit) bytes) ≤ suc limit
-few_from limit bytes (Ok item) e ih = rw (items_more limit bytes item e) (let h = ih (behind item bytes) in omega arith)
-few_from limit bytes (Err fault) e ih = rw (items_none (suc limit) bytes fault e) (omega arith)
-
-pub few_items : (limit : ℕ) (bytes : List ℕ) → length (items limit bytes) ≤ limit
-few_items zero bytes = rw (items_full bytes) (omega arith)
-few_items (suc limit) bytes = few_from limit bytes (first_item bytes) refl (few_items limit)
 
 -- ---- what is left of a list
 
@@ -136,14 +126,6 @@ place_next table index position item place e last =
         });
       };
     }
-
--- an iterator's index has at most one more than 32 bits
-pub place_few : (table : Table) (index position : ℕ) → IsPlace table index position → table.header.minimum_index ≤ 2 ^ 32 → index ≤ 2 ^ 32
-unfolding walk
-place_few table index position place least =
-    let few = few_items (room table) (drop table.header.header_size table.bytes) in
-    let reached = place.reached in
-    omega arith
 
 -- ---- what is read there
 

@@ -1,15 +1,11 @@
 -- Steps from the first item on give the walk, and then its end.
-use Rattle.std.proofs.Common.{◌≡◌, ◌≢◌, ◌⊎◌, inl, inr, ℕ, ◌+◌, ◌≤◌, List, [], ◌∷◌, ◌++◌, length, refl, sym, ap, subst, ◌∙◌, arith, Option, Result, Ok, Err, Some, None}
-use Rattle.std.specs.List.{slice_get}
-use Rattle.std.proofs.lemmas.Option.{slice_get_cases, slice_get_past}
+use Rattle.std.proofs.Common.{◌≡◌, ◌⊎◌, inl, inr, ℕ, ◌+◌, ◌≤◌, List, [], ◌∷◌, ◌++◌, length, refl, sym, ap, subst, ◌∙◌, arith, Option, Result, Ok, Err, Some, None}
+use Rattle.std.proofs.lemmas.Option.{slice_get_past}
 use Rattle.pdb_base.specs.declared.error.Error.{Error}
-use Rattle.pdb_base.specs.Refusal.{refusal_of}
-use Rattle.pdb_base.proofs.lemmas.Collected.{ok_is, ok_is_no_err}
 use Rattle.pdb_tpi.specs.Table.{Table}
-use Rattle.pdb_tpi.specs.Steps.{WalkPosition, walk, walk_rest, steps_taken, stopped, IsStep}
+use Rattle.pdb_tpi.specs.Steps.{WalkPosition, walk, steps_taken, IsStep}
 use Rattle.pdb_tpi.specs.StepLaws.{AreSteps, first_stand, IsAnswerAt}
-use Rattle.pdb_tpi.proofs.WalkLemmas.{nth_some}
-use Rattle.pdb_tpi.proofs.StepLemmas.{step_stops, step_gives, step_some, step_none, step_err}
+use Rattle.pdb_tpi.proofs.StepLemmas.{step_some, step_none, step_err}
 
 -- a stand before the item of a place
 abbrev pub stand_at : Table → ℕ → WalkPosition

@@ -1,5 +1,5 @@
 -- Where the records of a table stand in its stream, and what a table that stays open keeps.
-use Rattle.std.specs.Prelude.{◌≡◌, ℕ, ◌+◌, ◌-◌, ◌<◌, nat_lt, if◌then◌else◌, List, length, take, drop, slice_index, vec_capacity, Option, Some, None, Ok}
+use Rattle.std.specs.Prelude.{ℕ, ◌+◌, ◌-◌, ◌<◌, nat_lt, if◌then◌else◌, List, length, take, drop, Option, Some, None, Ok}
 use Rattle.std.specs.List.{sum_by}
 use Rattle.std.specs.Option.{option_map}
 use Rattle.pdb_base.specs.Answer.{Answer, ◌>>=◌}

@@ -1,4 +1,5 @@
 -- What stands there at each exit.
+use Rattle.std.proofs.Common.{inl}
 use Rattle.pdb_base.proofs.lemmas.Refused.{passed_on}
 use Rattle.pdb_base.specs.declared.error.Error.TheVariants.{IoError}
 use Rattle.pdb_listing.proofs.ShownLemmas.{cut_record, full_cut, full_written, id_meant, id_unfound, id_unparsed, lacks_early, refuses_early, shows_record}
@@ -7,7 +8,7 @@ use Rattle.pdb_values.specs.IdValue.{id_value}
 use Rattle.pdb_listing.proofs.id_listing.show_id.Goals as goal
 
 pub returns-in_err-item : goal.returns-in_err-item
-returns-in_err-item g c = rw (passed_on _ _ c.from_residual.ensures.1) (refuses_early _ _ _ (id_unfound _ _ _ _ c.in_err-item.ensures.item))
+returns-in_err-item g c = rw (passed_on _ _ c.from_residual.ensures.1) (refuses_early _ _ _ (id_unfound _ _ _ _ (inl c.in_err-item.ensures.item)))
 
 pub returns-in_err-value : goal.returns-in_err-value
 returns-in_err-value g c = rw (passed_on _ _ c.from_residual-in_err-value.ensures.1) (refuses_early _ _ _ (id_unparsed _ _ _ _ _ c.in_ok-item.ensures.item c.in_err-value.ensures.read))

@@ -1,5 +1,5 @@
 -- What stands there at each exit.
-use Rattle.std.proofs.Common.{ap}
+use Rattle.std.proofs.Common.{inl, ap}
 use Rattle.pdb_base.proofs.lemmas.Refused.{passed_on}
 use Rattle.pdb_base.specs.declared.error.Error.TheVariants.{IoError}
 use Rattle.pdb_base.specs.declared.index.TypeIndex.{TypeIndex}
@@ -10,7 +10,7 @@ use Rattle.pdb_values.specs.TypeView.{type_value}
 use Rattle.pdb_listing.proofs.type_listing.show_type.Goals as goal
 
 pub returns-in_err-item : goal.returns-in_err-item
-returns-in_err-item g c = rw (passed_on _ _ c.from_residual.ensures.1) (refuses_early _ _ _ (type_unfound _ _ _ _ c.in_err-item.ensures.item))
+returns-in_err-item g c = rw (passed_on _ _ c.from_residual.ensures.1) (refuses_early _ _ _ (type_unfound _ _ _ _ (inl c.in_err-item.ensures.item)))
 
 pub returns-in_err-value : goal.returns-in_err-value
 returns-in_err-value g c =

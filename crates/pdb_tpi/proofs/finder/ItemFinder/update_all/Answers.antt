@@ -7,11 +7,6 @@ use Rattle.pdb_tpi.proofs.finder.ItemFinder.update_all.Goals as goal
 pub loop-iterator-init : goal.loop-iterator-init
 loop-iterator-init g c = record { is = rw (known_start c.args.self.now.table c.args.self.now.known) refl; few = λ few. few }
 
-pub update-requires : goal.update-requires
-update-requires g c =
-    ap (λ (s : WalkPosition). s.table) c.iterator-item.is ∙ c.requires c.loop-iterator.iterator-index c.iterator-item.result c.loop-iterator-test.true
-    ∙ sym (ap (λ (f : FinderState). f.table) c.loop-iterator.invariant.is)
-
 pub loop-iterator-preserved : goal.loop-iterator-preserved
 loop-iterator-preserved g c =
     let at = c.loop-iterator.iterator-index in

@@ -35,15 +35,6 @@ returns-in_default-clause-counted g c =
     (c.in_ok-bytes.ensures.counted ∙ ap (λ (bytes : List ℕ). counted bytes (calls_of c.args.count.now)) c.bytes_from.ensures
     ∙ reads_behind s.table.now s.index s.position (calls_of c.args.count.now) (place_full s.table.now s.index s.position c.self.invariant last))
 
-pub overflow_add-self-3 : goal.overflow_add-self-3
-overflow_add-self-3 g c =
-    let s = c.self.inside in
-    let whole = ap first_item (sym c.bytes_from.ensures) ∙ c.in_ok-bytes.ensures.item in
-    let next = place_next s.table.now s.index s.position c.in_ok-bytes.bytes.now c.self.invariant whole c.in-Ok.ensures.0 in
-    let within = next.next.within in
-    let short = c.self.invariant.short in
-    omega (arith, within, short)
-
 pub invariant_of-result : goal.invariant_of-result
 invariant_of-result g c =
     record { least = (front_item _ _ c.in_ok-bytes.ensures.item).kind }

@@ -1,4 +1,4 @@
-use Rattle.std.proofs.Common.{◌≡◌, [], length, Ok, Err, IfOk}
+use Rattle.std.proofs.Common.{◌≡◌, [], length, Ok, Err}
 use Rattle.pdb_base.specs.Refusal.{refusal_of}
 use Rattle.pdb_base.specs.Answer.{Answers}
 use Rattle.pdb_base.specs.Memory.{LacksOnlyIf}
