@@ -55,9 +55,6 @@ counted_is {A} width said bytes count rest (Ok items) is all =
 counted_is {A} width said bytes count rest (Err e) is all =
     bind_at (number_at (count_bytes width) bytes) (behind_count said) (count, rest) is ∙ bind_no (repeated (index_at said) count rest) (λ xs. ok (xs.0, xs.1)) e all
 
-pub counted_cut : {A : Type 0} (width : CountWidth) (said : ℕ → A) (bytes : List ℕ) (e : Refusal) → number_at (count_bytes width) bytes ≡ Err e → counted_at width said bytes ≡ Err e
-counted_cut width said bytes e is = bind_no (number_at (count_bytes width) bytes) (behind_count said) e is
-
 -- a count that the bytes don't hold is refused
 pub counted_short : {A : Type 0} (width : CountWidth) (said : ℕ → A) (bytes : List ℕ) (count : ℕ) (rest : List ℕ)
     → Begins (SpellsNumber (count_bytes width)) bytes count rest → length rest < 4 * count → counted_at width said bytes ≡ Err unexpected_eof
@@ -117,10 +114,6 @@ number_is_no_want width bytes cause is want =
 skipped : (bytes : List ℕ) (count : ℕ) (rest : List ℕ) (answer : Answer (List TypeIndex × List ℕ)) → number_at 4 bytes ≡ Ok (count, rest) → repeated (index_at as_type) count rest ≡ answer
     → arguments_end bytes ≡ (answer >>= λ list. ok list.1)
 skipped bytes count rest answer is all = ap (λ (a : Answer (List TypeIndex × List ℕ)). a >>= λ list. ok list.1) (counted_is Bits32 as_type bytes count rest answer is all)
-
--- its count is cut short
-pub cut_count : (bytes : List ℕ) (e : Refusal) → number_at 4 bytes ≡ Err e → arguments_end bytes ≡ Err e
-cut_count bytes e is = bind_no (counted_at Bits32 as_type bytes) (λ list. ok list.1) e (counted_cut Bits32 as_type bytes e is)
 
 -- or its indexes are
 pub cut_arguments : (bytes : List ℕ) (count : ℕ) (rest : List ℕ) (e : Refusal) → number_at 4 bytes ≡ Ok (count, rest) → front_at (4 * count) rest ≡ Err e → arguments_end bytes ≡ Err e

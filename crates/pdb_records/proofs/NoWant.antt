@@ -8,12 +8,11 @@ use Rattle.pdb_records.specs.Shape.{Shape, u8, u16, u32, num, variant, type_inde
 use Rattle.pdb_records.specs.Fault.{IsFaultOfBytes, Judged, BeginsBadPointer, FirstOf, Fault}
 use Rattle.pdb_records.specs.Row.{Row, gives, field, Stops, row}
 use Rattle.pdb_records.specs.Padding.{padding_at, IsPaddedShort}
-use Rattle.pdb_records.specs.Dimensions.{dimension_at, end_at, NoDimension, NoDimensionBehind, NoDimensions}
+use Rattle.pdb_records.specs.Dimensions.{dimension_at, NoDimension, NoDimensionBehind, NoDimensions}
 use Rattle.pdb_records.proofs.ShapeLaws.{shapes, number_ends}
 use Rattle.pdb_records.proofs.RowLaws.{rows}
 use Rattle.pdb_records.proofs.PaddingLaws.{padding_agrees}
 use Rattle.pdb_records.proofs.DimensionLaws.{dimension_agrees}
-use Rattle.pdb_records.proofs.DimensionSteps.{end_fails}
 
 -- a refusal that is a fault of bytes
 pub is_fault : (refusal fault : Refusal) → refusal ≡ fault → IsFaultOfBytes fault → IsFaultOfBytes refusal
@@ -82,6 +81,3 @@ padding_no_want bytes is = padding_fault bytes out_of_memory (padding_agrees.fai
 
 pub dimension_no_want : (bytes : List ℕ) → dimension_at bytes ≢ Err out_of_memory
 dimension_no_want bytes is = dimension_fault bytes out_of_memory (dimension_agrees.failed bytes out_of_memory is)
-
-pub end_no_want : (bytes : List ℕ) → end_at bytes ≢ Err out_of_memory
-end_no_want bytes is = is_fault out_of_memory _ (end_fails bytes out_of_memory is).1 tt

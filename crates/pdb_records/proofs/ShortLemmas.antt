@@ -6,7 +6,7 @@ use Rattle.pdb_records.specs.ToEnd.{Sequence}
 use Rattle.pdb_records.specs.Dimensions.{AreDimensions}
 use Rattle.pdb_records.proofs.DimensionLaws.{num_long}
 use Rattle.pdb_records.proofs.TakesLemmas.{TakesTwo, begins_length, row_leaves}
-use Rattle.pdb_values.specs.TypeValue.{TypeValue, Fields, values_in}
+use Rattle.pdb_values.specs.TypeValue.{TypeValue, values_in}
 use Rattle.pdb_values.specs.TypeValue as values
 use Rattle.pdb_records.specs.declared.leaf.Leaf.{Leaf}
 use Rattle.pdb_records.specs.declared.leaf.Leaf.TheVariants.{Plain, ArgumentList, MethodList, Array}

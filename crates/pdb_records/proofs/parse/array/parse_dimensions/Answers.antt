@@ -1,9 +1,9 @@
 use Rattle.std.proofs.Common.{inl, inr, ◌∙◌}
 use Rattle.pdb_base.specs.Place.{left}
 use Rattle.pdb_base.proofs.lemmas.Refused.{passed_on}
-use Rattle.pdb_records.specs.Dimensions.{dimension_at, end_at}
+use Rattle.pdb_records.specs.Dimensions.{dimension_at}
 use Rattle.pdb_records.proofs.DimensionSteps.{step_refused, loop_ends, loop_fails, loop_goes, loop_shorter}
-use Rattle.pdb_records.proofs.NoWant.{dimension_no_want, end_no_want}
+use Rattle.pdb_records.proofs.NoWant.{dimension_no_want}
 use Rattle.pdb_records.specs.Memory.{HoldsDimension}
 use Rattle.pdb_records.proofs.MemoryLemmas.{passes_no_want, holds_now, dimension_there}
 use Rattle.pdb_records.proofs.parse.array.parse_dimensions.Goals as goal
@@ -24,10 +24,6 @@ pub returns-in_err-ends_dimensions-clause-read : goal.returns-in_err-ends_dimens
 returns-in_err-ends_dimensions-clause-read c =
     rw (passed_on _ _ c.from_residual-in_err-ends_dimensions.ensures.1)
     (inl (c.all.invariant.all ∙ loop_fails c.all.dimensions.items (left c.all.buffer) _ _ _ c.in_ok-parse_dimension.ensures c.in_err-ends_dimensions.ensures))
-
-pub returns-in_err-ends_dimensions-clause-memory : goal.returns-in_err-ends_dimensions-clause-memory
-returns-in_err-ends_dimensions-clause-memory c =
-    passes_no_want (end_at (left c.parse_dimension.new.buffer)) _ _ _ (end_no_want (left c.parse_dimension.new.buffer)) c.in_err-ends_dimensions.ensures c.from_residual-in_err-ends_dimensions.ensures.1
 
 pub returns-then-branch-clause-read : goal.returns-then-branch-clause-read
 returns-then-branch-clause-read c =

@@ -1,6 +1,4 @@
 use Rattle.pdb_base.specs.Place.{left}
-use Rattle.pdb_base.specs.Memory.{LacksOnlyIf}
-use Rattle.pdb_records.specs.Memory.{NeedsMemory}
 use Rattle.pdb_records.proofs.lemmas.Whole.{says_type, says_record, shows_record, refuses_record, says_cut, says_short}
 use Rattle.pdb_records.proofs.parse.type_data.parse_type_data.Goals as goal
 
@@ -18,11 +16,6 @@ returns-clause-answered c =
 pub returns-clause-refused : goal.returns-clause-refused
 returns-clause-refused c =
     refuses_record c.args.bytes.now (left c.parse_record.new.buffer) c.parse_record.result (rw c.from-buffer.ensures at c.parse_record.ensures.read)
-
-pub returns-clause-memory : goal.returns-clause-memory
-returns-clause-memory c =
-    let held : LacksOnlyIf c.parse_record.result (NeedsMemory c.args.bytes.now) = rw c.from-buffer.ensures at c.parse_record.ensures.memory in
-    held
 
 pub returns-clause-cut : goal.returns-clause-cut
 returns-clause-cut c =
