@@ -4,7 +4,7 @@ ghost use Rattle.std.specs.Prelude.{◌≡◌, unwrap_or};
 ghost use Rattle.pdb_dump.specs.Listed.{AreIds, AreTypes, Does, DoesIn, IsListedIn};
 
 use crate::words::Command;
-use pdb_container::{BigMSF, Result, open_msf};
+use pdb_container::{PDB, Result};
 use pdb_listing::{id_at, ids, type_at, types};
 use pdb_mapping::list_map;
 use pdb_rows::Form;
@@ -22,7 +22,7 @@ const ID_STREAM: u32 = 4;
 /// Lists the types of the table in a stream, or only the one of an index.
 fn list_types<W: Write>(
     alloc: Global,
-    file: BigMSF<Vec<u8>>,
+    file: PDB<Vec<u8>>,
     number: u32,
     index: Option<u32>,
     form: Form,
@@ -31,7 +31,7 @@ fn list_types<W: Write>(
     ensures { IsListedIn (AreTypes form index) file.source.items file.head number
         (W.contents out.old) (W.contents out.new) result }
 {
-    match file.into_stream(alloc, number, None) {
+    match file.into_msf().into_stream(alloc, number, None) {
         Ok(stream) => match index {
             Some(index) => type_at(alloc, stream, index, form, out),
             None => types(alloc, stream, form, out),
@@ -43,7 +43,7 @@ fn list_types<W: Write>(
 /// Lists the ids of the table in a stream, or only the one of an index.
 fn list_ids<W: Write>(
     alloc: Global,
-    file: BigMSF<Vec<u8>>,
+    file: PDB<Vec<u8>>,
     number: u32,
     index: Option<u32>,
     form: Form,
@@ -52,7 +52,7 @@ fn list_ids<W: Write>(
     ensures { IsListedIn (AreIds form index) file.source.items file.head number
         (W.contents out.old) (W.contents out.new) result }
 {
-    match file.into_stream(alloc, number, None) {
+    match file.into_msf().into_stream(alloc, number, None) {
         Ok(stream) => match index {
             Some(index) => id_at(alloc, stream, index, form, out),
             None => ids(alloc, stream, form, out),
@@ -64,7 +64,7 @@ fn list_ids<W: Write>(
 /// Lists what a command asks of a file that was opened.
 fn list_opened<W: Write>(
     alloc: Global,
-    mut file: BigMSF<Vec<u8>>,
+    mut file: PDB<Vec<u8>>,
     command: Command,
     form: Form,
     out: &mut W,
@@ -93,7 +93,7 @@ fn list_opened<W: Write>(
 /// Lists what a command asks of a file, a line for each record.
 ///
 /// # Errors
-/// Fails with what `open_msf` refuses, and then with what the command refuses, after the lines up
+/// Fails with what `PDB::open` refuses, and then with what the command refuses, after the lines up
 /// to the first fault; with `IoError` if the writer fails; and with `OutOfMemory` if memory is
 /// refused.
 pub fn list<W: Write>(
@@ -105,7 +105,7 @@ pub fn list<W: Write>(
 ) -> Result<()>
     ensures { Does form command file.items (W.contents out.old) (W.contents out.new) result }
 {
-    match open_msf(alloc, file) {
+    match PDB::open(alloc, file) {
         Ok(file) => list_opened(alloc, file, command, form, out),
         Err(fault) => Err(fault),
     }

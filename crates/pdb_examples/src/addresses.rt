@@ -4,18 +4,18 @@ ghost use Rattle.std.specs.Prelude.{◌≡◌};
 ghost use Rattle.pdb_container.specs.Answer.{Answers};
 ghost use Rattle.pdb_examples.specs.Uses.{AreSorted, map_in, there_and_back};
 
-use pdb_container::{AddressMap, PdbInternalSectionOffset, Result, Rva, address_map, open_msf};
+use pdb_container::{AddressMap, PDB, PdbInternalSectionOffset, Result, Rva};
 use std::alloc::Global;
 
 /// The address map of a file.
 ///
 /// # Errors
-/// What `open_msf` and `address_map` refuse.
+/// Fails as `PDB::open` and `PDB::address_map` do.
 pub fn map_of(alloc: Global, bytes: Vec<u8>) -> Result<AddressMap>
     ensures { Answers (λ map. map) result (map_in bytes.items) }
 {
-    let mut file = open_msf(alloc, bytes)?;
-    address_map(alloc, &mut file)
+    let mut file = PDB::open(alloc, bytes)?;
+    file.address_map(alloc)
 }
 
 /// The place in a section of the original image from which an address of the running image comes, and

@@ -6,9 +6,7 @@ ghost use Rattle.pdb_container.specs.Answer.{Answers};
 ghost use Rattle.pdb_container.specs.Merge.{by_heads};
 ghost use Rattle.pdb_examples.specs.Uses.{frames_in, is_at};
 
-use pdb_container::{
-    FallibleIterator, FrameData, FrameTable, PdbInternalRva, Result, frame_table, open_msf,
-};
+use pdb_container::{FallibleIterator, FrameData, FrameTable, PDB, PdbInternalRva, Result};
 use std::alloc::Global;
 
 /// Whether the code of a frame is at an address.
@@ -37,11 +35,11 @@ fn those_at(alloc: Global, table: &FrameTable, address: PdbInternalRva) -> Resul
 /// The frames of the code at an address of the original image.
 ///
 /// # Errors
-/// What `open_msf` and `frame_table` refuse, and `OutOfMemory` if memory is refused.
+/// Fails as `PDB::open` and `PDB::frame_table` do, and with `OutOfMemory` if memory is refused.
 pub fn frames_at(alloc: Global, bytes: Vec<u8>, address: PdbInternalRva) -> Result<Vec<FrameData>>
     ensures { Answers (λ found. found.items) result (frames_in bytes.items address) }
 {
-    let mut file = open_msf(alloc, bytes)?;
-    let table = frame_table(alloc, &mut file)?;
+    let mut file = PDB::open(alloc, bytes)?;
+    let table = file.frame_table(alloc)?;
     those_at(alloc, &table, address)
 }

@@ -7,19 +7,18 @@ ghost use Rattle.pdb_handles.specs.File.{addresses_said, frames_said, named_stre
 
 use crate::content::Content;
 use pdb_base::{Result, Stream};
-use pdb_file::{address_map, frame_table, named_stream, string_table};
-use pdb_msf::{BigMSF, open_msf};
+use pdb_file::PDB;
 use std::alloc::Global;
 
 /// Opens a file over the caller's bytes.
 ///
 /// # Errors
-/// Fails as `open_msf` does.
-pub fn opened<'f>(alloc: Global, file: &'f [u8]) -> Result<BigMSF<&'f [u8]>>
+/// Fails as `PDB::open` does.
+pub fn opened<'f>(alloc: Global, file: &'f [u8]) -> Result<PDB<&'f [u8]>>
     ensures head { Answers (λ file. file.head) result (opened file.now) }
     ensures bytes { IfOk result (λ opened. opened.source.now ≡ file.now) }
 {
-    open_msf(alloc, file)
+    PDB::open(alloc, file)
 }
 
 /// Reads the first stream with this name.
@@ -30,7 +29,7 @@ pub fn named_stream_in(alloc: Global, file: &[u8], name: &[u8]) -> Result<Stream
     ensures { Answers (λ stream. stream) result (named_stream_said name.now file.now) }
 {
     let mut file = opened(alloc, file)?;
-    named_stream(alloc, &mut file, name)
+    file.named_stream(alloc, name)
 }
 
 /// Reads the string table of a file.
@@ -41,7 +40,7 @@ pub fn names_in(alloc: Global, file: &[u8]) -> Result<Content>
     ensures { Answers (λ content. content) result (names_said file.now) }
 {
     let mut file = opened(alloc, file)?;
-    Ok(Content::Names(string_table(alloc, &mut file)?))
+    Ok(Content::Names(file.string_table(alloc)?))
 }
 
 /// Reads the address map of a file.
@@ -52,7 +51,7 @@ pub fn addresses_in(alloc: Global, file: &[u8]) -> Result<Content>
     ensures { Answers (λ content. content) result (addresses_said file.now) }
 {
     let mut file = opened(alloc, file)?;
-    Ok(Content::Addresses(address_map(alloc, &mut file)?))
+    Ok(Content::Addresses(file.address_map(alloc)?))
 }
 
 /// Reads the frame table of a file.
@@ -63,5 +62,5 @@ pub fn frames_in(alloc: Global, file: &[u8]) -> Result<Content>
     ensures { Answers (λ content. content) result (frames_said file.now) }
 {
     let mut file = opened(alloc, file)?;
-    Ok(Content::Frames(frame_table(alloc, &mut file)?))
+    Ok(Content::Frames(file.frame_table(alloc)?))
 }

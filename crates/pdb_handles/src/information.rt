@@ -16,7 +16,7 @@ use crate::fault::{FINE, Fault};
 use crate::fields::write_nothing;
 use crate::file::opened;
 use pdb_base::{Error, Result};
-use pdb_file::{PDBInformation, StreamName, StreamNames, pdb_information};
+use pdb_file::{PDBInformation, StreamName, StreamNames};
 use std::alloc::Global;
 
 /// The numbers that identify a file.
@@ -72,7 +72,7 @@ pub fn information_in(alloc: Global, file: &[u8]) -> Result<PDBInformation>
     ensures { Answers (λ information. information) result (information_said file.now) }
 {
     let mut file = opened(alloc, file)?;
-    pdb_information(alloc, &mut file)
+    file.pdb_information(alloc)
 }
 
 /// Returns the row of a named stream, for the caller.

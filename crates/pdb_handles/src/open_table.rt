@@ -35,11 +35,7 @@ pub fn counted(kept: &OpenTable<TypeIndex>) -> u32
 }
 
 /// Writes where the record of an index stands in the stream.
-pub fn find_record(
-    kept: &mut OpenTable<TypeIndex>,
-    index: u32,
-    place: &mut Located,
-) -> Fault
+pub fn find_record(kept: &mut OpenTable<TypeIndex>, index: u32, place: &mut Located) -> Fault
     ensures told { record { fault = result; value = place.new } ≡
         located_told place.old index (located kept.old.table index) }
     ensures kept { kept.new ≡ kept.old }

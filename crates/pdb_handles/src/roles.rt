@@ -8,7 +8,7 @@ ghost use Rattle.pdb_handles.specs.Roles.{IsAnswered, roles_of, roles_said};
 use crate::fault::{FINE, Fault};
 use crate::file::opened;
 use pdb_base::Result;
-use pdb_file::{DBIExtraStreams, extra_streams};
+use pdb_file::DBIExtraStreams;
 use std::alloc::Global;
 
 /// The numbers of the streams in eleven roles, each 0xffff if the file has no such stream.
@@ -68,7 +68,7 @@ pub fn roles_in(alloc: Global, file: &[u8]) -> Result<DBIExtraStreams>
     ensures { Answers (λ roles. roles) result (roles_said file.now) }
 {
     let mut file = opened(alloc, file)?;
-    extra_streams(alloc, &mut file)
+    file.extra_streams(alloc)
 }
 
 /// Writes the numbers of the streams in their roles, or returns the fault of the error.

@@ -14,8 +14,8 @@ ghost use Rattle.pdb_summary.specs.Streams.{pages_held, size_line, stream_line, 
 use crate::refused::{Part, write_refused};
 use crate::roles::{name_of, role_of};
 use pdb_base::{Error, RawString, Result, Stream};
-use pdb_file::{DBIExtraStreams, StreamName};
-use pdb_msf::{BigMSF, Msf};
+use pdb_file::{DBIExtraStreams, PDB, StreamName};
+use pdb_msf::Msf;
 use pdb_rows::{Form, Row, Value, field, optional_text, optional_word, write_row};
 use std::alloc::Global;
 use std::io::Write;
@@ -32,7 +32,7 @@ pub struct Known<'k, 'n> {
 }
 
 /// Reads the stream with this number.
-pub fn stream(alloc: Global, file: &mut BigMSF<Vec<u8>>, number: u32) -> Result<Stream>
+pub fn stream(alloc: Global, file: &mut PDB<Vec<u8>>, number: u32) -> Result<Stream>
     ensures stream { Answers (λ stream. stream) result (stream_of file.old.source.items file.old.head number None) }
     ensures bytes { file.new.source.items ≡ file.old.source.items }
     ensures head { file.new.head ≡ file.old.head }
@@ -100,7 +100,7 @@ fn write_size<W: Write>(
 #[tactic(auto, unfolding(crate::specs::Streams::stream_line), using(pdb_rows::proofs::lemmas::Written::front_none))]
 fn write_stream<W: Write>(
     alloc: Global,
-    file: &mut BigMSF<Vec<u8>>,
+    file: &mut PDB<Vec<u8>>,
     number: u32,
     known: Known<'_, '_>,
     form: Form,
@@ -122,7 +122,7 @@ fn write_stream<W: Write>(
 /// Writes a line for each stream.
 pub fn write_streams<W: Write>(
     alloc: Global,
-    file: &mut BigMSF<Vec<u8>>,
+    file: &mut PDB<Vec<u8>>,
     known: Known<'_, '_>,
     form: Form,
     out: &mut W,

@@ -19,20 +19,14 @@ use crate::refused::{Part, write_refused};
 use crate::streams::{Known, write_streams};
 use crate::tables::write_table;
 use pdb_base::{Error, ParseBuffer, Result};
-use pdb_file::{DBIExtraStreams, PDBInformation, extra_streams, pdb_information};
-use pdb_msf::{BigMSF, Msf};
+use pdb_file::{DBIExtraStreams, ID_STREAM, PDB, PDBInformation, TYPE_STREAM};
+use pdb_msf::Msf;
 use pdb_rows::{Form, Row, Value, field, write_row};
 use std::alloc::Global;
 use std::io::Write;
 
 /// The offset in a file at which its header says the size of a page.
 const PAGE_SIZE_OFFSET: usize = 32;
-
-/// The number of the stream that holds the table of types.
-const TYPE_STREAM: u32 = 2;
-
-/// The number of the stream that holds the table of ids.
-const ID_STREAM: u32 = 4;
 
 /// Reads the size of a page and how many pages are used, as the header of a file says them.
 #[tactic(auto, unfolding(crate::specs::Summary::pages_of), using(std::proofs::lemmas::List::drop_min))]
@@ -84,14 +78,14 @@ fn unnamed(page_size: u32, roles: DBIExtraStreams) -> Known<'static, 'static>
 
 /// Reads the directory of a file, and fails if the directory is refused.
 #[tactic(auto, unfolding(crate::specs::Summary::directory_read))]
-fn read_directory(alloc: Global, file: &mut BigMSF<Vec<u8>>) -> Result<()>
+fn read_directory(alloc: Global, file: &mut PDB<Vec<u8>>) -> Result<()>
     ensures directory { Answers (λ done. done) result (directory_read file.old.source.items file.old.head) }
     ensures bytes { file.new.source.items ≡ file.old.source.items }
     ensures head { file.new.head ≡ file.old.head }
 {
     let read = file.get(alloc, 0, Some(0));
     match read {
-        Err(error) if !file.located() => Err(error),
+        Err(error) if !file.msf().located() => Err(error),
         _ => Ok(()),
     }
 }
@@ -101,7 +95,7 @@ fn read_directory(alloc: Global, file: &mut BigMSF<Vec<u8>>) -> Result<()>
 #[tactic(auto, using(pdb_rows::proofs::lemmas::Written::front_none))]
 fn known_roles<W: Write>(
     alloc: Global,
-    file: &mut BigMSF<Vec<u8>>,
+    file: &mut PDB<Vec<u8>>,
     form: Form,
     out: &mut W,
 ) -> Result<DBIExtraStreams>
@@ -111,7 +105,7 @@ fn known_roles<W: Write>(
     ensures bytes { file.new.source.items ≡ file.old.source.items }
     ensures head { file.new.head ≡ file.old.head }
 {
-    match extra_streams(alloc, file) {
+    match file.extra_streams(alloc) {
         Ok(roles) => Ok(roles),
         Err(Error::OutOfMemory) => Err(Error::OutOfMemory),
         Err(error) => {
@@ -125,7 +119,7 @@ fn known_roles<W: Write>(
 #[tactic(auto, using(pdb_rows::proofs::lemmas::Written::front_none, pdb_rows::proofs::lemmas::Written::front_first, pdb_rows::proofs::lemmas::Written::front_second, pdb_rows::proofs::lemmas::Written::writes_second))]
 fn write_unnamed<W: Write>(
     alloc: Global,
-    file: &mut BigMSF<Vec<u8>>,
+    file: &mut PDB<Vec<u8>>,
     known: Known<'_, '_>,
     error: &Error,
     form: Form,
@@ -146,7 +140,7 @@ fn write_unnamed<W: Write>(
 #[tactic(auto, using(pdb_rows::proofs::lemmas::Written::front_none, pdb_rows::proofs::lemmas::Written::front_first, pdb_rows::proofs::lemmas::Written::front_second, pdb_rows::proofs::lemmas::Written::writes_second))]
 fn write_named<W: Write>(
     alloc: Global,
-    file: &mut BigMSF<Vec<u8>>,
+    file: &mut PDB<Vec<u8>>,
     page_size: u32,
     roles: DBIExtraStreams,
     information: &PDBInformation,
@@ -177,7 +171,7 @@ fn write_named<W: Write>(
 #[tactic(auto, unfolding(crate::specs::Summary::names_of), using(pdb_rows::proofs::lemmas::Written::front_none, pdb_rows::proofs::lemmas::Written::front_first, pdb_rows::proofs::lemmas::Written::front_second, pdb_rows::proofs::lemmas::Written::writes_second))]
 fn write_all_streams<W: Write>(
     alloc: Global,
-    file: &mut BigMSF<Vec<u8>>,
+    file: &mut PDB<Vec<u8>>,
     roles: DBIExtraStreams,
     form: Form,
     out: &mut W,
@@ -187,8 +181,8 @@ fn write_all_streams<W: Write>(
     ensures bytes { file.new.source.items ≡ file.old.source.items }
     ensures head { file.new.head ≡ file.old.head }
 {
-    let page_size = page_size_of(file.source());
-    match pdb_information(alloc, file) {
+    let page_size = page_size_of(file.msf().source());
+    match file.pdb_information(alloc) {
         Ok(information) => write_named(alloc, file, page_size, roles, &information, form, out),
         Err(Error::OutOfMemory) => Err(Error::OutOfMemory),
         Err(error) => write_unnamed(alloc, file, unnamed(page_size, roles), &error, form, out),
@@ -199,7 +193,7 @@ fn write_all_streams<W: Write>(
 #[tactic(auto, unfolding(crate::specs::Summary::streams_part), using(pdb_rows::proofs::lemmas::Written::front_none, pdb_rows::proofs::lemmas::Written::front_first, pdb_rows::proofs::lemmas::Written::front_second, pdb_rows::proofs::lemmas::Written::writes_second))]
 fn write_streams_part<W: Write>(
     alloc: Global,
-    file: &mut BigMSF<Vec<u8>>,
+    file: &mut PDB<Vec<u8>>,
     form: Form,
     out: &mut W,
 ) -> Result<()>
@@ -216,7 +210,7 @@ fn write_streams_part<W: Write>(
 #[tactic(auto, unfolding(crate::specs::Summary::tables_part), using(pdb_rows::proofs::lemmas::Written::front_none, pdb_rows::proofs::lemmas::Written::front_first, pdb_rows::proofs::lemmas::Written::front_second, pdb_rows::proofs::lemmas::Written::writes_second))]
 fn write_tables<W: Write>(
     alloc: Global,
-    file: &mut BigMSF<Vec<u8>>,
+    file: &mut PDB<Vec<u8>>,
     form: Form,
     out: &mut W,
 ) -> Result<()>
@@ -231,7 +225,7 @@ fn write_tables<W: Write>(
 #[tactic(auto, using(pdb_rows::proofs::lemmas::Written::front_none, pdb_rows::proofs::lemmas::Written::front_first, pdb_rows::proofs::lemmas::Written::front_second, pdb_rows::proofs::lemmas::Written::writes_second))]
 fn write_read_parts<W: Write>(
     alloc: Global,
-    file: &mut BigMSF<Vec<u8>>,
+    file: &mut PDB<Vec<u8>>,
     form: Form,
     out: &mut W,
 ) -> Result<()>
@@ -247,7 +241,7 @@ fn write_read_parts<W: Write>(
 #[tactic(auto, unfolding(crate::specs::Summary::parts_lines), using(pdb_rows::proofs::lemmas::Written::front_none, pdb_rows::proofs::lemmas::Written::front_first, pdb_rows::proofs::lemmas::Written::front_second, pdb_rows::proofs::lemmas::Written::writes_second))]
 fn write_parts<W: Write>(
     alloc: Global,
-    file: &mut BigMSF<Vec<u8>>,
+    file: &mut PDB<Vec<u8>>,
     form: Form,
     out: &mut W,
 ) -> Result<()>
@@ -279,14 +273,14 @@ fn write_pages<W: Write>(alloc: Global, file: &[u8], form: Form, out: &mut W) ->
 #[tactic(auto, using(pdb_rows::proofs::lemmas::Written::front_none, pdb_rows::proofs::lemmas::Written::front_first, pdb_rows::proofs::lemmas::Written::front_second, pdb_rows::proofs::lemmas::Written::writes_second))]
 fn write_summary<W: Write>(
     alloc: Global,
-    file: &mut BigMSF<Vec<u8>>,
+    file: &mut PDB<Vec<u8>>,
     form: Form,
     out: &mut W,
 ) -> Result<()>
     ensures { Writes (pages_line form file.old.source.items ++ parts_lines form file.old.source.items file.old.head)
         (W.contents out.old) (W.contents out.new) result }
 {
-    write_pages(alloc, file.source(), form, out)?;
+    write_pages(alloc, file.msf().source(), form, out)?;
     write_parts(alloc, file, form, out)
 }
 
@@ -298,7 +292,7 @@ fn write_summary<W: Write>(
 /// Fails with `IoError` if the writer fails, and with `OutOfMemory` if memory is refused.
 pub fn list_summary<W: Write>(
     alloc: Global,
-    file: &mut BigMSF<Vec<u8>>,
+    file: &mut PDB<Vec<u8>>,
     form: Form,
     out: &mut W,
 ) -> Result<()>

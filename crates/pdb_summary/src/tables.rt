@@ -14,7 +14,7 @@ use crate::kinds::{KindCount, Walked, walk_over};
 use crate::refused::{Part, write_refused};
 use crate::streams::stream;
 use pdb_base::{Error, Result};
-use pdb_msf::BigMSF;
+use pdb_file::PDB;
 use pdb_rows::{Form, Row, Value, field, write_row};
 use pdb_tpi::TypeInformation;
 use std::alloc::Global;
@@ -172,7 +172,7 @@ fn write_found<W: Write>(
 
 /// Reads the table in the stream with this number.
 #[tactic(auto, unfolding(crate::specs::Kinds::table_found))]
-fn table_found(alloc: Global, file: &mut BigMSF<Vec<u8>>, number: u32) -> Result<TypeInformation>
+fn table_found(alloc: Global, file: &mut PDB<Vec<u8>>, number: u32) -> Result<TypeInformation>
     ensures table { Answers (λ table. table) result (table_found file.old.source.items file.old.head number) }
     ensures bytes { file.new.source.items ≡ file.old.source.items }
     ensures head { file.new.head ≡ file.old.head }
@@ -184,7 +184,7 @@ fn table_found(alloc: Global, file: &mut BigMSF<Vec<u8>>, number: u32) -> Result
 #[tactic(auto, unfolding(crate::specs::Kinds::table_part), using(pdb_rows::proofs::lemmas::Written::front_none))]
 pub fn write_table<W: Write>(
     alloc: Global,
-    file: &mut BigMSF<Vec<u8>>,
+    file: &mut PDB<Vec<u8>>,
     number: u32,
     form: Form,
     out: &mut W,

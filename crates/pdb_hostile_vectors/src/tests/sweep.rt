@@ -8,20 +8,19 @@ use std::alloc::Global;
 use std::test::Fail;
 
 /// A query for all bytes of a stream.
-const fn stream(number: u32) -> Query {
+fn stream(number: u32) -> Query {
     Query::Stream {
         number,
         limit: None,
     }
 }
 
-/// Queries for the streams of the example file, and for one that it lacks.
-const STREAMS: &[Query] = &[stream(0), stream(1), stream(2), stream(3), stream(4)];
-
-/// Returns whether a run over a file replies to each query, or fails since the file can't be opened.
+/// Returns whether a run over a file, which asks for the streams of the example file and for one that
+/// it lacks, replies to each query, or fails since the file can't be opened.
 fn ends(alloc: Global, file: Vec<u8>) -> bool {
-    match run(alloc, file, STREAMS) {
-        Ok(replies) => replies.len() == STREAMS.len(),
+    let queries = [stream(0), stream(1), stream(2), stream(3), stream(4)];
+    match run(alloc, file, &queries) {
+        Ok(replies) => replies.len() == queries.len(),
         Err(error) => !matches!(error, Error::OutOfMemory),
     }
 }

@@ -1,10 +1,6 @@
 -- What follows for a source from what its views keep.
 use Rattle.std.specs.Prelude.{IsTrue}
 use Rattle.std.proofs.Common.{◌∙◌, refl, arith}
-use Rattle.std.specs.Prelude.{true}
-use Rattle.std.proofs.Common.{inl, inr, Result, Ok, Err}
-use Rattle.pdb_base.specs.declared.error.Error.{Error}
-use Rattle.pdb_base.specs.Answer.{Answer, Answers, AnswersUnless}
 use Rattle.pdb_msf.specs.Source.{State, IsKept, HasFailed}
 
 -- nothing happened yet
@@ -25,11 +21,3 @@ unsound old new kept failed sound = let same = (kept.sound sound).1 in omega ari
 
 pub unsound_before : (first old new : State) → IsKept first old → IsKept old new → HasFailed old new → ¬ IsTrue first.is_sound
 unsound_before first old new before kept failed sound = unsound old new kept failed (before.sound sound).0
-
--- a source that is known to be sound, as bytes in memory are, answers what is meant, or `OutOfMemory`
-pub answers_sound : {X A : Type 0} (view : X → A) (result : Result X Error) (meant : Answer A)
-    → AnswersUnless (¬ IsTrue true) view result meant → Answers view result meant
-answers_sound view (Ok x) meant is = is
-answers_sound view (Err e) meant (inl refused) = inl refused
-answers_sound view (Err e) meant (inr (inl want)) = inr want
-answers_sound view (Err e) meant (inr (inr failed)) = absurd (failed.1 refl)

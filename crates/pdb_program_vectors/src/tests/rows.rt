@@ -4,13 +4,11 @@
 use pdb_base::{RawString, Result, TypeIndex};
 use pdb_flags::TypeProperties;
 use pdb_frames::{FrameData, FrameType};
-use pdb_rows::{
-    Form, Row, frame_row, leaf_name, omap_row, push_fields, push_row, section_row, type_row,
-};
+use pdb_rows::{Form, Row, frame_row, omap_row, push_fields, push_row, section_row, type_row};
 use pdb_space::{
     ImageSectionHeader, OMAPRecord, PdbInternalRva, SectionCharacteristics, StringRef,
 };
-use pdb_values::{ClassKind, ClassType, TypeData};
+use pdb_values::{ClassKind, ClassType, TypeData, leaf_name};
 use std::alloc::Global;
 use std::test::Fail;
 

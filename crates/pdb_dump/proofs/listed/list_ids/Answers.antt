@@ -1,14 +1,14 @@
 use Rattle.std.proofs.KnownBytes.{Keeps-refl}
 use Rattle.std.proofs.Common.{refl}
 use Rattle.pdb_dump.specs.Listed.{read, unread}
-use Rattle.pdb_dump.proofs.DoneLemmas.{told_or_want}
+use Rattle.pdb_dump.proofs.DoneLemmas.{told_or_cut}
 use Rattle.pdb_dump.proofs.listed.list_ids.Goals as goal
 
 pub returns-in-Err : goal.returns-in-Err
-returns-in-Err g c = unread c.in-Err.fault refl (told_or_want _ _ c.in-Err.ensures.answer) (Keeps-refl _)
+returns-in-Err g c = unread c.in-Err.fault refl (told_or_cut _ _ (rw c.into_msf.ensures at c.in-Err.ensures.answer)) (Keeps-refl _)
 
 pub returns-in-Some : goal.returns-in-Some
-returns-in-Some g c = rw c.in-Some.is (read c.in-Ok.stream c.in-Ok.ensures.answer c.id_at.ensures)
+returns-in-Some g c = rw c.in-Some.is (read c.in-Ok.stream (rw c.into_msf.ensures at c.in-Ok.ensures.answer) c.id_at.ensures)
 
 pub returns-in-None : goal.returns-in-None
-returns-in-None g c = rw c.in-None.is (read c.in-Ok.stream c.in-Ok.ensures.answer c.ids.ensures)
+returns-in-None g c = rw c.in-None.is (read c.in-Ok.stream (rw c.into_msf.ensures at c.in-Ok.ensures.answer) c.ids.ensures)

@@ -2,11 +2,8 @@
 
 use super::super::says;
 use pdb_base::{Error, FallibleIterator, Result as Answer};
-use pdb_file::{
-    address_map, extra_streams, frame_table, named_stream, pdb_information, string_table,
-};
+use pdb_file::PDB;
 use pdb_frames::{FrameDataIter, FrameTable};
-use pdb_msf::{BigMSF, open_msf};
 use pdb_space::{AddressMap, PdbInternalRva, Rva, StringRef};
 use std::alloc::Global;
 use std::test::Fail;
@@ -317,11 +314,11 @@ fn push_debug(bytes: &mut Vec<u8>, numbers: &[u16]) -> Result<(), Fail> {
 }
 
 /// A file with these roles, each stream in a page of its own.
-fn file(alloc: Global, roles: &Roles) -> Result<BigMSF<Vec<u8>>, Fail> {
+fn file(alloc: Global, roles: &Roles) -> Result<PDB<Vec<u8>>, Fail> {
     let mut bytes = Vec::new(alloc);
     push_pages(&mut bytes)?;
     push_debug(&mut bytes, &numbers(roles))?;
-    Ok(open_msf(alloc, bytes)?)
+    Ok(PDB::open(alloc, bytes)?)
 }
 
 /// Whether the addresses lie so.
@@ -388,42 +385,37 @@ fn frames_answer(alloc: Global, table: Answer<FrameTable>, ask: &Ask) -> Result<
 }
 
 /// Whether the stream of a name has these bytes, or is refused with this text.
-fn gives(
-    alloc: Global,
-    file: &mut BigMSF<Vec<u8>>,
-    name: &[u8],
-    want: &[u8],
-) -> Result<bool, Fail> {
-    match named_stream(alloc, file, name) {
+fn gives(alloc: Global, file: &mut PDB<Vec<u8>>, name: &[u8], want: &[u8]) -> Result<bool, Fail> {
+    match file.named_stream(alloc, name) {
         Ok(stream) => Ok(stream.as_slice() == want),
         Err(error) => says(alloc, error, want),
     }
 }
 
 /// Whether the first name of the string table is `foo`.
-fn has_foo(alloc: Global, file: &mut BigMSF<Vec<u8>>) -> Answer<bool> {
-    let table = string_table(alloc, file)?;
+fn has_foo(alloc: Global, file: &mut PDB<Vec<u8>>) -> Answer<bool> {
+    let table = file.string_table(alloc)?;
     Ok(matches!(table.get(StringRef(1)), Ok(name) if name.as_bytes() == b"foo".as_slice()))
 }
 
 /// Whether the names, the string table, the age and the roles of a file are these.
-fn names_answer(alloc: Global, file: &mut BigMSF<Vec<u8>>, ask: &Ask) -> Result<bool, Fail> {
+fn names_answer(alloc: Global, file: &mut PDB<Vec<u8>>, ask: &Ask) -> Result<bool, Fail> {
     match ask {
         Ask::Stream(name, want) => gives(alloc, file, name, want),
         Ask::Foo => Ok(has_foo(alloc, file)?),
-        Ask::Age(age) => Ok(pdb_information(alloc, file)?.age == *age),
-        Ask::NoOldFrames => Ok(extra_streams(alloc, file)?.fpo.is_none()),
+        Ask::Age(age) => Ok(file.pdb_information(alloc)?.age == *age),
+        Ask::NoOldFrames => Ok(file.extra_streams(alloc)?.fpo.is_none()),
         _ => Ok(false),
     }
 }
 
 /// Whether a file answers so.
-fn is_answered(alloc: Global, file: &mut BigMSF<Vec<u8>>, ask: &Ask) -> Result<bool, Fail> {
+fn is_answered(alloc: Global, file: &mut PDB<Vec<u8>>, ask: &Ask) -> Result<bool, Fail> {
     match ask {
         Ask::Map | Ask::NoMap(_) | Ask::Translation(_) => {
-            map_answers(alloc, address_map(alloc, file), ask)
+            map_answers(alloc, file.address_map(alloc), ask)
         }
-        Ask::Frames(..) | Ask::NoFrames(_) => frames_answer(alloc, frame_table(alloc, file), ask),
+        Ask::Frames(..) | Ask::NoFrames(_) => frames_answer(alloc, file.frame_table(alloc), ask),
         _ => names_answer(alloc, file, ask),
     }
 }
