@@ -35,7 +35,7 @@ Pushes (Err fault) old new meant = (meant ≡ Err (refusal_of fault)) ⊎ (fault
 pub data IsWalked (line : ℕ → List ℕ → List ℕ) (table : Table) (out out' : Option (List ℕ)) : Result (Unit {0}) Error → Type 0 where
   whole : walk_rest table ≡ [] → Appends out out' (all_lines line table) → IsWalked line table out out' (Ok tt)
   stopped : (fault : Error) → walk_rest table ≢ [] → fault_of (walk_rest table) ≡ refusal_of fault
-    → Appends out out' (all_lines line table) → IsWalked line table out out' (Err fault)
+      → Appends out out' (all_lines line table) → IsWalked line table out out' (Err fault)
   lacking : (count : ℕ) → Appends out out' (lines_of line table count) → IsWalked line table out out' (Err OutOfMemory)
   cut : (cause : io.Error) → IsPrefix (all_lines line table) out out' → IsWalked line table out out' (Err (IoError cause))
 
