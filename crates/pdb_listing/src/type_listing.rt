@@ -47,6 +47,19 @@ pub fn types<W: Write>(alloc: Global, stream: Stream, form: Form, out: &mut W) -
     list_types(alloc, &table, form, out)
 }
 
+/// Returns the list in which the fields of the type of an index begin.
+///
+/// # Errors
+/// Fails with what the look-up or the record refuses, and with `OutOfMemory` if memory is refused.
+fn list_at(
+    alloc: Global,
+    types: &OpenTable<TypeIndex>,
+    index: TypeIndex,
+) -> Result<Option<TypeIndex>> {
+    let value = types.item(index)?.parse(alloc)?;
+    Ok(list_of_fields(index, &value))
+}
+
 /// Opens a table for look-ups of the type of an index, and of the lists that hold its fields.
 fn opened(alloc: Global, table: TypeInformation, index: TypeIndex) -> Result<OpenTable<TypeIndex>>
     ensures table { IfOk result (λ types. types.table ≡ table) }
@@ -54,8 +67,7 @@ fn opened(alloc: Global, table: TypeInformation, index: TypeIndex) -> Result<Ope
 {
     let mut types = OpenTable::new(alloc, table)?;
     types.learn(index);
-    let value = types.item(index).and_then(|item| item.parse(alloc));
-    if let Ok(Some(list)) = value.map(|value| list_of_fields(index, &value)) {
+    if let Ok(Some(list)) = list_at(alloc, &types, index) {
         types.learn(list);
     }
     Ok(types)
