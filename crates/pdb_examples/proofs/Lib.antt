@@ -1,2 +1,3 @@
 mod SizeLemmas
 pub mod TypeLemmas
+pub mod FinderLemmas

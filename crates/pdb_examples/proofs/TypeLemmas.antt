@@ -3,13 +3,11 @@ use Rattle.std.proofs.Common.{◌≡◌, inl, inr, ℕ, suc, ◌+◌, ◌-◌, �
 use Rattle.std.proofs.Math.Seq.{drop-cons}
 use Rattle.std.proofs.lemmas.List.{append_assoc}
 use Rattle.std.proofs.Math.ListN.{drop_of_length-le}
-use Rattle.std.proofs.lemmas.Option.{slice_get_cases}
-use Rattle.pdb_base.proofs.lemmas.Collected.{ok_is}
+use Rattle.std.proofs.lemmas.Option.{get_or_from_slice_get}
 use Rattle.pdb_container.specs.Record.{type_of}
 use Rattle.pdb_container.specs.Steps.{WalkPosition, walk, steps_taken, IsStep}
 use Rattle.pdb_container.specs.ItemTable.{Table}
-use Rattle.pdb_tpi.proofs.WalkLemmas.{nth_some}
-use Rattle.pdb_tpi.proofs.StepLemmas.{step_gives, step_some, step_none}
+use Rattle.pdb_tpi.proofs.StepLemmas.{step_some, step_none}
 use Rattle.pdb_examples.specs.Uses.{has_name, indexes_named, types_in}
 
 -- the types of a name that an iterator has still to give
@@ -20,23 +18,15 @@ still_named name stand = indexes_named name stand.index (drop (steps_taken stand
 pub all_named : (name : List ℕ) (table : Table) → types_in name table ≡ still_named name (record { table = table; index = table.header.minimum_index })
 all_named name table = let none : table.header.minimum_index - table.header.minimum_index ≡ 0 = omega arith in rw none refl
 
-some_is : (x y : ℕ × List ℕ) → Some x ≡ Some y → x ≡ y
-some_is x y e = cc
-
 -- the item of a step comes first, if it is named so, and then those that are left
 pub still_more : {X : Type 0} (seen : X → ℕ × List ℕ) (name : List ℕ) (old : WalkPosition) (x : X) (new : WalkPosition) → old.table.header.minimum_index ≤ old.index → IsStep seen old (Ok (Some x)) new
     → still_named name old ≡ cond (has_name name (type_of (seen x).0 (seen x).1)) ((seen x).0 ∷ still_named name new) (still_named name new)
-still_more {X} seen name old x new least step = elim ((slice_get_cases (walk old.table) (steps_taken old)).1) [
-  | inl here ↦
-      let moved : WalkPosition = record old { index = old.index + 1 } in
-      let item : Option (ℕ × List ℕ) × WalkPosition = (Some (old.index, here.0), moved) in
-      let shown : Option (ℕ × List ℕ) × WalkPosition = (Some (seen x), new) in
-      let is : item ≡ shown = ok_is item shown (sym (step_gives old here.0 (nth_some old.table (steps_taken old) here.0 here.2)) ∙ step.gives) in
-      let same : (old.index, here.0) ≡ seen x = some_is (old.index, here.0) (seen x) (ap (λ (p : Option (ℕ × List ℕ) × WalkPosition). p.0) is) in
-      let next : suc (steps_taken old) ≡ old.index + 1 - old.table.header.minimum_index = omega arith in
-      rw (sym (ap (λ (p : Option (ℕ × List ℕ) × WalkPosition). p.1) is), sym same, drop-cons (walk old.table) (steps_taken old) here.0 here.1, here.3, ← next) refl
-  | inr past ↦ let within = (step_some seen old x new step).0 in let behind = past.0 in absurd (omega arith)
-]
+still_more seen name old x new least step =
+    let given = step_some seen old x new step in
+    let n = steps_taken old in
+    let here = get_or_from_slice_get (walk old.table) n (seen x).1 (seen x).1 given.there in
+    let next : suc n ≡ old.index + 1 - old.table.header.minimum_index = omega arith in
+    rw (given.moved, drop-cons (walk old.table) n (seen x).1 given.within, here, given.index, next) refl
 
 -- so an item of that name is one more that was found
 pub found_more : {X : Type 0} (seen : X → ℕ × List ℕ) (name : List ℕ) (old : WalkPosition) (x : X) (new : WalkPosition) (all found : List ℕ) → old.table.header.minimum_index ≤ old.index → IsStep seen old (Ok (Some x)) new
@@ -55,7 +45,7 @@ found_same seen name old x new all found least step so_far is =
 
 -- the iterator never stands before the first item
 pub least_more : {X : Type 0} (seen : X → ℕ × List ℕ) (old : WalkPosition) (x : X) (new : WalkPosition) → old.table.header.minimum_index ≤ old.index → IsStep seen old (Ok (Some x)) new → new.table.header.minimum_index ≤ new.index
-least_more seen old x new least step = rw (step_some seen old x new step).1 (omega (arith, least))
+least_more seen old x new least step = rw (step_some seen old x new step).moved (omega (arith, least))
 
 -- at the end none is left
 pub none_still : {X : Type 0} (seen : X → ℕ × List ℕ) (name : List ℕ) (old new : WalkPosition) → IsStep seen old (Ok None) new → still_named name old ≡ []

@@ -1,5 +1,5 @@
 -- What the uses give of a file's bytes.
-use Rattle.std.specs.Prelude.{ℕ, ◌+◌, Bool, false, if◌then◌else◌, List, [], ◌∷◌, length, Option, Some, None, IfSome, Ok, Err}
+use Rattle.std.specs.Prelude.{◌≡◌, ℕ, ◌+◌, ◌<◌, Bool, false, if◌then◌else◌, List, [], ◌∷◌, length, Option, Some, None, IfSome, Ok, Err}
 use Rattle.std.specs.List.{filter, filter_map, range_with_len}
 use Rattle.std.specs.Option.{option_map, option_map_or}
 use Rattle.std.specs.Str.{bytes_eq}
@@ -18,7 +18,8 @@ use Rattle.pdb_container.specs.TypeValue.{TypeValue, plain, class}
 use Rattle.pdb_container.specs.TypeValue as types
 use Rattle.pdb_container.specs.Chain.{LookUp, fields_of}
 use Rattle.pdb_container.specs.Record.{type_of}
-use Rattle.pdb_container.specs.Steps.{walk}
+use Rattle.pdb_container.specs.Finder.{FinderState, find_of}
+use Rattle.pdb_container.specs.Steps.{walk, nth_item}
 use Rattle.pdb_container.specs.ItemTable.{Table, table_of}
 use Rattle.pdb_container.specs.RoleFile.{file_address_map, file_frame_table, file_string_table}
 
@@ -64,6 +65,12 @@ types_of name file = do
   Ok (types_in name table)
 
 -- ---- fields
+
+-- A finder of a table finds each item of its walk whose index the header counts.
+pub record FindsAll (table : Table) (finder : FinderState) : Type 0 where
+  pub same : finder.table ≡ table
+  pub found : (n : ℕ) → n < length (walk table) → table.header.minimum_index + n < table.header.maximum_index
+    → find_of table finder.known (table.header.minimum_index + n) ≡ nth_item table n
 
 -- the list of the fields of a class
 abbrev pub list_in : TypeValue → Option TypeIndex

@@ -1,11 +1,9 @@
 //! The fields of a class.
 
-ghost use Rattle.std.specs.Prelude.{◌≡◌, IfOk, length, map};
+ghost use Rattle.std.specs.Prelude.{◌≡◌, IfOk, map};
 ghost use Rattle.pdb_container.specs.Answer.{Answers};
-ghost use Rattle.pdb_container.specs.Lookup.{KnowsWalked};
-ghost use Rattle.pdb_examples.specs.Uses.{class_fields, list_in};
+ghost use Rattle.pdb_examples.specs.Uses.{FindsAll, class_fields, list_in};
 ghost use Rattle.pdb_container.specs.Finder.{find_of};
-ghost use Rattle.pdb_container.specs.Steps.{walk};
 ghost use Rattle.pdb_container.specs.TypeView.{type_value};
 
 use pdb_container::{FallibleIterator, Result, TypeData, TypeFinder, TypeIndex, TypeInformation};
@@ -16,7 +14,7 @@ use std::alloc::Global;
 /// # Errors
 /// The first fault along the types, and `OutOfMemory` if memory is refused.
 pub fn finder_of(alloc: Global, types: &TypeInformation) -> Result<TypeFinder<'_>>
-    ensures { IfOk result (KnowsWalked types.now (length (walk types.now))) }
+    ensures { IfOk result (FindsAll types.now) }
 {
     let mut finder = types.finder(alloc)?;
     let mut items = types.iter();

@@ -1,7 +1,7 @@
 use Rattle.std.proofs.Common.{sym}
 use Rattle.pdb_base.proofs.lemmas.Collected.{ok_is}
-use Rattle.pdb_container.proofs.LookupLemmas.{shown_first, shown_more, shown_whole}
 use Rattle.pdb_tpi.proofs.StepLemmas.{step_none}
+use Rattle.pdb_examples.proofs.FinderLemmas.{shown_first, shown_more, shown_whole}
 use Rattle.pdb_examples.proofs.fields.finder_of.Goals as goal
 
 pub loop-finder-init : goal.loop-finder-init

@@ -1,5 +1,5 @@
 use Rattle.pdb_container.specs.Steps.{items_left}
-use Rattle.pdb_container.specs.Lookup.{IsShown}
+use Rattle.pdb_examples.proofs.FinderLemmas.{IsShown}
 use Rattle.pdb_examples.proofs.fields.finder_of.Given as goal
 
 abbrev pub invariant-loop-finder : goal.invariant-loop-finder
