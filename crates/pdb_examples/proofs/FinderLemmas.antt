@@ -16,7 +16,7 @@ pub record IsShown (table : Table) (stand : WalkPosition) (finder : FinderState)
   pub same : finder.table ≡ table
   pub least : table.header.minimum_index ≤ stand.index
   pub blocks : (block : ℕ) → first_of table block < table.header.maximum_index → first_of table block ≤ stand.index
-    → block < finder.known
+      → block < finder.known
 
 first_shown : (table : Table)
     → IsShown table (record { table = table; index = table.header.minimum_index })

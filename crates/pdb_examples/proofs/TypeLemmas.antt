@@ -26,7 +26,7 @@ still_more seen name old x new least step =
     let n = steps_taken old in
     let here = get_or_from_slice_get (walk old.table) n (seen x).1 (seen x).1 given.there in
     let next : suc n ≡ old.index + 1 - old.table.header.minimum_index = omega arith in
-    rw (given.moved, drop-cons (walk old.table) n (seen x).1 given.within, here, given.index, next) refl
+    rw (given.moved, drop-cons (walk old.table) n (seen x).1 given.within, here, ← given.index, ← next) refl
 
 -- so an item of that name is one more that was found
 pub found_more : {X : Type 0} (seen : X → ℕ × List ℕ) (name : List ℕ) (old : WalkPosition) (x : X) (new : WalkPosition) (all found : List ℕ) → old.table.header.minimum_index ≤ old.index → IsStep seen old (Ok (Some x)) new

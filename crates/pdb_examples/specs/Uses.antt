@@ -70,7 +70,7 @@ types_of name file = do
 pub record FindsAll (table : Table) (finder : FinderState) : Type 0 where
   pub same : finder.table ≡ table
   pub found : (n : ℕ) → n < length (walk table) → table.header.minimum_index + n < table.header.maximum_index
-    → find_of table finder.known (table.header.minimum_index + n) ≡ nth_item table n
+      → find_of table finder.known (table.header.minimum_index + n) ≡ nth_item table n
 
 -- the list of the fields of a class
 abbrev pub list_in : TypeValue → Option TypeIndex
