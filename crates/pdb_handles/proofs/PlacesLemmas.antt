@@ -60,4 +60,4 @@ stop_none seen table stand next positions walked step =
 
 pub stop_err : {X : Type 0} (seen : X → ℕ × List ℕ) (table : Table) (stand next : WalkPosition) (e : Error) (positions : List ℕ) → IsWalkedTo table stand positions → IsStep seen stand (Err e) next → stop_fault (walk_rest table) ≡ fault_of (refusal_of e)
 stop_err seen table stand next e positions walked step =
-    subst (λ (t : Table). stop_fault (walk_rest t) ≡ fault_of (refusal_of e)) walked.same (sym (told_end stand (step_err seen stand next e step).0) ∙ ap fault_of_answer step.gives)
+    subst (λ (t : Table). stop_fault (walk_rest t) ≡ fault_of (refusal_of e)) walked.same (sym (told_end stand (step_err seen stand next e step).past) ∙ ap fault_of_answer step.gives)

@@ -56,30 +56,20 @@ some_same e = cc
 
 -- the index that a step gives is the iterator's
 step_index : {X : Type 0} (seen : X → ℕ × List ℕ) (old : WalkPosition) (x : X) (new : WalkPosition) → IsStep seen old (Ok (Some x)) new → old.index ≡ (seen x).0
-step_index seen old x new step = elim ((slice_get_cases (walk old.table) (steps_taken old)).1) [
-  | inl here ↦
-      let moved : WalkPosition = record old { index = old.index + 1 } in
-      let is : (Some (old.index, here.0), moved) ≡ (Some (seen x), new) = ok_is (Some (old.index, here.0), moved) (Some (seen x), new) (sym (step_gives old here.0 (nth_some old.table (steps_taken old) here.0 here.2)) ∙ step.gives) in
-      ap (λ (p : ℕ × List ℕ). p.0) (some_same (ap (λ (p : Option (ℕ × List ℕ) × WalkPosition). p.0) is))
-  | inr past ↦ absurd (omega (arith, (step_some seen old x new step).0, past.0))
-]
+step_index seen old x new step = (step_some seen old x new step).index
 
 -- the item that a step gives is the first of those that are left
 pub left_first : {X : Type 0} (seen : X → ℕ × List ℕ) (old : WalkPosition) (x : X) (new : WalkPosition) → old.table.header.minimum_index ≤ old.index → IsStep seen old (Ok (Some x)) new → left old ≡ (seen x).1 ∷ left new
 unfolding left
-left_first seen old x new base step = elim ((slice_get_cases (walk old.table) (steps_taken old)).1) [
-  | inl here ↦
-      let moved : WalkPosition = record old { index = old.index + 1 } in
-      let is : (Some (old.index, here.0), moved) ≡ (Some (seen x), new) = ok_is (Some (old.index, here.0), moved) (Some (seen x), new) (sym (step_gives old here.0 (nth_some old.table (steps_taken old) here.0 here.2)) ∙ step.gives) in
-      let item : here.0 ≡ (seen x).1 = ap (λ (p : ℕ × List ℕ). p.1) (some_same (ap (λ (p : Option (ℕ × List ℕ) × WalkPosition). p.0) is)) in
-      let at : get_or (walk old.table) (steps_taken old) [] ≡ here.0 = sym (some_same (sym here.2 ∙ slice_get-get_or (walk old.table) (steps_taken old) [] here.1)) in
-      let next : old.index + 1 - old.table.header.minimum_index ≡ suc (steps_taken old) = omega (arith, base) in
-      drop-cons (walk old.table) (steps_taken old) [] here.1
-      ∙ ap (λ (i : List ℕ). i ∷ drop (suc (steps_taken old)) (walk old.table)) (at ∙ item)
-      ∙ ap (λ (n : ℕ). (seen x).1 ∷ drop n (walk old.table)) (sym next)
-      ∙ ap (λ (s : WalkPosition). (seen x).1 ∷ drop (steps_taken s) (walk s.table)) (ap (λ (p : Option (ℕ × List ℕ) × WalkPosition). p.1) is)
-  | inr past ↦ absurd (omega (arith, (step_some seen old x new step).0, past.0))
-]
+left_first seen old x new base step =
+    let given = step_some seen old x new step in
+    let at : get_or (walk old.table) (steps_taken old) [] ≡ (seen x).1 =
+    sym (some_same (sym given.there ∙ slice_get-get_or (walk old.table) (steps_taken old) [] given.within)) in
+    let next : old.index + 1 - old.table.header.minimum_index ≡ suc (steps_taken old) = omega (arith, base) in
+    drop-cons (walk old.table) (steps_taken old) [] given.within
+    ∙ ap (λ (i : List ℕ). i ∷ drop (suc (steps_taken old)) (walk old.table)) at
+    ∙ ap (λ (n : ℕ). (seen x).1 ∷ drop n (walk old.table)) (sym next)
+    ∙ ap (λ (s : WalkPosition). (seen x).1 ∷ drop (steps_taken s) (walk s.table)) (sym given.moved)
 
 pub left_none : (stand : WalkPosition) → length (walk stand.table) ≤ steps_taken stand → left stand ≡ []
 unfolding left
@@ -182,7 +172,7 @@ pub counting_more : {X : Type 0} (seen : X → ℕ × List ℕ) (table : Table) 
     → IsCounting table old counts records continued → kind ≡ kind_of (seen x).1 → kind < 0x10000 → more ≡ slice_set counts kind (slice_index_or counts kind 0 + 1) → length more ≡ 0x10000
     → is_continued ≡ goes_on (seen x).0 (seen x).1 → IsCounting table new more (records + 1) (continued + cond is_continued 1 0)
 counting_more seen table old x new counts more records continued kind is_continued step counting is within noted kinds on =
-    let moved = (step_some seen old x new step).1 in
+    let moved = (step_some seen old x new step).moved in
     let base : old.table.header.minimum_index ≤ old.index = subst (λ (t : Table). t.header.minimum_index ≤ old.index) (sym counting.same) counting.base in
     let first = left_first seen old x new base step in
     let kept : new.table ≡ old.table = step.stays in
@@ -224,7 +214,7 @@ stop_at stand (byte ∷ rest) fault e = ap (λ (f : Refusal). Some f) (err_is {A
 -- the fault of a step that is refused is that at which the walk stops
 pub stops_with : {X : Type 0} (seen : X → ℕ × List ℕ) (table : Table) (old new : WalkPosition) (e : Error) → old.table ≡ table → IsStep seen old (Err e) new → stop_of (walk_rest table) ≡ Some (refusal_of e)
 stops_with seen table old new e same step =
-    let past = slice_get_past (walk old.table) (steps_taken old) (step_err seen old new e step).0 in
+    let past = slice_get_past (walk old.table) (steps_taken old) (step_err seen old new e step).past in
     ap (λ (t : Table). stop_of (walk_rest t)) (sym same) ∙ stop_at old (walk_rest old.table) (refusal_of e) (sym (step_stops old past) ∙ step.gives)
 
 -- where a step gives nothing the walk does not stop

@@ -4,7 +4,7 @@ use Rattle.pdb_handles.proofs.PlacesLemmas.{walked_more, walked_all, stop_none, 
 use Rattle.pdb_handles.proofs.places.walked.Goals as goal
 
 pub loop-positions-preserved : goal.loop-positions-preserved
-loop-positions-preserved c = walked_more _ _ _ _ _ _ c.loop-positions.invariant c.place-position.ensures.place (step_some _ _ _ _ (rw c.in-Ok-Some.field-0-is at c.in-Ok-Some.ensures)).1 c.in_ok-push-in-Ok-Some.ensures.items
+loop-positions-preserved c = walked_more _ _ _ _ _ _ c.loop-positions.invariant c.place-position.ensures.place (step_some _ _ _ _ (rw c.in-Ok-Some.field-0-is at c.in-Ok-Some.ensures)).moved c.in_ok-push-in-Ok-Some.ensures.items
 
 pub returns-in-Ok-None-clause-positions : goal.returns-in-Ok-None-clause-positions
 returns-in-Ok-None-clause-positions c = walked_all _ _ _ _ c.loop-positions.invariant c.place-position.ensures.place (step_none _ _ _ (rw c.in-Ok-None.field-0-is at c.in-Ok-None.ensures)).0
@@ -13,7 +13,7 @@ pub returns-in-Ok-None-clause-stop : goal.returns-in-Ok-None-clause-stop
 returns-in-Ok-None-clause-stop c = c.status-stop.ensures ∙ sym (stop_none _ _ _ _ _ c.loop-positions.invariant (rw c.in-Ok-None.field-0-is at c.in-Ok-None.ensures))
 
 pub returns-in-Err-clause-positions : goal.returns-in-Err-clause-positions
-returns-in-Err-clause-positions c = walked_all _ _ _ _ c.loop-positions.invariant c.place-position.ensures.place (step_err _ _ _ _ c.in-Err.ensures).0
+returns-in-Err-clause-positions c = walked_all _ _ _ _ c.loop-positions.invariant c.place-position.ensures.place (step_err _ _ _ _ c.in-Err.ensures).past
 
 pub returns-in-Err-clause-stop : goal.returns-in-Err-clause-stop
 returns-in-Err-clause-stop c = c.of-stop.ensures ∙ sym (stop_err _ _ _ _ _ _ c.loop-positions.invariant c.in-Err.ensures)

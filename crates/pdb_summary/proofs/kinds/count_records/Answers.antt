@@ -29,5 +29,5 @@ returns-in-Ok-None-clause-tally c =
 
 pub returns-in-Err-clause-tally : goal.returns-in-Err-clause-tally
 returns-in-Err-clause-tally c =
-    let all = counted_all _ _ _ _ _ c.loop-item.invariant (step_err _ _ _ _ c.in-Err.ensures).0 in
+    let all = counted_all _ _ _ _ _ c.loop-item.invariant (step_err _ _ _ _ c.in-Err.ensures).past in
     record { kinds = c.loop-item.invariant.kinds; counts = all.0; records = all.1; continued = all.2; fault = sym (stops_with _ _ _ _ _ c.loop-item.invariant.same c.in-Err.ensures) }
