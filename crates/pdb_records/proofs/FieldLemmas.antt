@@ -140,13 +140,6 @@ pub field_list_stops : (bytes : List ℕ) (entries : List Entry) (left : List �
 field_list_stops bytes entries left e all some refused =
     bind_no (to_end field_at bytes) (λ es. ok (field_list_of es.0, es.1)) e (all ∙ to_end_stops field_at entries left e some refused)
 
--- the list that was made says what the entries make
-pub says_as_much : (entries : List Entry) (xs : List TypeData) (continuation : Option TypeIndex) (t : TypeData) (left : List ℕ)
-    → fields_among entries ≡ fields_value xs → continuation_of entries ≡ continuation → type_value t ≡ values.field_list (fields_value xs) continuation → ok {A = TypeValue × List ℕ} (field_list_of entries, left) ≡ ok (type_value t, left)
-says_as_much entries xs continuation t left same goes says =
-    ap (λ (v : TypeValue). ok {A = TypeValue × List ℕ} (v, left))
-    (ap (λ (v : Fields). values.field_list v (continuation_of entries)) same ∙ ap (λ (o : Option TypeIndex). values.field_list (fields_value xs) o) goes ∙ sym says)
-
 -- the same for the list's continuation alone
 pub skip_all : (bytes : List ℕ) (entries : List Entry) (left : List ℕ) → to_end field_at bytes ≡ behind entries (to_end field_at left) → left ≡ [] → list_continuation_at bytes ≡ Ok (continuation_of entries, left)
 skip_all bytes entries left all none =

@@ -7,11 +7,8 @@ ghost use Rattle.pdb_records.specs.Fields.{list_continuation_at};
 ghost use Rattle.pdb_records.specs.Memory.{HoldsField};
 ghost use Rattle.pdb_records.specs.Records.{arguments_end};
 
-use crate::parse::array::skip_padding;
-use crate::parse::fields::parse_continuation;
-use crate::parse::record::parse_behind_leaf;
+use crate::parse::fields::parse_entries;
 use pdb_base::{ParseBuffer, Result, TypeIndex};
-use pdb_values::constants::LF_INDEX;
 use std::alloc::Global;
 
 /// Reads entries to the end of the bytes and keeps none of them. Returns the index of the list that
@@ -25,18 +22,7 @@ pub fn skip_field_list(alloc: Global, buffer: &mut ParseBuffer<'_>) -> Result<Op
     ensures read { Answers (λ next. (next, left buffer.new)) result (list_continuation_at (left buffer.old)) }
     ensures memory { LacksOnlyIf result (HoldsField (left buffer.old)) }
 {
-    let mut continuation = None;
-    'entries: while !buffer.is_empty() {
-        let number = buffer.parse_u16()?;
-        if number == LF_INDEX {
-            continuation = Some(parse_continuation(buffer)?);
-            skip_padding(buffer)?;
-            continue;
-        }
-        drop(parse_behind_leaf(alloc, buffer, number)?);
-        skip_padding(buffer)?;
-    }
-    Ok(continuation)
+    parse_entries(alloc, buffer, &mut Vec::new(alloc), false)
 }
 
 /// Skips a count and as many indexes of types behind it, which is what stands behind LF_ARGLIST.
