@@ -57,8 +57,7 @@ pub struct Numbered<T> {
     table: T,
 }
 
-/// Returns the table in the stream of a number: the one that is open already if it is that stream's,
-/// and otherwise one that is read.
+/// Returns the table in a stream: the open one if it is that stream's, or else one that is read.
 fn opened<T: Table, F: ReadStreams>(
     alloc: Global,
     file: &mut F,
@@ -83,7 +82,7 @@ fn opened<T: Table, F: ReadStreams>(
 }
 
 /// The last table of each kind that was opened.
-#[derive(Drop)]
+#[derive(Default, Drop)]
 pub struct OpenTables {
     types: Option<Numbered<OpenTable<TypeIndex>>>,
     ids: Option<Numbered<OpenTable<IdIndex>>>,
@@ -92,23 +91,7 @@ pub struct OpenTables {
 }
 
 impl OpenTables {
-    /// Returns no tables.
-    pub fn new() -> Self
-        ensures { result ≡ record { types = None; ids = None; names = None; omap = None } }
-    {
-        OpenTables {
-            types: None,
-            ids: None,
-            names: None,
-            omap: None,
-        }
-    }
-
     /// Answers a query from the table that it asks, which is opened if it is not open yet.
-    ///
-    /// # Errors
-    /// Fails with the first error of the stream, of the table in it, of the look-up and of the
-    /// record, or with `OutOfMemory`.
     fn attempt<F: ReadStreams>(
         &mut self,
         alloc: Global,

@@ -25,7 +25,7 @@ fn answer_all<S: Source + Drop>(
     let Some((last, first)) = queries.split_last() else {
         return replies;
     };
-    let mut tables = OpenTables::new();
+    let mut tables = OpenTables::default();
     for query in first {
         replies.push_reserved(tables.reply(alloc, &mut file, *query));
     }
@@ -36,10 +36,9 @@ fn answer_all<S: Source + Drop>(
 /// Opens a file, asks it all queries, and returns one reply to each, in order. On a sound source, a
 /// query that fails does not affect the next.
 ///
-/// A table is read once for all queries that follow one another and ask it: the last table of each
-/// kind (types, ids, names, OMAP) stays open. Queries that alternate between two tables of one kind
-/// read them anew each time. The last query consumes the file: if the source can give up its bytes,
-/// as a `Vec<u8>` can, a single query takes no memory for the stream that it asks.
+/// The last table of each kind (types, ids, names, OMAP) stays open, so queries that alternate
+/// between two tables of one kind read them anew each time. The last query consumes the file: a
+/// `Vec<u8>` gives up its bytes, so that a single query takes no memory for the stream that it asks.
 ///
 /// # Errors
 /// Fails as `open_msf` does, or with `OutOfMemory` if there is no room for the list of replies. An

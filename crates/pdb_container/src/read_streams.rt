@@ -1,5 +1,4 @@
-//! Two ways to read a stream of a file: from one that stays open, and from one that the read
-//! consumes.
+//! Two ways to read a stream: from a file that stays open, and from one that the read consumes.
 
 ghost use Rattle.std.specs.Prelude.{◌≡◌, ℕ, List, Option, Some, None, IsSome, IsTrue};
 ghost use Rattle.pdb_base.specs.Answer.{Answer, AnswersUnless};
@@ -13,13 +12,14 @@ use std::alloc::Global;
 
 /// A file whose streams are read.
 pub trait ReadStreams {
-    // The bytes of the stream of a number, cut to a limit.
+    // The stream of a number, cut to a limit; whether one can still be read; whether the source failed
+    // between two states; and what stays true from one to the next, also where nothing is read.
     ghost stream: { Self → ℕ → Option ℕ → Answer (List ℕ) };
-    // Whether a stream can still be read.
+
     ghost can_read: { Self → Type 0 };
-    // Whether the source failed between two states.
+
     ghost failed: { Self → Self → Type 0 };
-    // What stays true from one state to the next.
+
     ghost kept: { Self → Self → Type 0 };
 
     /// Returns the bytes of a stream, at most as many as the limit.
@@ -29,7 +29,6 @@ pub trait ReadStreams {
             (stream self.old number limit) }
         ensures kept { kept self.old self.new };
 
-    // Nothing is lost where nothing is read.
     ghost stays: { (file : Self) → kept file file };
 }
 

@@ -1,7 +1,5 @@
 -- A table that is not opened fails with the error that is meant, and one that is open replies what is meant.
-use Rattle.std.proofs.Common.{◌≡◌, Ok}
-use Rattle.std.specs.declared.ops.Range.{Range}
-use Rattle.pdb_base.specs.Answer.{◌>>=◌}
+use Rattle.std.proofs.Common.{Ok}
 use Rattle.pdb_base.proofs.lemmas.Refused.{passed_on}
 use Rattle.pdb_space.specs.Omap.{omap_table_of}
 use Rattle.pdb_space.specs.StringTable.{names_of}
