@@ -81,6 +81,16 @@ fn opened<T: Table, F: ReadStreams>(
     Ok(Numbered { number, table })
 }
 
+/// Learns where items stand, up to the one of an index, if another query can follow. The last query
+/// learns nothing, so that it takes no memory beyond the file.
+fn learn_for_later<F: ReadStreams, I: ItemIndex>(table: &mut OpenTable<I>, index: I)
+    ensures { table.new ≡ table.old }
+{
+    if F::STAYS_OPEN {
+        table.learn(index);
+    }
+}
+
 /// The last table of each kind that was opened.
 #[derive(Default, Drop)]
 pub struct OpenTables {
@@ -111,7 +121,8 @@ impl OpenTables {
             }
             Query::TypeRecord { stream, index } => {
                 let mut types = opened(alloc, file, stream, self.types.take())?;
-                let reply = type_reply(alloc, &mut types.table, index);
+                learn_for_later::<F, TypeIndex>(&mut types.table, TypeIndex(index));
+                let reply = type_reply(alloc, &types.table, index);
                 self.types = Some(types);
                 reply
             }
@@ -123,7 +134,8 @@ impl OpenTables {
             }
             Query::IdRecord { stream, index } => {
                 let mut ids = opened(alloc, file, stream, self.ids.take())?;
-                let reply = id_reply(alloc, &mut ids.table, index);
+                learn_for_later::<F, IdIndex>(&mut ids.table, IdIndex(index));
+                let reply = id_reply(alloc, &ids.table, index);
                 self.ids = Some(ids);
                 reply
             }

@@ -12,6 +12,9 @@ use std::alloc::Global;
 
 /// A file whose streams are read.
 pub trait ReadStreams {
+    /// Whether another stream can be read after the next one.
+    const STAYS_OPEN: bool;
+
     // The stream of a number, cut to a limit; whether one can still be read; whether the source failed
     // between two states; and what stays true from one to the next, also where nothing is read.
     ghost stream: { Self → ℕ → Option ℕ → Answer (List ℕ) };
@@ -33,6 +36,8 @@ pub trait ReadStreams {
 }
 
 impl<S: Source> ReadStreams for BigMSF<S> {
+    const STAYS_OPEN: bool = true;
+
     ghost stream = { λ file. stream_of (S.state file.source).bytes file.head };
 
     ghost can_read = { λ _. Unit {0} };
@@ -50,6 +55,8 @@ impl<S: Source> ReadStreams for BigMSF<S> {
 
 /// A file that the next read consumes.
 impl<S: Source + Drop> ReadStreams for Option<BigMSF<S>> {
+    const STAYS_OPEN: bool = false;
+
     ghost stream = { λ file. stream_once S.state file };
 
     ghost can_read = { λ file. IsSome file };

@@ -31,11 +31,9 @@ fn copied(alloc: Global, name: Option<RawString<'_>>) -> Result<Option<Vec<u8>>>
 /// Replies with the type of an index: its kind, and its name if it has one.
 #[inline(never)]
 #[tactic(auto, unfolding(crate::specs::Reply::type_in))]
-pub fn type_reply(alloc: Global, types: &mut OpenTable<TypeIndex>, index: u32) -> Result<Reply>
-    ensures reply { Replies result (type_in index types.old.table) }
-    ensures kept { types.new ≡ types.old }
+pub fn type_reply(alloc: Global, types: &OpenTable<TypeIndex>, index: u32) -> Result<Reply>
+    ensures { Replies result (type_in index types.now.table) }
 {
-    types.learn(TypeIndex(index));
     let item = types.item(TypeIndex(index))?;
     let value = item.parse(alloc)?;
     Ok(Reply::Record {
@@ -60,11 +58,9 @@ fn name_of_id<'t>(id: &IdData<'t>) -> Option<RawString<'t>>
 /// Replies with the id of an index: its kind, and its name if it has one.
 #[inline(never)]
 #[tactic(auto, unfolding(crate::specs::Reply::id_in))]
-pub fn id_reply(alloc: Global, ids: &mut OpenTable<IdIndex>, index: u32) -> Result<Reply>
-    ensures reply { Replies result (id_in index ids.old.table) }
-    ensures kept { ids.new ≡ ids.old }
+pub fn id_reply(alloc: Global, ids: &OpenTable<IdIndex>, index: u32) -> Result<Reply>
+    ensures { Replies result (id_in index ids.now.table) }
 {
-    ids.learn(IdIndex(index));
     let item = ids.item(IdIndex(index))?;
     let value = item.parse(alloc)?;
     Ok(Reply::Record {

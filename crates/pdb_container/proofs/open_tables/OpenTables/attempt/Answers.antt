@@ -17,7 +17,7 @@ pub returns-in_ok-types-in-TypeRecord-clause-reply : goal.returns-in_ok-types-in
 unfolding type_within
 returns-in_ok-types-in-TypeRecord-clause-reply g c =
     rw c.in-TypeRecord.is
-    (items_replied _ _ _ (type_in c.in-TypeRecord.index) _ c.in_ok-types-in-TypeRecord.ensures.table c.type_reply-reply.ensures.reply)
+    (items_replied _ _ _ (type_in c.in-TypeRecord.index) _ c.in_ok-types-in-TypeRecord.ensures.table (rw c.learn_for_later.ensures at c.type_reply-reply.ensures))
 
 pub returns-in_err-types-in-Fields-clause-reply : goal.returns-in_err-types-in-Fields-clause-reply
 unfolding fields_within
@@ -41,7 +41,7 @@ pub returns-in_ok-ids-in-IdRecord-clause-reply : goal.returns-in_ok-ids-in-IdRec
 unfolding id_within
 returns-in_ok-ids-in-IdRecord-clause-reply g c =
     rw c.in-IdRecord.is
-    (items_replied _ _ _ (id_in c.in-IdRecord.index) _ c.in_ok-ids-in-IdRecord.ensures.table c.id_reply-reply.ensures.reply)
+    (items_replied _ _ _ (id_in c.in-IdRecord.index) _ c.in_ok-ids-in-IdRecord.ensures.table (rw c.learn_for_later-in-IdRecord.ensures at c.id_reply-reply.ensures))
 
 pub returns-in_err-names-in-Name-clause-reply : goal.returns-in_err-names-in-Name-clause-reply
 unfolding name_within
