@@ -3,21 +3,10 @@
 mod addresses;
 mod base;
 mod files;
-mod flags;
 mod frames;
-mod ids;
-mod indexes;
-mod leaves;
-mod lists;
-mod names;
-mod plain;
-mod primitives;
-mod read;
-mod refused;
 mod roles;
 mod searching;
 mod strings;
-mod tables;
 mod translation;
 
 use pdb_base::{Error, Stream};
