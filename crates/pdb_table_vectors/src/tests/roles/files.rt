@@ -74,10 +74,10 @@ const PAGES: [&[u8]; 15] = [
 ];
 
 /// The number that stands for no stream.
-const NONE: u16 = 0xffff;
+pub(crate) const NONE: u16 = 0xffff;
 
 /// The streams of some roles. The others have none.
-enum Roles {
+pub(crate) enum Roles {
     /// Of an address map: the section headers, the original ones, OMAP to source and OMAP from source.
     Map([u16; 4]),
     /// Of a frame table: the FPO stream and the frame data.
@@ -315,12 +315,17 @@ fn push_debug(bytes: &mut Vec<u8>, numbers: &[u16]) -> Result<(), Fail> {
     Ok(())
 }
 
-/// A file with these roles, each stream in a page of its own.
-fn file(alloc: Global, roles: &Roles) -> Result<PDB<Vec<u8>>, Fail> {
+/// The bytes of a file with these roles, each stream in a page of its own.
+pub(crate) fn bytes_of(alloc: Global, roles: &Roles) -> Result<Vec<u8>, Fail> {
     let mut bytes = Vec::new(alloc);
     push_pages(&mut bytes)?;
     push_debug(&mut bytes, &numbers(roles))?;
-    Ok(PDB::open(alloc, bytes)?)
+    Ok(bytes)
+}
+
+/// A file with these roles.
+fn file(alloc: Global, roles: &Roles) -> Result<PDB<Vec<u8>>, Fail> {
+    Ok(PDB::open(alloc, bytes_of(alloc, roles)?)?)
 }
 
 /// Whether the addresses lie so.
