@@ -9,24 +9,44 @@ use std::alloc::Global;
 use std::iter::FusedIterator;
 use std::test::Fail;
 
+/// Takes an iterator that ends for good, as the trait says of it.
+fn is_fused<I: FusedIterator>(_iterator: &I) -> bool {
+    true
+}
+
 /// How many items an iterator gives, if these are at most ten, and None comes three times behind them.
-fn count<I: FusedIterator>(iterator: &mut I) -> Option<usize>
-where
-    I::Item: Drop,
-{
-    let mut items = 0usize;
-    for _ in 0..10 {
-        if iterator.next().is_none() {
-            break;
+macro_rules! counted {
+    ($iterator:ident) => {{
+        let is_fused = is_fused(&$iterator);
+        let mut items = 0usize;
+        for _ in 0..10 {
+            if $iterator.next().is_some() {
+                items = items.saturating_add(1);
+            }
         }
-        items = items.saturating_add(1);
-    }
-    for _ in 0..3 {
-        if iterator.next().is_some() {
-            return None;
-        }
-    }
-    Some(items)
+        let ends = $iterator.next().is_none() && $iterator.next().is_none();
+        if is_fused && ends { items } else { usize::MAX }
+    }};
+}
+
+/// The same of the records of a table.
+fn count_records(mut records: OMAPRecords<'_>) -> usize {
+    counted!(records)
+}
+
+/// The same of ranges through a table.
+fn count_parts(mut parts: RangeIter<'_>) -> usize {
+    counted!(parts)
+}
+
+/// The same of ranges of the image as it is loaded.
+fn count_loaded(mut ranges: RvaRangeIter<'_>) -> usize {
+    counted!(ranges)
+}
+
+/// The same of internal ranges.
+fn count_internal(mut ranges: PdbInternalRvaRangeIter<'_>) -> usize {
+    counted!(ranges)
 }
 
 /// Two records: from 0x1000 to 0x2000, and from 0x1010 to 0x3000.
@@ -39,23 +59,19 @@ fn table(alloc: Global) -> Result<OMAPTable, Fail> {
 
 /// Whether the iterators of a table end for good behind two items, and the others behind one and none.
 fn end_for_good(table: &OMAPTable) -> bool {
-    let mut records: OMAPRecords<'_> = table.records();
-    let mut parts: RangeIter<'_> = table.lookup_range(0x1008..0x1018);
-    count(&mut records) == Some(2)
-        && count(&mut parts) == Some(2)
-        && count(&mut RangeIter::identity(3..5)) == Some(1)
-        && count(&mut RangeIter::empty()) == Some(0)
+    count_records(table.records()) == 2
+        && count_parts(table.lookup_range(0x1008..0x1018)) == 2
+        && count_parts(RangeIter::identity(3..5)) == 1
+        && count_parts(RangeIter::empty()) == 0
 }
 
 /// Whether the iterators of a map by the table do.
 fn end_by_map(alloc: Global) -> Result<bool, Fail> {
     let sections = Vec::new(alloc);
     let map = AddressMap::new(sections, None, Some(table(alloc)?), Some(table(alloc)?));
-    let mut there: RvaRangeIter<'_> = map.rva_ranges(
-        PdbInternalRva(0x1008)..PdbInternalRva(0x1018),
-    );
-    let mut back: PdbInternalRvaRangeIter<'_> = map.internal_rva_ranges(Rva(0x1008)..Rva(0x1018));
-    Ok(count(&mut there) == Some(2) && count(&mut back) == Some(2))
+    let there = map.rva_ranges(PdbInternalRva(0x1008)..PdbInternalRva(0x1018));
+    let back = map.internal_rva_ranges(Rva(0x1008)..Rva(0x1018));
+    Ok(count_loaded(there) == 2 && count_internal(back) == 2)
 }
 
 #[test]

@@ -3,18 +3,19 @@
 
 ghost use Rattle.pdb_vectors.specs.Failing.{state_of};
 
+use super::pages::are_slices;
 use pdb_base::Error;
 use pdb_msf::{BigMSF, Msf, ReadView, Source, SourceSlice, open_msf};
 use pdb_vectors::Failing;
-use std::alloc::Global;
+use std::alloc::{AllocError, Global};
 use std::io;
 use std::test::Fail;
 
 /// The text of each error of a source.
 const GONE: &str = "the disk is gone";
 
-/// A view: the offset and the size of each slice that is asked for.
-type Note = Vec<(u64, usize)>;
+/// A view: the slices that are asked for.
+type Note = Vec<SourceSlice>;
 
 /// A source of which one view fails, and which notes each view, the failed one too. Its errors have a text of their
 /// own.
@@ -24,21 +25,12 @@ struct Watched<'n> {
     notes: &'n mut Vec<Note>,
 }
 
-/// The slices of a view.
-fn note_of(alloc: Global, slices: &[SourceSlice]) -> io::Result<Note> {
-    let mut note = Vec::new(alloc);
-    for slice in slices {
-        note.push((slice.offset, slice.size))?;
-    }
-    Ok(note)
-}
-
 impl<'n> Source for Watched<'n> {
     ghost state = { λ watched. state_of watched.source };
 
     fn view(&mut self, alloc: Global, slices: &[SourceSlice]) -> io::Result<ReadView> {
-        let note = note_of(alloc, slices)?;
-        self.notes.push(note)?;
+        let note = slices.to_vec(alloc)?;
+        self.notes.push(note).map_err(AllocError::from)?;
         match self.source.view(alloc, slices) {
             Ok(view) => Ok(view),
             Err(error) => Err(io::Error::new(error.kind(), GONE)),
@@ -206,8 +198,8 @@ fn answers_each(alloc: Global, file: &mut BigMSF<Watched<'_>>, calls: &[Call]) -
 fn bytes_in(notes: &[Note]) -> u64 {
     let mut sum = 0u64;
     for note in notes {
-        for (_, size) in note {
-            sum = sum.saturating_add(*size as u64);
+        for slice in note.as_slice() {
+            sum = sum.saturating_add(slice.size as u64);
         }
     }
     sum
@@ -216,7 +208,7 @@ fn bytes_in(notes: &[Note]) -> u64 {
 /// Whether views are these.
 fn are_views(notes: &[Note], want: &[&[(u64, usize)]]) -> bool {
     for (note, want) in notes.iter().zip(want) {
-        if note.as_slice() != *want {
+        if !are_slices(note.as_slice(), want) {
             return false;
         }
     }
