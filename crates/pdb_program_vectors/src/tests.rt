@@ -8,4 +8,5 @@ mod printed;
 mod processes;
 mod rows;
 mod runs;
+mod unread;
 mod uses;

@@ -2,7 +2,7 @@
 
 ghost use Rattle.std.specs.Prelude.{◌≡◌, IfOk};
 
-use super::{says, stream};
+use super::{is_error, stream};
 use pdb_base::{
     Count, Error, FallibleIterator, IdIndex, Result as Answer, Stream, TypeIndex, Variant,
 };
@@ -10,7 +10,7 @@ use pdb_tpi::{
     Header, IdFinder, IdInformation, IdIter, OpenTable, RecordPlace, Slice, Type, TypeFinder,
     TypeInformation, TypeIter,
 };
-use pdb_values::TypeData;
+use pdb_values::{PrimitiveKind, PrimitiveType, TypeData};
 use pdb_vectors::item_table;
 use std::alloc::Global;
 use std::test::Fail;
@@ -25,17 +25,36 @@ enum Source {
     Zeros(u32, u32, u32, usize),
 }
 
+/// What a step or a look-up gives.
+enum Step {
+    /// An item: its index and its kind.
+    Item(u32, u16),
+    /// Nothing.
+    End,
+    /// An error.
+    Error(Error),
+}
+
+use Step::{End, Item};
+
+/// What a list of fields is.
+enum Fields {
+    /// The values A, 0, and B, 1.
+    AAndB,
+    /// An error.
+    Error(Error),
+}
+
 /// What is asked of a table, and its answer.
 enum Ask {
     /// What it is refused with.
-    Refusal(&'static str),
+    Refusal(Error),
     /// The size that its header says.
     HeaderSize(u32),
     /// Its header, how many indexes it counts, and whether it counts none.
     Header(Header, usize, bool),
-    /// What each step of a walk gives, and each step of a clone of its iterator: an index and a kind,
-    /// `none`, or the text of an error.
-    Walk(&'static [&'static str]),
+    /// What each step of a walk gives, and each step of a clone of its iterator.
+    Walk(&'static [Step]),
     /// What a new finder is shown and asked.
     Finder(&'static [FinderAsk]),
     /// How many finders are made that are kept at once.
@@ -54,13 +73,16 @@ enum FinderAsk {
     ShownBoth(usize, usize),
     /// The last index that it covers.
     Last(u32),
-    /// An index: the index and the kind of its item, or the text of an error, and how many lengths are
-    /// read for it.
-    Find(u32, &'static str, u64),
+    /// An index: its item, or an error, and how many lengths are read for it.
+    Find(u32, Step, u64),
+    /// How many lengths were read for all look-ups so far.
+    Count(u64),
+    /// An index whose type is the 32-bit integer, which has no record.
+    Integer(u32),
     /// An index: how many bytes its item has.
     Len(u32, usize),
-    /// The index of a list: its fields, or the text of an error.
-    Fields(u32, &'static str),
+    /// The index of a list: its fields, or an error.
+    Fields(u32, Fields),
 }
 
 /// What is done with an open table, or what it is asked, with its answer.
@@ -79,8 +101,8 @@ enum OpenAsk {
     NotFound(u32),
     /// An index: how many bytes its item has.
     Len(u32, usize),
-    /// The index of a list: its fields, or the text of an error.
-    Fields(u32, &'static str),
+    /// The index of a list: its fields, or an error.
+    Fields(u32, Fields),
 }
 
 /// A header whose fields have the numbers of their bytes in them, but for the size of the header,
@@ -166,8 +188,13 @@ const LIST_OF_A: RecordPlace = RecordPlace {
     length: 18,
 };
 
-/// The values A, 0, and B, 1, as rows tell them.
-const A_AND_B: &str = "A = 0, B = 1";
+/// The errors of items that end too soon or are too short.
+const ENDS: Step = Step::Error(Error::UnexpectedEof);
+
+const SHORT: Step = Step::Error(Error::TypeTooShort);
+
+/// That the finder, which covers the indexes up to 0x1007, doesn't cover 0x1008.
+const NOT_INDEXED: Step = Step::Error(Error::TypeNotIndexed(0x1008, 0x1007));
 
 /// Tables, and what is asked of each.
 const TABLES: &[(&str, Source, Ask)] = &[
@@ -179,17 +206,17 @@ const TABLES: &[(&str, Source, Ask)] = &[
     (
         "55",
         Source::Table(55, 0x1000, 0x1000, b""),
-        Ask::Refusal("The type information header was invalid: header size is impossibly small"),
+        Ask::Refusal(Error::InvalidTypeInformationHeader("header size is impossibly small")),
     ),
     (
         "1025",
         Source::Zeros(1025, 0x1000, 0x1000, 1056),
-        Ask::Refusal("The type information header was invalid: header size is unreasonably large"),
+        Ask::Refusal(Error::InvalidTypeInformationHeader("header size is unreasonably large")),
     ),
     (
         "1024 over 56 bytes",
         Source::Table(1024, 0x1000, 0x1000, b""),
-        Ask::Refusal("UnexpectedEof"),
+        Ask::Refusal(Error::UnexpectedEof),
     ),
     (
         "1024 over 1024 bytes",
@@ -199,19 +226,19 @@ const TABLES: &[(&str, Source, Ask)] = &[
     (
         "minimum 0xfff",
         Source::Table(56, 0xfff, 0x1000, b""),
-        Ask::Refusal("The type information header was invalid: minimum type index is < 4096"),
+        Ask::Refusal(Error::InvalidTypeInformationHeader("minimum type index is < 4096")),
     ),
     (
         "maximum below",
         Source::Table(56, 0x1001, 0x1000, b""),
-        Ask::Refusal(
-            "The type information header was invalid: maximum type index is < minimum type index",
-        ),
+        Ask::Refusal(Error::InvalidTypeInformationHeader(
+            "maximum type index is < minimum type index",
+        )),
     ),
     (
         "two faults",
         Source::Table(55, 0xfff, 0, b""),
-        Ask::Refusal("The type information header was invalid: header size is impossibly small"),
+        Ask::Refusal(Error::InvalidTypeInformationHeader("header size is impossibly small")),
     ),
     (
         "fields of a header",
@@ -221,46 +248,46 @@ const TABLES: &[(&str, Source, Ask)] = &[
     (
         "55 bytes alone",
         Source::Bytes(&[0; 55]),
-        Ask::Refusal("UnexpectedEof"),
+        Ask::Refusal(Error::UnexpectedEof),
     ),
     (
         "a walk over no item",
         Source::Table(56, 0x1000, 0x1000, b""),
-        Ask::Walk(&["none", "none"]),
+        Ask::Walk(&[End, End]),
     ),
     (
         "a walk past the last index",
         Source::Table(56, LAST, LAST, b"\x02\x00\x01\x10\x02\x00\x01\x10"),
         Ask::Walk(&[
-            "0xffffffff 1001",
-            "Type 4294967295 not found",
-            "Type 4294967295 not found",
+            Item(0xffffffff, 0x1001),
+            Step::Error(Error::TypeNotFound(LAST)),
+            Step::Error(Error::TypeNotFound(LAST)),
         ]),
     ),
     (
         "a short length there",
         Source::Table(56, LAST, LAST, b"\x02\x00\x01\x10\x01\x00\x01\x10"),
-        Ask::Walk(&["0xffffffff 1001", "TypeTooShort", "TypeTooShort"]),
+        Ask::Walk(&[Item(0xffffffff, 0x1001), SHORT, SHORT]),
     ),
     (
         "a walk over one byte",
         Source::Table(56, 0x1000, 0x1000, b"\x02"),
-        Ask::Walk(&["UnexpectedEof", "UnexpectedEof"]),
+        Ask::Walk(&[ENDS, ENDS]),
     ),
     (
         "a short length at the end",
         Source::Table(56, 0x1000, 0x1000, b"\x01\x00"),
-        Ask::Walk(&["TypeTooShort", "TypeTooShort"]),
+        Ask::Walk(&[SHORT, SHORT]),
     ),
     (
         "a cut item",
         Source::Table(56, 0x1000, 0x1000, b"\x03\x00\x01\x10"),
-        Ask::Walk(&["UnexpectedEof", "UnexpectedEof"]),
+        Ask::Walk(&[ENDS, ENDS]),
     ),
     (
         "a walk past the maximum",
         Source::Table(56, 0x1000, 0x1000, b"\x02\x00\x01\x10\x03\x00\x02\x10\x00"),
-        Ask::Walk(&["0x1000 1001", "0x1001 1002", "none", "none"]),
+        Ask::Walk(&[Item(0x1000, 0x1001), Item(0x1001, 0x1002), End, End]),
     ),
     (
         "a third length of 1",
@@ -271,32 +298,47 @@ const TABLES: &[(&str, Source, Ask)] = &[
             b"\x02\x00\x01\x10\x02\x00\x02\x10\x01\x00\x02\x00",
         ),
         Ask::Walk(&[
-            "0x1000 1001",
-            "0x1001 1002",
-            "TypeTooShort",
-            "TypeTooShort",
-            "TypeTooShort",
+            Item(0x1000, 0x1001),
+            Item(0x1001, 0x1002),
+            SHORT,
+            SHORT,
+            SHORT,
         ]),
     ),
     (
         "a third length of 1, of nine",
-        Source::Table(56, 0x1000, 0x1000, NINE_SHORT),
-        Ask::Walk(&["0x1000 1000", "0x1001 1001", "TypeTooShort", "TypeTooShort"]),
+        Source::Table(56, 0x1000, 0x1009, NINE_SHORT),
+        Ask::Walk(&[Item(0x1000, 0x1000), Item(0x1001, 0x1001), SHORT, SHORT]),
     ),
     (
         "nine items",
         Source::Table(56, 0x1000, 0x1009, NINE),
         Ask::Finder(&[
             FinderAsk::Last(0x1007),
-            FinderAsk::Find(0x1000, "0x1000 1000", 1),
-            FinderAsk::Find(0x1007, "0x1007 1007", 8),
-            FinderAsk::Find(0x1008, "Type 4104 not indexed (index covers 4103)", 0),
-            FinderAsk::Find(0x1009, "Type 4105 not found", 0),
-            FinderAsk::Find(0x74, "0x74 ffff", 0),
+            FinderAsk::Find(0x1000, Item(0x1000, 0x1000), 1),
+            FinderAsk::Find(0x1007, Item(0x1007, 0x1007), 8),
+            FinderAsk::Find(0x1008, NOT_INDEXED, 0),
+            FinderAsk::Find(0x1009, Step::Error(Error::TypeNotFound(0x1009)), 0),
+            FinderAsk::Find(0x74, Item(0x74, 0xffff), 0),
             FinderAsk::Shown(&[1, 2, 3, 4, 5, 6, 7, 8]),
             FinderAsk::Last(0x1008),
-            FinderAsk::Find(0x1007, "0x1007 1007", 8),
-            FinderAsk::Find(0x1008, "0x1008 1008", 1),
+            FinderAsk::Find(0x1007, Item(0x1007, 0x1007), 8),
+            FinderAsk::Find(0x1008, Item(0x1008, 0x1008), 1),
+            FinderAsk::Count(18),
+            FinderAsk::Integer(0x74),
+        ]),
+    ),
+    (
+        "nine items, of which the last two are looked up",
+        Source::Table(56, 0x1000, 0x1009, NINE),
+        Ask::Finder(&[
+            FinderAsk::Find(0x1007, Item(0x1007, 0x1007), 8),
+            FinderAsk::Count(8),
+            FinderAsk::Shown(&[1, 2, 3, 4, 5, 6, 7, 8]),
+            FinderAsk::Find(0x1008, Item(0x1008, 0x1008), 1),
+            FinderAsk::Count(9),
+            FinderAsk::Integer(0x74),
+            FinderAsk::Count(9),
         ]),
     ),
     (
@@ -304,9 +346,9 @@ const TABLES: &[(&str, Source, Ask)] = &[
         Source::Table(56, 0x1000, 0x1009, NINE_SHORT),
         Ask::Finder(&[
             FinderAsk::Last(0x1007),
-            FinderAsk::Find(0x1001, "0x1001 1001", 2),
-            FinderAsk::Find(0x1002, "TypeTooShort", 3),
-            FinderAsk::Find(0x1005, "TypeTooShort", 3),
+            FinderAsk::Find(0x1001, Item(0x1001, 0x1001), 2),
+            FinderAsk::Find(0x1002, SHORT, 3),
+            FinderAsk::Find(0x1005, SHORT, 3),
         ]),
     ),
     (
@@ -314,9 +356,9 @@ const TABLES: &[(&str, Source, Ask)] = &[
         Source::Table(56, 0x1000, 0xffff_ffff, b"\x02\x00\x01\x10"),
         Ask::Finder(&[
             FinderAsk::Last(0x1007),
-            FinderAsk::Find(0x1000, "0x1000 1001", 1),
-            FinderAsk::Find(0x1001, "UnexpectedEof", 1),
-            FinderAsk::Find(0x1008, "Type 4104 not indexed (index covers 4103)", 0),
+            FinderAsk::Find(0x1000, Item(0x1000, 0x1001), 1),
+            FinderAsk::Find(0x1001, ENDS, 1),
+            FinderAsk::Find(0x1008, NOT_INDEXED, 0),
         ]),
     ),
     (
@@ -330,8 +372,8 @@ const TABLES: &[(&str, Source, Ask)] = &[
         Ask::Finder(&[
             FinderAsk::Shown(&[1, 2, 3, 4, 5, 6, 7, 8]),
             FinderAsk::Last(0x1008),
-            FinderAsk::Find(0x1008, "UnexpectedEof", 0),
-            FinderAsk::Find(0x1007, "0x1007 1007", 8),
+            FinderAsk::Find(0x1008, ENDS, 0),
+            FinderAsk::Find(0x1007, Item(0x1007, 0x1007), 8),
         ]),
     ),
     (
@@ -340,8 +382,8 @@ const TABLES: &[(&str, Source, Ask)] = &[
         Ask::Finder(&[
             FinderAsk::Shown(&[1, 2, 3, 4, 5, 6, 7, 8, 9]),
             FinderAsk::Last(0),
-            FinderAsk::Find(0x1000, "Type 4096 not found", 0),
-            FinderAsk::Find(0xfff, "0xfff ffff", 0),
+            FinderAsk::Find(0x1000, Step::Error(Error::TypeNotFound(0x1000)), 0),
+            FinderAsk::Find(0xfff, Item(0xfff, 0xffff), 0),
         ]),
     ),
     (
@@ -365,22 +407,22 @@ const TABLES: &[(&str, Source, Ask)] = &[
             FinderAsk::Last(0x100f),
             FinderAsk::Shown(&[9, 10, 11, 12, 13, 14, 15, 16]),
             FinderAsk::Last(0x1013),
-            FinderAsk::Find(0x1008, "0x1008 1008", 1),
-            FinderAsk::Find(0x1013, "0x1013 1013", 4),
+            FinderAsk::Find(0x1008, Item(0x1008, 0x1008), 1),
+            FinderAsk::Find(0x1013, Item(0x1013, 0x1013), 4),
         ]),
     ),
     (
         "fields joined in one block",
         Source::Table(56, 0x1000, 0x1002, TWO_LISTS),
-        Ask::Finder(&[FinderAsk::Fields(0x1001, A_AND_B)]),
+        Ask::Finder(&[FinderAsk::Fields(0x1001, Fields::AAndB)]),
     ),
     (
         "fields joined in two blocks",
         Source::Table(56, 0x1000, 0x1009, LISTS),
         Ask::Finder(&[
-            FinderAsk::Fields(0x1008, "Type 4104 not indexed (index covers 4103)"),
+            FinderAsk::Fields(0x1008, Fields::Error(Error::TypeNotIndexed(0x1008, 0x1007))),
             FinderAsk::Shown(&[1, 2, 3, 4, 5, 6, 7, 8]),
-            FinderAsk::Fields(0x1008, A_AND_B),
+            FinderAsk::Fields(0x1008, Fields::AAndB),
         ]),
     ),
     (
@@ -398,7 +440,7 @@ const TABLES: &[(&str, Source, Ask)] = &[
             OpenAsk::Find(0x1001, Some(LIST_OF_A)),
             OpenAsk::NotFound(0x1002),
             OpenAsk::Len(0x1001, 18),
-            OpenAsk::Fields(0x1001, A_AND_B),
+            OpenAsk::Fields(0x1001, Fields::AAndB),
         ]),
     ),
 ];
@@ -432,33 +474,28 @@ fn parsed(alloc: Global, source: &Source) -> Answer<TypeInformation> {
     TypeInformation::parse(Stream::new(bytes))
 }
 
-/// Whether an item's index and kind read so.
-fn is_item(alloc: Global, item: Type<'_>, want: &str) -> Result<bool, Fail> {
-    let kind = item.raw_kind();
-    let index = item.index();
-    Ok(format!(in alloc; "{index} {kind:x}")?.as_str() == want)
-}
-
-/// Whether a step gives this item, or an error of this text, or nothing if the text is `none`.
-fn gives(alloc: Global, answer: Answer<Option<Type<'_>>>, want: &str) -> Result<bool, Fail> {
-    match answer {
-        Ok(None) => Ok(want == "none"),
-        Ok(Some(item)) => is_item(alloc, item, want),
-        Err(error) => says(alloc, error, want.as_bytes()),
+/// Whether a step gives this.
+fn gives(answer: &Answer<Option<Type<'_>>>, want: &Step) -> bool {
+    match (answer, want) {
+        (Ok(Some(item)), Step::Item(index, kind)) => {
+            item.index() == TypeIndex(*index) && item.raw_kind() == *kind
+        }
+        (Ok(None), Step::End) => true,
+        (Err(error), Step::Error(same)) => is_error(error, same),
+        _ => false,
     }
 }
 
 /// Whether a step of an iterator gives this, and also a step of its clone.
-fn step_gives(alloc: Global, iterator: &mut TypeIter<'_>, want: &str) -> Result<bool, Fail> {
+fn step_gives(iterator: &mut TypeIter<'_>, want: &Step) -> Result<bool, Fail> {
     let again = iterator.clone()?.next();
-    let is = gives(alloc, again, want)?;
-    Ok(gives(alloc, iterator.next(), want)? && is)
+    Ok(gives(&iterator.next(), want) && gives(&again, want))
 }
 
-/// Whether the steps of an iterator give these texts.
-fn steps_give(alloc: Global, iterator: &mut TypeIter<'_>, steps: &[&str]) -> Result<bool, Fail> {
+/// Whether the steps of an iterator give these.
+fn steps_give(iterator: &mut TypeIter<'_>, steps: &[Step]) -> Result<bool, Fail> {
     for want in steps {
-        if !step_gives(alloc, iterator, want)? {
+        if !step_gives(iterator, want)? {
             return Ok(false);
         }
     }
@@ -507,18 +544,27 @@ fn show_both(
     Ok(true)
 }
 
-/// Whether both look-ups of an index answer so, and the one that counts reads so many lengths.
-fn finds(
-    alloc: Global,
-    finder: &TypeFinder<'_>,
-    index: u32,
-    want: &str,
-    reads: u64,
-) -> Result<bool, Fail> {
-    let mut count = Count::new();
-    let counted = finder.find_counted(TypeIndex(index), &mut count).map(Some);
-    let is = gives(alloc, counted, want)? && count.get() == reads;
-    Ok(gives(alloc, finder.find(TypeIndex(index)).map(Some), want)? && is)
+/// Whether both look-ups of an index answer so, and the one that counts reads so many lengths, which it adds to
+/// those of the look-ups before.
+fn finds(finder: &TypeFinder<'_>, count: &mut Count, index: u32, want: &Step, reads: u64) -> bool {
+    let before = count.get();
+    let counted = finder.find_counted(TypeIndex(index), count).map(Some);
+    let found = finder.find(TypeIndex(index)).map(Some);
+    gives(&counted, want) && gives(&found, want) && count.get() == before.saturating_add(reads)
+}
+
+/// The integer of 32 bits.
+const INTEGER: TypeData<'static> = TypeData::Primitive(PrimitiveType {
+    kind: PrimitiveKind::I32,
+    indirection: None,
+});
+
+/// Whether an item is the integer of 32 bits.
+fn is_integer(alloc: Global, answer: Answer<Type<'_>>) -> bool {
+    match answer {
+        Ok(item) => matches!(item.parse(alloc), Ok(data) if data == INTEGER),
+        Err(_) => false,
+    }
 }
 
 /// Whether an item has so many bytes, and is equal to its copy.
@@ -544,24 +590,32 @@ fn are_a_and_b(fields: &[TypeData<'_>]) -> bool {
     matches!(fields, [a, b] if is_enumerate(a, b"A", 0) && is_enumerate(b, b"B", 1))
 }
 
-/// Whether fields are the values A, 0, and B, 1, where these are wanted, or an error has this text.
-fn has_fields(alloc: Global, answer: Answer<Vec<TypeData<'_>>>, want: &str) -> Result<bool, Fail> {
-    match answer {
-        Ok(fields) => Ok(want == A_AND_B && are_a_and_b(fields.as_slice())),
-        Err(error) => says(alloc, error, want.as_bytes()),
+/// Whether fields are these.
+fn has_fields(answer: &Answer<Vec<TypeData<'_>>>, want: &Fields) -> bool {
+    match (answer, want) {
+        (Ok(fields), Fields::AAndB) => are_a_and_b(fields.as_slice()),
+        (Err(error), Fields::Error(same)) => is_error(error, same),
+        _ => false,
     }
 }
 
-/// Whether a finder answers so.
-fn finder_answers(alloc: Global, finder: &TypeFinder<'_>, ask: &FinderAsk) -> Result<bool, Fail> {
+/// Whether a finder answers so, with what its look-ups before have counted.
+fn finder_answers(
+    alloc: Global,
+    finder: &TypeFinder<'_>,
+    count: &mut Count,
+    ask: &FinderAsk,
+) -> bool {
     match ask {
-        FinderAsk::Last(last) => Ok(finder.max_index() == TypeIndex(*last)),
-        FinderAsk::Find(index, want, reads) => finds(alloc, finder, *index, want, *reads),
-        FinderAsk::Len(index, len) => Ok(is_long(finder.find(TypeIndex(*index)), *len)),
+        FinderAsk::Last(last) => finder.max_index() == TypeIndex(*last),
+        FinderAsk::Find(index, want, reads) => finds(finder, count, *index, want, *reads),
+        FinderAsk::Count(reads) => count.get() == *reads,
+        FinderAsk::Integer(index) => is_integer(alloc, finder.find(TypeIndex(*index))),
+        FinderAsk::Len(index, len) => is_long(finder.find(TypeIndex(*index)), *len),
         FinderAsk::Fields(index, want) => {
-            has_fields(alloc, finder.fields(alloc, TypeIndex(*index)), want)
+            has_fields(&finder.fields(alloc, TypeIndex(*index)), want)
         }
-        _ => Ok(false),
+        _ => false,
     }
 }
 
@@ -570,6 +624,7 @@ fn finder_does(
     alloc: Global,
     table: &TypeInformation,
     finder: &mut TypeFinder<'_>,
+    count: &mut Count,
     ask: &FinderAsk,
 ) -> Result<bool, Fail>
     requires { finder.old.table ≡ table.now }
@@ -582,7 +637,7 @@ fn finder_does(
             finder.update_all(&[]);
             Ok(true)
         }
-        _ => finder_answers(alloc, finder, ask),
+        _ => Ok(finder_answers(alloc, finder, count, ask)),
     }
 }
 
@@ -595,8 +650,9 @@ fn finder_tells(
 ) -> Result<bool, Fail>
     requires { finder.old.table ≡ table.now }
 {
+    let mut count = Count::new();
     for ask in asks {
-        if !finder_does(alloc, table, finder, ask)? {
+        if !finder_does(alloc, table, finder, &mut count, ask)? {
             return Ok(false);
         }
     }
@@ -640,7 +696,7 @@ fn open_answers(alloc: Global, open: &OpenTable<TypeIndex>, ask: &OpenAsk) -> Re
         }
         OpenAsk::Len(index, len) => Ok(is_long(open.item(TypeIndex(*index)), *len)),
         OpenAsk::Fields(index, want) => {
-            has_fields(alloc, open.fields(alloc, TypeIndex(*index)), want)
+            Ok(has_fields(&open.fields(alloc, TypeIndex(*index)), want))
         }
         _ => Ok(false),
     }
@@ -692,7 +748,7 @@ fn table_answers(alloc: Global, table: &TypeInformation, ask: &Ask) -> Result<bo
     match ask {
         Ask::HeaderSize(size) => Ok(table.header().header_size == *size),
         Ask::Header(header, count, is_empty) => Ok(has_header(table, header, *count, *is_empty)),
-        Ask::Walk(steps) => steps_give(alloc, &mut table.iter(), steps),
+        Ask::Walk(steps) => steps_give(&mut table.iter(), steps),
         Ask::Finder(asks) => new_finder_tells(alloc, table, asks),
         Ask::Finders(count) => make_finders(alloc, table, *count),
         _ => Ok(false),
@@ -707,19 +763,16 @@ fn owned_answers(alloc: Global, table: TypeInformation, ask: &Ask) -> Result<boo
     }
 }
 
-/// Whether a table is to be refused with the text of this error.
-fn is_refusal(alloc: Global, error: Error, ask: &Ask) -> Result<bool, Fail> {
-    match ask {
-        Ask::Refusal(want) => says(alloc, error, want.as_bytes()),
-        _ => Ok(false),
-    }
+/// Whether a table is to be refused with this error.
+fn is_refusal(error: &Error, ask: &Ask) -> bool {
+    matches!(ask, Ask::Refusal(want) if is_error(error, want))
 }
 
-/// Whether the table of a stream answers so, or is refused with the text that is wanted.
+/// Whether the table of a stream answers so, or is refused with the error that is wanted.
 fn is_row(alloc: Global, source: &Source, ask: &Ask) -> Result<bool, Fail> {
     match parsed(alloc, source) {
         Ok(table) => owned_answers(alloc, table, ask),
-        Err(error) => is_refusal(alloc, error, ask),
+        Err(error) => Ok(is_refusal(&error, ask)),
     }
 }
 
