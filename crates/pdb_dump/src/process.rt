@@ -1,9 +1,10 @@
 //! The program on the channels of its process.
 
 use crate::asking::serve_questions;
+use crate::command::{Call, Command, Misuse, Task, Verb};
 use crate::help::{HELP, meaning_of, usage_of};
 use crate::served::serve;
-use crate::words::{Command, Misuse, Task, Verb, any_is, asked_of_file, first_verb, plain_words};
+use crate::words::{any_is, call_of, first_verb, plain_words};
 use pdb_cli::{Ended, Errors, tell, texts_of, words_of};
 use pdb_container::{Error, Result};
 use pdb_rows::Form;
@@ -112,13 +113,15 @@ fn call<P: Files + Input + Print + Eprint + AllocGlobal>(
         Form::Text
     };
     let plain = plain_words(process.alloc(), words)?;
-    let Some((path, words)) = plain.split_first() else {
+    if plain.is_empty() {
         eprint!(process; "{HELP}")?;
         return Ok(MISUSED);
-    };
-    match asked_of_file(path, words) {
-        Ok(Task::List(command)) => Ok(list_file(process, path, command, form)?.status),
-        Ok(Task::Answer) => Ok(answer_questions(process, path, form)?.status),
+    }
+    match call_of(&plain) {
+        Ok(Call { path, task }) => match task {
+            Task::List(command) => Ok(list_file(process, path, command, form)?.status),
+            Task::Answer => Ok(answer_questions(process, path, form)?.status),
+        },
         Err(misuse) => tell_misuse(process, misuse, words),
     }
 }
