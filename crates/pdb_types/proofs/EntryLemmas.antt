@@ -1,5 +1,5 @@
 -- The entries of a table are those of its definitions.
-use Rattle.std.proofs.Common.{◌≡◌, ◌≢◌, inl, inr, ℕ, zero, suc, ◌+◌, ◌-◌, ◌*◌, ◌^◌, ◌<◌, ◌≤◌, List, [], ◌∷◌, ◌++◌, length, get_or, take, drop, refl, sym, ap, subst, ◌∙◌, arith, Bool, true, false, not, ◌&&◌, ◌||◌, cond, eqb, ltb, leb, Option, Result, Some, None, Ok, Err}
+use Rattle.std.proofs.Common.{◌≡◌, ◌≢◌, inl, inr, ℕ, zero, suc, ◌+◌, ◌-◌, ◌*◌, ◌^◌, ◌<◌, ◌≤◌, List, [], ◌∷◌, ◌++◌, length, get_or, take, drop, refl, sym, ap, subst, ◌∙◌, arith, Bool, true, false, not, ◌&&◌, ◌||◌, cond, eqb, ltb, leb, Option, Result, Some, None, Ok, Err, Vec, Global}
 use Rattle.std.specs.List.{All, Any, list_any, slice_get}
 use Rattle.std.specs.List.Sorted.{IsNonDecreasingBy, IsPartitionPoint, IsPermutation}
 use Rattle.std.specs.Option.{option_map_or}
@@ -7,15 +7,15 @@ use Rattle.std.specs.Result.{result_ok}
 use Rattle.std.specs.Str.{bytes_eq}
 use Rattle.std.proofs.Math.Seq.{drop-cons}
 use Rattle.std.proofs.Math.ListN.{drop_of_length-le}
-use Rattle.std.proofs.lemmas.Bool.{cases_Bool, cases_eq, false≢true, true≢false, and_parts, and_from, not-true, or_left, or_right, le-ltb, lt-ltb, ltb-false, le-leb, lt-leb, leb-true, eq-eqb, eqb-true, both_ways}
+use Rattle.std.proofs.lemmas.Bool.{cases_lt, leb-false, ltb-true, false≢true, true≢false, and_parts, and_from, not-true, or_left, or_right, le-ltb, lt-ltb, ltb-false, le-leb, lt-leb, leb-true, eq-eqb, eqb-true, both_ways}
 use Rattle.std.proofs.lemmas.List.{append_assoc, append-nil, get_or-take, get_or-drop, length-take-le, length-drop}
 use Rattle.std.proofs.lemmas.List.Elements.{All-nil, All-cons, All-append, All-weaker}
 use Rattle.std.proofs.lemmas.List.Folds.{Any-from_list_any, list_any-append, list_any_at}
 use Rattle.std.proofs.lemmas.List.Sorted.{All-permutation, list_any-IsPermutation}
 use Rattle.std.proofs.lemmas.Option.{get_or_from_slice_get}
 use Rattle.std.proofs.lemmas.Slice.Eq.{bytes_eq-Decides}
-use Rattle.pdb_base.specs.Answer.{Answer, ◌>>=◌}
-use Rattle.pdb_base.proofs.lemmas.Collected.{err}
+use Rattle.pdb_base.specs.Answer.{Answer, Answers, ◌>>=◌}
+use Rattle.pdb_base.proofs.lemmas.Collected.{err, err_is, ok_is}
 use Rattle.pdb_base.specs.Refusal.{Refusal, refusal_of, type_not_found}
 use Rattle.pdb_base.specs.declared.error.Error.{Error}
 use Rattle.pdb_values.specs.TypeValue.{TypeValue}
@@ -27,7 +27,7 @@ use Rattle.pdb_tpi.specs.Walk.{items, first_item, behind, fault_of}
 use Rattle.pdb_tpi.proofs.StepLemmas.{nth_ok, step_some, step_none, step_err}
 use Rattle.pdb_types.specs.declared.entry.Entry.{Entry}
 use Rattle.pdb_types.specs.Declaration.{Declared, TypeName, source_name, decorated_name, bears, declaration_of, is_forward, text_of}
-use Rattle.pdb_types.specs.Definition.{defines, declares, if_none_left}
+use Rattle.pdb_types.specs.Definition.{defines, declares, if_none_left, walked}
 use Rattle.pdb_types.specs.Entries.{rank, entry_of, names_entries, entries_of, entries_from, all_entries, is_entry, IsIndexed, AreCandidates}
 use Rattle.pdb_types.specs.NameHash.{name_hash}
 use Rattle.pdb_types.specs.TypeAt.{type_at}
@@ -134,7 +134,7 @@ defined_by : (name : TypeName) (index : ℕ) (answer : Answer (List ℕ)) → de
 defined_by name index (Err refusal) is = absurd (false≢true is)
 defined_by name index (Ok item) is = (item, refl, is)
 
-defined_there : (table : Table) (name : TypeName) (index : ℕ) → defines name (type_at table index) ≡ true
+pub defined_there : (table : Table) (name : TypeName) (index : ℕ) → defines name (type_at table index) ≡ true
     → (item : List ℕ) × (item_of table index ≡ Ok item) × (defines name (type_of index item) ≡ true)
 unfolding type_at
 defined_there table name index is = defined_by name index (item_of table index) is
@@ -239,3 +239,96 @@ found_stopped seen table found old new e are step =
     let end = step_err seen old new e step in
     let some : walk_rest table ≢ [] = λ none. end.some (ap walk_rest are.same ∙ none) in
     stopped_left (all_entries table) (walk_rest table) (refusal_of e) some (ap (λ (t : Table). fault_of (walk_rest t)) (sym are.same) ∙ end.is)
+
+-- ---- a walk over a whole table
+
+refused_alike : {A B : Type 0} (x : A) (y : B) (rest : List ℕ) (fault : Refusal) → if_none_left x rest ≡ Err fault → if_none_left y rest ≡ Err fault
+refused_alike x y [] fault is = absurd cc
+refused_alike {A} {B} x y (byte ∷ bytes) fault is = ap (λ (f : Refusal). err {A = B} f) (err_is {A = A} (fault_of (byte ∷ bytes)) fault is)
+
+given_alike : {A B : Type 0} (x z : A) (y : B) (rest : List ℕ) → if_none_left x rest ≡ Ok z → (if_none_left y rest ≡ Ok y) × (z ≡ x)
+given_alike x z y [] is = (refl, sym (ok_is x z is))
+given_alike x z y (byte ∷ bytes) is = absurd cc
+
+pub whole_refused : (table : Table) (e : Error) → Answers {X = Vec Entry Global} {Y = List Entry} (λ entries. entries.items) (Err e) (if_none_left (all_entries table) (walk_rest table))
+    → Answers {X = Table} {Y = Table} (λ table. table) (Err e) (walked table)
+unfolding walked
+whole_refused table e (inl is) = inl (refused_alike (all_entries table) table (walk_rest table) (refusal_of e) is)
+whole_refused table e (inr memory) = inr memory
+
+pub whole_walked : (table : Table) (entries : List Entry) → if_none_left (all_entries table) (walk_rest table) ≡ Ok entries → walked table ≡ Ok table
+unfolding walked
+whole_walked table entries is = (given_alike (all_entries table) entries table (walk_rest table) is).0
+
+pub whole_entries : (table : Table) (entries : List Entry) → if_none_left (all_entries table) (walk_rest table) ≡ Ok entries → entries ≡ all_entries table
+whole_entries table entries is = (given_alike (all_entries table) entries table (walk_rest table) is).1
+
+-- ---- the entries of a hash
+
+-- the hashes of sorted entries don't fall
+pub by_hash : (table : Table) (entries : List Entry) → IsIndexed table entries → IsNonDecreasingBy (λ entry. entry.hash) entries
+by_hash table entries are i j d le within =
+    let order = are.sorted i j d le within in
+    let most = are.most i d (omega arith) in
+    let other = are.most j d within in
+    omega (arith, order, most, other)
+
+-- those from the first one of a hash on, as many as have it
+pub candidates : (table : Table) (hash : ℕ) (entries : List Entry) (start count : ℕ) → IsIndexed table entries → start ≤ length entries → count ≤ length (drop start entries)
+    → IsPartitionPoint (λ entry. ltb entry.hash hash ≡ true) (λ entry. ltb entry.hash hash ≡ false) entries start
+    → IsPartitionPoint (λ entry. leb entry.hash hash ≡ true) (λ entry. leb entry.hash hash ≡ false) (drop start entries) count
+    → AreCandidates table hash (take count (drop start entries))
+candidates table hash entries start count are within few from to =
+    let ours : List Entry = take count (drop start entries) in
+    let long : length ours ≡ count = length-take-le count (drop start entries) few in
+    let all : length (drop start entries) ≡ length entries - start = length-drop start entries in
+    let there : (k : ℕ) (d : Entry) → k < count → get_or ours k d ≡ get_or entries (start + k) d =
+        λ k d below. get_or-take count (drop start entries) k d below ∙ get_or-drop start entries k d in
+    let equal : (k : ℕ) (d : Entry) → k < count → (get_or entries (start + k) d).hash ≡ hash =
+        λ k d below.
+            let high = ltb-false (get_or entries (start + k) d).hash hash (from.1 (start + k) d (omega arith) (omega (arith, below, all, few, within))) in
+            let upto : leb (get_or (drop start entries) k d).hash hash ≡ true = to.0 k d (omega arith) below in
+            let low = leb-true (get_or (drop start entries) k d).hash hash upto in
+            let same : (get_or (drop start entries) k d).hash ≡ (get_or entries (start + k) d).hash = ap (λ (e : Entry). e.hash) (get_or-drop start entries k d) in
+            omega (arith, high, low, same) in
+    record {
+      rising = λ i j d le below.
+          let last : j < count = omega (arith, below, long) in
+          let one = there i d (omega (arith, le, last)) in
+          let other = there j d last in
+          let order = are.sorted (start + i) (start + j) d (omega (arith, le)) (omega (arith, last, all, few, within)) in
+          let one_hash = equal i d (omega (arith, le, last)) in
+          let other_hash = equal j d last in
+          rw (one, other) (omega (arith, order, one_hash, other_hash));
+      least = λ k d below.
+          let here : k < count = omega (arith, below, long) in
+          rw (there k d here) (are.least (start + k) d (omega (arith, here, all, few, within)));
+      complete = λ name index same least is.
+          let test = is_entry (name_hash (text_of name)) index in
+          let found = Any-from_list_any test entries (are.complete name index least is) in
+          let k = found.0 in
+          let entry = found.1 in
+          let parts = and_parts (eqb entry.hash (name_hash (text_of name))) (eqb entry.index.0 index) found.4 in
+          let its_hash : entry.hash ≡ hash = eqb-true entry.hash (name_hash (text_of name)) parts.0 ∙ same in
+          let behind : start ≤ k = elim (cases_lt k start) as (λ _. start ≤ k) [
+            | inl before ↦
+                let low = from.0 k entry (omega arith) before in
+                let lower = ltb-true (get_or entries k entry).hash hash low in
+                let at : (get_or entries k entry).hash ≡ entry.hash = ap (λ (e : Entry). e.hash) found.3 in
+                absurd (omega (arith, lower, at, its_hash))
+            | inr after ↦ after
+          ] in
+          let ahead : k - start < count = elim (cases_lt (k - start) count) as (λ _. k - start < count) [
+            | inl before ↦ before
+            | inr after ↦
+                let high = to.1 (k - start) entry after (omega (arith, all, found.2, behind)) in
+                let higher = leb-false (get_or (drop start entries) (k - start) entry).hash hash high in
+                let place : start + (k - start) ≡ k = omega (arith, behind) in
+                let at : (get_or (drop start entries) (k - start) entry).hash ≡ entry.hash = ap (λ (e : Entry). e.hash) (get_or-drop start entries (k - start) entry ∙ ap (λ (n : ℕ). get_or entries n entry) place ∙ found.3) in
+                absurd (omega (arith, higher, at, its_hash))
+          ] in
+          let place : start + (k - start) ≡ k = omega (arith, behind) in
+          let at : get_or ours (k - start) entry ≡ entry = there (k - start) entry ahead ∙ ap (λ (n : ℕ). get_or entries n entry) place ∙ found.3 in
+          let passes : eqb (get_or ours (k - start) entry).index.0 index ≡ true = rw at parts.1 in
+          list_any_at (λ e. eqb e.index.0 index) ours (k - start) entry (omega (arith, ahead, long)) passes;
+    }

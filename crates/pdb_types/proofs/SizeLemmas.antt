@@ -1,7 +1,12 @@
 -- The sizes of types.
 use Rattle.std.proofs.Common.{◌≡◌, inl, inr, ℕ, zero, suc, ◌+◌, ◌<◌, ◌≤◌, refl, sym, ap, ◌∙◌, arith, Bool, true, false, ltb, cond, Option, Some, None, Ok, Err}
-use Rattle.std.proofs.lemmas.Bool.{ltb-true, le-ltb, lt-ltb}
-use Rattle.pdb_base.specs.Answer.{Answer, ◌>>=◌}
+use Rattle.std.proofs.lemmas.Bool.{cases_lt, false≢true, ltb-true, le-ltb, lt-ltb}
+use Rattle.std.specs.Ordering.{is_ge, nat_cmp}
+use Rattle.pdb_tpi.proofs.ChainLemmas.{not_ge}
+use Rattle.pdb_base.specs.Answer.{Answer, Answers, ◌>>=◌}
+use Rattle.pdb_base.specs.Refusal.{refusal_of}
+use Rattle.pdb_base.specs.declared.error.Error.{Error}
+use Rattle.pdb_base.specs.declared.index.TypeIndex.{TypeIndex}
 use Rattle.pdb_tpi.specs.Table.{Table}
 use Rattle.pdb_types.specs.declared.size_source.SizeSource.{SizeSource}
 use Rattle.pdb_types.specs.declared.size_source.SizeSource.TheVariants.{Stated, SameAs, Unknown}
@@ -58,3 +63,33 @@ only_sizes table sizes are index = only_below table sizes are (suc index) index 
 
 pub size_stated : (table : Table) (index size : ℕ) → source_at table index ≡ Ok (Stated size) → size_of table index ≡ Ok (Some size)
 size_stated table index size is = are_sizes table index ∙ ap (λ (s : Answer SizeSource). s >>= size_from (size_of table) index) is
+
+size_by : (table : Table) (index : ℕ) (source : Answer SizeSource) → source_at table index ≡ source → size_of table index ≡ (source >>= size_from (size_of table) index)
+size_by table index source is = are_sizes table index ∙ ap (λ (s : Answer SizeSource). s >>= size_from (size_of table) index) is
+
+pub size_same : (table : Table) (index : ℕ) (other : TypeIndex) → source_at table index ≡ Ok (SameAs other) → ltb other.0 index ≡ true → size_of table index ≡ size_of table other.0
+size_same table index other is below = size_by table index (Ok (SameAs other)) is ∙ rw below refl
+
+pub size_above : (table : Table) (index : ℕ) (other : TypeIndex) → source_at table index ≡ Ok (SameAs other) → ltb other.0 index ≡ false → size_of table index ≡ Ok None
+size_above table index other is above = size_by table index (Ok (SameAs other)) is ∙ rw above refl
+
+pub size_unknown : (table : Table) (index : ℕ) → source_at table index ≡ Ok Unknown → size_of table index ≡ Ok None
+size_unknown table index is = size_by table index (Ok Unknown) is
+
+-- a fault is that of the size at which the types lead there
+pub size_refused : (table : Table) (start index : ℕ) (e : Error) → size_of table start ≡ size_of table index
+    → Answers {X = SizeSource} {Y = SizeSource} (λ source. source) (Err e) (source_at table index) → Answers {X = Option ℕ} {Y = Option ℕ} (λ size. size) (Err e) (size_of table start)
+size_refused table start index e leads (inl is) = inl (leads ∙ size_by table index (Err (refusal_of e)) is)
+size_refused table start index e leads (inr memory) = inr memory
+
+-- the test of the code
+pub below_test : (a b : ℕ) (test : Bool) → test ≡ is_ge (nat_cmp a b) → test ≡ false → ltb a b ≡ true
+below_test a b test is passes = lt-ltb a b (not_ge a b (sym is ∙ passes))
+
+pub above_test : (a b : ℕ) (test : Bool) → test ≡ is_ge (nat_cmp a b) → test ≡ true → ltb a b ≡ false
+above_test a b test is fails = elim (cases_lt a b) as (λ _. ltb a b ≡ false) [
+  | inl below ↦
+      let less : is_ge (nat_cmp a b) ≡ false = rw (lt-ltb a b below) refl in
+      absurd (false≢true (sym less ∙ sym is ∙ fails))
+  | inr above ↦ le-ltb a b above
+]

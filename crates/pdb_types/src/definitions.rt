@@ -1,6 +1,6 @@
 //! The definitions of the types of a table, by their names.
 
-ghost use Rattle.std.specs.Prelude.{◌≡◌, Ok};
+ghost use Rattle.std.specs.Prelude.{◌≡◌, ◌≤◌, length, drop, Ok};
 ghost use Rattle.std.specs.Option.{option_map};
 ghost use Rattle.pdb_base.specs.Answer.{Answers};
 ghost use Rattle.pdb_tpi.specs.Steps.{walk_rest};
@@ -56,6 +56,14 @@ fn entries_in(alloc: Global, table: &TypeInformation) -> Result<Vec<Entry>>
     Ok(entries)
 }
 
+/// Returns the entries from a place on.
+fn entries_from(entries: &[Entry], start: usize) -> &[Entry]
+    requires { start ≤ length entries.now }
+    ensures { result.now ≡ drop start entries.now }
+{
+    &entries[start..]
+}
+
 impl<'t> Definitions<'t> {
     /// Finds the definitions of a table in one walk along it.
     ///
@@ -99,7 +107,7 @@ impl<'t> Definitions<'t> {
     {
         let entries = self.entries.as_slice();
         let start = entries.partition_point(|entry| entry.hash < hash);
-        let rest = &entries[start..];
+        let rest = entries_from(entries, start);
         let count = rest.partition_point(|entry| entry.hash <= hash);
         &rest[..count]
     }

@@ -44,8 +44,13 @@ impl<'t> Definitions<'t> {
         loop {
             match self.size_source(alloc, index)? {
                 SizeSource::Stated(size) => return Ok(Some(size)),
-                SizeSource::SameAs(other) if other < index => index = other,
-                _ => return Ok(None),
+                SizeSource::SameAs(other) => {
+                    if other >= index {
+                        return Ok(None);
+                    }
+                    index = other;
+                }
+                SizeSource::Unknown => return Ok(None),
             }
         }
     }
