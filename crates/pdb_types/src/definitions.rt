@@ -1,11 +1,11 @@
 //! The definitions of the types of a table, by their names.
 
-ghost use Rattle.std.specs.Prelude.{◌≡◌, ◌≤◌, length, drop, Ok};
+ghost use Rattle.std.specs.Prelude.{◌≡◌, ◌≤◌, length, drop, map, Ok};
 ghost use Rattle.std.specs.Option.{option_map};
 ghost use Rattle.pdb_base.specs.Answer.{Answers};
 ghost use Rattle.pdb_tpi.specs.Steps.{walk_rest};
-ghost use Rattle.pdb_types.specs.Declaration.{type_name};
-ghost use Rattle.pdb_types.specs.Definition.{defines, definition_of, first_definition, if_none_left, walked};
+ghost use Rattle.pdb_types.specs.Declaration.{source_name, type_name};
+ghost use Rattle.pdb_types.specs.Definition.{all_definitions, defines, definition_of, first_definition, if_none_left, walked};
 ghost use Rattle.pdb_types.specs.Entries.{AreCandidates, all_entries};
 ghost use Rattle.pdb_types.specs.TypeAt.{type_at};
 
@@ -144,5 +144,34 @@ impl<'t> Definitions<'t> {
             Some(_) => Ok(Some(index)),
             None => Ok(None),
         }
+    }
+
+    /// Returns the indexes of all definitions of a name in increasing order. The name is the one
+    /// that the source gives a class, a union or an enumeration, with the names of the scopes around
+    /// it, as the record has it.
+    ///
+    /// # Errors
+    /// Fails only with `OutOfMemory`, if memory is refused.
+    pub fn all_definitions(&self, alloc: Global, name: &[u8]) -> Result<Vec<TypeIndex>>
+        ensures { Answers (λ found. map (λ index. index.0) found.items) result
+            (Ok (all_definitions self.now (source_name name.now))) }
+    {
+        let name = TypeName::Source(name);
+        let candidates = self.candidates(name_hash(name.text()));
+        let mut found = Vec::new(alloc);
+        // A definition has two entries of one hash if its names have that hash.
+        let mut next = self.types.items().header().minimum_index as u64;
+        for entry in candidates {
+            let number = entry.index.0 as u64;
+            if number < next {
+                continue;
+            }
+            next = number + 1;
+            if !self.defines(alloc, entry.index, name)? {
+                continue;
+            }
+            found.push(entry.index)?;
+        }
+        Ok(found)
     }
 }
