@@ -1,0 +1,4 @@
+pub mod DefinitionLemmas
+pub mod EntryLemmas
+pub mod SearchLemmas
+pub mod SizeLemmas
