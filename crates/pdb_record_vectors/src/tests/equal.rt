@@ -2,15 +2,14 @@
 //! one for each of its fields, in which that field alone differs, so that no two of them are equal.
 
 use pdb_base::{IdIndex, RawString, Result, TypeIndex, Variant};
-use pdb_flags::{FieldAttributes, FunctionAttributes, PointerAttributes, TypeProperties};
+use pdb_flags::{FieldAttributes, FunctionAttributes, PointerAttributes};
 use pdb_space::StringRef;
 use pdb_tpi::RecordPlace;
 use pdb_values::{
-    ArgumentList, ArrayType, BaseClassType, BitfieldType, BuildInfoId, ClassKind, ClassType,
-    EnumerateType, EnumerationType, FieldList, FunctionId, IdData, Indirection, MemberFunctionId,
-    MemberFunctionType, MemberType, MethodList, MethodListEntry, MethodType, ModifierType,
-    NestedType, OverloadedMethodType, PointerType, PrimitiveKind, PrimitiveType, ProcedureType,
-    StaticMemberType, StringId, StringListId, TypeData, UnionType, UserDefinedTypeSourceFileRef,
+    ArgumentList, ArrayType, BaseClassType, BitfieldType, BuildInfoId, ClassKind, EnumerateType,
+    FieldList, FunctionId, IdData, Indirection, MemberFunctionId, MemberFunctionType, MethodList,
+    MethodListEntry, ModifierType, OverloadedMethodType, PointerType, PrimitiveKind, PrimitiveType,
+    ProcedureType, StringId, StringListId, TypeData, UserDefinedTypeSourceFileRef,
     UserDefinedTypeSourceId, VirtualBaseClassType, VirtualFunctionTablePointerType,
     VirtualTableShapeType,
 };
@@ -62,123 +61,6 @@ fn other_name() -> RawString<'static> {
     RawString::from("nama")
 }
 
-fn classes(alloc: Global) -> Result<Vec<ClassType<'static>>> {
-    let base = ClassType {
-        kind: ClassKind::Class,
-        count: 1,
-        properties: TypeProperties::new(2),
-        fields: Some(TypeIndex(3)),
-        derived_from: Some(TypeIndex(4)),
-        vtable_shape: None,
-        size: 5,
-        name: name(),
-        unique_name: Some(name()),
-    };
-    Ok(varied!(alloc, ClassType, base;
-        kind: ClassKind::Struct,
-        count: 0x101,
-        properties: TypeProperties::new(0x8002),
-        fields: None,
-        derived_from: Some(TypeIndex(0x8000_0004)),
-        vtable_shape: Some(TypeIndex(0)),
-        size: 0x8000_0000_0000_0005,
-        name: other_name(),
-        unique_name: None,
-    )?)
-}
-
-fn enumerations(alloc: Global) -> Result<Vec<EnumerationType<'static>>> {
-    let base = EnumerationType {
-        count: 1,
-        properties: TypeProperties::new(2),
-        underlying_type: TypeIndex(3),
-        fields: TypeIndex(4),
-        name: name(),
-        unique_name: None,
-    };
-    Ok(varied!(alloc, EnumerationType, base;
-        count: 0x101,
-        properties: TypeProperties::new(3),
-        underlying_type: TypeIndex(4),
-        fields: TypeIndex(3),
-        name: other_name(),
-        unique_name: Some(name()),
-    )?)
-}
-
-fn enumerates(alloc: Global) -> Result<Vec<EnumerateType<'static>>> {
-    let base = EnumerateType {
-        attributes: FieldAttributes::new(1),
-        value: Variant::U16(2),
-        name: name(),
-    };
-    Ok(varied!(alloc, EnumerateType, base;
-        attributes: FieldAttributes::new(2),
-        value: Variant::U32(2),
-        name: other_name(),
-    )?)
-}
-
-fn unions(alloc: Global) -> Result<Vec<UnionType<'static>>> {
-    let base = UnionType {
-        count: 1,
-        properties: TypeProperties::new(2),
-        fields: TypeIndex(3),
-        size: 4,
-        name: name(),
-        unique_name: Some(name()),
-    };
-    Ok(varied!(alloc, UnionType, base;
-        count: 2,
-        properties: TypeProperties::new(1),
-        fields: TypeIndex(4),
-        size: 0x1_0000_0004,
-        name: RawString::from("names"),
-        unique_name: Some(other_name()),
-    )?)
-}
-
-fn members(alloc: Global) -> Result<Vec<MemberType<'static>>> {
-    let base = MemberType {
-        attributes: FieldAttributes::new(1),
-        field_type: TypeIndex(2),
-        offset: 3,
-        name: name(),
-    };
-    Ok(varied!(alloc, MemberType, base;
-        attributes: FieldAttributes::new(3),
-        field_type: TypeIndex(3),
-        offset: 0x1_0000_0003,
-        name: other_name(),
-    )?)
-}
-
-fn static_members(alloc: Global) -> Result<Vec<StaticMemberType<'static>>> {
-    let base = StaticMemberType {
-        attributes: FieldAttributes::new(1),
-        field_type: TypeIndex(2),
-        name: name(),
-    };
-    Ok(varied!(alloc, StaticMemberType, base;
-        attributes: FieldAttributes::new(2),
-        field_type: TypeIndex(1),
-        name: other_name(),
-    )?)
-}
-
-fn nested_types(alloc: Global) -> Result<Vec<NestedType<'static>>> {
-    let base = NestedType {
-        attributes: FieldAttributes::new(1),
-        nested_type: TypeIndex(2),
-        name: name(),
-    };
-    Ok(varied!(alloc, NestedType, base;
-        attributes: FieldAttributes::new(0),
-        nested_type: TypeIndex(3),
-        name: RawString::from(""),
-    )?)
-}
-
 fn overloaded_methods(alloc: Global) -> Result<Vec<OverloadedMethodType<'static>>> {
     let base = OverloadedMethodType {
         count: 1,
@@ -188,21 +70,6 @@ fn overloaded_methods(alloc: Global) -> Result<Vec<OverloadedMethodType<'static>
     Ok(varied!(alloc, OverloadedMethodType, base;
         count: 2,
         method_list: TypeIndex(1),
-        name: other_name(),
-    )?)
-}
-
-fn methods(alloc: Global) -> Result<Vec<MethodType<'static>>> {
-    let base = MethodType {
-        attributes: FieldAttributes::new(1),
-        method_type: TypeIndex(2),
-        vtable_offset: Some(0),
-        name: name(),
-    };
-    Ok(varied!(alloc, MethodType, base;
-        attributes: FieldAttributes::new(0x10),
-        method_type: TypeIndex(1),
-        vtable_offset: None,
         name: other_name(),
     )?)
 }
@@ -269,23 +136,9 @@ macro_rules! are_values_of {
 }
 
 #[test]
-fn named_types(rt: HostRuntime) -> std::result::Result<(), Fail> {
-    let alloc = rt.alloc();
-    assert!(rt; are_values_of!(alloc, classes));
-    assert!(rt; are_values_of!(alloc, enumerations));
-    assert!(rt; are_values_of!(alloc, enumerates));
-    assert!(rt; are_values_of!(alloc, unions));
-    assert!(rt; are_values_of!(alloc, members));
-    Ok(())
-}
-
-#[test]
 fn named_parts(rt: HostRuntime) -> std::result::Result<(), Fail> {
     let alloc = rt.alloc();
-    assert!(rt; are_values_of!(alloc, static_members));
-    assert!(rt; are_values_of!(alloc, nested_types));
     assert!(rt; are_values_of!(alloc, overloaded_methods));
-    assert!(rt; are_values_of!(alloc, methods));
     Ok(())
 }
 
@@ -562,25 +415,6 @@ macro_rules! add_each {
     };
 }
 
-/// Adds the types with a name of their own, and the unions.
-fn add_named_types(alloc: Global, data: &mut Vec<TypeData<'static>>) -> Result<()> {
-    add_each!(data, TypeData::Class, classes(alloc)?);
-    add_each!(data, TypeData::Enumeration, enumerations(alloc)?);
-    add_each!(data, TypeData::Enumerate, enumerates(alloc)?);
-    add_each!(data, TypeData::Union, unions(alloc)?);
-    Ok(())
-}
-
-/// Adds the members with a name.
-fn add_named_parts(alloc: Global, data: &mut Vec<TypeData<'static>>) -> Result<()> {
-    add_each!(data, TypeData::Member, members(alloc)?);
-    add_each!(data, TypeData::StaticMember, static_members(alloc)?);
-    add_each!(data, TypeData::Nested, nested_types(alloc)?);
-    add_each!(data, TypeData::OverloadedMethod, overloaded_methods(alloc)?);
-    add_each!(data, TypeData::Method, methods(alloc)?);
-    Ok(())
-}
-
 /// Adds the types with a list.
 fn add_lists(alloc: Global, data: &mut Vec<TypeData<'static>>) -> Result<()> {
     add_each!(data, TypeData::Array, arrays(alloc)?);
@@ -711,11 +545,10 @@ fn add_others(alloc: Global, data: &mut Vec<TypeData<'static>>) -> Result<()> {
     Ok(())
 }
 
-/// Types of every kind, no two of them equal.
+/// Types of many kinds, no two of them equal.
 fn types(alloc: Global) -> Result<Vec<TypeData<'static>>> {
     let mut data = Vec::new(alloc);
-    add_named_types(alloc, &mut data)?;
-    add_named_parts(alloc, &mut data)?;
+    add_each!(data, TypeData::OverloadedMethod, overloaded_methods(alloc)?);
     add_lists(alloc, &mut data)?;
     add_others(alloc, &mut data)?;
     Ok(data)
