@@ -10,7 +10,11 @@ mod name_hash;
 mod primitive_size;
 mod size;
 mod size_source;
+mod span;
+#[cfg(test)]
+mod tests;
 mod type_at;
 mod type_name;
 
 pub use definitions::Definitions;
+pub use span::{Span, gaps};
