@@ -1,5 +1,5 @@
-//! What a type is: its definition, its size in bytes, and the layout of a class or a union. The
-//! records are those of Microsoft's cvinfo.h.
+//! What a type is: its definition and its size in bytes, as the records of Microsoft's cvinfo.h say
+//! them; and the gaps between spans, such as those between the members of a class.
 #![tactic(auto)]
 
 mod declaration;
