@@ -1,10 +1,9 @@
 -- The first definition of a name.
-use Rattle.std.proofs.Common.{◌≡◌, inl, inr, ℕ, zero, suc, ◌+◌, ◌-◌, ◌<◌, ◌≤◌, List, [], ◌∷◌, ◌++◌, length, subst, get_or, refl, sym, ap, ◌∙◌, arith, Bool, true, false, cond, eqb, leb, Option, Some, None, Ok, Err}
+use Rattle.std.proofs.Common.{◌≡◌, inl, inr, ℕ, ◌+◌, ◌-◌, ◌<◌, ◌≤◌, List, [], ◌∷◌, ◌++◌, length, subst, get_or, refl, sym, ap, ◌∙◌, arith, Bool, true, false, cond, eqb, leb, Option, Some, None, Ok, Err}
 use Rattle.std.specs.List.{filter, find, range_with_len}
-use Rattle.std.proofs.lemmas.Bool.{cases_lt, cases_Bool, both_ways, true≢false, false_from_ne_true, eqb-true, leb-false, le-ltb}
+use Rattle.std.proofs.lemmas.Bool.{cases_lt, both_ways, false_from_ne_true, eqb-true, leb-false, le-ltb}
 use Rattle.std.proofs.lemmas.List.{append-nil, get_or_default}
 use Rattle.std.proofs.lemmas.List.Folds.{Any-from_list_any}
-use Rattle.pdb_base.specs.Answer.{Answer}
 use Rattle.pdb_base.specs.Refusal.{type_not_found}
 use Rattle.pdb_tpi.specs.Finder.{item_of}
 use Rattle.pdb_tpi.specs.Steps.{nth_item}
@@ -12,7 +11,7 @@ use Rattle.pdb_tpi.specs.Table.{Table, count_of}
 use Rattle.pdb_types.specs.declared.entry.Entry.{Entry}
 use Rattle.pdb_types.specs.Declaration.{TypeName, text_of}
 use Rattle.pdb_types.specs.Definition.{all_definitions, defines, first_definition}
-use Rattle.pdb_types.specs.DefinitionLaws.{IsDefinition, IsFirstDefinition}
+use Rattle.pdb_types.specs.DefinitionLaws.{IsFirstDefinition}
 use Rattle.pdb_types.specs.Entries.{AreCandidates}
 use Rattle.pdb_types.specs.NameHash.{name_hash}
 use Rattle.pdb_types.specs.TypeAt.{type_at}
@@ -56,19 +55,19 @@ entry_first table name entries k entry are before within here is =
     let below = defined_below table name index least is in
     find_first (is_definition table name) table.header.minimum_index (count_of table) index least (omega (arith, least, below)) is
     (λ other above lower. false_from_ne_true (is_definition table name other) (λ also.
-        let found = Any-from_list_any (λ (e : Entry). eqb e.index.0 other) entries (are.complete name other refl above also) in
-        let its : found.1.index.0 ≡ other = eqb-true found.1.index.0 other found.4 in
-        elim (cases_lt found.0 k) [
-          | inl earlier ↦
-              let none : defines name (type_at table found.1.index.0) ≡ false = rw found.3 at (before found.0 found.1 earlier) in
-              let some : defines name (type_at table found.1.index.0) ≡ true = rw its also in
-              both_ways (defines name (type_at table found.1.index.0)) none some
-          | inr later ↦
-              let order = are.rising k found.0 entry later found.2 in
-              let first : (get_or entries k entry).index.0 ≡ index = ap (λ (e : Entry). e.index.0) here in
-              let second : (get_or entries found.0 entry).index.0 ≡ other = ap (λ (e : Entry). e.index.0) (same_there entries found.0 entry found.1 found.2 found.3) ∙ its in
-              absurd (omega (arith, order, first, second, lower))
-        ]))
+    let found = Any-from_list_any (λ (e : Entry). eqb e.index.0 other) entries (are.complete name other refl above also) in
+    let its : found.1.index.0 ≡ other = eqb-true found.1.index.0 other found.4 in
+    elim (cases_lt found.0 k) [
+      | inl earlier ↦
+          let none : defines name (type_at table found.1.index.0) ≡ false = rw found.3 at (before found.0 found.1 earlier) in
+          let some : defines name (type_at table found.1.index.0) ≡ true = rw its also in
+          both_ways (defines name (type_at table found.1.index.0)) none some
+      | inr later ↦
+          let order = are.rising k found.0 entry later found.2 in
+          let first : (get_or entries k entry).index.0 ≡ index = ap (λ (e : Entry). e.index.0) here in
+          let second : (get_or entries found.0 entry).index.0 ≡ other = ap (λ (e : Entry). e.index.0) (same_there entries found.0 entry found.1 found.2 found.3) ∙ its in
+          absurd (omega (arith, order, first, second, lower))
+    ]))
 
 -- and if no entry is one, there is none
 pub entry_none : (table : Table) (name : TypeName) (entries : List Entry) → AreCandidates table (name_hash (text_of name)) entries → NoneBefore table name entries (length entries)
@@ -77,11 +76,11 @@ unfolding first_definition
 entry_none table name entries are before =
     find_none (is_definition table name) table.header.minimum_index (count_of table)
     (λ other above below. false_from_ne_true (is_definition table name other) (λ also.
-        let found = Any-from_list_any (λ (e : Entry). eqb e.index.0 other) entries (are.complete name other refl above also) in
-        let its : found.1.index.0 ≡ other = eqb-true found.1.index.0 other found.4 in
-        let none : defines name (type_at table found.1.index.0) ≡ false = rw found.3 at (before found.0 found.1 found.2) in
-        let some : defines name (type_at table found.1.index.0) ≡ true = rw its also in
-        both_ways (defines name (type_at table found.1.index.0)) none some))
+    let found = Any-from_list_any (λ (e : Entry). eqb e.index.0 other) entries (are.complete name other refl above also) in
+    let its : found.1.index.0 ≡ other = eqb-true found.1.index.0 other found.4 in
+    let none : defines name (type_at table found.1.index.0) ≡ false = rw found.3 at (before found.0 found.1 found.2) in
+    let some : defines name (type_at table found.1.index.0) ≡ true = rw its also in
+    both_ways (defines name (type_at table found.1.index.0)) none some))
 
 -- ---- the law
 

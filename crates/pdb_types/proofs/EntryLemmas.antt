@@ -1,13 +1,13 @@
 -- The entries of a table are those of its definitions.
-use Rattle.std.proofs.Common.{◌≡◌, ◌≢◌, inl, inr, ℕ, zero, suc, ◌+◌, ◌-◌, ◌*◌, ◌^◌, ◌<◌, ◌≤◌, List, [], ◌∷◌, ◌++◌, length, get_or, take, drop, refl, sym, ap, subst, ◌∙◌, arith, Bool, true, false, not, ◌&&◌, ◌||◌, cond, eqb, ltb, leb, Option, Result, Some, None, Ok, Err, Vec, Global}
-use Rattle.std.specs.List.{All, Any, list_any, slice_get}
+use Rattle.std.proofs.Common.{◌≡◌, ◌≢◌, inl, inr, ℕ, zero, suc, ◌+◌, ◌-◌, ◌<◌, ◌≤◌, List, [], ◌∷◌, ◌++◌, length, get_or, take, drop, refl, sym, ap, ◌∙◌, arith, Bool, true, false, not, ◌||◌, cond, eqb, ltb, leb, Option, Some, None, Ok, Err, Vec, Global}
+use Rattle.std.specs.List.{All, list_any, slice_get}
 use Rattle.std.specs.List.Sorted.{IsNonDecreasingBy, IsPartitionPoint, IsPermutation}
 use Rattle.std.specs.Option.{option_map_or}
 use Rattle.std.specs.Result.{result_ok}
 use Rattle.std.specs.Str.{bytes_eq}
 use Rattle.std.proofs.Math.Seq.{drop-cons}
 use Rattle.std.proofs.Math.ListN.{drop_of_length-le}
-use Rattle.std.proofs.lemmas.Bool.{cases_lt, leb-false, ltb-true, false≢true, true≢false, and_parts, and_from, not-true, or_left, or_right, le-ltb, lt-ltb, ltb-false, le-leb, lt-leb, leb-true, eq-eqb, eqb-true, both_ways}
+use Rattle.std.proofs.lemmas.Bool.{cases_lt, leb-false, ltb-true, false≢true, and_parts, and_from, not-true, or_left, or_right, le-ltb, ltb-false, leb-true, eq-eqb, eqb-true}
 use Rattle.std.proofs.lemmas.List.{append_assoc, append-nil, get_or-take, get_or-drop, length-take-le, length-drop}
 use Rattle.std.proofs.lemmas.List.Elements.{All-nil, All-cons, All-append, All-weaker}
 use Rattle.std.proofs.lemmas.List.Folds.{Any-from_list_any, list_any-append, list_any_at}
@@ -283,14 +283,14 @@ candidates table hash entries start count are within few from to =
     let long : length ours ≡ count = length-take-le count (drop start entries) few in
     let all : length (drop start entries) ≡ length entries - start = length-drop start entries in
     let there : (k : ℕ) (d : Entry) → k < count → get_or ours k d ≡ get_or entries (start + k) d =
-        λ k d below. get_or-take count (drop start entries) k d below ∙ get_or-drop start entries k d in
+    λ k d below. get_or-take count (drop start entries) k d below ∙ get_or-drop start entries k d in
     let equal : (k : ℕ) (d : Entry) → k < count → (get_or entries (start + k) d).hash ≡ hash =
-        λ k d below.
-            let high = ltb-false (get_or entries (start + k) d).hash hash (from.1 (start + k) d (omega arith) (omega (arith, below, all, few, within))) in
-            let upto : leb (get_or (drop start entries) k d).hash hash ≡ true = to.0 k d (omega arith) below in
-            let low = leb-true (get_or (drop start entries) k d).hash hash upto in
-            let same : (get_or (drop start entries) k d).hash ≡ (get_or entries (start + k) d).hash = ap (λ (e : Entry). e.hash) (get_or-drop start entries k d) in
-            omega (arith, high, low, same) in
+    λ k d below.
+    let high = ltb-false (get_or entries (start + k) d).hash hash (from.1 (start + k) d (omega arith) (omega (arith, below, all, few, within))) in
+    let upto : leb (get_or (drop start entries) k d).hash hash ≡ true = to.0 k d (omega arith) below in
+    let low = leb-true (get_or (drop start entries) k d).hash hash upto in
+    let same : (get_or (drop start entries) k d).hash ≡ (get_or entries (start + k) d).hash = ap (λ (e : Entry). e.hash) (get_or-drop start entries k d) in
+    omega (arith, high, low, same) in
     record {
       rising = λ i j d le below.
           let last : j < count = omega (arith, below, long) in

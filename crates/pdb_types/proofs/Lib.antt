@@ -2,3 +2,4 @@ pub mod DefinitionLemmas
 pub mod EntryLemmas
 pub mod SearchLemmas
 pub mod SizeLemmas
+pub mod SpanLemmas

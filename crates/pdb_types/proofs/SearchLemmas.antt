@@ -34,11 +34,15 @@ find_found p a (suc n) i is = elim (cases_Bool (p a)) [
       let here : a ≡ i = cc in
       (omega (arith, here), omega (arith, here), rw (← here) passes, λ j from below. absurd (omega (arith, here, from, below)))
   | inr fails ↦
-      let more = find_found p (a + 1) n i (rw fails at is) in
-      (omega (arith, more.0), omega (arith, more.1), more.2, λ j from below. elim (cases_eq a j) [
-        | inl same ↦ rw (← same) fails
-        | inr other ↦ more.3 j (omega (arith, from, other)) below
-      ])
+      let more = find_found p (a + 1) n i (rw fails at is) in (
+        omega (arith, more.0),
+        omega (arith, more.1),
+        more.2,
+        λ j from below. elim (cases_eq a j) [
+          | inl same ↦ rw (← same) fails
+          | inr other ↦ more.3 j (omega (arith, from, other)) below
+        ],
+      )
 ]
 
 -- where none was found, none passes
@@ -73,7 +77,7 @@ filter_gap p a n (suc m) none =
     let longer : n + suc m ≡ suc (n + m) = omega arith in
     let fails : p (a + (n + m)) ≡ false = none (a + (n + m)) (omega arith) (omega arith) in
     let more : filter p (range_with_len a (suc (n + m))) ≡ filter p (range_with_len a (n + m)) =
-        filter_more p a (n + m) ∙ ap (λ (b : Bool). filter p (range_with_len a (n + m)) ++ cond b ((a + (n + m)) ∷ []) []) fails ∙ append-nil (filter p (range_with_len a (n + m))) in
+    filter_more p a (n + m) ∙ ap (λ (b : Bool). filter p (range_with_len a (n + m)) ++ cond b ((a + (n + m)) ∷ []) []) fails ∙ append-nil (filter p (range_with_len a (n + m))) in
     ap (λ (k : ℕ). filter p (range_with_len a k)) longer ∙ more ∙ filter_gap p a n m (λ j from below. none j from (omega (arith, below)))
 
 -- behind numbers that don't pass comes one that may

@@ -1,8 +1,7 @@
 -- The sizes of types.
-use Rattle.std.proofs.Common.{◌≡◌, inl, inr, ℕ, zero, suc, ◌+◌, ◌<◌, ◌≤◌, refl, sym, ap, ◌∙◌, arith, Bool, true, false, ltb, cond, Option, Some, None, Ok, Err}
-use Rattle.std.proofs.lemmas.Bool.{cases_lt, false≢true, ltb-true, le-ltb, lt-ltb}
+use Rattle.std.proofs.Common.{◌≡◌, inl, inr, ℕ, zero, suc, ◌<◌, ◌≤◌, refl, sym, ap, ◌∙◌, arith, Bool, true, false, eqb, ltb, cond, Option, Some, None, Ok, Err}
+use Rattle.std.proofs.lemmas.Bool.{cases_Bool, cases_lt, false≢true, ltb-true, le-ltb, lt-ltb}
 use Rattle.std.specs.Ordering.{is_ge, nat_cmp}
-use Rattle.pdb_tpi.proofs.ChainLemmas.{not_ge}
 use Rattle.pdb_base.specs.Answer.{Answer, Answers, ◌>>=◌}
 use Rattle.pdb_base.specs.Refusal.{refusal_of}
 use Rattle.pdb_base.specs.declared.error.Error.{Error}
@@ -82,9 +81,21 @@ pub size_refused : (table : Table) (start index : ℕ) (e : Error) → size_of t
 size_refused table start index e leads (inl is) = inl (leads ∙ size_by table index (Err (refusal_of e)) is)
 size_refused table start index e leads (inr memory) = inr memory
 
--- the test of the code
+-- ---- the test of the code
+
+ge_from : (a b : ℕ) → b ≤ a → is_ge (nat_cmp a b) ≡ true
+ge_from a b le =
+    let above = le-ltb a b le in
+    elim (cases_Bool (eqb a b)) [
+      | inl same ↦ rw (above, same) refl
+      | inr other ↦ rw (above, other) refl
+    ]
+
 pub below_test : (a b : ℕ) (test : Bool) → test ≡ is_ge (nat_cmp a b) → test ≡ false → ltb a b ≡ true
-below_test a b test is passes = lt-ltb a b (not_ge a b (sym is ∙ passes))
+below_test a b test is passes = elim (cases_lt a b) as (λ _. ltb a b ≡ true) [
+  | inl below ↦ lt-ltb a b below
+  | inr above ↦ absurd (false≢true (sym passes ∙ is ∙ ge_from a b above))
+]
 
 pub above_test : (a b : ℕ) (test : Bool) → test ≡ is_ge (nat_cmp a b) → test ≡ true → ltb a b ≡ false
 above_test a b test is fails = elim (cases_lt a b) as (λ _. ltb a b ≡ false) [

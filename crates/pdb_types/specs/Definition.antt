@@ -1,5 +1,5 @@
 -- The definition of a type: the record of a class, a union or an enumeration that isn't a forward reference.
-use Rattle.std.specs.Prelude.{◌≡◌, ◌≢◌, ℕ, ◌≤◌, Bool, true, false, ◌&&◌, not, if◌then◌else◌, List, [], ◌∷◌, Option, Some, None, Ok, Err}
+use Rattle.std.specs.Prelude.{ℕ, Bool, false, ◌&&◌, not, if◌then◌else◌, List, [], ◌∷◌, Option, Some, None, Ok, Err}
 use Rattle.std.specs.List.{filter, find, range_with_len}
 use Rattle.std.specs.Option.{option_map_or}
 use Rattle.pdb_base.specs.Answer.{Answer, ◌>>=◌}
@@ -7,7 +7,7 @@ use Rattle.pdb_values.specs.TypeValue.{TypeValue}
 use Rattle.pdb_tpi.specs.Steps.{walk_rest}
 use Rattle.pdb_tpi.specs.Table.{Table, count_of}
 use Rattle.pdb_tpi.specs.Walk.{fault_of}
-use Rattle.pdb_types.specs.Declaration.{Declared, TypeName, declaration_of, is_forward, bears, sought_name, source_name}
+use Rattle.pdb_types.specs.Declaration.{Declared, TypeName, declaration_of, is_forward, bears, sought_name}
 use Rattle.pdb_types.specs.TypeAt.{type_at}
 
 -- whether what a type says of its name makes it the definition of a name

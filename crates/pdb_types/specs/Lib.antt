@@ -7,3 +7,4 @@ pub mod Definition
 pub mod DefinitionLaws
 pub mod Entries
 pub mod Size
+pub mod Span

@@ -60,11 +60,7 @@ fn push_names(index: TypeIndex, names: &Declaration<'_>, entries: &mut Vec<Entry
 ///
 /// # Errors
 /// Fails with `OutOfMemory` if memory is refused.
-pub(crate) fn push_entries(
-    alloc: Global,
-    item: &Type<'_>,
-    entries: &mut Vec<Entry>,
-) -> Result<()>
+pub(crate) fn push_entries(alloc: Global, item: &Type<'_>, entries: &mut Vec<Entry>) -> Result<()>
     ensures ok { OnOk result (entries.new.items ≡
         entries.old.items ++ entries_of (index_of item.now).0 (type_of (index_of item.now).0 (bytes_of item.now))) }
     ensures memory { FailsOnlyForMemory result }

@@ -1,5 +1,5 @@
-//! What a type is: its definition, its size in bytes, and the layout of a class or a union. The
-//! records are those of Microsoft's cvinfo.h.
+//! What a type is: its definition and its size in bytes, as the records of Microsoft's cvinfo.h say
+//! them; and the gaps between spans, such as those between the members of a class.
 #![tactic(auto)]
 
 mod declaration;
@@ -10,7 +10,11 @@ mod name_hash;
 mod primitive_size;
 mod size;
 mod size_source;
+mod span;
+#[cfg(test)]
+mod tests;
 mod type_at;
 mod type_name;
 
 pub use definitions::Definitions;
+pub use span::{Span, gaps};

@@ -31,8 +31,8 @@ impl<'t> Definitions<'t> {
     /// the size of `void`, of a function, of a list, and of a forward reference that the table
     /// doesn't define.
     ///
-    /// Types refer to types of lower indexes, as all compilers write them. Nothing says the size of
-    /// a type that is said to be as large as one of its own or a higher index.
+    /// Compilers write a type behind those that it refers to. So nothing says the size of a type
+    /// that is said to be as large as one of its own or a higher index.
     ///
     /// # Errors
     /// Fails with the first error along the types that it is said to be as large as: those of
