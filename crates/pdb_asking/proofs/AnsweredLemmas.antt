@@ -10,7 +10,7 @@ use Rattle.pdb_container.specs.Reply.{ReplyValue, IsReply, AreReplies, reply_of}
 use Rattle.pdb_base.specs.Answer.{Answer, RefusesUnless}
 use Rattle.pdb_base.specs.declared.error.Error.{Error}
 use Rattle.pdb_msf.specs.Header.{Head}
-use Rattle.pdb_rows.specs.Written.{Writes, done_of}
+use Rattle.pdb_output.specs.Output.{Writes, done_of}
 use Rattle.pdb_rows.specs.declared.form.Form.{Form}
 use Rattle.pdb_asking.specs.Answers.{answered_text, answers_text, are_answers, is_answer, next_reply}
 use Rattle.pdb_asking.specs.Asked.{AreAnswered, AreLinesOf, IsAnsweredThen, IsAsked, front}

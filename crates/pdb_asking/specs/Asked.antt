@@ -8,7 +8,7 @@ use Rattle.pdb_container.specs.declared.query.Reply.{Reply}
 use Rattle.pdb_container.specs.Reply.{IsReply, reply_of}
 use Rattle.pdb_msf.specs.Header.{Head, opened}
 use Rattle.pdb_rows.specs.declared.form.Form.{Form}
-use Rattle.pdb_rows.specs.Written.{IsOutputFailure, IsPrefix}
+use Rattle.pdb_output.specs.Output.{IsOutputFailure, IsPrefix}
 use Rattle.pdb_asking.specs.Answers.{answered_text, is_answer}
 use Rattle.pdb_asking.specs.Questions.{Asking, questions_in}
 

@@ -8,6 +8,7 @@ use crate::input::read_all;
 use crate::outcome::{Outcome, act, usage};
 use crate::refusal::error_line;
 use pdb_container::{Error, Result};
+use pdb_output::Output;
 use std::alloc::Global;
 use std::env::Args;
 use std::io;
@@ -68,9 +69,9 @@ fn attempt<I: Read>(alloc: Global, arguments: io::Result<Args>, input: &mut I) -
 ///
 /// # Errors
 /// Fails if the output can't be written, a part of which may then stand.
-fn show<O: Write, E: Write>(outcome: &Outcome, out: &mut O, err: &mut E) -> io::Result<Ended>
+fn show<O: Write, E: Write>(outcome: &Outcome, out: &mut Output<O>, err: &mut Output<E>) -> io::Result<Ended>
     ensures ok { IfOk result
-        (IsWritten outcome.now (O.contents out.old) (O.contents out.new) (E.contents err.old) (E.contents err.new)) }
+        (IsWritten outcome.now out.old out.new err.old err.new) }
     ensures err { OnErr result (err.new ≡ err.old) }
 {
     out.write_all(&outcome.out)?;
@@ -82,8 +83,8 @@ fn show<O: Write, E: Write>(outcome: &Outcome, out: &mut O, err: &mut E) -> io::
 
 /// Writes the line of a fault to the error channel, or `OutOfMemory` if there is no memory for that
 /// line. The status is 1.
-pub fn tell<E: Write>(alloc: Global, fault: &Error, err: &mut E) -> Ended
-    ensures { IsTold fault.now (E.contents err.old) (E.contents err.new) result }
+pub fn tell<E: Write>(alloc: Global, fault: &Error, err: &mut Output<E>) -> Ended
+    ensures { IsTold fault.now err.old err.new result }
 {
     let told = match error_line(alloc, fault) {
         Ok(line) => err.write_all(&line),
@@ -98,11 +99,11 @@ pub fn serve<I: Read, O: Write, E: Write>(
     alloc: Global,
     arguments: io::Result<Args>,
     input: &mut I,
-    out: &mut O,
-    err: &mut E,
+    out: &mut Output<O>,
+    err: &mut Output<E>,
 ) -> Ended
-    ensures { IsServed arguments (I.remaining input.old) (O.contents out.old) (O.contents out.new)
-        (E.contents err.old) (E.contents err.new) result }
+    ensures { IsServed arguments (I.remaining input.old) out.old out.new
+        err.old err.new result }
 {
     let outcome = match attempt(alloc, arguments, input) {
         Ok(outcome) => outcome,

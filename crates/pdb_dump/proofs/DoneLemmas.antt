@@ -5,7 +5,7 @@ use Rattle.pdb_base.specs.declared.error.Error.TheVariants.{OutOfMemory}
 use Rattle.pdb_base.specs.Answer.{Answer, RefusesUnless}
 use Rattle.pdb_base.specs.Refusal.{Refusal, refusal_of}
 use Rattle.pdb_base.proofs.lemmas.Collected.{err, err_is, ok_is_no_err}
-use Rattle.pdb_rows.specs.Written.{IsOutputFailure}
+use Rattle.pdb_output.specs.Output.{IsOutputFailure}
 use Rattle.pdb_tables.specs.Listing.{whole}
 use Rattle.pdb_tables.proofs.ListedLemmas.{refused_listed}
 

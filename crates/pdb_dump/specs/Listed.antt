@@ -12,7 +12,7 @@ use Rattle.pdb_msf.specs.Header.{Head, opened}
 use Rattle.pdb_rows.specs.declared.form.Form.{Form}
 use Rattle.pdb_summary.specs.Summary.{summary_listing}
 use Rattle.pdb_tables.specs.Files.{file_frames, file_names, file_omap, file_sections, frames_in}
-use Rattle.pdb_rows.specs.Written.{IsOutputFailure}
+use Rattle.pdb_output.specs.Output.{IsOutputFailure}
 use Rattle.pdb_tables.specs.Listing.{IsListed}
 use Rattle.pdb_dump.specs.declared.words.Command.{Command}
 use Rattle.pdb_dump.specs.declared.words.Command.TheVariants as commands

@@ -7,6 +7,7 @@ use crate::served::{end, joined};
 use pdb_asking::ask;
 use pdb_cli::{Ended, read_all};
 use pdb_container::Result;
+use pdb_output::Output;
 use pdb_rows::Form;
 use std::alloc::Global;
 use std::io::{Read, Write};
@@ -17,10 +18,10 @@ fn read_and_ask<I: Read, Q: Read, O: Write>(
     form: Form,
     input: &mut I,
     questions: &mut Q,
-    out: &mut O,
+    out: &mut Output<O>,
 ) -> Result<bool>
-    ensures { IsAskedOf form (I.remaining input.old) (Q.remaining questions.old) (O.contents out.old)
-        (O.contents out.new) result ⊎ IsUnasked (O.contents out.old) (O.contents out.new) result }
+    ensures { IsAskedOf form (I.remaining input.old) (Q.remaining questions.old) out.old
+        out.new result ⊎ IsUnasked out.old out.new result }
 {
     let file = read_all(alloc, input)?;
     let text = read_all(alloc, questions)?;
@@ -55,11 +56,11 @@ pub fn serve_questions<I: Read, Q: Read, O: Write, E: Write>(
     form: Form,
     input: &mut I,
     questions: &mut Q,
-    out: &mut O,
-    err: &mut E,
+    out: &mut Output<O>,
+    err: &mut Output<E>,
 ) -> Ended
-    ensures { AreServed form (I.remaining input.old) (Q.remaining questions.old) (O.contents out.old)
-        (O.contents out.new) (E.contents err.old) (E.contents err.new) result }
+    ensures { AreServed form (I.remaining input.old) (Q.remaining questions.old) out.old
+        out.new err.old err.new result }
 {
     let asked = read_and_ask(alloc, form, input, questions, out);
     let flushed = out.flush();

@@ -7,6 +7,7 @@ use crate::listed::list;
 use crate::words::Command;
 use pdb_cli::{Ended, read_all, tell};
 use pdb_container::{Error, Result};
+use pdb_output::Output;
 use pdb_rows::Form;
 use std::alloc::Global;
 use std::io;
@@ -18,10 +19,10 @@ fn read_and_list<I: Read, O: Write>(
     command: Command,
     form: Form,
     input: &mut I,
-    out: &mut O,
+    out: &mut Output<O>,
 ) -> Result<()>
-    ensures { IsListedOf form command (I.remaining input.old) (O.contents out.old)
-        (O.contents out.new) result ⊎ IsNotRead (O.contents out.old) (O.contents out.new) result }
+    ensures { IsListedOf form command (I.remaining input.old) out.old
+        out.new result ⊎ IsNotRead out.old out.new result }
 {
     let file = read_all(alloc, input)?;
     list(alloc, file, command, form, out)
@@ -50,8 +51,8 @@ fn is_closed(fault: &Error) -> bool
 
 /// Ends the program. A fault is written to the error channel, unless it is that the output was
 /// closed.
-pub(crate) fn end<E: Write>(alloc: Global, listed: Result<()>, err: &mut E) -> Ended
-    ensures { IsEnded listed (E.contents err.old) (E.contents err.new) result }
+pub(crate) fn end<E: Write>(alloc: Global, listed: Result<()>, err: &mut Output<E>) -> Ended
+    ensures { IsEnded listed err.old err.new result }
 {
     match listed {
         Err(fault) if !is_closed(&fault) => tell(alloc, &fault, err),
@@ -70,11 +71,11 @@ pub fn serve<I: Read, O: Write, E: Write>(
     command: Command,
     form: Form,
     input: &mut I,
-    out: &mut O,
-    err: &mut E,
+    out: &mut Output<O>,
+    err: &mut Output<E>,
 ) -> Ended
-    ensures { IsServed form command (I.remaining input.old) (O.contents out.old) (O.contents out.new)
-        (E.contents err.old) (E.contents err.new) result }
+    ensures { IsServed form command (I.remaining input.old) out.old out.new
+        err.old err.new result }
 {
     let listed = read_and_list(alloc, command, form, input, out);
     let flushed = out.flush();

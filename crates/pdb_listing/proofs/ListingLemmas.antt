@@ -9,8 +9,8 @@ use Rattle.pdb_base.specs.declared.error.Error.{Error}
 use Rattle.std.specs.declared.io.Error as io
 use Rattle.pdb_base.specs.declared.error.Error.TheVariants.{IoError, OutOfMemory}
 use Rattle.pdb_listing.specs.Listed.{IsWalked, all_lines, cut, lacking, lines_of, stopped, whole}
-use Rattle.pdb_rows.specs.Written.{IsPrefix}
-use Rattle.pdb_rows.proofs.lemmas.Written.{front_more}
+use Rattle.pdb_output.specs.Output.{IsPrefix}
+use Rattle.pdb_output.proofs.lemmas.Written.{front_more}
 use Rattle.pdb_tpi.proofs.StepLemmas.{step_err, step_none, step_some}
 use Rattle.pdb_tpi.specs.Steps.{WalkPosition, walk, walk_rest, steps_taken, IsStep}
 use Rattle.pdb_tpi.specs.Walk.{fault_of}

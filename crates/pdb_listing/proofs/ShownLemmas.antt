@@ -13,8 +13,8 @@ use Rattle.pdb_listing.specs.Lines.{id_shown, member_lines, type_shown}
 use Rattle.pdb_listing.specs.Listed.{IsShown, cut_shown, lacking_shown, members_text, refused_shown, stopped_shown, unread_shown, whole_shown}
 use Rattle.pdb_rows.specs.declared.form.Form.{Form}
 use Rattle.pdb_listing.proofs.ListingLemmas.{front_written, line_written}
-use Rattle.pdb_rows.specs.Written.{IsPrefix}
-use Rattle.pdb_rows.proofs.lemmas.Written.{front_first, front_second}
+use Rattle.pdb_output.specs.Output.{IsPrefix}
+use Rattle.pdb_output.proofs.lemmas.Written.{front_first, front_second}
 use Rattle.pdb_rows.specs.IdRows.{id_row}
 use Rattle.pdb_rows.specs.Lines.{full_text}
 use Rattle.pdb_rows.specs.Row.{ShownRow}

@@ -7,7 +7,7 @@ use Rattle.pdb_base.specs.Refusal.{refusal_of}
 use Rattle.pdb_base.specs.declared.error.Error.{Error}
 use Rattle.pdb_base.specs.declared.error.Error.TheVariants.{IoError, OutOfMemory}
 use Rattle.pdb_listing.specs.Lines.{lines_from}
-use Rattle.pdb_rows.specs.Written.{IsPrefix}
+use Rattle.pdb_output.specs.Output.{IsPrefix}
 use Rattle.pdb_tpi.specs.Steps.{walk, walk_rest}
 use Rattle.pdb_tpi.specs.Table.{Table, table_of}
 use Rattle.pdb_tpi.specs.Walk.{fault_of}

@@ -1,5 +1,5 @@
 use Rattle.pdb_base.proofs.lemmas.Refused.{passed_on}
-use Rattle.pdb_rows.proofs.lemmas.Written.{front_first, writes_second}
+use Rattle.pdb_output.proofs.lemmas.Written.{front_first, writes_second}
 use Rattle.pdb_asking.specs.Answers.{answered_text}
 use Rattle.pdb_asking.proofs.answer.write_answered.Goals as goal
 

@@ -1,5 +1,5 @@
 use Rattle.pdb_base.proofs.lemmas.Refused.{passed_on}
-use Rattle.pdb_rows.proofs.lemmas.Written.{front_none, want_is_cut}
+use Rattle.pdb_output.proofs.lemmas.Written.{front_none, want_is_cut}
 use Rattle.pdb_asking.proofs.answer.write_lines.Goals as goal
 
 pub returns-in_err-lines : goal.returns-in_err-lines

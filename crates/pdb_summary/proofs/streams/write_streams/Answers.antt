@@ -1,7 +1,7 @@
 use Rattle.std.proofs.Common.{refl, subst, ◌∙◌}
 use Rattle.std.specs.Io.KnownBytes.{Appends}
 use Rattle.pdb_base.proofs.lemmas.Refused.{passed_on}
-use Rattle.pdb_rows.proofs.lemmas.Written.{cut_more, written_none, written_more, written_all, written_as}
+use Rattle.pdb_output.proofs.lemmas.Written.{cut_more, written_none, written_more, written_all, written_as}
 use Rattle.pdb_summary.specs.Known.{known_view}
 use Rattle.pdb_summary.proofs.StreamLemmas.{made_next, made_end, lines_from_first, same_line}
 use Rattle.pdb_summary.proofs.streams.write_streams.Goals as goal

@@ -1,4 +1,4 @@
-use Rattle.pdb_rows.proofs.lemmas.Written.{front_none}
+use Rattle.pdb_output.proofs.lemmas.Written.{front_none}
 use Rattle.pdb_summary.proofs.summary.write_named.Goals as goal
 
 pub returns-in-Err-OutOfMemory-clause-lines : goal.returns-in-Err-OutOfMemory-clause-lines

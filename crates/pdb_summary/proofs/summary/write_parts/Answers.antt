@@ -1,4 +1,4 @@
-use Rattle.pdb_rows.proofs.lemmas.Written.{front_none}
+use Rattle.pdb_output.proofs.lemmas.Written.{front_none}
 use Rattle.pdb_summary.specs.Summary.{parts_lines}
 use Rattle.pdb_summary.proofs.summary.write_parts.Goals as goal
 

@@ -1,5 +1,5 @@
 use Rattle.pdb_base.proofs.lemmas.Refused.{passed_on}
-use Rattle.pdb_rows.proofs.lemmas.Written.{front_first}
+use Rattle.pdb_output.proofs.lemmas.Written.{front_first}
 use Rattle.pdb_summary.proofs.summary.write_unnamed.Goals as goal
 
 pub returns-in_err-write_refused-clause-lines : goal.returns-in_err-write_refused-clause-lines
