@@ -19,7 +19,7 @@ use pdb_base::RawString;
 use pdb_cli::reply_lines;
 use pdb_container::{Error, Reply, Result};
 use pdb_output::Output;
-use pdb_rows::{Field, Form, Row, Value, error_field, error_text, field, write_bytes, write_row};
+use pdb_rows::{Field, Form, Row, Value, error_field, error_text, field, write_row};
 use std::alloc::Global;
 use std::io::Write;
 use std::ops::Range;
@@ -81,6 +81,7 @@ fn range_row<'t>(alloc: Global, range: &Range<u32>) -> Result<Row<'t>>
 }
 
 /// Writes a row of one field.
+#[tactic(auto, using(pdb_output::proofs::lemmas::Written::writing))]
 fn write_field<W: Write>(
     alloc: Global,
     form: Form,
@@ -95,6 +96,7 @@ fn write_field<W: Write>(
 }
 
 /// Writes a record as a line of JSON.
+#[tactic(auto, using(pdb_output::proofs::lemmas::Written::writing))]
 fn write_record<W: Write>(
     alloc: Global,
     index: u32,
@@ -111,6 +113,7 @@ fn write_record<W: Write>(
 }
 
 /// Writes why there is no answer.
+#[tactic(auto, using(pdb_output::proofs::lemmas::Written::writing))]
 fn write_refused<W: Write>(
     alloc: Global,
     form: Form,
@@ -135,6 +138,7 @@ fn hexadecimal(alloc: Global, bytes: &[u8]) -> Result<String>
 }
 
 /// Writes the bytes of a stream as a line of JSON, in hexadecimal digits.
+#[tactic(auto, using(pdb_output::proofs::lemmas::Written::writing))]
 fn write_stream<W: Write>(
     alloc: Global,
     stream: &[u8],
@@ -200,12 +204,11 @@ fn write_json<W: Write>(alloc: Global, reply: &Reply, line: &mut Vec<u8>, out: &
 }
 
 /// Writes the lines that the program `pdbq` prints for a reply.
+#[tactic(auto, using(pdb_output::proofs::lemmas::Written::writing))]
 fn write_lines<W: Write>(alloc: Global, reply: &Reply, out: &mut Output<W>) -> Result<()>
     ensures { Writes (reply_lines reply.now) out.old out.new result }
 {
-    let lines = reply_lines(alloc, reply)?;
-    out.write(&lines)?;
-    Ok(())
+    out.write(&reply_lines(alloc, reply)?)
 }
 
 /// Writes the lines of a reply.
@@ -260,7 +263,7 @@ pub(crate) fn is_answered_too(reply: Option<&Reply>, all: bool) -> bool
 }
 
 /// Writes a question, and its answer after it.
-#[tactic(auto, unfolding(crate::specs::Answers::answered_text))]
+#[tactic(auto, unfolding(crate::specs::Answers::answered_text), using(pdb_output::proofs::lemmas::Written::writing))]
 pub(crate) fn write_answered<W: Write>(
     alloc: Global,
     form: Form,

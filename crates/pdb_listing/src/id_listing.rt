@@ -6,7 +6,7 @@ ghost use Rattle.pdb_listing.specs.Listed.{IsListed, IsShown, IsWalked};
 use crate::line::push_id;
 use pdb_base::{FallibleIterator, IdIndex, Result, Stream};
 use pdb_output::Output;
-use pdb_rows::{Form, id_row, push_fields, write_bytes};
+use pdb_rows::{Form, id_row, push_fields};
 use pdb_tpi::{IdInformation, OpenTable};
 use std::alloc::Global;
 use std::io::Write;

@@ -9,7 +9,7 @@ use crate::line::push_type;
 use crate::members::{list_of_fields, push_members};
 use pdb_base::{FallibleIterator, Result, Stream, TypeIndex};
 use pdb_output::Output;
-use pdb_rows::{Form, push_fields, type_row, write_bytes};
+use pdb_rows::{Form, push_fields, type_row};
 use pdb_tpi::{OpenTable, TypeInformation};
 use std::alloc::Global;
 use std::io::Write;

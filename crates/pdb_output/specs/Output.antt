@@ -23,8 +23,9 @@ abbrev pub IsPrefix : List ℕ → Option (List ℕ) → Option (List ℕ) → T
 IsPrefix all old new = (rest : List ℕ) × IsReceived old new all rest
 
 -- An output received all of the bytes, and did not fail.
-abbrev pub Gets : OutputState → OutputState → List ℕ → Type 0
-Gets old new all = (new.has_failed ≡ old.has_failed) × Appends old.contents new.contents all
+pub record Gets (old new : OutputState) (all : List ℕ) : Type 0 where
+  pub holds : new.has_failed ≡ old.has_failed
+  pub added : Appends old.contents new.contents all
 
 -- An output received the bytes up to some point, and did not fail; `rest` is left of them.
 pub record IsWritten (old now : OutputState) (all rest : List ℕ) : Type 0 where
@@ -39,16 +40,24 @@ IsFailed new e = (cause : io.Error) × (e ≡ IoError cause) × (new.has_failed 
 abbrev pub IsOutputFailure : OutputState → OutputState → Error → Type 0
 IsOutputFailure old new e = IsFailed new e ⊎ ((e ≡ OutOfMemory) × (new.has_failed ≡ old.has_failed))
 
--- The result of a call that writes: the output received all of the bytes; or the output failed or memory
--- was refused, and it received a prefix of them.
+-- An output received a prefix of the bytes, since it failed or memory was refused.
+pub record IsCutShort (all : List ℕ) (old new : OutputState) (e : Error) : Type 0 where
+  pub cause : IsOutputFailure old new e
+  pub prefix : IsPrefix all old.contents new.contents
+
+-- The result of a call that writes: the output received all of the bytes, or was cut short.
 abbrev pub Writes : List ℕ → OutputState → OutputState → Result (Unit {0}) Error → Type 0
 Writes all old new (Ok done) = Gets old new all
-Writes all old new (Err e) = IsOutputFailure old new e × IsPrefix all old.contents new.contents
+Writes all old new (Err e) = IsCutShort all old new e
 
 -- The result of a flush: all that was written is flushed, or the output failed; no byte is added.
 abbrev pub Flushes : OutputState → OutputState → Result (Unit {0}) Error → Type 0
 Flushes old new (Ok done) = Gets old new [] × (new.is_flushed ≡ true)
-Flushes old new (Err e) = Writes [] old new (Err e)
+Flushes old new (Err e) = IsCutShort [] old new e
+
+-- An output received all of the bytes; or it failed, and received a prefix of them.
+abbrev pub GetsUnlessFailed : OutputState → OutputState → List ℕ → Type 0
+GetsUnlessFailed old new all = Gets old new all ⊎ ((new.has_failed ≡ true) × IsPrefix all old.contents new.contents)
 
 -- the result of a call, without the value that it returned
 abbrev pub done_of : {A : Type 0} → Result A Error → Result (Unit {0}) Error

@@ -2,7 +2,7 @@
 
 ghost use Rattle.std.specs.Prelude.{◌≡◌, false, IfErr, OnErr, OnOk};
 ghost use Rattle.std.specs.Io.KnownBytes.{Appends};
-ghost use Rattle.pdb_output.specs.Output.{Flushes, IsFailed, IsPrefix, Writes};
+ghost use Rattle.pdb_output.specs.Output.{Flushes, GetsUnlessFailed, IsFailed, IsPrefix, Writes};
 
 use pdb_base::{Error, Result};
 use std::io;
@@ -98,6 +98,13 @@ impl<W: Write> Output<W> {
                 Err(Error::IoError(fault))
             }
         }
+    }
+
+    /// Writes a message of which no caller is told whether it was written. `has_failed` tells it.
+    pub fn report(&mut self, message: &[u8])
+        ensures { GetsUnlessFailed self.old self.new message.now }
+    {
+        let _ = self.write(message);
     }
 
     /// Flushes the writer.

@@ -5,13 +5,13 @@ use Rattle.std.proofs.KnownBytes.{Appends-nil}
 use Rattle.pdb_base.specs.declared.error.Error.{Error}
 use Rattle.pdb_base.specs.Answer.{Answer, ◌>>=◌, RefusesUnless}
 use Rattle.pdb_base.specs.Refusal.{refusal_of}
-use Rattle.pdb_output.specs.Output.{OutputState, Gets, Writes}
+use Rattle.pdb_output.specs.Output.{OutputState, Gets, IsCutShort, Writes}
 use Rattle.pdb_output.proofs.lemmas.Written.{first_cut, lacks_all, second_writes}
 use Rattle.pdb_tables.specs.Listing.{Listing, IsListed, followed_by, headed, listed_of, whole}
 
 -- nothing is written
-gets_none : (old : OutputState) → Gets old old []
-gets_none old = (refl, Appends-nil old.contents)
+pub gets_none : (old : OutputState) → Gets old old []
+gets_none old = record { holds = refl; added = Appends-nil old.contents }
 
 none_below : 0 < 0 → ⊥
 none_below h = omega arith
@@ -43,7 +43,7 @@ listed_headed front listing old mid new (Err e) got (inl (ends, lines)) = inl (e
 listed_headed front listing old mid new (Err e) got (inr cut) = inr (second_writes old mid new front listing.lines (Err e) got cut)
 
 -- the lines before a listing are cut short
-pub head_cut : (front : List ℕ) (listing : Listing) (old new : OutputState) (e : Error) → Writes front old new (Err e) → IsListed (headed front listing) old new (Err e)
+pub head_cut : (front : List ℕ) (listing : Listing) (old new : OutputState) (e : Error) → IsCutShort front old new e → IsListed (headed front listing) old new (Err e)
 head_cut front listing old new e cut = inr (first_cut old new front listing.lines e cut)
 
 behind_whole : (first next : Listing) → first.end ≡ Ok tt → followed_by first next ≡ headed first.lines next

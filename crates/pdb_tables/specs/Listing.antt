@@ -3,7 +3,7 @@ use Rattle.std.specs.Prelude.{◌≡◌, ◌⊎◌, ℕ, List, [], ◌++◌, Res
 use Rattle.pdb_base.specs.declared.error.Error.{Error}
 use Rattle.pdb_base.specs.Answer.{Answer, ◌>>=◌}
 use Rattle.pdb_base.specs.Refusal.{Refusal, refusal_of}
-use Rattle.pdb_output.specs.Output.{OutputState, Gets, Writes}
+use Rattle.pdb_output.specs.Output.{OutputState, Gets, IsCutShort}
 
 -- The lines up to the first fault, and the refusal behind them, if there is one.
 pub record Listing : Type 0 where
@@ -43,4 +43,4 @@ followed_by first next = record {
 -- or memory was refused, and the output received a prefix of the lines.
 abbrev pub IsListed : Listing → OutputState → OutputState → Result (Unit {0}) Error → Type 0
 IsListed listing old new (Ok done) = (listing.end ≡ Ok tt) × Gets old new listing.lines
-IsListed listing old new (Err e) = ((listing.end ≡ Err (refusal_of e)) × Gets old new listing.lines) ⊎ Writes listing.lines old new (Err e)
+IsListed listing old new (Err e) = ((listing.end ≡ Err (refusal_of e)) × Gets old new listing.lines) ⊎ IsCutShort listing.lines old new e
