@@ -1,5 +1,6 @@
 -- What the program does with a command and an input, and how it ends.
 use Rattle.std.specs.Prelude.{◌≡◌, ℕ, List, Option, Result, Ok, Err, IfSome}
+use Rattle.std.specs.Result.{result_and}
 use Rattle.std.specs.declared.io.ErrorKind.TheVariants as kinds
 use Rattle.std.specs.IoError.{error_kind}
 use Rattle.pdb_base.specs.declared.error.Error.{Error}
@@ -26,16 +27,12 @@ abbrev pub Ends : Result (Unit {0}) Error → OutputState → OutputState → �
 Ends (Ok done) old new status = IsQuiet old new status
 Ends (Err fault) old new status = (IsClosed fault → IsQuiet old new status) × ((IsClosed fault → ⊥) → IsTold fault old new status)
 
--- the result of listing and of the flush behind it: the first fault, if there is one
-abbrev pub joined : Result (Unit {0}) Error → Result (Unit {0}) Error → Result (Unit {0}) Error
-joined (Err fault) flushed = Err fault
-joined (Ok done) flushed = flushed
-
--- The output was flushed behind a listing, and the program ended as the first fault says, if there is one.
+-- The output was flushed behind a listing, and the program ended as the first fault of both says, if there
+-- is one.
 pub record IsEnded (listed : Result (Unit {0}) Error) (written out' err err' : OutputState) (status : ℕ) : Type 0 where
   pub flushed : Result (Unit {0}) Error
   pub flushes : Flushes written out' flushed
-  pub ends : Ends (joined listed flushed) err err' status
+  pub ends : Ends (result_and listed flushed) err err' status
 
 -- What the program did with a command and an input: it reported why the input can't be read, and wrote no
 -- output; or it listed what the command asks of the file in the input, flushed the output, and ended. If
