@@ -3,6 +3,7 @@
 mod asked;
 mod channels;
 mod dumped;
+mod failing;
 mod listings;
 mod printed;
 mod processes;

@@ -2,6 +2,7 @@
 
 use pdb_container::Result;
 use pdb_dump::{Call, Command, Task, any_is, call_of, list, plain_words};
+use pdb_output::Output;
 use pdb_rows::Form;
 use pdb_vectors::s1_with;
 use std::alloc::Global;
@@ -168,9 +169,9 @@ fn is_told(alloc: Global, answer: Result<()>, refusal: &str) -> Result<bool> {
 /// Whether a command lists this of S1 with these bytes as its stream 3, up to this refusal.
 fn is_listed(alloc: Global, command: Command, form: Form, row: &Listed) -> Result<bool> {
     let (_, stream, lines, refusal) = *row;
-    let mut out = Vec::new(alloc);
+    let mut out = Output::new(Vec::new(alloc));
     let answer = list(alloc, s1_with(alloc, stream)?, command, form, &mut out);
-    Ok(is_told(alloc, answer, refusal)? && out.as_slice() == lines.as_bytes())
+    Ok(is_told(alloc, answer, refusal)? && out.into_inner().as_slice() == lines.as_bytes())
 }
 
 /// Whether the words of a row ask for what it lists.
@@ -216,10 +217,10 @@ fn is_front(line: &[u8], taken: &[u8], count: usize, is_refused: bool) -> bool {
 fn is_cut(alloc: Global, room: usize) -> Result<bool> {
     let mut taken = vec![in alloc; 0; room]?;
     let file = s1_with(alloc, &SECTION_ALONE)?;
-    let mut out = Cursor::new(taken.as_mut_slice());
+    let mut out = Output::new(Cursor::new(taken.as_mut_slice()));
     let command = Command::Sections { stream: Some(3) };
     let is_refused = list(alloc, file, command, Form::Text, &mut out).is_err();
-    let count = out.position() as usize;
+    let count = out.into_inner().position() as usize;
     Ok(is_front(SECTION_LINE.as_bytes(), &taken, count, is_refused))
 }
 

@@ -2,7 +2,7 @@ use Rattle.std.proofs.Common.{ℕ, List, [], ◌∷◌, Option, ap, sym, ◌∙�
 use Rattle.std.specs.Global.{Vec}
 use Rattle.std.specs.Option.{option_map}
 use Rattle.pdb_base.proofs.lemmas.Refused.{passed_on}
-use Rattle.pdb_rows.proofs.lemmas.Written.{cut_more, written_more}
+use Rattle.pdb_output.proofs.lemmas.Written.{cut_more, written_more}
 use Rattle.pdb_rows.specs.declared.form.Form.TheVariants.{Json}
 use Rattle.pdb_rows.specs.Lines.{row_text}
 use Rattle.pdb_rows.specs.Row.{ShownField}
