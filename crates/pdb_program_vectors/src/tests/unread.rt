@@ -2,7 +2,8 @@
 //! read before the words are looked at, so that where it fails, bad words are not told of.
 
 use pdb_base::Result;
-use pdb_cli::{Ended, serve};
+use pdb_cli::serve;
+use pdb_output::Output;
 use std::alloc::Global;
 use std::env::Args;
 use std::io;
@@ -65,25 +66,26 @@ fn arguments(alloc: Global, words: &Words) -> Result<io::Result<Args>> {
 }
 
 /// Whether a call ended with status 1, and told the error.
-fn is_told(ended: &Ended, told: &[u8]) -> bool {
-    ended.status == 1 && ended.told.is_ok() && told == TOLD
+fn is_told(status: u8, err: Output<Vec<u8>>) -> bool {
+    status == 1 && !err.has_failed() && err.into_inner().as_slice() == TOLD
 }
 
 /// Whether a call over an input that fails tells its error, and writes nothing else.
 fn is_unread(alloc: Global, words: &Words) -> Result<bool> {
     let words = arguments(alloc, words)?;
-    let mut out = Vec::new(alloc);
-    let mut err = Vec::new(alloc);
-    let ended = serve(alloc, words, &mut Broken, &mut out, &mut err);
-    Ok(is_told(&ended, &err) && out.is_empty())
+    let mut out = Output::new(Vec::new(alloc));
+    let mut err = Output::new(Vec::new(alloc));
+    let status = serve(alloc, words, &mut Broken, &mut out, &mut err);
+    Ok(is_told(status, err) && out.into_inner().is_empty())
 }
 
 /// Whether a call without words, which reads no input, tells the error of its output.
 fn is_unwritten(alloc: Global) -> Result<bool> {
     let words = arguments(alloc, &Some(&[]))?;
-    let mut err = Vec::new(alloc);
-    let ended = serve(alloc, words, &mut Broken, &mut Broken, &mut err);
-    Ok(is_told(&ended, &err))
+    let mut out = Output::new(Broken);
+    let mut err = Output::new(Vec::new(alloc));
+    let status = serve(alloc, words, &mut Broken, &mut out, &mut err);
+    Ok(is_told(status, err))
 }
 
 #[test]
