@@ -14,8 +14,8 @@ use Rattle.pdb_summary.specs.Summary.{summary_listing}
 use Rattle.pdb_tables.specs.Files.{file_frames, file_names, file_omap, file_sections, frames_in}
 use Rattle.pdb_output.specs.Output.{OutputState}
 use Rattle.pdb_tables.specs.Listing.{IsListed}
-use Rattle.pdb_dump.specs.declared.words.Command.{Command}
-use Rattle.pdb_dump.specs.declared.words.Command.TheVariants as commands
+use Rattle.pdb_dump.specs.declared.command.Command.{Command}
+use Rattle.pdb_dump.specs.declared.command.Command.TheVariants as commands
 
 -- the numbers of the streams of types and of ids, which are used if none is given
 abbrev pub type_stream : ℕ

@@ -9,7 +9,7 @@ use Rattle.pdb_cli.specs.Channels.{IsTold, IsUnread}
 use Rattle.pdb_output.specs.Output.{OutputState, Flushes}
 use Rattle.pdb_rows.specs.declared.form.Form.{Form}
 use Rattle.pdb_dump.specs.Listed.{Does}
-use Rattle.pdb_dump.specs.declared.words.Command.{Command}
+use Rattle.pdb_dump.specs.declared.command.Command.{Command}
 
 -- the reader of the output has closed it
 abbrev pub IsClosed : Error → Type 0

@@ -1,6 +1,6 @@
 //! How the program is called.
 
-use crate::words::Verb;
+use crate::command::Verb;
 
 /// How the program is called, with all its commands.
 pub const HELP: &str = "\

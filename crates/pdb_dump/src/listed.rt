@@ -3,7 +3,7 @@
 ghost use Rattle.std.specs.Prelude.{◌≡◌, unwrap_or};
 ghost use Rattle.pdb_dump.specs.Listed.{AreIds, AreTypes, Does, DoesIn, IsListedIn};
 
-use crate::words::Command;
+use crate::command::Command;
 use pdb_container::{PDB, Result};
 use pdb_listing::{id_at, ids, type_at, types};
 use pdb_mapping::list_map;

@@ -4,7 +4,7 @@ ghost use Rattle.std.specs.Prelude.{◌↔◌, IsTrue};
 ghost use Rattle.pdb_dump.specs.Served.{IsClosed, IsEnded, IsServed};
 
 use crate::listed::list;
-use crate::words::Command;
+use crate::command::Command;
 use pdb_cli::{read_all, tell};
 use pdb_container::{Error, Result};
 use pdb_output::Output;
