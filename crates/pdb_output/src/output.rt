@@ -23,9 +23,9 @@ impl<W: Write> Model for Output<W> {
     ghost Value = { OutputState };
 
     ghost view = { λ output. record {
-        contents = W.contents output.writer;
-        has_failed = output.has_failed;
-        is_flushed = output.is_flushed;
+      contents = W.contents output.writer;
+      has_failed = output.has_failed;
+      is_flushed = output.is_flushed;
     } };
 }
 
