@@ -188,7 +188,12 @@ fn write_ranges<W: Write>(
 }
 
 /// Writes a reply as lines of JSON.
-fn write_json<W: Write>(alloc: Global, reply: &Reply, line: &mut Vec<u8>, out: &mut Output<W>) -> Result<()>
+fn write_json<W: Write>(
+    alloc: Global,
+    reply: &Reply,
+    line: &mut Vec<u8>,
+    out: &mut Output<W>,
+) -> Result<()>
     ensures { Writes (json_text reply.now) out.old out.new result }
 {
     match reply {

@@ -149,6 +149,10 @@ fn attempt<P: Env + Files + Input + Print + Eprint + AllocGlobal>(process: &P) -
 pub fn program<P: Env + Files + Input + Print + Eprint + AllocGlobal>(process: &P) -> u8 {
     match attempt(process) {
         Ok(status) => status,
-        Err(fault) => tell(process.alloc(), &fault, &mut Output::new(Errors { process })),
+        Err(fault) => tell(
+            process.alloc(),
+            &fault,
+            &mut Output::new(Errors { process }),
+        ),
     }
 }

@@ -12,7 +12,12 @@ use std::alloc::Global;
 use std::io::Write;
 
 /// Writes a line for each id of a table.
-fn list_ids<W: Write>(alloc: Global, table: &IdInformation, form: Form, out: &mut Output<W>) -> Result<()>
+fn list_ids<W: Write>(
+    alloc: Global,
+    table: &IdInformation,
+    form: Form,
+    out: &mut Output<W>,
+) -> Result<()>
     ensures { IsWalked (id_line form) table.now out.old out.new result }
 {
     let mut items = table.iter();

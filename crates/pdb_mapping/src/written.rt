@@ -167,7 +167,12 @@ fn write_internal_of_loaded<W: Write>(
 
 /// Writes what is made of an address in the image as it is loaded.
 #[tactic(auto, unfolding(crate::specs::Mapped::loaded_text))]
-fn write_loaded<W: Write>(alloc: Global, made: &OfLoaded, form: Form, out: &mut Output<W>) -> Result<()>
+fn write_loaded<W: Write>(
+    alloc: Global,
+    made: &OfLoaded,
+    form: Form,
+    out: &mut Output<W>,
+) -> Result<()>
     ensures { Writes (loaded_text form made.now) out.old out.new result }
 {
     let place = made.section_offset;
@@ -194,7 +199,12 @@ fn write_loaded_of_internal<W: Write>(
 
 /// Writes what is made of an address in the original image.
 #[tactic(auto, unfolding(crate::specs::Mapped::internal_text))]
-fn write_internal<W: Write>(alloc: Global, made: &OfInternal, form: Form, out: &mut Output<W>) -> Result<()>
+fn write_internal<W: Write>(
+    alloc: Global,
+    made: &OfInternal,
+    form: Form,
+    out: &mut Output<W>,
+) -> Result<()>
     ensures { Writes (internal_text form made.now) out.old out.new result }
 {
     let place = numbers_of(made.internal_offset);

@@ -15,7 +15,12 @@ use std::alloc::Global;
 use std::io::Write;
 
 /// Writes the records of a table.
-fn write_records<W: Write>(alloc: Global, table: &OMAPTable, form: Form, out: &mut Output<W>) -> Result<()>
+fn write_records<W: Write>(
+    alloc: Global,
+    table: &OMAPTable,
+    form: Form,
+    out: &mut Output<W>,
+) -> Result<()>
     ensures { Writes (omap_lines form table.now) out.old out.new result }
 {
     let mut line = Vec::new(alloc);
@@ -44,7 +49,12 @@ fn order_row<'t>(alloc: Global, is_sorted: bool) -> Result<Row<'t>>
 
 /// Writes the records of a table, and then whether their sources never decrease.
 #[tactic(auto, using(pdb_output::proofs::lemmas::Written::writing))]
-fn write_table<W: Write>(alloc: Global, table: &OMAPTable, form: Form, out: &mut Output<W>) -> Result<()>
+fn write_table<W: Write>(
+    alloc: Global,
+    table: &OMAPTable,
+    form: Form,
+    out: &mut Output<W>,
+) -> Result<()>
     ensures { Writes (omap_all form table.now) out.old out.new result }
 {
     write_records(alloc, table, form, out)?;
@@ -57,7 +67,12 @@ fn write_table<W: Write>(alloc: Global, table: &OMAPTable, form: Form, out: &mut
 /// # Errors
 /// Fails with `InvalidStreamLength` if the stream's length isn't a multiple of eight. Fails with
 /// `IoError` if the writer fails, and with `OutOfMemory` if memory is refused.
-pub fn write_omap<W: Write>(alloc: Global, stream: Stream, form: Form, out: &mut Output<W>) -> Result<()>
+pub fn write_omap<W: Write>(
+    alloc: Global,
+    stream: Stream,
+    form: Form,
+    out: &mut Output<W>,
+) -> Result<()>
     ensures { IsListed (omap_listing form stream) out.old out.new result }
 {
     let table = OMAPTable::parse(stream)?;
