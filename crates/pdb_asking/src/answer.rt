@@ -81,7 +81,7 @@ fn range_row<'t>(alloc: Global, range: &Range<u32>) -> Result<Row<'t>>
 }
 
 /// Writes a row of one field.
-#[tactic(auto, using(pdb_output::proofs::lemmas::Written::writing))]
+#[tactic(auto)]
 fn write_field<W: Write>(
     alloc: Global,
     form: Form,
@@ -96,7 +96,7 @@ fn write_field<W: Write>(
 }
 
 /// Writes a record as a line of JSON.
-#[tactic(auto, using(pdb_output::proofs::lemmas::Written::writing))]
+#[tactic(auto)]
 fn write_record<W: Write>(
     alloc: Global,
     index: u32,
@@ -113,7 +113,7 @@ fn write_record<W: Write>(
 }
 
 /// Writes why there is no answer.
-#[tactic(auto, using(pdb_output::proofs::lemmas::Written::writing))]
+#[tactic(auto)]
 fn write_refused<W: Write>(
     alloc: Global,
     form: Form,
@@ -138,7 +138,7 @@ fn hexadecimal(alloc: Global, bytes: &[u8]) -> Result<String>
 }
 
 /// Writes the bytes of a stream as a line of JSON, in hexadecimal digits.
-#[tactic(auto, using(pdb_output::proofs::lemmas::Written::writing))]
+#[tactic(auto)]
 fn write_stream<W: Write>(
     alloc: Global,
     stream: &[u8],
@@ -209,11 +209,12 @@ fn write_json<W: Write>(
 }
 
 /// Writes the lines that the program `pdbq` prints for a reply.
-#[tactic(auto, using(pdb_output::proofs::lemmas::Written::writing))]
+#[tactic(auto)]
 fn write_lines<W: Write>(alloc: Global, reply: &Reply, out: &mut Output<W>) -> Result<()>
     ensures { Writes (reply_lines reply.now) out.old out.new result }
 {
-    out.write(&reply_lines(alloc, reply)?)
+    let lines = reply_lines(alloc, reply)?;
+    out.write(&lines)
 }
 
 /// Writes the lines of a reply.
@@ -268,7 +269,7 @@ pub(crate) fn is_answered_too(reply: Option<&Reply>, all: bool) -> bool
 }
 
 /// Writes a question, and its answer after it.
-#[tactic(auto, unfolding(crate::specs::Answers::answered_text), using(pdb_output::proofs::lemmas::Written::writing))]
+#[tactic(auto, unfolding(crate::specs::Answers::answered_text))]
 pub(crate) fn write_answered<W: Write>(
     alloc: Global,
     form: Form,

@@ -33,8 +33,9 @@ pub(crate) fn end<O: Write, E: Write>(
     ensures { IsEnded listed out.old out.new err.old err.new result }
 {
     match listed.and(out.flush()) {
-        Err(fault) if !is_closed(&fault) => tell(alloc, &fault, err),
-        _ => 0,
+        Ok(()) => 0,
+        Err(fault) if is_closed(&fault) => 0,
+        Err(fault) => tell(alloc, &fault, err),
     }
 }
 

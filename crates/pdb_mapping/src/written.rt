@@ -115,7 +115,7 @@ fn numbers_of(place: Option<PdbInternalSectionOffset>) -> Option<SectionOffset>
 }
 
 /// Writes the row of an address that is made of another.
-#[tactic(auto, using(pdb_output::proofs::lemmas::Written::writing))]
+#[tactic(auto)]
 fn write_address<W: Write>(
     alloc: Global,
     from: &'static str,
@@ -132,7 +132,7 @@ fn write_address<W: Write>(
 }
 
 /// Writes the row of a place in a section that is made of an address.
-#[tactic(auto, using(pdb_output::proofs::lemmas::Written::writing))]
+#[tactic(auto)]
 fn write_place<W: Write>(
     alloc: Global,
     from: &'static str,
@@ -149,7 +149,7 @@ fn write_place<W: Write>(
 }
 
 /// Writes what is made of an address of the image as it is loaded by way of the original image.
-#[tactic(auto, using(pdb_output::proofs::lemmas::Written::writing))]
+#[tactic(auto)]
 fn write_internal_of_loaded<W: Write>(
     alloc: Global,
     made: &OfLoaded,
@@ -166,7 +166,7 @@ fn write_internal_of_loaded<W: Write>(
 }
 
 /// Writes what is made of an address in the image as it is loaded.
-#[tactic(auto, unfolding(crate::specs::Mapped::loaded_text), using(pdb_output::proofs::lemmas::Written::writing))]
+#[tactic(auto, unfolding(crate::specs::Mapped::loaded_text))]
 fn write_loaded<W: Write>(
     alloc: Global,
     made: &OfLoaded,
@@ -181,7 +181,7 @@ fn write_loaded<W: Write>(
 }
 
 /// Writes what is made of an address of the original image by way of the image as it is loaded.
-#[tactic(auto, using(pdb_output::proofs::lemmas::Written::writing))]
+#[tactic(auto)]
 fn write_loaded_of_internal<W: Write>(
     alloc: Global,
     made: &OfInternal,
@@ -198,7 +198,7 @@ fn write_loaded_of_internal<W: Write>(
 }
 
 /// Writes what is made of an address in the original image.
-#[tactic(auto, unfolding(crate::specs::Mapped::internal_text), using(pdb_output::proofs::lemmas::Written::writing))]
+#[tactic(auto, unfolding(crate::specs::Mapped::internal_text))]
 fn write_internal<W: Write>(
     alloc: Global,
     made: &OfInternal,
@@ -214,7 +214,7 @@ fn write_internal<W: Write>(
 
 /// Writes what is made of an address in the image as it is loaded, and then what is made of one in
 /// the original image.
-#[tactic(auto, using(pdb_output::proofs::lemmas::Written::writing))]
+#[tactic(auto)]
 pub(crate) fn write_made<W: Write>(
     alloc: Global,
     loaded: &OfLoaded,

@@ -125,7 +125,7 @@ struct Ended {
 type Calls = (usize, usize, usize, ErrorKind);
 
 /// Runs a program with these calls.
-fn ended(alloc: Global, served: Served, calls: Calls) -> Result<Ended> {
+fn end_of(alloc: Global, served: Served, calls: Calls) -> Result<Ended> {
     let (reads, writes, messages, kind) = calls;
     let mut input = Failing::new(s1_with(alloc, OMAP)?, reads, ErrorKind::BrokenPipe);
     let mut out = Output::new(Failing::new(Vec::new(alloc), writes, kind));
@@ -164,9 +164,9 @@ fn is_cut(served: Served, kind: ErrorKind, whole: &[u8], ended: &Ended) -> bool 
 /// Whether a program whose output fails at each call in turn ends as it must, and how many calls it
 /// makes.
 fn fails_at_each_write(alloc: Global, served: Served, kind: ErrorKind) -> Result<Option<usize>> {
-    let whole = ended(alloc, served, (NEVER, NEVER, NEVER, kind))?;
+    let whole = end_of(alloc, served, (NEVER, NEVER, NEVER, kind))?;
     for call in 0..NEVER {
-        let run = ended(alloc, served, (NEVER, call, NEVER, kind))?;
+        let run = end_of(alloc, served, (NEVER, call, NEVER, kind))?;
         if !run.out_failed {
             let is_whole = run.status == 0 && run.out == whole.out && run.err.is_empty();
             return Ok(if is_whole { Some(call) } else { None });
@@ -182,11 +182,11 @@ fn fails_at_each_write(alloc: Global, served: Served, kind: ErrorKind) -> Result
 /// channel of errors fails.
 fn fails_at_each_read(alloc: Global, served: Served) -> Result<bool> {
     for call in 0..NEVER {
-        let run = ended(alloc, served, (call, NEVER, NEVER, ErrorKind::StorageFull))?;
+        let run = end_of(alloc, served, (call, NEVER, NEVER, ErrorKind::StorageFull))?;
         if run.status == 0 {
             return Ok(call > 4);
         }
-        let silent = ended(alloc, served, (call, NEVER, 0, ErrorKind::StorageFull))?;
+        let silent = end_of(alloc, served, (call, NEVER, 0, ErrorKind::StorageFull))?;
         let is_alone = silent.status == 1 && silent.err_failed && silent.err.is_empty();
         if !(is_told(&run) && run.out.is_empty() && is_alone) {
             return Ok(false);
