@@ -3,8 +3,8 @@
 ghost use Rattle.std.specs.Prelude.{◌↔◌, IsTrue};
 ghost use Rattle.pdb_dump.specs.Served.{IsClosed, IsEnded, IsServed};
 
-use crate::listed::list;
 use crate::command::Command;
+use crate::listed::list;
 use pdb_cli::{read_all, tell};
 use pdb_container::{Error, Result};
 use pdb_output::Output;
