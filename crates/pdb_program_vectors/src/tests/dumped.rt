@@ -99,11 +99,10 @@ const LISTED: &[Listed] = &[
         "",
     ),
     (
-        &["frames", "--old", "2", "small.pdb", "--old", "3"],
+        &["frames", "small.pdb"],
         FRAME,
-        "code_start=0x1000 code_size=16 locals_size=4 params_size=8 prolog_size=5 saved_regs_size=12 ty=fpo \
-        has_structured_eh=false has_cpp_eh=false is_function_start=false uses_base_pointer=true\n",
         "",
+        "Unimplemented PDB feature: ancient DBI header",
     ),
     (
         &["frames", "--new", "2", "small.pdb"],
