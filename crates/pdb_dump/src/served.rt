@@ -57,6 +57,6 @@ pub fn serve<I: Read, O: Write, E: Write>(
             let listed = list(alloc, file, command, form, out);
             end(alloc, listed, out, err)
         }
-        Err(fault) => tell(alloc, &fault, err),
+        Err(unread) => tell(alloc, &unread, err),
     }
 }

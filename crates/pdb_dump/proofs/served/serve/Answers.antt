@@ -6,4 +6,4 @@ pub returns-in-Ok : goal.returns-in-Ok
 returns-in-Ok g c = listed c.in-Ok.file.items c.list-listed.new.out c.list-listed.result c.in-Ok.ensures.bytes c.list-listed.ensures c.end.ensures
 
 pub returns-in-Err : goal.returns-in-Err
-returns-in-Err g c = unread c.in-Err.fault c.in-Err.ensures.refused refl c.tell.ensures
+returns-in-Err g c = unread c.in-Err.unread c.in-Err.ensures.refused refl c.tell.ensures
