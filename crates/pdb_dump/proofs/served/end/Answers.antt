@@ -10,9 +10,9 @@ returns-in-Ok g c =
 pub returns-then-is_closed : goal.returns-then-is_closed
 returns-then-is_closed g c =
     ended c.args.listed c.flush.result _ c.args.out.now c.flush.new.self c.args.err.now c.args.err.now 0 c.flush.ensures.bytes c.in-Err.ensures
-    (λ closed. record { is_status = refl; kept = refl }, λ open. absurd (open (c.is_closed.ensures.0 c.if-is_closed.true)))
+    (λ closed. record { is_status = refl; kept = refl }, λ other. absurd (other (c.is_closed.ensures.0 c.if-is_closed.true)))
 
 pub returns-in-Err : goal.returns-in-Err
 returns-in-Err g c =
     ended c.args.listed c.flush.result _ c.args.out.now c.flush.new.self c.args.err.now c.tell.new.err c.tell.result c.flush.ensures.bytes c.in-Err.ensures
-    (λ closed. absurd (false≢true (sym c.if-is_closed.false ∙ c.is_closed.ensures.1 closed)), λ open. c.tell.ensures)
+    (λ closed. absurd (false≢true (sym c.if-is_closed.false ∙ c.is_closed.ensures.1 closed)), λ other. c.tell.ensures)
