@@ -1,18 +1,7 @@
-use Rattle.std.proofs.Common.{◌≡◌, Result, Ok, Err, refl, sym, ap, subst, ◌∙◌}
-use Rattle.pdb_base.specs.declared.error.Error.{Error}
-use Rattle.pdb_dump.specs.Served.{IsClosed}
+use Rattle.std.proofs.Common.{refl, sym, ◌∙◌}
 use Rattle.std.proofs.lemmas.Bool.{false≢true}
 use Rattle.pdb_dump.proofs.DoneLemmas.{ended}
 use Rattle.pdb_dump.proofs.served.end.Goals as goal
-
--- the fault of a result, or another one
-abbrev fault_in : Error → Result (Unit {0}) Error → Error
-fault_in other (Ok done) = other
-fault_in other (Err fault) = fault
-
--- a result has one fault
-one_fault : (first second : Error) (result : Result (Unit {0}) Error) → Err first ≡ result → Err second ≡ result → first ≡ second
-one_fault first second result is also = ap (fault_in first) (is ∙ sym also)
 
 pub returns-in-Ok : goal.returns-in-Ok
 returns-in-Ok g c =
@@ -25,5 +14,5 @@ returns-in-Err g c =
 
 pub returns-in-Err-2 : goal.returns-in-Err-2
 returns-in-Err-2 g c =
-    ended c.args.listed c.flush.result _ c.args.out.now c.flush.new.self c.args.err.now c.tell.new.err c.tell.result c.flush.ensures.bytes c.in-Err-2.ensures
-    (λ closed. absurd (false≢true (sym c.if-is_closed.false ∙ c.is_closed.ensures.1 (subst IsClosed (sym (one_fault c.in-Err.fault c.in-Err-2.fault _ c.in-Err.ensures c.in-Err-2.ensures)) closed))), λ other. c.tell.ensures)
+    ended c.args.listed c.flush.result _ c.args.out.now c.flush.new.self c.args.err.now c.tell.new.err c.tell.result c.flush.ensures.bytes c.in-Err.ensures
+    (λ closed. absurd (false≢true (sym c.if-is_closed.false ∙ c.is_closed.ensures.1 closed)), λ other. c.tell.ensures)
