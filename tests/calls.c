@@ -1,6 +1,6 @@
 // Asks the library for C all that the example pdbq.c doesn't ask, of one program database, and prints each
 // answer on a line: the file's streams, what its stream 1 says, its sections, its addresses and ranges of them,
-// its frames and names, and lists of types in stream 2.
+// its frames and names, lists of types in stream 2, and the status and numbers of each call that is refused.
 //
 // usage: calls FILE
 #include <inttypes.h>
@@ -232,6 +232,142 @@ static void ask_types(void) {
     }
 }
 
+// How a call ended that is to be refused, whatever it is refused with but for memory.
+static void told(const char *what, uint32_t status) {
+    if (status != fault.status) printf("status %" PRIu32 " and fault %" PRIu32 "\n", status, fault.status), exit(3);
+    if (status == PDB_OUT_OF_MEMORY) fprintf(stderr, "OutOfMemory\n"), exit(1);
+    printf("told %s %" PRIu32 " %" PRIu32 " %" PRIu32 "\n", what, status, fault.first, fault.second);
+}
+
+// Each call over a whole file.
+static void ask_whole(const char *what, const uint8_t *bytes, size_t bytes_length) {
+    pdb_handle handle = {0};
+    pdb_information said;
+    pdb_named_stream rows[64];
+    pdb_roles roles;
+    size_t count = 0;
+    char front[64];
+#define TOLD(name, status) (snprintf(front, sizeof front, "%s %s", what, name), told(front, status), pdb_close(&handle))
+    TOLD("open", pdb_file_open(bytes, bytes_length, &handle, &fault));
+    TOLD("information", pdb_file_information(bytes, bytes_length, &said, &fault));
+    TOLD("stream names", pdb_file_stream_names(bytes, bytes_length, rows, 64, &count, text, ROOM, &length, &fault));
+    TOLD("named stream", pdb_file_named_stream(bytes, bytes_length, (const uint8_t *)"/names", 6, text, ROOM, &length, &fault));
+    TOLD("roles", pdb_file_roles(bytes, bytes_length, &roles, &fault));
+    TOLD("names", pdb_file_names(bytes, bytes_length, &handle, &fault));
+    TOLD("addresses", pdb_file_addresses(bytes, bytes_length, &handle, &fault));
+    TOLD("frames", pdb_file_frames(bytes, bytes_length, &handle, &fault));
+#undef TOLD
+}
+
+// A file that is cut, one with a bad page size, one without the name `/names`, and streams and arrays of the good one.
+static void ask_refused_files(void) {
+    pdb_handle opened = {0};
+    uint8_t page_size = file[33], *name = file;
+    ask_whole("cut", file, 4095);
+    file[33] = 3;
+    ask_whole("page size", file, file_length);
+    file[33] = page_size;
+    while (memcmp(name, "/names", 6)) name++;
+    name[2] = 'o';
+    told("no names", pdb_file_names(file, file_length, &opened, &fault));
+    told("no named stream", pdb_file_named_stream(file, file_length, (const uint8_t *)"/names", 6, text, ROOM, &length, &fault));
+    name[2] = 'a';
+    told("name of no stream", pdb_file_named_stream(file, file_length, (const uint8_t *)"nothing", 7, text, ROOM, &length, &fault));
+    told("small named stream", pdb_file_named_stream(file, file_length, (const uint8_t *)"/names", 6, text, 1, &length, &fault));
+    allowed(pdb_file_open(file, file_length, &opened, &fault), PDB_OK);
+    told("no stream", pdb_file_stream(&opened, file, file_length, 99, SIZE_MAX, text, ROOM, &length, &fault));
+    told("no size", pdb_file_stream_size(&opened, 99, &(uint32_t){0}, &fault));
+    pdb_close(&opened);
+}
+
+// Streams that are no tables, and arrays without room.
+static void ask_refused_streams(void) {
+    static const uint8_t names[] = "\xfe\xef\xfe\xef\1\0\0\0\5\0\0\0\0foo", other[12] = {1}, omap[] = "\0\x10\0\0\0\x20\0\0";
+    static const uint8_t header[56] = {0, 0, 0, 0, 55};
+    pdb_handle handle = {0}, map = {0};
+    pdb_section section;
+    pdb_span span;
+    pdb_name place;
+    pdb_table table;
+    size_t count = 0;
+    told("names", pdb_names_open(names, 11, &handle, &fault));
+    told("signature", pdb_names_open(other, 12, &handle, &fault));
+    told("omap", pdb_omap_open(other, 12, &handle, &fault));
+    told("table", pdb_table_open(header, 55, &handle, &fault));
+    told("header", pdb_table_open(header, 56, &handle, &fault));
+    told("positions", pdb_table_positions(header, 56, &(uint32_t){0}, 1, &count, &table, &fault));
+    told("sections", pdb_sections(file, 39, &section, 1, &count, &fault));
+    told("small sections", pdb_sections(file, 80, &section, 1, &count, &fault));
+    allowed(pdb_names_open(names, 17, &handle, &fault), PDB_OK);
+    told("small name", pdb_names_get(&handle, 1, text, 2, &length, &fault));
+    told("no name", pdb_names_get(&handle, 5, text, ROOM, &length, &fault));
+    told("no place", pdb_names_place(&handle, UINT32_MAX, &place, &fault));
+    pdb_close(&handle);
+    allowed(pdb_omap_open(omap, 8, &handle, &fault), PDB_OK);
+    told("small ranges", pdb_omap_ranges(&handle, 0x1000, 0x1010, &span, 0, &length, &fault));
+    pdb_close(&handle);
+    allowed(pdb_file_addresses(file, file_length, &map, &fault), PDB_OK);
+    told("small address ranges", pdb_rva_ranges(&map, 0x1000, 0x1010, &span, 0, &length, &fault));
+    told("small internal ranges", pdb_internal_rva_ranges(&map, 0x1000, 0x1010, &span, 0, &length, &fault));
+    pdb_close(&map);
+}
+
+#define RECORD(bytes) (const uint8_t *)(bytes), sizeof(bytes) - 1
+
+// Records that are refused, and arrays without room for what records hold.
+static void ask_refused_records(void) {
+    pdb_row row;
+    pdb_field field;
+    uint32_t number;
+    size_t count = 0;
+    told("cut row", pdb_type_row(RECORD("\2"), 0x1000, &row, &fault));
+    told("kind of row", pdb_type_row(RECORD("\x1d\x15"), 0x1000, &row, &fault));
+    told("pointer", pdb_type_row(RECORD("\2\x10\x74\0\0\0\xac\0\0\0"), 0x1000, &row, &fault));
+    told("prefix", pdb_type_row(RECORD("\x0d\x15\2\1\x1d\x10\0\0\5\x80"), 0x1000, &row, &fault));
+    told("primitive", pdb_type_row(RECORD(""), 0x874, &row, &fault));
+    told("cut name", pdb_type_name(RECORD("\x0d\x15\2\1\x1d\x10\0\0\5\0A"), 0x1000, text, ROOM, &length, &fault));
+    told("small name of a type", pdb_type_name(RECORD("\x0d\x15\2\1\x1d\x10\0\0\5\0AB\0"), 0x1000, text, 1, &length, &fault));
+    told("false count", pdb_type_arguments(RECORD("\1\x12\xff\xff\xff\xff\x74\0\0\0"), 0x1000, &number, 1, &length, &fault));
+    told("small arguments", pdb_type_arguments(RECORD("\1\x12\2\0\0\0\x74\0\0\0\x75\0\0\0"), 0x1000, &number, 1, &length, &fault));
+    told("array", pdb_type_dimensions(RECORD("\3\x15\x77\x13\0\0\x23\0\0\0\x40\0\0\xf3"), 0x1000, &number, 1, &length, &fault));
+    told("small dimensions", pdb_type_dimensions(RECORD("\3\x15\x77\x13\0\0\x23\0\0\0\x10\0\x40\0\0"), 0x1000, &number, 1, &length, &fault));
+    told("cut method", pdb_type_methods(RECORD("\6\x12\3"), 0x1000, &row, 1, &length, &fault));
+    told("small methods", pdb_type_methods(RECORD("\6\x12\3\0\0\0\x31\x10\0\0"), 0x1000, &row, 0, &length, &fault));
+    told("cut unique name", pdb_type_unique_name(RECORD("\6\x15\1\0\0\2\0\0\0\0\1\0U\0u"), 0x1000, text, ROOM, &length, &fault));
+    told("small unique name", pdb_type_unique_name(RECORD("\6\x15\1\0\0\2\0\0\0\0\1\0U\0uv\0"), 0x1000, text, 1, &length, &fault));
+    told("cut field", pdb_type_fields(RECORD("\3\x12\2"), 0x1000, &field, 1, &count, text, ROOM, &length, &fault));
+    told("list in a list", pdb_type_fields(RECORD("\3\x12\3\x12"), 0x1000, &field, 1, &count, text, ROOM, &length, &fault));
+    told("small fields", pdb_type_fields(RECORD("\3\x12\2\x15\3\0\0\0A\0"), 0x1000, &field, 0, &count, text, ROOM, &length, &fault));
+    told("small names of fields", pdb_type_fields(RECORD("\3\x12\2\x15\3\0\0\0AB\0"), 0x1000, &field, 1, &count, text, 1, &length, &fault));
+    told("cut id", pdb_id_row(RECORD("\7\x16\0\x10\0\0"), &row, &fault));
+    told("kind of id", pdb_id_row(RECORD("\x08\x16"), &row, &fault));
+    told("small name of an id", pdb_id_name(RECORD("\1\x16\0\0\0\0\2\x10\0\0fg\0"), text, 1, &length, &fault));
+    told("cut name of an id", pdb_id_name(RECORD("\1\x16\0\0\0\0\2\x10\0\0f"), text, ROOM, &length, &fault));
+    told("false count of ids", pdb_id_list(RECORD("\3\x16\xff\xff\1\x10\0\0"), &number, 1, &length, &fault));
+    told("small list of ids", pdb_id_list(RECORD("\3\x16\2\0\1\x10\0\0\2\x10\0\0"), &number, 1, &length, &fault));
+}
+
+// Look-ups in the table of types that are refused, and texts of faults.
+static void ask_refused_table(void) {
+    static uint8_t stream[ROOM];
+    pdb_handle opened = {0}, table = {0};
+    pdb_record record;
+    pdb_field field;
+    size_t count = 0, stream_length = 0;
+    allowed(pdb_file_open(file, file_length, &opened, &fault), PDB_OK);
+    uint32_t status = pdb_file_stream(&opened, file, file_length, TYPES, SIZE_MAX, stream, ROOM, &stream_length, &fault);
+    pdb_close(&opened);
+    allowed(status, PDB_OK);
+    allowed(pdb_table_open(stream, stream_length, &table, &fault), PDB_OK);
+    told("no type", pdb_table_find(&table, UINT32_MAX, &record, &fault));
+    told("fields of an integer", pdb_fields(&table, 0x74, &field, 1, &count, text, ROOM, &length, &fault));
+    told("fields of an array", pdb_fields(&table, 0x1001, &field, 1, &count, text, ROOM, &length, &fault));
+    told("fields of no type", pdb_fields(&table, 0x2000, &field, 1, &count, text, ROOM, &length, &fault));
+    pdb_close(&table);
+    told("small text", pdb_error_text(&(pdb_fault){PDB_UNEXPECTED_EOF, 0, 0}, text, 1, &length, &fault));
+    told("no text", pdb_error_text(&(pdb_fault){PDB_NOWHERE, 0, 0}, text, ROOM, &length, &fault));
+}
+
 int main(int count, char **words) {
     if (count != 2) return 2;
     read_file(words[1]);
@@ -245,6 +381,10 @@ int main(int count, char **words) {
     ask_frames();
     ask_names();
     ask_types();
+    ask_refused_files();
+    ask_refused_streams();
+    ask_refused_records();
+    ask_refused_table();
     free(file);
     return 0;
 }

@@ -10,10 +10,10 @@ use Rattle.pdb_container.specs.Reply.{ReplyValue, IsReply, AreReplies, reply_of}
 use Rattle.pdb_base.specs.Answer.{Answer, RefusesUnless}
 use Rattle.pdb_base.specs.declared.error.Error.{Error}
 use Rattle.pdb_msf.specs.Header.{Head}
-use Rattle.pdb_rows.specs.Written.{Writes, done_of}
+use Rattle.pdb_output.specs.Output.{OutputState, Writes, done_of}
 use Rattle.pdb_rows.specs.declared.form.Form.{Form}
 use Rattle.pdb_asking.specs.Answers.{answered_text, answers_text, are_answers, is_answer, next_reply}
-use Rattle.pdb_asking.specs.Asked.{AreAnswered, AreLinesOf, IsAnsweredThen, IsAsked, front}
+use Rattle.pdb_asking.specs.Asked.{AreAnswered, AreLinesOf, IsAnsweredThen, IsAsked}
 use Rattle.pdb_asking.specs.Questions.{Asking, asked, asking, queries_in}
 use Rattle.pdb_asking.specs.declared.question.Question.{Question}
 
@@ -89,10 +89,10 @@ unfolding are_answers
 all_end questions i left all over = rw (drop_all i questions over) refl
 
 -- what was written is what was asked
-pub asked_by : (form : Form) (file questions lines : List ℕ) (all : Bool) (old new : Option (List ℕ)) (result : Result Bool Error) → AreLinesOf form file questions lines all
+pub asked_by : (form : Form) (file questions lines : List ℕ) (all : Bool) (old new : OutputState) (result : Result Bool Error) → AreLinesOf form file questions lines all
     → Writes lines old new (done_of result) → IfOk result (λ told. told ≡ all) → IsAsked form file questions old new result
 asked_by form file questions lines all old new (Ok told) are writes is = (lines, rw is are, writes)
-asked_by form file questions lines all old new (Err e) are (cut, part) is = inr (cut, front lines all are part)
+asked_by form file questions lines all old new (Err e) are cut is = inr (inr (lines, all, are, cut))
 
 -- ---- lists
 

@@ -1,14 +1,14 @@
 -- What is written when a file is asked questions.
 use Rattle.std.specs.Prelude.{◌≡◌, ◌⊎◌, ◌&&◌, ℕ, Bool, true, false, List, [], ◌∷◌, ◌++◌, Option, Some, None, Result, Ok, Err}
-use Rattle.std.specs.Io.KnownBytes.{Appends, Keeps}
 use Rattle.pdb_base.specs.declared.error.Error.{Error}
+use Rattle.pdb_base.specs.declared.error.Error.TheVariants.{OutOfMemory}
 use Rattle.pdb_base.specs.Refusal.{refusal_of}
 use Rattle.pdb_container.specs.declared.query.Query.{Query}
 use Rattle.pdb_container.specs.declared.query.Reply.{Reply}
 use Rattle.pdb_container.specs.Reply.{IsReply, reply_of}
 use Rattle.pdb_msf.specs.Header.{Head, opened}
 use Rattle.pdb_rows.specs.declared.form.Form.{Form}
-use Rattle.pdb_rows.specs.Written.{IsOutputFailure, IsPrefix}
+use Rattle.pdb_output.specs.Output.{OutputState, Gets, IsCutShort}
 use Rattle.pdb_asking.specs.Answers.{answered_text, is_answer}
 use Rattle.pdb_asking.specs.Questions.{Asking, questions_in}
 
@@ -41,13 +41,11 @@ pub record AreLinesOf (form : Form) (file questions : List ℕ) (lines : List �
   pub is_head : opened file ≡ Ok head
   pub are_answered : AreAnswered form file head (questions_in questions) lines all
 
--- nothing was written, or a front of the lines of all answers
-pub data IsPart (form : Form) (file questions : List ℕ) (old new : Option (List ℕ)) : Type 0 where
-  nothing : Keeps old new → IsPart form file questions old new
-  front : (lines : List ℕ) (all : Bool) → AreLinesOf form file questions lines all → IsPrefix lines old new → IsPart form file questions old new
-
 -- A file was asked the questions in a text: the lines of all answers were written, and the result is
--- whether all are answered. Or the file is refused, and nothing was written; or the lines were cut short.
-abbrev pub IsAsked : Form → List ℕ → List ℕ → Option (List ℕ) → Option (List ℕ) → Result Bool Error → Type 0
-IsAsked form file questions old new (Ok all) = (lines : List ℕ) × AreLinesOf form file questions lines all × Appends old new lines
-IsAsked form file questions old new (Err e) = ((opened file ≡ Err (refusal_of e)) × Keeps old new) ⊎ (IsOutputFailure e × IsPart form file questions old new)
+-- whether all are answered. Or the file is refused, or memory was refused before the first line, and
+-- nothing was written; or the lines were cut short.
+abbrev pub IsAsked : Form → List ℕ → List ℕ → OutputState → OutputState → Result Bool Error → Type 0
+IsAsked form file questions old new (Ok all) = (lines : List ℕ) × AreLinesOf form file questions lines all × Gets old new lines
+IsAsked form file questions old new (Err e) =
+    ((opened file ≡ Err (refusal_of e)) × (new ≡ old))
+    ⊎ (((e ≡ OutOfMemory) × (new ≡ old)) ⊎ ((lines : List ℕ) × (all : Bool) × AreLinesOf form file questions lines all × IsCutShort lines old new e))

@@ -11,14 +11,15 @@ ghost use Rattle.pdb_rows.specs.Lines.{row_text};
 ghost use Rattle.pdb_rows.specs.Row.{field_shown, row_shown, value_shown};
 ghost use Rattle.pdb_rows.specs.Refused.{refusal_shown, refusal_text};
 ghost use Rattle.pdb_rows.specs.Row.{text as shown_text};
-ghost use Rattle.pdb_rows.specs.Written.{Writes};
+ghost use Rattle.pdb_output.specs.Output.{Writes};
 ghost use Rattle.pdb_cli.specs.Lines.{reply_lines};
 ghost use Rattle.pdb_asking.specs.Answers.{answer_text, answered_text, bytes_shown, is_answer, json_text, name_field, no_query, question_shown, range_shown, record_shown, reply_text, unasked_shown};
 
 use pdb_base::RawString;
 use pdb_cli::reply_lines;
 use pdb_container::{Error, Reply, Result};
-use pdb_rows::{Field, Form, Row, Value, error_field, error_text, field, write_bytes, write_row};
+use pdb_output::Output;
+use pdb_rows::{Field, Form, Row, Value, error_field, error_text, field, write_row};
 use std::alloc::Global;
 use std::io::Write;
 use std::ops::Range;
@@ -80,45 +81,48 @@ fn range_row<'t>(alloc: Global, range: &Range<u32>) -> Result<Row<'t>>
 }
 
 /// Writes a row of one field.
+#[tactic(auto)]
 fn write_field<W: Write>(
     alloc: Global,
     form: Form,
     field: Field<'_>,
     line: &mut Vec<u8>,
-    out: &mut W,
+    out: &mut Output<W>,
 ) -> Result<()>
-    ensures { Writes (row_text form (field_shown field.entry ∷ [])) (W.contents out.old) (W.contents out.new) result }
+    ensures { Writes (row_text form (field_shown field.entry ∷ [])) out.old out.new result }
 {
     let row = row_of(alloc, field)?;
     write_row(form, &row, line, out)
 }
 
 /// Writes a record as a line of JSON.
+#[tactic(auto)]
 fn write_record<W: Write>(
     alloc: Global,
     index: u32,
     leaf: u16,
     name: Option<&[u8]>,
     line: &mut Vec<u8>,
-    out: &mut W,
+    out: &mut Output<W>,
 ) -> Result<()>
     ensures { Writes (row_text Form.Json (record_shown index leaf (option_map (λ name. name.now) name.entry)))
-        (W.contents out.old) (W.contents out.new) result }
+        out.old out.new result }
 {
     let row = record_row(alloc, index, leaf, name)?;
     write_row(Form::Json, &row, line, out)
 }
 
 /// Writes why there is no answer.
+#[tactic(auto)]
 fn write_refused<W: Write>(
     alloc: Global,
     form: Form,
     error: &Error,
     line: &mut Vec<u8>,
-    out: &mut W,
+    out: &mut Output<W>,
 ) -> Result<()>
     ensures { Writes (row_text form (refusal_shown (refusal_of error.now) ∷ []))
-        (W.contents out.old) (W.contents out.new) result }
+        out.old out.new result }
 {
     let text = error_text(alloc, error)?;
     write_field(alloc, form, error_field(&text), line, out)
@@ -134,13 +138,14 @@ fn hexadecimal(alloc: Global, bytes: &[u8]) -> Result<String>
 }
 
 /// Writes the bytes of a stream as a line of JSON, in hexadecimal digits.
+#[tactic(auto)]
 fn write_stream<W: Write>(
     alloc: Global,
     stream: &[u8],
     line: &mut Vec<u8>,
-    out: &mut W,
+    out: &mut Output<W>,
 ) -> Result<()>
-    ensures { Writes (row_text Form.Json (bytes_shown stream.now)) (W.contents out.old) (W.contents out.new) result }
+    ensures { Writes (row_text Form.Json (bytes_shown stream.now)) out.old out.new result }
 {
     let digits = hexadecimal(alloc, stream)?;
     let field = text_field("bytes", digits.as_bytes());
@@ -152,11 +157,11 @@ fn write_names<W: Write>(
     alloc: Global,
     names: &[Option<Vec<u8>>],
     line: &mut Vec<u8>,
-    out: &mut W,
+    out: &mut Output<W>,
 ) -> Result<()>
     ensures { Writes (flat_map (λ name.
         row_text Form.Json (name_field (option_map (λ copy. copy.items) name) ∷ [])) names.now)
-        (W.contents out.old) (W.contents out.new) result }
+        out.old out.new result }
 {
     for name in names {
         let row = row_of(alloc, name_field(name.as_deref()))?;
@@ -170,10 +175,10 @@ fn write_ranges<W: Write>(
     alloc: Global,
     ranges: &[Range<u32>],
     line: &mut Vec<u8>,
-    out: &mut W,
+    out: &mut Output<W>,
 ) -> Result<()>
     ensures { Writes (flat_map (λ range. row_text Form.Json (range_shown range)) ranges.now)
-        (W.contents out.old) (W.contents out.new) result }
+        out.old out.new result }
 {
     for range in ranges {
         let row = range_row(alloc, range)?;
@@ -183,8 +188,13 @@ fn write_ranges<W: Write>(
 }
 
 /// Writes a reply as lines of JSON.
-fn write_json<W: Write>(alloc: Global, reply: &Reply, line: &mut Vec<u8>, out: &mut W) -> Result<()>
-    ensures { Writes (json_text reply.now) (W.contents out.old) (W.contents out.new) result }
+fn write_json<W: Write>(
+    alloc: Global,
+    reply: &Reply,
+    line: &mut Vec<u8>,
+    out: &mut Output<W>,
+) -> Result<()>
+    ensures { Writes (json_text reply.now) out.old out.new result }
 {
     match reply {
         Reply::Bytes(stream) => write_stream(alloc, stream, line, out),
@@ -199,12 +209,12 @@ fn write_json<W: Write>(alloc: Global, reply: &Reply, line: &mut Vec<u8>, out: &
 }
 
 /// Writes the lines that the program `pdbq` prints for a reply.
-fn write_lines<W: Write>(alloc: Global, reply: &Reply, out: &mut W) -> Result<()>
-    ensures { Writes (reply_lines reply.now) (W.contents out.old) (W.contents out.new) result }
+#[tactic(auto)]
+fn write_lines<W: Write>(alloc: Global, reply: &Reply, out: &mut Output<W>) -> Result<()>
+    ensures { Writes (reply_lines reply.now) out.old out.new result }
 {
     let lines = reply_lines(alloc, reply)?;
-    write_bytes(&lines, out)?;
-    Ok(())
+    out.write(&lines)
 }
 
 /// Writes the lines of a reply.
@@ -214,9 +224,9 @@ fn write_reply<W: Write>(
     form: Form,
     reply: &Reply,
     line: &mut Vec<u8>,
-    out: &mut W,
+    out: &mut Output<W>,
 ) -> Result<()>
-    ensures { Writes (reply_text form reply.now) (W.contents out.old) (W.contents out.new) result }
+    ensures { Writes (reply_text form reply.now) out.old out.new result }
 {
     match (form, reply) {
         (_, Reply::Refused(error)) => write_refused(alloc, form, error, line, out),
@@ -238,9 +248,9 @@ fn write_answer<W: Write>(
     form: Form,
     reply: Option<&Reply>,
     line: &mut Vec<u8>,
-    out: &mut W,
+    out: &mut Output<W>,
 ) -> Result<()>
-    ensures { Writes (answer_text form (option_copied reply.entry)) (W.contents out.old) (W.contents out.new) result }
+    ensures { Writes (answer_text form (option_copied reply.entry)) out.old out.new result }
 {
     match reply {
         Some(reply) => write_reply(alloc, form, reply, line, out),
@@ -266,10 +276,10 @@ pub(crate) fn write_answered<W: Write>(
     question: &[u8],
     reply: Option<&Reply>,
     line: &mut Vec<u8>,
-    out: &mut W,
+    out: &mut Output<W>,
 ) -> Result<()>
     ensures { Writes (answered_text form question.now (option_copied reply.entry))
-        (W.contents out.old) (W.contents out.new) result }
+        out.old out.new result }
 {
     write_field(alloc, form, text_field("question", question), line, out)?;
     write_answer(alloc, form, reply, line, out)

@@ -6,11 +6,12 @@ ghost use Rattle.pdb_asking.specs.Asked.{IsAsked};
 ghost use Rattle.pdb_asking.specs.Questions.{asked, queries_in};
 ghost use Rattle.std.specs.Option.{option_copied};
 ghost use Rattle.pdb_base.specs.Memory.{FailsOnlyForMemory};
-ghost use Rattle.pdb_rows.specs.Written.{Writes, done_of};
+ghost use Rattle.pdb_output.specs.Output.{Writes, done_of};
 
 use crate::answer::{is_answered_too, write_answered};
 use crate::question::{Question, questions_in};
 use pdb_container::{Error, Query, Reply, Result, run};
+use pdb_output::Output;
 use pdb_rows::Form;
 use std::alloc::Global;
 use std::io::Write;
@@ -48,10 +49,10 @@ fn write_answers<W: Write>(
     form: Form,
     questions: &[Question<'_>],
     replies: &[Reply],
-    out: &mut W,
+    out: &mut Output<W>,
 ) -> Result<bool>
     ensures lines { Writes (answers_text form (map asked questions.now) replies.now)
-        (W.contents out.old) (W.contents out.new) (done_of result) }
+        out.old out.new (done_of result) }
     ensures all { IfOk result (λ all. all ≡ are_answers (map asked questions.now) replies.now) }
 {
     let mut line = Vec::new(alloc);
@@ -82,9 +83,9 @@ pub fn ask<W: Write>(
     file: Vec<u8>,
     text: &[u8],
     form: Form,
-    out: &mut W,
+    out: &mut Output<W>,
 ) -> Result<bool>
-    ensures { IsAsked form file.items text.now (W.contents out.old) (W.contents out.new) result }
+    ensures { IsAsked form file.items text.now out.old out.new result }
 {
     let questions = questions_in(alloc, text)?;
     let queries = queries_in(alloc, &questions)?;

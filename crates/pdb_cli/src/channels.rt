@@ -1,13 +1,14 @@
 //! The program between its channels: what it reads, what it writes, and how it ends.
 
 ghost use Rattle.std.specs.Prelude.{◌≡◌, [], map, string_bytes, IfOk, IfErr, OnErr};
-ghost use Rattle.pdb_cli.specs.Channels.{IsFault, IsServed, IsShownOf, IsShownOfCall, IsTold, IsWritten};
+ghost use Rattle.pdb_cli.specs.Channels.{IsCut, IsFault, IsServed, IsShownOf, IsShownOfCall, IsTold, IsWritten};
 
 use crate::arguments::{texts_of, words_of};
 use crate::input::read_all;
 use crate::outcome::{Outcome, act, usage};
 use crate::refusal::error_line;
 use pdb_container::{Error, Result};
+use pdb_output::Output;
 use std::alloc::Global;
 use std::env::Args;
 use std::io;
@@ -15,15 +16,6 @@ use std::io::{ErrorKind, Read, Write};
 
 /// The line that is written if there is no memory for another.
 const NO_MEMORY: &[u8] = b"OutOfMemory\n";
-
-/// How the program ended.
-#[derive(Debug, Drop)]
-pub struct Ended {
-    /// The exit status: 0 answered, 1 refused, 2 bad words.
-    pub status: u8,
-    /// Whether the error channel took all that it was given.
-    pub told: io::Result<()>,
-}
 
 /// Returns the outcome of what the words after the program's name ask of the file in an input.
 /// Without words nothing is read.
@@ -64,52 +56,55 @@ fn attempt<I: Read>(alloc: Global, arguments: io::Result<Args>, input: &mut I) -
     }
 }
 
-/// Writes an outcome, each part to its channel.
+/// Writes an outcome, each part to its output, flushes standard output, and returns the status.
 ///
 /// # Errors
-/// Fails if the output can't be written, a part of which may then stand.
-fn show<O: Write, E: Write>(outcome: &Outcome, out: &mut O, err: &mut E) -> io::Result<Ended>
-    ensures ok { IfOk result
-        (IsWritten outcome.now (O.contents out.old) (O.contents out.new) (E.contents err.old) (E.contents err.new)) }
+/// Fails if standard output fails, which may then have got a prefix of its part.
+fn show<O: Write, E: Write>(
+    outcome: &Outcome,
+    out: &mut Output<O>,
+    err: &mut Output<E>,
+) -> Result<u8>
+    ensures ok { IfOk result (IsWritten outcome.now out.old out.new err.old err.new) }
+    ensures cut { IfErr result (IsCut outcome.now out.old out.new) }
     ensures err { OnErr result (err.new ≡ err.old) }
 {
-    out.write_all(&outcome.out)?;
-    Ok(Ended {
-        status: outcome.status,
-        told: err.write_all(&outcome.err),
-    })
+    out.write(&outcome.out)?;
+    out.flush()?;
+    err.report(&outcome.err);
+    Ok(outcome.status)
 }
 
-/// Writes the line of a fault to the error channel, or `OutOfMemory` if there is no memory for that
-/// line. The status is 1.
-pub fn tell<E: Write>(alloc: Global, fault: &Error, err: &mut E) -> Ended
-    ensures { IsTold fault.now (E.contents err.old) (E.contents err.new) result }
+/// Writes the line of a fault to standard error, or `OutOfMemory` if there is no memory for that
+/// line. Returns the status, which is 1.
+pub fn tell<E: Write>(alloc: Global, fault: &Error, err: &mut Output<E>) -> u8
+    ensures { IsTold fault.now err.old err.new result }
 {
-    let told = match error_line(alloc, fault) {
-        Ok(line) => err.write_all(&line),
-        Err(_) => err.write_all(NO_MEMORY),
-    };
-    Ended { status: 1, told }
+    match error_line(alloc, fault) {
+        Ok(line) => err.report(&line),
+        Err(_) => err.report(NO_MEMORY),
+    }
+    1
 }
 
 /// Serves one call of the program: reads the input if there are words after the program's name,
-/// asks the file in it what they ask, and writes the answer, or why there is none.
+/// asks the file in it what they ask, writes the answer, or why there is none, and returns the exit
+/// status: 0 if the query was answered, 1 if something failed, 2 for bad words.
 pub fn serve<I: Read, O: Write, E: Write>(
     alloc: Global,
     arguments: io::Result<Args>,
     input: &mut I,
-    out: &mut O,
-    err: &mut E,
-) -> Ended
-    ensures { IsServed arguments (I.remaining input.old) (O.contents out.old) (O.contents out.new)
-        (E.contents err.old) (E.contents err.new) result }
+    out: &mut Output<O>,
+    err: &mut Output<E>,
+) -> u8
+    ensures { IsServed arguments (I.remaining input.old) out.old out.new err.old err.new result }
 {
     let outcome = match attempt(alloc, arguments, input) {
         Ok(outcome) => outcome,
         Err(fault) => return tell(alloc, &fault, err),
     };
     match show(&outcome, out, err) {
-        Ok(ended) => ended,
-        Err(fault) => tell(alloc, &Error::from(fault), err),
+        Ok(status) => status,
+        Err(fault) => tell(alloc, &fault, err),
     }
 }

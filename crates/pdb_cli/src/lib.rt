@@ -12,7 +12,7 @@ mod refusal;
 mod words;
 
 pub use arguments::{texts_of, words_of};
-pub use channels::{Ended, serve, tell};
+pub use channels::{serve, tell};
 pub use input::{read_all, read_within};
 pub use lines::reply_lines;
 pub use outcome::{Outcome, act, usage};

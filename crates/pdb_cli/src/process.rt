@@ -1,6 +1,7 @@
 //! The program on the channels of its process.
 
 use crate::channels::serve;
+use pdb_output::Output;
 use std::io::{ErrorKind, Write};
 use std::rt::Env;
 use std::{env, io};
@@ -31,12 +32,11 @@ impl<P: Eprint> Write for Errors<'_, P> {
 /// Runs the program with the words, the input and the two outputs of its process, and returns the
 /// status that it ends with.
 pub fn program<P: Env + Input + Print + Eprint + AllocGlobal>(process: &P) -> u8 {
-    let ended = serve(
+    serve(
         process.alloc(),
         env::args(process),
         &mut process.reader(),
-        &mut io::writer(process),
-        &mut Errors { process },
-    );
-    ended.status
+        &mut Output::new(io::writer(process)),
+        &mut Output::new(Errors { process }),
+    )
 }

@@ -1,26 +1,25 @@
--- Why nothing was listed.
-use Rattle.std.proofs.Common.{◌≡◌, [], ◌⊎◌, inl, inr, None, Ok, Err, ap}
+-- Why nothing was listed, and how the program ends.
+use Rattle.std.proofs.Common.{◌≡◌, ◌⊎◌, ℕ, inl, inr, true, refl, subst, Result, Err}
+use Rattle.std.specs.Result.{result_and}
+use Rattle.std.specs.Prelude.{IsTrue}
 use Rattle.pdb_base.specs.declared.error.Error.{Error}
 use Rattle.pdb_base.specs.declared.error.Error.TheVariants.{OutOfMemory}
 use Rattle.pdb_base.specs.Answer.{Answer, RefusesUnless}
-use Rattle.pdb_base.specs.Refusal.{Refusal, refusal_of}
-use Rattle.pdb_base.proofs.lemmas.Collected.{err, err_is, ok_is_no_err}
-use Rattle.pdb_rows.specs.Written.{IsOutputFailure}
-use Rattle.pdb_tables.specs.Listing.{whole}
-use Rattle.pdb_tables.proofs.ListedLemmas.{refused_listed}
+use Rattle.pdb_base.specs.Refusal.{refusal_of}
+use Rattle.pdb_output.specs.Output.{OutputState, Flushes}
+use Rattle.pdb_dump.specs.Served.{Ends, IsEnded}
 
--- the refusal that is meant, or a fault of a channel or want of memory
-pub told_or_cut : {A failed : Type 0} (meant : Answer A) (e : Error) → RefusesUnless failed e meant → (meant ≡ Err (refusal_of e)) ⊎ IsOutputFailure e
-told_or_cut {A} (Ok x) e refuses = elim (refused_listed (λ (value : A). whole []) (Ok x) e None refuses) [
-  | inl told ↦ absurd (ok_is_no_err (tt {0}) (refusal_of e) told.0)
-  | inr cut ↦ inr cut.0
-]
-told_or_cut {A} (Err fault) e refuses = elim (refused_listed (λ (value : A). whole []) (Err fault) e None refuses) [
-  | inl told ↦ inl (ap (λ (f : Refusal). err {A = A} f) (err_is {A = Unit {0}} fault (refusal_of e) told.0))
-  | inr cut ↦ inr cut.0
-]
+-- the refusal that is meant, or memory was refused: a file in memory meets no other fault
+pub refused_or_lacking : {A : Type 0} (meant : Answer A) (e : Error) → RefusesUnless (¬ IsTrue true) e meant → (meant ≡ Err (refusal_of e)) ⊎ (e ≡ OutOfMemory)
+refused_or_lacking meant e (inl is) = inl is
+refused_or_lacking meant e (inr (inl want)) = inr want
+refused_or_lacking meant e (inr (inr other)) = absurd (other.1 refl)
 
--- the same where no channel was used
-pub told_or_want : {A : Type 0} (meant : Answer A) (e : Error) → (meant ≡ Err (refusal_of e)) ⊎ (e ≡ OutOfMemory) → (meant ≡ Err (refusal_of e)) ⊎ IsOutputFailure e
-told_or_want meant e (inl told) = inl told
-told_or_want meant e (inr want) = told_or_cut {failed = ⊥} meant e (inr (inl want))
+-- how a program ends, as the first fault of a listing and the flush behind it says
+pub ended : (listed flushed result : Result (Unit {0}) Error) (written out' err err' : OutputState) (status : ℕ) → Flushes written out' flushed → result ≡ result_and listed flushed → Ends result err err' status
+    → IsEnded listed written out' err err' status
+ended listed flushed result written out' err err' status flushes is ends = record {
+  flushed = flushed;
+  flushes = flushes;
+  ends = subst (λ (r : Result (Unit {0}) Error). Ends r err err' status) is ends;
+}

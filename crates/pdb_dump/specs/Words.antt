@@ -1,16 +1,20 @@
--- The words that the program takes.
-use Rattle.std.specs.Prelude.{ℕ, not, filter, if◌then◌else◌, List, [], ◌∷◌, codes, Option, Some, None, option_and_then, Result, Ok, Err}
-use Rattle.std.specs.Option.{option_map, option_map_or}
+-- The words that the program takes: `COMMAND [OPTION].. FILE [OPERAND]`, or `FILE` alone.
+use Rattle.std.specs.Prelude.{ℕ, Bool, false, ◌&&◌, nat_eq, not, filter, if◌then◌else◌, List, [], ◌∷◌, codes, Option, Some, None, option_and_then, Result, Ok, Err}
+use Rattle.std.specs.List.{starts_with}
+use Rattle.std.specs.Option.{is_none, option_map, option_map_or}
 use Rattle.pdb_cli.specs.Words.{number_of, same}
 use Rattle.pdb_mapping.specs.declared.given.MapStreams.{MapStreams}
-use Rattle.pdb_dump.specs.declared.words.Verb.{Verb}
-use Rattle.pdb_dump.specs.declared.words.Verb.TheVariants as verbs
-use Rattle.pdb_dump.specs.declared.words.Command.{Command}
-use Rattle.pdb_dump.specs.declared.words.Command.TheVariants as commands
-use Rattle.pdb_dump.specs.declared.words.Task.{Task}
-use Rattle.pdb_dump.specs.declared.words.Task.TheVariants as tasks
-use Rattle.pdb_dump.specs.declared.words.Misuse.{Misuse}
-use Rattle.pdb_dump.specs.declared.words.Misuse.TheVariants as misuses
+use Rattle.pdb_dump.specs.declared.command.Verb.{Verb}
+use Rattle.pdb_dump.specs.declared.command.Verb.TheVariants as verbs
+use Rattle.pdb_dump.specs.declared.command.Command.{Command}
+use Rattle.pdb_dump.specs.declared.command.Command.TheVariants as commands
+use Rattle.pdb_dump.specs.declared.command.Task.{Task}
+use Rattle.pdb_dump.specs.declared.command.Task.TheVariants as tasks
+use Rattle.pdb_dump.specs.declared.command.Call.{Call}
+use Rattle.pdb_dump.specs.declared.command.Misuse.{Misuse}
+use Rattle.pdb_dump.specs.declared.command.Misuse.TheVariants as misuses
+use Rattle.pdb_dump.specs.declared.words.Options.{Options}
+use Rattle.pdb_dump.specs.declared.words.Arguments.{Arguments}
 
 -- the words other than `--json`
 abbrev pub plain_words : List (List ℕ) → List (List ℕ)
@@ -35,91 +39,161 @@ abbrev pub first_verb : List (List ℕ) → Option Verb
 first_verb [] = None
 first_verb (word ∷ words) = verb_of word
 
--- `[S]`: a stream, which may be left out
-unfoldable pub one_stream : List (List ℕ) → Option (Option ℕ)
-one_stream [] = Some None
-one_stream (stream ∷ []) = option_map (λ s. Some s) (number_of stream)
-one_stream _ = None
+-- ---- options
 
--- `[S] [--index I]`: a stream, and the index of the only record, each of which may be left out
-unfoldable pub records_asked : List (List ℕ) → Option (Option ℕ × Option ℕ)
-records_asked [] = Some (None, None)
-records_asked (stream ∷ []) = option_map (λ s. (Some s, None)) (number_of stream)
-records_asked (word ∷ index ∷ []) = if same word (codes "--index") then option_map (λ i. (None, Some i)) (number_of index) else None
-records_asked (stream ∷ word ∷ index ∷ []) =
-    if same word (codes "--index") then option_and_then (λ s. option_map (λ i. (Some s, Some i)) (number_of index)) (number_of stream) else None
-records_asked _ = None
-
--- `-` stands for an absent stream, and any other word is a stream's number
-unfoldable pub argument_of : List ℕ → Option (Option ℕ)
-argument_of word = if same word (codes "-") then Some None else option_map (λ stream. Some stream) (number_of word)
-
--- `[OLD [NEW]]`: the file's own frames, or those of the streams that are given
-unfoldable pub frames_asked : List (List ℕ) → Option Command
-frames_asked [] = Some commands.Frames
-frames_asked (old ∷ []) = option_map (λ o. commands.FramesIn o None) (argument_of old)
-frames_asked (old ∷ new ∷ []) = option_and_then (λ o. option_map (λ n. commands.FramesIn o n) (argument_of new)) (argument_of old)
-frames_asked _ = None
-
--- the streams of an address map, none of which is given
-abbrev pub no_streams : MapStreams
-no_streams = record { sections = None; transformed = None; to_original = None; to_transformed = None }
-
--- the streams of an address map, with the stream that an option gives added
+-- the streams of an address map, with the one that an option gives; none may be given twice
 abbrev pub with_stream : MapStreams → List ℕ → ℕ → Option MapStreams
 with_stream streams option stream =
-    if same option (codes "--sections") then Some (record streams { sections = Some stream })
-    else if same option (codes "--transformed") then Some (record streams { transformed = Some stream })
-    else if same option (codes "--to") then Some (record streams { to_original = Some stream })
-    else if same option (codes "--from") then Some (record streams { to_transformed = Some stream })
+    if same option (codes "--sections") && is_none streams.sections then Some (record streams { sections = Some stream })
+    else if same option (codes "--transformed") && is_none streams.transformed then Some (record streams { transformed = Some stream })
+    else if same option (codes "--to") && is_none streams.to_original then Some (record streams { to_original = Some stream })
+    else if same option (codes "--from") && is_none streams.to_transformed then Some (record streams { to_transformed = Some stream })
     else None
 
--- `[--sections S] [--transformed S] [--to S] [--from S]`, in any order: the streams of an address map,
--- added to those that are given already. If an option is given twice, the last one counts.
-unfoldable pub streams_asked : MapStreams → List (List ℕ) → Option MapStreams
-streams_asked streams [] = Some streams
-streams_asked streams (word ∷ []) = None
-streams_asked streams (option ∷ stream ∷ words) =
-    option_and_then (λ s. option_and_then (λ more. streams_asked more words) (with_stream streams option s)) (number_of stream)
+-- the options of `types` and `ids`: `--stream S` and `--index I`
+abbrev pub record_option : Options → List ℕ → ℕ → Option Options
+record_option options option value =
+    if same option (codes "--stream") && is_none options.stream then Some (record options { stream = Some value })
+    else if same option (codes "--index") && is_none options.index then Some (record options { index = Some value })
+    else None
 
--- `RVA`, and the streams of an address map
-unfoldable pub map_asked : List (List ℕ) → Option Command
-map_asked [] = None
-map_asked (address ∷ words) = option_and_then (λ a. option_map (λ streams. commands.Map a streams) (streams_asked no_streams words)) (number_of address)
+-- the option of `names`, `sections` and `omap`: `--stream S`
+abbrev pub stream_option : Options → List ℕ → ℕ → Option Options
+stream_option options option value = if same option (codes "--stream") && is_none options.stream then Some (record options { stream = Some value }) else None
 
--- what a command lists, with the words behind it
-abbrev pub listed_by : Verb → List (List ℕ) → Option Command
-listed_by verbs.Summary [] = Some commands.Summary
-listed_by verbs.Summary (word ∷ words) = None
-listed_by verbs.Types words = option_map (λ two. commands.Types two.0 two.1) (records_asked words)
-listed_by verbs.Ids words = option_map (λ two. commands.Ids two.0 two.1) (records_asked words)
-listed_by verbs.Names words = option_map (λ stream. commands.Names stream) (one_stream words)
-listed_by verbs.Sections words = option_map (λ stream. commands.Sections stream) (one_stream words)
-listed_by verbs.Omap words = option_map (λ stream. commands.Omap stream) (one_stream words)
-listed_by verbs.Frames words = frames_asked words
-listed_by verbs.Map words = map_asked words
-listed_by verbs.Ask words = None
+-- the options of `frames`: `--old S` and `--new S`
+abbrev pub frame_option : Options → List ℕ → ℕ → Option Options
+frame_option options option value =
+    if same option (codes "--old") && is_none options.old then Some (record options { old = Some value })
+    else if same option (codes "--new") && is_none options.new then Some (record options { new = Some value })
+    else None
 
--- the task of a command with the words behind it: `ask` takes none
-abbrev pub asked : Verb → List (List ℕ) → Option Task
-asked verbs.Ask [] = Some tasks.Answer
-asked verb words = option_map (λ command. tasks.List command) (listed_by verb words)
+-- the options of a command, with one more
+abbrev pub with_option : Verb → Options → List ℕ → ℕ → Option Options
+with_option verbs.Types options option value = record_option options option value
+with_option verbs.Ids options option value = record_option options option value
+with_option verbs.Names options option value = stream_option options option value
+with_option verbs.Sections options option value = stream_option options option value
+with_option verbs.Omap options option value = stream_option options option value
+with_option verbs.Frames options option value = frame_option options option value
+with_option verbs.Map options option value = option_map (λ streams. record options { map = streams }) (with_stream options.map option value)
+with_option verbs.Summary options option value = None
+with_option verbs.Ask options option value = None
 
--- the task of a command, or that the command doesn't take the words behind it
-abbrev pub taken_by : List (List ℕ) → Verb → Result Task Misuse
-taken_by words verb = option_map_or (λ task. Ok task) (asked verb words) (Err (misuses.Arguments verb))
+-- the options with the one that its name and the number in the word after it give
+unfoldable pub option_given : Verb → Options → List ℕ → List ℕ → Option Options
+option_given verb options option value = option_and_then (λ number. with_option verb options option number) (number_of value)
 
--- the task that the words behind a file form; without words, it is the summary
-unfoldable pub command_of : List (List ℕ) → Result Task Misuse
-command_of [] = Ok (tasks.List commands.Summary)
-command_of (name ∷ words) = option_map_or (taken_by words) (verb_of name) (Err misuses.NoCommand)
+-- ---- arguments
+
+-- what stands behind the name of a command: its options, the path of the file, and what is asked of the file
+pub record Given : Type 0 where
+  pub options : Options
+  pub path : Option (List ℕ)
+  pub operand : Option (List ℕ)
+
+abbrev pub arguments_view : Arguments → Given
+arguments_view arguments = record {
+  options = arguments.options;
+  path = option_map (λ word. word.now) arguments.path;
+  operand = option_map (λ word. word.now) arguments.operand;
+}
+
+-- nothing
+abbrev pub none_given : Given
+none_given = record {
+  options = record {
+    stream = None;
+    index = None;
+    old = None;
+    new = None;
+    map = record { sections = None; transformed = None; to_original = None; to_transformed = None };
+  };
+  path = None;
+  operand = None;
+}
+
+-- with one more word that is no option: first the path, and then what is asked of the file
+abbrev pub operand_behind : Given → List ℕ → Option (List ℕ) → Option (List ℕ) → Option Given
+operand_behind given word None operand = Some (record given { path = Some word })
+operand_behind given word (Some path) None = Some (record given { operand = Some word })
+operand_behind given word (Some path) (Some operand) = None
+
+abbrev pub with_operand : Given → List ℕ → Option Given
+with_operand given word = operand_behind given word given.path given.operand
+
+-- whether a word is the name of an option
+abbrev pub is_option : List ℕ → Bool
+is_option word = starts_with nat_eq word (codes "--")
+
+-- With all these words, in any order: options, each with its number behind it, and the others.
+unfoldable pub arguments_with : Verb → Given → List (List ℕ) → Option Given
+arguments_with verb given [] = Some given
+arguments_with verb given (word ∷ []) = if is_option word then None else with_operand given word
+arguments_with verb given (word ∷ next ∷ words) =
+    if is_option word then option_and_then (λ options. arguments_with verb (record given { options = options }) words) (option_given verb given.options word next)
+    else option_and_then (λ more. arguments_with verb more (next ∷ words)) (with_operand given word)
+
+-- ---- calls
+
+-- the frames of the file's own streams, or of the given ones
+abbrev pub frames_with : Option ℕ → Option ℕ → Command
+frames_with None None = commands.Frames
+frames_with old new = commands.FramesIn old new
+
+-- what a command lists with options and what is asked of the file, which is the address for `map`
+abbrev pub command_with : Verb → Options → Option (List ℕ) → Option Command
+command_with verbs.Map options (Some address) = option_map (λ a. commands.Map a options.map) (number_of address)
+command_with verbs.Map options None = None
+command_with verbs.Summary options None = Some commands.Summary
+command_with verbs.Types options None = Some (commands.Types options.stream options.index)
+command_with verbs.Ids options None = Some (commands.Ids options.stream options.index)
+command_with verbs.Names options None = Some (commands.Names options.stream)
+command_with verbs.Sections options None = Some (commands.Sections options.stream)
+command_with verbs.Omap options None = Some (commands.Omap options.stream)
+command_with verbs.Frames options None = Some (frames_with options.old options.new)
+command_with verb options operand = None
+
+-- the task of a command
+abbrev pub task_with : Verb → Options → Option (List ℕ) → Option Task
+task_with verbs.Ask options None = Some tasks.Answer
+task_with verb options operand = option_map (λ command. tasks.List command) (command_with verb options operand)
+
+-- a task, and the path of the file
+pub record CallValue : Type 0 where
+  pub path : List ℕ
+  pub task : Task
+
+abbrev pub call_view : Call → CallValue
+call_view call = record { path = call.path.now; task = call.task }
+
+-- the call of a command with the words behind its name
+unfoldable pub call_with : Verb → List (List ℕ) → Option CallValue
+call_with verb words =
+    option_and_then (λ given. option_and_then (λ path. option_map (λ task. record { path = path; task = task }) (task_with verb given.options given.operand)) given.path)
+    (arguments_with verb none_given words)
+
+abbrev pub result_view : Result Call Misuse → Result CallValue Misuse
+result_view (Ok call) = Ok (call_view call)
+result_view (Err misuse) = Err misuse
 
 -- If the file is read from standard input, which the path `-` stands for, the questions can't be read
 -- from there.
-abbrev pub unless_twice : List ℕ → Result Task Misuse → Result Task Misuse
-unless_twice path (Ok tasks.Answer) = if same path (codes "-") then Err misuses.InputTwice else Ok tasks.Answer
-unless_twice path task = task
+abbrev pub reads_twice : List ℕ → Task → Bool
+reads_twice path tasks.Answer = same path (codes "-")
+reads_twice path (tasks.List command) = false
 
--- the task that the words behind the file with this path form
-unfoldable pub task_of : List ℕ → List (List ℕ) → Result Task Misuse
-task_of path words = unless_twice path (command_of words)
+abbrev pub unless_twice : CallValue → Result CallValue Misuse
+unless_twice call = if reads_twice call.path call.task then Err misuses.InputTwice else Ok call
+
+-- The call of a word and those behind it: of a command if it is the name of one, and else of the summary of a file
+-- if nothing is behind it.
+abbrev pub call_named : List ℕ → List (List ℕ) → Option Verb → Result CallValue Misuse
+call_named name words (Some verb) = option_map_or unless_twice (call_with verb words) (Err (misuses.Arguments verb))
+call_named name [] None = Ok (record { path = name; task = tasks.List commands.Summary })
+call_named name (word ∷ words) None = Err misuses.NoCommand
+
+-- the call that words form
+unfoldable pub call_of : List (List ℕ) → Result CallValue Misuse
+call_of [] = Err misuses.NoCommand
+call_of (name ∷ words) = call_named name words (verb_of name)

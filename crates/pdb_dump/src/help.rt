@@ -1,40 +1,41 @@
 //! How the program is called.
 
-use crate::words::Verb;
+use crate::command::Verb;
 
 /// How the program is called, with all its commands.
 pub const HELP: &str = "\
-pdbdump FILE [COMMAND ..] [--json]   shows what a program database holds
+pdbdump COMMAND [OPTION].. FILE   shows what a program database holds
+pdbdump FILE                      shows its summary
 
-FILE is a path, or `-` for standard input. Without a command it is summary.
+FILE is a path, or `-` for standard input.
 
-  summary                 its pages, and its streams with their roles and names
-  types [S] [--index I]   each type: its index, kind and name, and what it is made of
-  ids [S] [--index I]     each id
-  names [S]               each name of the string table, with its offset
-  sections [S]            each section header
-  omap [S]                each record of the OMAP tables, and whether they are in order
-  frames [OLD [NEW]]      each frame; a stream that is absent is `-`
-  map RVA [..]            what the address map makes of an address, both ways, with its sections
-  ask                     the answers to questions on standard input, a line each
+  summary                         its pages, and its streams with their roles and names
+  types [--stream S] [--index I]  each type: its index, kind and name, and what it is made of
+  ids [--stream S] [--index I]    each id
+  names [--stream S]              each name of the string table, with its offset
+  sections [--stream S]           each section header
+  omap [--stream S]               each record of the OMAP tables, and whether they are in order
+  frames [--old S] [--new S]      each frame
+  map .. FILE RVA                 what the address map makes of an address, both ways, with its sections
+  ask                             the answers to questions on standard input, a line each
 
-S, OLD and NEW are the numbers of streams, I is an index and RVA an address, in decimal, or in hexadecimal
-after 0x. A stream that isn't given is found by its role. With --index I only that record is shown, in full.
-With --json each line is one object of JSON. `pdbdump COMMAND --help` tells of one command.
+S is the number of a stream, I an index and RVA an address, in decimal, or in hexadecimal after 0x. A stream
+that isn't given is found by its role. With --index only that record is shown, in full. With --json each line
+is one object of JSON. `pdbdump COMMAND --help` tells of one command.
 ";
 
 /// Returns how a command is called.
 pub fn usage_of(verb: Verb) -> &'static str {
     match verb {
-        Verb::Summary => "pdbdump FILE summary",
-        Verb::Types => "pdbdump FILE types [S] [--index I]",
-        Verb::Ids => "pdbdump FILE ids [S] [--index I]",
-        Verb::Names => "pdbdump FILE names [S]",
-        Verb::Sections => "pdbdump FILE sections [S]",
-        Verb::Omap => "pdbdump FILE omap [S]",
-        Verb::Frames => "pdbdump FILE frames [OLD [NEW]]",
-        Verb::Map => { "pdbdump FILE map RVA [--sections S] [--transformed S] [--to S] [--from S]" }
-        Verb::Ask => "pdbdump FILE ask < QUESTIONS",
+        Verb::Summary => "pdbdump summary FILE",
+        Verb::Types => "pdbdump types [--stream S] [--index I] FILE",
+        Verb::Ids => "pdbdump ids [--stream S] [--index I] FILE",
+        Verb::Names => "pdbdump names [--stream S] FILE",
+        Verb::Sections => "pdbdump sections [--stream S] FILE",
+        Verb::Omap => "pdbdump omap [--stream S] FILE",
+        Verb::Frames => "pdbdump frames [--old S] [--new S] FILE",
+        Verb::Map => { "pdbdump map [--sections S] [--transformed S] [--to S] [--from S] FILE RVA" }
+        Verb::Ask => "pdbdump ask FILE < QUESTIONS",
     }
 }
 
@@ -65,8 +66,8 @@ size in memory, its place and size in the file, and its flags by name."
 which it is; and then whether their sources never fall."
         }
         Verb::Frames => {
-            "Each frame, by its start, of the file's own streams, or of stream OLD of the older format and stream NEW
-of the newer, each of which may be `-`."
+            "Each frame, by its start, of the file's own streams. With --old or --new each frame of these streams alone, of
+the older and of the newer format."
         }
         Verb::Map => {
             "What the file's address map makes of RVA, a line for each conversion, whether it finds anything or not:

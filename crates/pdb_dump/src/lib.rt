@@ -3,6 +3,7 @@
 #![tactic(auto)]
 
 mod asking;
+mod command;
 mod help;
 mod listed;
 mod process;
@@ -10,9 +11,8 @@ mod served;
 mod words;
 
 pub use asking::serve_questions;
+pub use command::{Call, Command, Misuse, Task, Verb};
 pub use listed::list;
 pub use process::program;
 pub use served::serve;
-pub use words::{
-    Command, Misuse, Task, Verb, any_is, asked_of_file, first_verb, plain_words, verb_named,
-};
+pub use words::{any_is, call_of, first_verb, plain_words, verb_named};

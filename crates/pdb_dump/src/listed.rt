@@ -3,10 +3,11 @@
 ghost use Rattle.std.specs.Prelude.{◌≡◌, unwrap_or};
 ghost use Rattle.pdb_dump.specs.Listed.{AreIds, AreTypes, Does, DoesIn, IsListedIn};
 
-use crate::words::Command;
+use crate::command::Command;
 use pdb_container::{PDB, Result};
 use pdb_listing::{id_at, ids, type_at, types};
 use pdb_mapping::list_map;
+use pdb_output::Output;
 use pdb_rows::Form;
 use pdb_summary::list_summary;
 use pdb_tables::{list_frames, list_frames_in, list_names, list_omap, list_sections};
@@ -26,10 +27,10 @@ fn list_types<W: Write>(
     number: u32,
     index: Option<u32>,
     form: Form,
-    out: &mut W,
+    out: &mut Output<W>,
 ) -> Result<()>
     ensures { IsListedIn (AreTypes form index) file.source.items file.head number
-        (W.contents out.old) (W.contents out.new) result }
+        out.old out.new result }
 {
     match file.into_msf().into_stream(alloc, number, None) {
         Ok(stream) => match index {
@@ -47,10 +48,10 @@ fn list_ids<W: Write>(
     number: u32,
     index: Option<u32>,
     form: Form,
-    out: &mut W,
+    out: &mut Output<W>,
 ) -> Result<()>
     ensures { IsListedIn (AreIds form index) file.source.items file.head number
-        (W.contents out.old) (W.contents out.new) result }
+        out.old out.new result }
 {
     match file.into_msf().into_stream(alloc, number, None) {
         Ok(stream) => match index {
@@ -67,9 +68,9 @@ fn list_opened<W: Write>(
     mut file: PDB<Vec<u8>>,
     command: Command,
     form: Form,
-    out: &mut W,
+    out: &mut Output<W>,
 ) -> Result<()>
-    ensures { DoesIn form command file.source.items file.head (W.contents out.old) (W.contents out.new) result }
+    ensures { DoesIn form command file.source.items file.head out.old out.new result }
 {
     match command {
         Command::Summary => list_summary(alloc, &mut file, form, out),
@@ -101,9 +102,9 @@ pub fn list<W: Write>(
     file: Vec<u8>,
     command: Command,
     form: Form,
-    out: &mut W,
+    out: &mut Output<W>,
 ) -> Result<()>
-    ensures { Does form command file.items (W.contents out.old) (W.contents out.new) result }
+    ensures { Does form command file.items out.old out.new result }
 {
     match PDB::open(alloc, file) {
         Ok(file) => list_opened(alloc, file, command, form, out),

@@ -1,11 +1,13 @@
 //! The program on the channels of its process.
 
 use crate::asking::serve_questions;
+use crate::command::{Call, Command, Misuse, Task, Verb};
 use crate::help::{HELP, meaning_of, usage_of};
 use crate::served::serve;
-use crate::words::{Command, Misuse, Task, Verb, any_is, asked_of_file, first_verb, plain_words};
-use pdb_cli::{Ended, Errors, tell, texts_of, words_of};
+use crate::words::{any_is, call_of, first_verb, plain_words};
+use pdb_cli::{Errors, tell, texts_of, words_of};
 use pdb_container::{Error, Result};
+use pdb_output::Output;
 use pdb_rows::Form;
 use std::io::{BufWriter, ErrorKind};
 use std::rt::{Env, Files};
@@ -30,7 +32,8 @@ fn print_help<P: Print>(process: &P, words: &[&str]) -> Result<u8> {
     Ok(0)
 }
 
-/// Writes to standard error why words ask nothing of a file, and returns the status of misuse.
+/// Writes to standard error why words ask nothing of a file, and returns the status of misuse, which
+/// is the same if standard error fails.
 fn tell_misuse<P: Eprint + AllocGlobal>(process: &P, misuse: Misuse, words: &[&str]) -> Result<u8> {
     let mut told = String::new(process.alloc());
     for word in words {
@@ -39,17 +42,17 @@ fn tell_misuse<P: Eprint + AllocGlobal>(process: &P, misuse: Misuse, words: &[&s
     }
     match misuse {
         Misuse::NoCommand => {
-            eprint!(process; "pdbdump: no command is called so:{told}\n\n{HELP}")?;
+            let _ = eprint!(process; "pdbdump: no command is called so:{told}\n\n{HELP}");
         }
         Misuse::Arguments(verb) => {
             let usage = usage_of(verb);
-            eprintln!(process; "pdbdump: these words ask nothing:{told}\nusage: {usage}")?;
+            let _ = eprintln!(process; "pdbdump: these words ask nothing:{told}\nusage: {usage}");
         }
         Misuse::InputTwice => {
             let usage = usage_of(Verb::Ask);
-            eprintln!(process;
+            let _ = eprintln!(process;
                 "pdbdump: standard input has the questions, so FILE cannot be `-`\nusage: {usage}"
-            )?;
+            );
         }
     }
     Ok(MISUSED)
@@ -61,10 +64,11 @@ fn list_file<P: Files + Input + Print + Eprint + AllocGlobal>(
     path: &str,
     command: Command,
     form: Form,
-) -> Result<Ended> {
+) -> Result<u8> {
     let alloc = process.alloc();
-    let mut out = BufWriter::with_capacity(alloc, BUFFER_SIZE, io::writer(process))?;
-    let mut err = Errors { process };
+    let buffer = BufWriter::with_capacity(alloc, BUFFER_SIZE, io::writer(process))?;
+    let mut out = Output::new(buffer);
+    let mut err = Output::new(Errors { process });
     if path == "-" {
         let mut input = process.reader();
         return Ok(serve(alloc, command, form, &mut input, &mut out, &mut err));
@@ -80,10 +84,11 @@ fn answer_questions<P: Files + Input + Print + Eprint + AllocGlobal>(
     process: &P,
     path: &str,
     form: Form,
-) -> Result<Ended> {
+) -> Result<u8> {
     let alloc = process.alloc();
-    let mut out = BufWriter::with_capacity(alloc, BUFFER_SIZE, io::writer(process))?;
-    let mut err = Errors { process };
+    let buffer = BufWriter::with_capacity(alloc, BUFFER_SIZE, io::writer(process))?;
+    let mut out = Output::new(buffer);
+    let mut err = Output::new(Errors { process });
     let mut questions = process.reader();
     match fs::open(process, path) {
         Ok(mut input) => Ok(serve_questions(
@@ -112,13 +117,15 @@ fn call<P: Files + Input + Print + Eprint + AllocGlobal>(
         Form::Text
     };
     let plain = plain_words(process.alloc(), words)?;
-    let Some((path, words)) = plain.split_first() else {
-        eprint!(process; "{HELP}")?;
+    if plain.is_empty() {
+        let _ = eprint!(process; "{HELP}");
         return Ok(MISUSED);
-    };
-    match asked_of_file(path, words) {
-        Ok(Task::List(command)) => Ok(list_file(process, path, command, form)?.status),
-        Ok(Task::Answer) => Ok(answer_questions(process, path, form)?.status),
+    }
+    match call_of(&plain) {
+        Ok(Call { path, task }) => match task {
+            Task::List(command) => list_file(process, path, command, form),
+            Task::Answer => answer_questions(process, path, form),
+        },
         Err(misuse) => tell_misuse(process, misuse, words),
     }
 }
@@ -132,7 +139,7 @@ fn attempt<P: Env + Files + Input + Print + Eprint + AllocGlobal>(process: &P) -
             call(process, &texts)
         }
         Err(error) if error.kind() == ErrorKind::InvalidData => {
-            eprint!(process; "{HELP}")?;
+            let _ = eprint!(process; "{HELP}");
             Ok(MISUSED)
         }
         Err(error) => Err(Error::from(error)),
@@ -145,6 +152,10 @@ fn attempt<P: Env + Files + Input + Print + Eprint + AllocGlobal>(process: &P) -
 pub fn program<P: Env + Files + Input + Print + Eprint + AllocGlobal>(process: &P) -> u8 {
     match attempt(process) {
         Ok(status) => status,
-        Err(fault) => tell(process.alloc(), &fault, &mut Errors { process }).status,
+        Err(fault) => tell(
+            process.alloc(),
+            &fault,
+            &mut Output::new(Errors { process }),
+        ),
     }
 }

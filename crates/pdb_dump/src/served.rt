@@ -1,42 +1,16 @@
 //! The program between its channels: what it reads, what it writes, and how it ends.
 
-ghost use Rattle.std.specs.Prelude.{◌≡◌, ◌↔◌, ◌⊎◌, IsTrue};
-ghost use Rattle.pdb_dump.specs.Served.{IsClosed, IsEnded, IsListedOf, IsNotRead, IsServed, joined};
+ghost use Rattle.std.specs.Prelude.{◌↔◌, IsTrue};
+ghost use Rattle.pdb_dump.specs.Served.{IsClosed, IsEnded, IsServed};
 
+use crate::command::Command;
 use crate::listed::list;
-use crate::words::Command;
-use pdb_cli::{Ended, read_all, tell};
+use pdb_cli::{read_all, tell};
 use pdb_container::{Error, Result};
+use pdb_output::Output;
 use pdb_rows::Form;
 use std::alloc::Global;
-use std::io;
 use std::io::{ErrorKind, Read, Write};
-
-/// Reads an input and lists what a command asks of it.
-fn read_and_list<I: Read, O: Write>(
-    alloc: Global,
-    command: Command,
-    form: Form,
-    input: &mut I,
-    out: &mut O,
-) -> Result<()>
-    ensures { IsListedOf form command (I.remaining input.old) (O.contents out.old)
-        (O.contents out.new) result ⊎ IsNotRead (O.contents out.old) (O.contents out.new) result }
-{
-    let file = read_all(alloc, input)?;
-    list(alloc, file, command, form, out)
-}
-
-/// Returns the first fault of listing and of the flush after it, if there is one.
-pub(crate) fn joined(listed: Result<()>, flushed: io::Result<()>) -> Result<()>
-    ensures { result ≡ joined listed flushed }
-{
-    match (listed, flushed) {
-        (Err(fault), _) => Err(fault),
-        (Ok(()), Err(cause)) => Err(Error::IoError(cause)),
-        (Ok(()), Ok(())) => Ok(()),
-    }
-}
 
 /// Returns whether a fault is that the reader of the output has closed it.
 fn is_closed(fault: &Error) -> bool
@@ -48,35 +22,41 @@ fn is_closed(fault: &Error) -> bool
     }
 }
 
-/// Ends the program. A fault is written to the error channel, unless it is that the output was
-/// closed.
-pub(crate) fn end<E: Write>(alloc: Global, listed: Result<()>, err: &mut E) -> Ended
-    ensures { IsEnded listed (E.contents err.old) (E.contents err.new) result }
+/// Flushes the output, and returns the status with which the program ends: 1 after a fault, which
+/// is written to the error channel; or 0 if there is none, or the output was closed.
+pub(crate) fn end<O: Write, E: Write>(
+    alloc: Global,
+    listed: Result<()>,
+    out: &mut Output<O>,
+    err: &mut Output<E>,
+) -> u8
+    ensures { IsEnded listed out.old out.new err.old err.new result }
 {
-    match listed {
-        Err(fault) if !is_closed(&fault) => tell(alloc, &fault, err),
-        _ => Ended {
-            status: 0,
-            told: Ok(()),
-        },
+    match listed.and(out.flush()) {
+        Ok(()) => 0,
+        Err(fault) if is_closed(&fault) => 0,
+        Err(fault) => tell(alloc, &fault, err),
     }
 }
 
-/// Reads a file from the input and lists on the output what a command asks of it. A fault is
-/// written to the error channel, after what was listed before it, unless it is that the output was
-/// closed.
+/// Reads a file from the input and lists on the output what a command asks of it. Returns the
+/// status with which the program ends. A fault is written to the error channel, after what was
+/// listed before it, unless it is that the output was closed.
 pub fn serve<I: Read, O: Write, E: Write>(
     alloc: Global,
     command: Command,
     form: Form,
     input: &mut I,
-    out: &mut O,
-    err: &mut E,
-) -> Ended
-    ensures { IsServed form command (I.remaining input.old) (O.contents out.old) (O.contents out.new)
-        (E.contents err.old) (E.contents err.new) result }
+    out: &mut Output<O>,
+    err: &mut Output<E>,
+) -> u8
+    ensures { IsServed form command (I.remaining input.old) out.old out.new err.old err.new result }
 {
-    let listed = read_and_list(alloc, command, form, input, out);
-    let flushed = out.flush();
-    end(alloc, joined(listed, flushed), err)
+    match read_all(alloc, input) {
+        Ok(file) => {
+            let listed = list(alloc, file, command, form, out);
+            end(alloc, listed, out, err)
+        }
+        Err(unread) => tell(alloc, &unread, err),
+    }
 }

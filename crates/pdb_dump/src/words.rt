@@ -1,110 +1,18 @@
 //! The words that the program takes.
 
 ghost use Rattle.std.specs.Prelude.{◌≡◌, map, IfOk};
+ghost use Rattle.std.specs.Option.{option_map};
 ghost use Rattle.std.specs.List.{list_any};
 ghost use Rattle.pdb_base.specs.Memory.{FailsOnlyForMemory};
 ghost use Rattle.pdb_cli.specs.Words.{same};
-ghost use Rattle.pdb_dump.specs.Words.{argument_of, asked, command_of, first_verb, frames_asked, listed_by, map_asked, no_streams, one_stream, plain_words, records_asked, streams_asked, task_of, verb_of, with_stream};
+ghost use Rattle.pdb_dump.specs.Words.{arguments_view, arguments_with, call_of, call_view, call_with, command_with, first_verb, frame_option, is_option};
+ghost use Rattle.pdb_dump.specs.Words.{none_given, option_given, plain_words, record_option, result_view, stream_option, task_with, unless_twice, verb_of, with_operand, with_option, with_stream};
 
+use crate::command::{Call, Command, Misuse, Task, Verb};
 use pdb_cli::number;
 use pdb_container::Error;
 use pdb_mapping::MapStreams;
 use std::alloc::Global;
-
-/// The name of a command.
-#[derive(Clone, Copy, Debug, PartialEq, Eq)]
-pub enum Verb {
-    /// `summary`: what the file is made of.
-    Summary,
-    /// `types`: the records of a table of types.
-    Types,
-    /// `ids`: the records of a table of ids.
-    Ids,
-    /// `names`: the names of a string table.
-    Names,
-    /// `sections`: the headers of sections.
-    Sections,
-    /// `omap`: the records of an OMAP table.
-    Omap,
-    /// `frames`: the records of a frame table.
-    Frames,
-    /// `map`: what an address map makes of an address.
-    Map,
-    /// `ask`: the answers to questions on standard input.
-    Ask,
-}
-
-/// What the program is asked to list of a file. A stream that isn't given is found by its role.
-#[derive(Clone, Copy, Debug, PartialEq, Eq)]
-pub enum Command {
-    /// What the file is made of.
-    Summary,
-    /// Each type of a table in the stream, or in stream 2; or only the one of an index.
-    Types {
-        /// The number of the stream.
-        stream: Option<u32>,
-        /// The index of the only type.
-        index: Option<u32>,
-    },
-    /// Each id of a table in the stream, or in stream 4; or only the one of an index.
-    Ids {
-        /// The number of the stream.
-        stream: Option<u32>,
-        /// The index of the only id.
-        index: Option<u32>,
-    },
-    /// Each name of the string table in the stream.
-    Names {
-        /// The number of the stream.
-        stream: Option<u32>,
-    },
-    /// Each section header in the stream.
-    Sections {
-        /// The number of the stream.
-        stream: Option<u32>,
-    },
-    /// Each record of the OMAP table in the stream.
-    Omap {
-        /// The number of the stream.
-        stream: Option<u32>,
-    },
-    /// Each frame of the file's own streams.
-    Frames,
-    /// Each frame of the given streams, either of which may be absent.
-    FramesIn {
-        /// The number of the stream of records of the older format.
-        old: Option<u32>,
-        /// The number of the stream of records of the newer format.
-        new: Option<u32>,
-    },
-    /// What an address map makes of an address.
-    Map {
-        /// The address.
-        address: u32,
-        /// The streams of the map, or none of them for the file's own map.
-        streams: MapStreams,
-    },
-}
-
-/// What the program is asked to do with a file.
-#[derive(Clone, Copy, Debug, PartialEq, Eq)]
-pub enum Task {
-    /// To list what a command says.
-    List(Command),
-    /// To answer the questions on standard input.
-    Answer,
-}
-
-/// Why words ask nothing of a file.
-#[derive(Clone, Copy, Debug, PartialEq, Eq)]
-pub enum Misuse {
-    /// There is no command of that name.
-    NoCommand,
-    /// The command does not take the words after it.
-    Arguments(Verb),
-    /// Both the questions and the file are to be read from standard input.
-    InputTwice,
-}
 
 /// Returns whether one of the words is the wanted one.
 pub fn any_is(words: &[&str], wanted: &str) -> bool
@@ -161,116 +69,76 @@ pub fn first_verb(words: &[&str]) -> Option<Verb>
     }
 }
 
-/// Parses the one stream that words may give: none, or `S`.
-#[tactic(auto, unfolding(crate::specs::Words::one_stream))]
-fn one_stream(words: &[&str]) -> Option<Option<u32>>
-    ensures { result ≡ one_stream (map (λ word. word.now) words.now) }
-{
-    match words {
-        [] => Some(None),
-        [stream] => {
-            let stream = number(stream)?;
-            Some(Some(stream))
-        }
-        _ => None,
-    }
+/// What the options of a command say, each of which is a number.
+#[derive(Clone, Copy)]
+struct Options {
+    /// `--stream S`.
+    stream: Option<u32>,
+    /// `--index I`.
+    index: Option<u32>,
+    /// `--old S`.
+    old: Option<u32>,
+    /// `--new S`.
+    new: Option<u32>,
+    /// The streams of an address map.
+    map: MapStreams,
 }
 
-/// Parses the stream and the index that words may give: `[S] [--index I]`.
-#[tactic(auto, unfolding(crate::specs::Words::records_asked))]
-fn records_asked(words: &[&str]) -> Option<(Option<u32>, Option<u32>)>
-    ensures { result ≡ records_asked (map (λ word. word.now) words.now) }
-{
-    match words {
-        [] => Some((None, None)),
-        [stream] => {
-            let stream = number(stream)?;
-            Some((Some(stream), None))
-        }
-        [option, index] => {
-            if *option != "--index" {
-                return None;
-            }
-            let index = number(index)?;
-            Some((None, Some(index)))
-        }
-        [stream, option, index] => {
-            if *option != "--index" {
-                return None;
-            }
-            let stream = number(stream)?;
-            let index = number(index)?;
-            Some((Some(stream), Some(index)))
-        }
-        _ => None,
-    }
+/// What stands behind the name of a command.
+#[derive(Clone, Copy)]
+struct Arguments<'w> {
+    /// The options.
+    options: Options,
+    /// The path of the file.
+    path: Option<&'w str>,
+    /// What is asked of the file.
+    operand: Option<&'w str>,
 }
 
-/// Parses the stream that a word gives, where `-` stands for an absent one.
-#[tactic(auto, unfolding(crate::specs::Words::argument_of))]
-fn stream_or_none(word: &str) -> Option<Option<u32>>
-    ensures { result ≡ argument_of word.now }
+/// Returns the arguments of a command behind which nothing stands.
+fn none_given<'w>() -> Arguments<'w>
+    ensures { arguments_view result ≡ none_given }
 {
-    if word == "-" {
-        return Some(None);
-    }
-    let stream = number(word)?;
-    Some(Some(stream))
-}
-
-/// Parses the words after `frames`: none for the file's own frames, or `OLD [NEW]`, each a stream
-/// or `-`.
-#[tactic(auto, unfolding(crate::specs::Words::frames_asked))]
-fn frames_asked(words: &[&str]) -> Option<Command>
-    ensures { result ≡ frames_asked (map (λ word. word.now) words.now) }
-{
-    match words {
-        [] => Some(Command::Frames),
-        [old] => {
-            let old = stream_or_none(old)?;
-            Some(Command::FramesIn { old, new: None })
-        }
-        [old, new] => {
-            let old = stream_or_none(old)?;
-            let new = stream_or_none(new)?;
-            Some(Command::FramesIn { old, new })
-        }
-        _ => None,
-    }
-}
-
-/// Returns the streams of an address map of which none is given.
-fn no_streams() -> MapStreams
-    ensures { result ≡ no_streams }
-{
-    MapStreams {
+    let map = MapStreams {
         sections: None,
         transformed: None,
         to_original: None,
         to_transformed: None,
+    };
+    let options = Options {
+        stream: None,
+        index: None,
+        old: None,
+        new: None,
+        map,
+    };
+    Arguments {
+        options,
+        path: None,
+        operand: None,
     }
 }
 
 /// Returns the streams of an address map with the one that an option gives, if there is such an
-/// option.
+/// option and it isn't given yet.
 fn with_stream(streams: MapStreams, option: &str, stream: u32) -> Option<MapStreams>
     ensures { result ≡ with_stream streams option.now stream }
 {
     let stream = Some(stream);
     match option {
-        "--sections" => Some(MapStreams {
+        "--sections" if streams.sections.is_none() => Some(MapStreams {
             sections: stream,
             ..streams
         }),
-        "--transformed" => Some(MapStreams {
+        "--transformed" if streams.transformed.is_none() => Some(MapStreams {
             transformed: stream,
             ..streams
         }),
-        "--to" => Some(MapStreams {
+        "--to" if streams.to_original.is_none() => Some(MapStreams {
             to_original: stream,
             ..streams
         }),
-        "--from" => Some(MapStreams {
+        "--from" if streams.to_transformed.is_none() => Some(MapStreams {
             to_transformed: stream,
             ..streams
         }),
@@ -278,110 +146,219 @@ fn with_stream(streams: MapStreams, option: &str, stream: u32) -> Option<MapStre
     }
 }
 
-/// Parses the streams of an address map, each given by an option and a number.
-#[tactic(auto, unfolding(crate::specs::Words::streams_asked))]
-fn streams_asked(words: &[&str]) -> Option<MapStreams>
-    ensures { result ≡ streams_asked no_streams (map (λ word. word.now) words.now) }
+/// Returns the options of `types` and `ids` with one more, if they take it.
+fn record_option(options: Options, option: &str, value: u32) -> Option<Options>
+    ensures { result ≡ record_option options option.now value }
 {
-    let mut streams = no_streams();
-    let mut words = words;
-    while let [option, stream, rest @ ..] = words {
-        let stream = number(stream)?;
-        streams = with_stream(streams, option, stream)?;
-        words = rest;
-    }
-    if words.is_empty() {
-        Some(streams)
-    } else {
-        None
+    let value = Some(value);
+    match option {
+        "--stream" if options.stream.is_none() => Some(Options {
+            stream: value,
+            ..options
+        }),
+        "--index" if options.index.is_none() => Some(Options {
+            index: value,
+            ..options
+        }),
+        _ => None,
     }
 }
 
-/// Parses the words after `map`: an address, and the streams of the map.
-#[tactic(auto, unfolding(crate::specs::Words::map_asked))]
-fn map_asked(words: &[&str]) -> Option<Command>
-    ensures { result ≡ map_asked (map (λ word. word.now) words.now) }
+/// Returns the options of `names`, `sections` and `omap` with one more, if they take it.
+fn stream_option(options: Options, option: &str, value: u32) -> Option<Options>
+    ensures { result ≡ stream_option options option.now value }
 {
-    let (address, words) = words.split_first()?;
-    let address = number(address)?;
-    let streams = streams_asked(words)?;
-    Some(Command::Map { address, streams })
+    match option {
+        "--stream" if options.stream.is_none() => Some(Options {
+            stream: Some(value),
+            ..options
+        }),
+        _ => None,
+    }
 }
 
-/// Returns what a command lists with the words after it, if it takes them.
-fn listed_by(verb: Verb, words: &[&str]) -> Option<Command>
-    ensures { result ≡ listed_by verb (map (λ word. word.now) words.now) }
+/// Returns the options of `frames` with one more, if it takes it.
+fn frame_option(options: Options, option: &str, value: u32) -> Option<Options>
+    ensures { result ≡ frame_option options option.now value }
+{
+    let value = Some(value);
+    match option {
+        "--old" if options.old.is_none() => Some(Options {
+            old: value,
+            ..options
+        }),
+        "--new" if options.new.is_none() => Some(Options {
+            new: value,
+            ..options
+        }),
+        _ => None,
+    }
+}
+
+/// Returns the options of a command with one more, if the command takes it.
+fn with_option(verb: Verb, options: Options, option: &str, value: u32) -> Option<Options>
+    ensures { result ≡ with_option verb options option.now value }
 {
     match verb {
-        Verb::Summary if words.is_empty() => Some(Command::Summary),
+        Verb::Types | Verb::Ids => record_option(options, option, value),
+        Verb::Names | Verb::Sections | Verb::Omap => stream_option(options, option, value),
+        Verb::Frames => frame_option(options, option, value),
+        Verb::Map => {
+            let map = with_stream(options.map, option, value)?;
+            Some(Options { map, ..options })
+        }
         Verb::Summary | Verb::Ask => None,
-        Verb::Types => {
-            let (stream, index) = records_asked(words)?;
-            Some(Command::Types { stream, index })
-        }
-        Verb::Ids => {
-            let (stream, index) = records_asked(words)?;
-            Some(Command::Ids { stream, index })
-        }
-        Verb::Names => {
-            let stream = one_stream(words)?;
-            Some(Command::Names { stream })
-        }
-        Verb::Sections => {
-            let stream = one_stream(words)?;
-            Some(Command::Sections { stream })
-        }
-        Verb::Omap => {
-            let stream = one_stream(words)?;
-            Some(Command::Omap { stream })
-        }
-        Verb::Frames => frames_asked(words),
-        Verb::Map => map_asked(words),
     }
 }
 
-/// Returns what a command asks with the words after it, if it takes them.
-fn asked(verb: Verb, words: &[&str]) -> Option<Task>
-    ensures { result ≡ asked verb (map (λ word. word.now) words.now) }
+/// Returns the options with the one that an option's name and the word after it give.
+#[tactic(auto, unfolding(crate::specs::Words::option_given))]
+fn option_given(verb: Verb, options: Options, option: &str, value: &str) -> Option<Options>
+    ensures { result ≡ option_given verb options option.now value.now }
 {
-    match verb {
-        Verb::Ask if words.is_empty() => Some(Task::Answer),
-        verb => {
-            let command = listed_by(verb, words)?;
+    let value = number(value)?;
+    with_option(verb, options, option, value)
+}
+
+/// Returns the arguments with one more word that is no option: first the path, then what is asked.
+fn with_operand<'w>(arguments: Arguments<'w>, word: &'w str) -> Option<Arguments<'w>>
+    ensures { option_map arguments_view result ≡ with_operand (arguments_view arguments.entry) word.now }
+{
+    let word = Some(word);
+    match (arguments.path, arguments.operand) {
+        (None, _) => Some(Arguments {
+            path: word,
+            ..arguments
+        }),
+        (Some(_), None) => Some(Arguments {
+            operand: word,
+            ..arguments
+        }),
+        (Some(_), Some(_)) => None,
+    }
+}
+
+/// Returns whether a word is the name of an option.
+fn is_option(word: &str) -> bool
+    ensures { result ≡ is_option word.now }
+{
+    word.as_bytes().starts_with(b"--")
+}
+
+/// Returns the arguments with all these words, in any order: options, each with a number behind it,
+/// and the others. Since none may be given twice, there is a call for each of ten words at most.
+#[tactic(auto, unfolding(crate::specs::Words::arguments_with))]
+fn arguments_with<'w>(
+    verb: Verb,
+    arguments: Arguments<'w>,
+    words: &[&'w str],
+) -> Option<Arguments<'w>>
+    ensures { option_map arguments_view result ≡
+        arguments_with verb (arguments_view arguments.entry) (map (λ word. word.now) words.now) }
+{
+    let Some((word, words)) = words.split_first() else {
+        return Some(arguments);
+    };
+    if !is_option(word) {
+        let arguments = with_operand(arguments, word)?;
+        return arguments_with(verb, arguments, words);
+    }
+    let (value, words) = words.split_first()?;
+    let options = option_given(verb, arguments.options, word, value)?;
+    let arguments = Arguments {
+        options,
+        ..arguments
+    };
+    arguments_with(verb, arguments, words)
+}
+
+/// Returns what a command lists with these options and what is asked of the file, if it takes them.
+fn command_with(verb: Verb, options: Options, operand: Option<&str>) -> Option<Command>
+    ensures { result ≡ command_with verb options (option_map (λ word. word.now) operand.entry) }
+{
+    let Options {
+        stream,
+        index,
+        old,
+        new,
+        map: streams,
+    } = options;
+    match (verb, operand) {
+        (Verb::Map, Some(address)) => {
+            let address = number(address)?;
+            Some(Command::Map { address, streams })
+        }
+        (Verb::Map | Verb::Ask, _) | (_, Some(_)) => None,
+        (Verb::Summary, None) => Some(Command::Summary),
+        (Verb::Types, None) => Some(Command::Types { stream, index }),
+        (Verb::Ids, None) => Some(Command::Ids { stream, index }),
+        (Verb::Names, None) => Some(Command::Names { stream }),
+        (Verb::Sections, None) => Some(Command::Sections { stream }),
+        (Verb::Omap, None) => Some(Command::Omap { stream }),
+        (Verb::Frames, None) => match (old, new) {
+            (None, None) => Some(Command::Frames),
+            (old, new) => Some(Command::FramesIn { old, new }),
+        },
+    }
+}
+
+/// Returns what a command asks with these options and what is asked of the file, if it takes them.
+fn task_with(verb: Verb, options: Options, operand: Option<&str>) -> Option<Task>
+    ensures { result ≡ task_with verb options (option_map (λ word. word.now) operand.entry) }
+{
+    match (verb, operand) {
+        (Verb::Ask, None) => Some(Task::Answer),
+        (verb, operand) => {
+            let command = command_with(verb, options, operand)?;
             Some(Task::List(command))
         }
     }
 }
 
-/// Returns what the words after a file ask of it. Without words it is the summary.
-#[tactic(auto, unfolding(crate::specs::Words::command_of))]
-fn command_of(words: &[&str]) -> Result<Task, Misuse>
-    ensures { result ≡ command_of (map (λ word. word.now) words.now) }
+/// Returns what a command asks with the words behind its name, and of which file, if it takes them.
+#[tactic(auto, unfolding(crate::specs::Words::call_with))]
+fn call_with<'w>(verb: Verb, words: &[&'w str]) -> Option<Call<'w>>
+    ensures { option_map call_view result ≡ call_with verb (map (λ word. word.now) words.now) }
 {
-    let Some((name, arguments)) = words.split_first() else {
-        return Ok(Task::List(Command::Summary));
-    };
-    let Some(verb) = verb_named(name) else {
-        return Err(Misuse::NoCommand);
-    };
-    match asked(verb, arguments) {
-        Some(task) => Ok(task),
-        None => Err(Misuse::Arguments(verb)),
+    let arguments = arguments_with(verb, none_given(), words)?;
+    let path = arguments.path?;
+    let task = task_with(verb, arguments.options, arguments.operand)?;
+    Some(Call { path, task })
+}
+
+/// Returns a call, unless both the file and the questions would be read from standard input.
+fn unless_twice(call: Call<'_>) -> Result<Call<'_>, Misuse>
+    ensures { result_view result ≡ unless_twice (call_view call.entry) }
+{
+    match call.task {
+        Task::Answer if call.path == "-" => Err(Misuse::InputTwice),
+        _ => Ok(call),
     }
 }
 
-/// Returns what the words after the path of a file ask of it.
+/// Returns what the words of a call ask, and of which file: `COMMAND [OPTION].. FILE [OPERAND]`, or
+/// `FILE` alone for its summary.
 ///
 /// # Errors
-/// Fails with `NoCommand` if the first word names no command, with `Arguments` if the command
-/// doesn't take the words after it, and with `InputTwice` if the path is `-`, for standard input,
-/// and the questions are to be read from there too.
-#[tactic(auto, unfolding(crate::specs::Words::task_of))]
-pub fn asked_of_file(path: &str, words: &[&str]) -> Result<Task, Misuse>
-    ensures { result ≡ task_of path.now (map (λ word. word.now) words.now) }
+/// Fails with `NoCommand` if the first of several words names no command, with `Arguments` if the
+/// command doesn't take the words after it, and with `InputTwice` if the path is `-`, for standard
+/// input, and the questions are to be read from there too.
+#[tactic(auto, unfolding(crate::specs::Words::call_of))]
+pub fn call_of<'w>(words: &[&'w str]) -> Result<Call<'w>, Misuse>
+    ensures { result_view result ≡ call_of (map (λ word. word.now) words.now) }
 {
-    match command_of(words)? {
-        Task::Answer if path == "-" => Err(Misuse::InputTwice),
-        task => Ok(task),
+    let Some((name, words)) = words.split_first() else {
+        return Err(Misuse::NoCommand);
+    };
+    match verb_named(name) {
+        Some(verb) => match call_with(verb, words) {
+            Some(call) => unless_twice(call),
+            None => Err(Misuse::Arguments(verb)),
+        },
+        None if words.is_empty() => Ok(Call {
+            path: name,
+            task: Task::List(Command::Summary),
+        }),
+        None => Err(Misuse::NoCommand),
     }
 }

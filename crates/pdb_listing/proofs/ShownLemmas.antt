@@ -1,20 +1,17 @@
 -- What stands on a writer at each exit of showing one record.
 use Rattle.std.proofs.Common.{◌≡◌, ◌⊎◌, inl, inr, ℕ, List, [], ◌++◌, Option, Result, Ok, Err, refl, sym, ap, subst, ◌∙◌}
 use Rattle.std.proofs.lemmas.List.{append-nil}
-use Rattle.std.specs.Io.KnownBytes.{Appends}
-use Rattle.std.proofs.KnownBytes.{Appends-trans, Keeps-refl}
 use Rattle.pdb_base.proofs.lemmas.Collected.{ok}
 use Rattle.pdb_base.specs.Answer.{Answer, ◌>>=◌}
 use Rattle.pdb_base.specs.Refusal.{refusal_of}
 use Rattle.pdb_base.specs.declared.error.Error.{Error}
-use Rattle.pdb_base.specs.declared.error.Error.TheVariants.{IoError, OutOfMemory}
-use Rattle.std.specs.declared.io.Error as io
+use Rattle.pdb_base.specs.declared.error.Error.TheVariants.{OutOfMemory}
 use Rattle.pdb_listing.specs.Lines.{id_shown, member_lines, type_shown}
 use Rattle.pdb_listing.specs.Listed.{IsShown, cut_shown, lacking_shown, members_text, refused_shown, stopped_shown, unread_shown, whole_shown}
 use Rattle.pdb_rows.specs.declared.form.Form.{Form}
-use Rattle.pdb_listing.proofs.ListingLemmas.{front_written, line_written}
-use Rattle.pdb_rows.specs.Written.{IsPrefix}
-use Rattle.pdb_rows.proofs.lemmas.Written.{front_first, front_second}
+use Rattle.pdb_listing.proofs.ListingLemmas.{line_written}
+use Rattle.pdb_output.specs.Output.{OutputState, Gets, IsCutShort, IsFailed, Writes}
+use Rattle.pdb_output.proofs.lemmas.Written.{first_cut, second_writes}
 use Rattle.pdb_rows.specs.IdRows.{id_row}
 use Rattle.pdb_rows.specs.Lines.{full_text}
 use Rattle.pdb_rows.specs.Row.{ShownRow}
@@ -30,18 +27,18 @@ abbrev pub Meant : Type 0
 Meant = Answer (List ℕ × Answer (List ℕ))
 
 -- want of memory before anything was written
-pub lacks_early : (meant : Meant) (out : Option (List ℕ)) (fault : Error) → fault ≡ OutOfMemory → IsShown meant out out (Err fault)
+pub lacks_early : (meant : Meant) (out : OutputState) (fault : Error) → fault ≡ OutOfMemory → IsShown meant out out (Err fault)
 lacks_early meant out fault want =
-    let early : IsShown meant out out (Err OutOfMemory) = unread_shown (Keeps-refl out) in
+    let early : IsShown meant out out (Err OutOfMemory) = unread_shown refl in
     subst (λ (e : Error). IsShown meant out out (Err e)) (sym want) early
 
 -- what is refused before anything was written
-pub refuses_early : (meant : Meant) (out : Option (List ℕ)) (fault : Error) → (meant ≡ Err (refusal_of fault)) ⊎ (fault ≡ OutOfMemory) → IsShown meant out out (Err fault)
-refuses_early meant out fault (inl is) = refused_shown fault is (Keeps-refl out)
+pub refuses_early : (meant : Meant) (out : OutputState) (fault : Error) → (meant ≡ Err (refusal_of fault)) ⊎ (fault ≡ OutOfMemory) → IsShown meant out out (Err fault)
+refuses_early meant out fault (inl is) = refused_shown fault is refl
 refuses_early meant out fault (inr want) = lacks_early meant out fault want
 
 -- what members refuse behind the record
-pub refuses_late : (meant : Meant) (out out' : Option (List ℕ)) (text : List ℕ) (members : Answer (List ℕ)) (fault : Error) → meant ≡ Ok (text, members) → Appends out out' text
+pub refuses_late : (meant : Meant) (out out' : OutputState) (text : List ℕ) (members : Answer (List ℕ)) (fault : Error) → meant ≡ Ok (text, members) → Gets out out' text
     → (members ≡ Err (refusal_of fault)) ⊎ (fault ≡ OutOfMemory) → IsShown meant out out' (Err fault)
 refuses_late meant out out' text members fault is appends (inl refused) = stopped_shown text fault (is ∙ ap (λ (more : Answer (List ℕ)). ok (text, more)) refused) appends
 refuses_late meant out out' text members fault is appends (inr want) =
@@ -53,44 +50,38 @@ pub then_refuses : {A B : Type 0} (answer : Answer A) (more : A → Answer B) (f
 then_refuses answer more fault (inl is) = inl (ap (λ a. a >>= more) is)
 then_refuses answer more fault (inr want) = inr want
 
--- the record in full, put together in a new buffer, stands there
-pub full_written : (form : Form) (row : ℕ → ShownRow) (leaf told : ℕ) (shown : ShownRow) (out mid : Option (List ℕ)) (new filled written : List ℕ) → shown ≡ row told → told ≡ leaf
-    → new ≡ [] → filled ≡ new ++ full_text form shown → written ≡ filled → Appends out mid written → Appends out mid (full_text form (row leaf))
-full_written form row leaf told shown out mid new filled written is same none fill write appends =
-    line_written out mid new filled written (full_text form (row leaf)) none (fill ∙ ap (λ (r : ShownRow). new ++ full_text form r) (is ∙ ap row same)) write appends
+-- what is written of the record in full, put together in a new buffer
+pub full_written : (form : Form) (row : ℕ → ShownRow) (leaf told : ℕ) (shown : ShownRow) (out mid : OutputState) (new filled written : List ℕ) (result : Result (Unit {0}) Error) → shown ≡ row told → told ≡ leaf
+    → new ≡ [] → filled ≡ new ++ full_text form shown → written ≡ filled → Writes written out mid result → Writes (full_text form (row leaf)) out mid result
+full_written form row leaf told shown out mid new filled written result is same none fill write writes =
+    line_written out mid new filled written (full_text form (row leaf)) result none (fill ∙ ap (λ (r : ShownRow). new ++ full_text form r) (is ∙ ap row same)) write writes
 
--- a front of the record in full
-pub full_cut : (form : Form) (row : ℕ → ShownRow) (leaf told : ℕ) (shown : ShownRow) (out mid : Option (List ℕ)) (new filled written : List ℕ) → shown ≡ row told → told ≡ leaf
-    → new ≡ [] → filled ≡ new ++ full_text form shown → written ≡ filled → IsPrefix written out mid → IsPrefix (full_text form (row leaf)) out mid
-full_cut form row leaf told shown out mid new filled written is same none fill write front =
-    front_written out mid new filled written (full_text form (row leaf)) none (fill ∙ ap (λ (r : ShownRow). new ++ full_text form r) (is ∙ ap row same)) write front
-
--- the writer fails within the record
-pub cut_record : (meant : Meant) (out out' : Option (List ℕ)) (text : List ℕ) (members : Answer (List ℕ)) (cause : io.Error) → meant ≡ Ok (text, members) → IsPrefix text out out' → IsShown meant out out' (Err (IoError cause))
-cut_record meant out out' text members cause is front = cut_shown text members cause is (front_first out out' text (members_text members) front)
+-- the output fails within the record
+pub cut_record : (meant : Meant) (out out' : OutputState) (text : List ℕ) (members : Answer (List ℕ)) (fault : Error) → meant ≡ Ok (text, members) → IsFailed out' fault → IsCutShort text out out' fault → IsShown meant out out' (Err fault)
+cut_record meant out out' text members fault is failing part = cut_shown text members fault is failing (first_cut out out' text (members_text members) fault part).prefix
 
 -- or within its members
-pub cut_members : (meant : Meant) (out mid out' : Option (List ℕ)) (text added : List ℕ) (members : Answer (List ℕ)) (cause : io.Error) → meant ≡ Ok (text, members) → members ≡ Ok added → Appends out mid text → IsPrefix added mid out'
-    → IsShown meant out out' (Err (IoError cause))
-cut_members meant out mid out' text added members cause is all got front =
-    cut_shown text (Ok added) cause (is ∙ ap (λ (more : Answer (List ℕ)). ok (text, more)) all) (front_second out mid out' text added got front)
+pub cut_members : (meant : Meant) (out mid out' : OutputState) (text added : List ℕ) (members : Answer (List ℕ)) (fault : Error) → meant ≡ Ok (text, members) → members ≡ Ok added → Gets out mid text
+    → IsFailed out' fault → IsCutShort added mid out' fault → IsShown meant out out' (Err fault)
+cut_members meant out mid out' text added members fault is all got failing part =
+    cut_shown text (Ok added) fault (is ∙ ap (λ (more : Answer (List ℕ)). ok (text, more)) all) failing (second_writes out mid out' text added (Err fault) got part).prefix
 
 -- the record and then its members stand there
-pub shows_whole : (meant : Meant) (out mid out' : Option (List ℕ)) (text added : List ℕ) (members : Answer (List ℕ)) → meant ≡ Ok (text, members) → members ≡ Ok added → Appends out mid text → Appends mid out' added
+pub shows_whole : (meant : Meant) (out mid out' : OutputState) (text added : List ℕ) (members : Answer (List ℕ)) → meant ≡ Ok (text, members) → members ≡ Ok added → Gets out mid text → Gets mid out' added
     → IsShown meant out out' (Ok tt)
 shows_whole meant out mid out' text added members is all first rest =
-    whole_shown text added (is ∙ ap (λ (more : Answer (List ℕ)). ok (text, more)) all) (Appends-trans out mid out' text added first rest)
+    whole_shown text added (is ∙ ap (λ (more : Answer (List ℕ)). ok (text, more)) all) (second_writes out mid out' text added (Ok tt) first rest)
 
 -- a record without members stands there
-pub shows_record : (meant : Meant) (out out' : Option (List ℕ)) (text : List ℕ) → meant ≡ Ok (text, Ok []) → Appends out out' text → IsShown meant out out' (Ok tt)
-shows_record meant out out' text is appends = whole_shown text [] is (subst (Appends out out') (sym (append-nil text)) appends)
+pub shows_record : (meant : Meant) (out out' : OutputState) (text : List ℕ) → meant ≡ Ok (text, Ok []) → Gets out out' text → IsShown meant out out' (Ok tt)
+shows_record meant out out' text is appends = whole_shown text [] is (subst (Gets out out') (sym (append-nil text)) appends)
 
 -- what a table of a stream is refused for
-pub refuses_table : (table : Answer Table) (more : Table → Meant) (out : Option (List ℕ)) (fault : Error) → table ≡ Err (refusal_of fault) → IsShown (table >>= more) out out (Err fault)
-refuses_table table more out fault is = refused_shown fault (ap (λ answer. answer >>= more) is) (Keeps-refl out)
+pub refuses_table : (table : Answer Table) (more : Table → Meant) (out : OutputState) (fault : Error) → table ≡ Err (refusal_of fault) → IsShown (table >>= more) out out (Err fault)
+refuses_table table more out fault is = refused_shown fault (ap (λ answer. answer >>= more) is) refl
 
 -- what is shown of the table that a stream is
-pub shows_table : (answer : Answer Table) (more : Table → Meant) (table : Table) (out out' : Option (List ℕ)) (result : Result (Unit {0}) Error) → answer ≡ Ok table → IsShown (more table) out out' result → IsShown (answer >>= more) out out' result
+pub shows_table : (answer : Answer Table) (more : Table → Meant) (table : Table) (out out' : OutputState) (result : Result (Unit {0}) Error) → answer ≡ Ok table → IsShown (more table) out out' result → IsShown (answer >>= more) out out' result
 shows_table answer more table out out' result is shown = subst (λ (given : Answer Table). IsShown (given >>= more) out out' result) (sym is) shown
 
 -- ---- types

@@ -5,21 +5,27 @@ ghost use Rattle.pdb_listing.specs.Listed.{IsListed, IsShown, IsWalked};
 
 use crate::line::push_id;
 use pdb_base::{FallibleIterator, IdIndex, Result, Stream};
-use pdb_rows::{Form, id_row, push_fields, write_bytes};
+use pdb_output::Output;
+use pdb_rows::{Form, id_row, push_fields};
 use pdb_tpi::{IdInformation, OpenTable};
 use std::alloc::Global;
 use std::io::Write;
 
 /// Writes a line for each id of a table.
-fn list_ids<W: Write>(alloc: Global, table: &IdInformation, form: Form, out: &mut W) -> Result<()>
-    ensures { IsWalked (id_line form) table.now (W.contents out.old) (W.contents out.new) result }
+fn list_ids<W: Write>(
+    alloc: Global,
+    table: &IdInformation,
+    form: Form,
+    out: &mut Output<W>,
+) -> Result<()>
+    ensures { IsWalked (id_line form) table.now out.old out.new result }
 {
     let mut items = table.iter();
     let mut line = Vec::new(alloc);
     while let Some(item) = items.next()? {
         line.clear();
         push_id(alloc, form, &item, &mut line)?;
-        write_bytes(&line, out)?;
+        out.write(&line)?;
     }
     Ok(())
 }
@@ -32,8 +38,8 @@ fn list_ids<W: Write>(alloc: Global, table: &IdInformation, form: Form, out: &mu
 /// which the table stops, after the lines of the ids before it; with `IoError` if the writer fails,
 /// after a prefix of what is meant to be written; and with `OutOfMemory` if memory is refused,
 /// after the lines so far.
-pub fn ids<W: Write>(alloc: Global, stream: Stream, form: Form, out: &mut W) -> Result<()>
-    ensures { IsListed (id_line form) stream (W.contents out.old) (W.contents out.new) result }
+pub fn ids<W: Write>(alloc: Global, stream: Stream, form: Form, out: &mut Output<W>) -> Result<()>
+    ensures { IsListed (id_line form) stream out.old out.new result }
 {
     let table = IdInformation::parse(stream)?;
     list_ids(alloc, &table, form, out)
@@ -45,16 +51,16 @@ fn show_id<W: Write>(
     ids: &OpenTable<IdIndex>,
     index: u32,
     form: Form,
-    out: &mut W,
+    out: &mut Output<W>,
 ) -> Result<()>
-    ensures { IsShown (id_shown form index ids.now.table) (W.contents out.old) (W.contents out.new) result }
+    ensures { IsShown (id_shown form index ids.now.table) out.old out.new result }
 {
     let item = ids.item(IdIndex(index))?;
     let value = item.parse(alloc)?;
     let row = id_row(alloc, index, item.raw_kind(), &value)?;
     let mut text = Vec::new(alloc);
     push_fields(form, &row, &mut text)?;
-    write_bytes(&text, out)?;
+    out.write(&text)?;
     Ok(())
 }
 
@@ -69,9 +75,9 @@ pub fn id_at<W: Write>(
     stream: Stream,
     index: u32,
     form: Form,
-    out: &mut W,
+    out: &mut Output<W>,
 ) -> Result<()>
-    ensures { IsShown (id_at form index stream) (W.contents out.old) (W.contents out.new) result }
+    ensures { IsShown (id_at form index stream) out.old out.new result }
 {
     let table = IdInformation::parse(stream)?;
     let ids = OpenTable::new(alloc, table)?;

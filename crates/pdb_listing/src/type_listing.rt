@@ -8,7 +8,8 @@ ghost use Rattle.pdb_listing.specs.Listed.{IsListed, IsShown, IsWalked};
 use crate::line::push_type;
 use crate::members::{list_of_fields, push_members};
 use pdb_base::{FallibleIterator, Result, Stream, TypeIndex};
-use pdb_rows::{Form, push_fields, type_row, write_bytes};
+use pdb_output::Output;
+use pdb_rows::{Form, push_fields, type_row};
 use pdb_tpi::{OpenTable, TypeInformation};
 use std::alloc::Global;
 use std::io::Write;
@@ -18,16 +19,16 @@ fn list_types<W: Write>(
     alloc: Global,
     table: &TypeInformation,
     form: Form,
-    out: &mut W,
+    out: &mut Output<W>,
 ) -> Result<()>
-    ensures { IsWalked (type_line form) table.now (W.contents out.old) (W.contents out.new) result }
+    ensures { IsWalked (type_line form) table.now out.old out.new result }
 {
     let mut items = table.iter();
     let mut line = Vec::new(alloc);
     while let Some(item) = items.next()? {
         line.clear();
         push_type(alloc, form, &item, &mut line)?;
-        write_bytes(&line, out)?;
+        out.write(&line)?;
     }
     Ok(())
 }
@@ -40,8 +41,8 @@ fn list_types<W: Write>(
 /// which the table stops, after the lines of the types before it; with `IoError` if the writer
 /// fails, after a prefix of what is meant to be written; and with `OutOfMemory` if memory is
 /// refused, after the lines so far.
-pub fn types<W: Write>(alloc: Global, stream: Stream, form: Form, out: &mut W) -> Result<()>
-    ensures { IsListed (type_line form) stream (W.contents out.old) (W.contents out.new) result }
+pub fn types<W: Write>(alloc: Global, stream: Stream, form: Form, out: &mut Output<W>) -> Result<()>
+    ensures { IsListed (type_line form) stream out.old out.new result }
 {
     let table = TypeInformation::parse(stream)?;
     list_types(alloc, &table, form, out)
@@ -80,19 +81,19 @@ fn show_type<W: Write>(
     types: &OpenTable<TypeIndex>,
     index: u32,
     form: Form,
-    out: &mut W,
+    out: &mut Output<W>,
 ) -> Result<()>
-    ensures { IsShown (type_shown form index types.now.table) (W.contents out.old) (W.contents out.new) result }
+    ensures { IsShown (type_shown form index types.now.table) out.old out.new result }
 {
     let item = types.item(TypeIndex(index))?;
     let value = item.parse(alloc)?;
     let row = type_row(alloc, index, item.raw_kind(), &value)?;
     let mut text = Vec::new(alloc);
     push_fields(form, &row, &mut text)?;
-    write_bytes(&text, out)?;
+    out.write(&text)?;
     let mut lines = Vec::new(alloc);
     push_members(alloc, form, types, TypeIndex(index), &value, &mut lines)?;
-    write_bytes(&lines, out)?;
+    out.write(&lines)?;
     Ok(())
 }
 
@@ -109,9 +110,9 @@ pub fn type_at<W: Write>(
     stream: Stream,
     index: u32,
     form: Form,
-    out: &mut W,
+    out: &mut Output<W>,
 ) -> Result<()>
-    ensures { IsShown (type_at form index stream) (W.contents out.old) (W.contents out.new) result }
+    ensures { IsShown (type_at form index stream) out.old out.new result }
 {
     let table = TypeInformation::parse(stream)?;
     let types = opened(alloc, table, TypeIndex(index))?;

@@ -1,17 +1,17 @@
 -- The lines that show what an address map makes of an address.
-use Rattle.std.specs.Prelude.{◌≡◌, ◌⊎◌, ℕ, List, [], ◌∷◌, ◌++◌, codes, Option, Result, Ok, Err}
-use Rattle.std.specs.Io.KnownBytes.{Appends, Keeps}
+use Rattle.std.specs.Prelude.{◌≡◌, ℕ, List, [], ◌∷◌, ◌++◌, codes, Option, Result, Ok, Err}
 use Rattle.std.specs.Option.{is_some, option_map}
 use Rattle.pdb_base.specs.Answer.{Answer}
 use Rattle.pdb_base.specs.Refusal.{refusal_of}
 use Rattle.pdb_base.specs.declared.error.Error.{Error}
+use Rattle.pdb_base.specs.declared.error.Error.TheVariants.{OutOfMemory}
 use Rattle.pdb_rows.specs.declared.form.Form.{Form}
 use Rattle.pdb_rows.specs.Fields.{optional_hexadecimal, optional_number}
 use Rattle.pdb_rows.specs.Lines.{row_text}
 use Rattle.pdb_rows.specs.Row.{ShownRow, flag, text}
 use Rattle.pdb_space.specs.Conversions.{AddressMapValue}
 use Rattle.pdb_space.specs.SectionPlace.{SectionPlace}
-use Rattle.pdb_rows.specs.Written.{IsOutputFailure, IsPrefix}
+use Rattle.pdb_output.specs.Output.{OutputState, Writes}
 use Rattle.pdb_mapping.specs.Made.{IsMadeOfInternal, IsMadeOfLoaded}
 use Rattle.pdb_mapping.specs.declared.made.OfInternal.{OfInternal}
 use Rattle.pdb_mapping.specs.declared.made.OfLoaded.{OfLoaded}
@@ -61,13 +61,11 @@ pub record AreLinesOf (form : Form) (map : AddressMapValue) (address : ℕ) (lin
   pub is_internal : IsMadeOfInternal map address internal
   pub are_lines : lines ≡ loaded_text form loaded ++ internal_text form internal
 
--- nothing was written, or a front of these lines
-pub data IsPart (form : Form) (meant : Answer AddressMapValue) (address : ℕ) (old new : Option (List ℕ)) : Type 0 where
-  nothing : Keeps old new → IsPart form meant address old new
-  front : (map : AddressMapValue) (lines : List ℕ) → meant ≡ Ok map → AreLinesOf form map address lines → IsPrefix lines old new → IsPart form meant address old new
-
--- The lines for an address by the map that is meant were written. Or the map is refused, and nothing was
--- written; or the lines were cut short.
-abbrev pub IsMapped : Form → Answer AddressMapValue → ℕ → Option (List ℕ) → Option (List ℕ) → Result (Unit {0}) Error → Type 0
-IsMapped form meant address old new (Ok done) = (map : AddressMapValue) × (lines : List ℕ) × (meant ≡ Ok map) × AreLinesOf form map address lines × Appends old new lines
-IsMapped form meant address old new (Err e) = ((meant ≡ Err (refusal_of e)) × Keeps old new) ⊎ (IsOutputFailure e × IsPart form meant address old new)
+-- What was done with an address and the map that is meant:
+--   mapped   the lines for the address were written, or cut short because the output failed or memory was refused
+--   refused  the map is refused, and nothing was written
+--   lacking  memory was refused for the map, and nothing was written
+pub data IsMapped (form : Form) (meant : Answer AddressMapValue) (address : ℕ) (old new : OutputState) (result : Result (Unit {0}) Error) : Type 0 where
+  mapped : (map : AddressMapValue) (lines : List ℕ) → meant ≡ Ok map → AreLinesOf form map address lines → Writes lines old new result → IsMapped form meant address old new result
+  refused : (fault : Error) → result ≡ Err fault → meant ≡ Err (refusal_of fault) → new ≡ old → IsMapped form meant address old new result
+  lacking : result ≡ Err OutOfMemory → new ≡ old → IsMapped form meant address old new result

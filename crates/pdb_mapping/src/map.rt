@@ -9,6 +9,7 @@ use crate::made::{made_of_internal, made_of_loaded};
 use crate::written::write_made;
 use pdb_base::Result;
 use pdb_file::PDB;
+use pdb_output::Output;
 use pdb_rows::Form;
 use pdb_space::{AddressMap, PdbInternalRva, Rva};
 use std::alloc::Global;
@@ -21,9 +22,9 @@ fn write_map<W: Write>(
     map: &AddressMap,
     address: u32,
     form: Form,
-    out: &mut W,
+    out: &mut Output<W>,
 ) -> Result<()>
-    ensures { IsMapped form (Ok map.now) address (W.contents out.old) (W.contents out.new) result }
+    ensures { IsMapped form (Ok map.now) address out.old out.new result }
 {
     let loaded = made_of_loaded(map, Rva(address));
     let internal = made_of_internal(map, PdbInternalRva(address));
@@ -45,10 +46,10 @@ pub fn list_map<W: Write>(
     address: u32,
     streams: MapStreams,
     form: Form,
-    out: &mut W,
+    out: &mut Output<W>,
 ) -> Result<()>
     ensures { IsMapped form (map_in file.source.items file.head streams) address
-        (W.contents out.old) (W.contents out.new) result }
+        out.old out.new result }
 {
     let map = map_in(alloc, &mut file, streams)?;
     write_map(alloc, &map, address, form, out)

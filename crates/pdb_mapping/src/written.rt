@@ -7,10 +7,11 @@ ghost use Rattle.pdb_mapping.specs.Mapped.{address_shown, crossed_text, internal
 ghost use Rattle.pdb_rows.specs.Lines.{row_text};
 ghost use Rattle.pdb_rows.specs.Row.{row_shown, value_shown};
 ghost use Rattle.pdb_rows.specs.Fields.{optional_hexadecimal, optional_number};
-ghost use Rattle.pdb_rows.specs.Written.{Writes};
+ghost use Rattle.pdb_output.specs.Output.{Writes};
 
 use crate::made::{OfInternal, OfLoaded};
 use pdb_base::{Error, Result};
+use pdb_output::Output;
 use pdb_rows::{Form, Row, Value, field, write_row};
 use pdb_space::{PdbInternalRva, PdbInternalSectionOffset, Rva, SectionOffset};
 use std::alloc::Global;
@@ -114,46 +115,49 @@ fn numbers_of(place: Option<PdbInternalSectionOffset>) -> Option<SectionOffset>
 }
 
 /// Writes the row of an address that is made of another.
+#[tactic(auto)]
 fn write_address<W: Write>(
     alloc: Global,
     from: &'static str,
     to: &'static str,
     address: Option<u32>,
     form: Form,
-    out: &mut W,
+    out: &mut Output<W>,
 ) -> Result<()>
     ensures { Writes (row_text form (address_shown from.now to.now address))
-        (W.contents out.old) (W.contents out.new) result }
+        out.old out.new result }
 {
     let row = address_row(alloc, from, to, address)?;
     write_row(form, &row, &mut Vec::new(alloc), out)
 }
 
 /// Writes the row of a place in a section that is made of an address.
+#[tactic(auto)]
 fn write_place<W: Write>(
     alloc: Global,
     from: &'static str,
     to: &'static str,
     place: Option<SectionOffset>,
     form: Form,
-    out: &mut W,
+    out: &mut Output<W>,
 ) -> Result<()>
     ensures { Writes (row_text form (place_shown from.now to.now place))
-        (W.contents out.old) (W.contents out.new) result }
+        out.old out.new result }
 {
     let row = place_row(alloc, from, to, place)?;
     write_row(form, &row, &mut Vec::new(alloc), out)
 }
 
 /// Writes what is made of an address of the image as it is loaded by way of the original image.
+#[tactic(auto)]
 fn write_internal_of_loaded<W: Write>(
     alloc: Global,
     made: &OfLoaded,
     form: Form,
-    out: &mut W,
+    out: &mut Output<W>,
 ) -> Result<()>
     ensures { Writes (crossed_text form (codes "rva") (codes "internal_rva") (codes "internal_offset")
-        made.now.internal_rva made.now.internal_offset) (W.contents out.old) (W.contents out.new) result }
+        made.now.internal_rva made.now.internal_offset) out.old out.new result }
 {
     let address = number_of(made.internal_rva);
     let place = numbers_of(made.internal_offset);
@@ -163,8 +167,13 @@ fn write_internal_of_loaded<W: Write>(
 
 /// Writes what is made of an address in the image as it is loaded.
 #[tactic(auto, unfolding(crate::specs::Mapped::loaded_text))]
-fn write_loaded<W: Write>(alloc: Global, made: &OfLoaded, form: Form, out: &mut W) -> Result<()>
-    ensures { Writes (loaded_text form made.now) (W.contents out.old) (W.contents out.new) result }
+fn write_loaded<W: Write>(
+    alloc: Global,
+    made: &OfLoaded,
+    form: Form,
+    out: &mut Output<W>,
+) -> Result<()>
+    ensures { Writes (loaded_text form made.now) out.old out.new result }
 {
     let place = made.section_offset;
     write_place(alloc, "rva", "section_offset", place, form, out)?;
@@ -172,14 +181,15 @@ fn write_loaded<W: Write>(alloc: Global, made: &OfLoaded, form: Form, out: &mut 
 }
 
 /// Writes what is made of an address of the original image by way of the image as it is loaded.
+#[tactic(auto)]
 fn write_loaded_of_internal<W: Write>(
     alloc: Global,
     made: &OfInternal,
     form: Form,
-    out: &mut W,
+    out: &mut Output<W>,
 ) -> Result<()>
     ensures { Writes (crossed_text form (codes "internal_rva") (codes "rva") (codes "section_offset") made.now.rva
-        made.now.section_offset) (W.contents out.old) (W.contents out.new) result }
+        made.now.section_offset) out.old out.new result }
 {
     let address = loaded_number_of(made.rva);
     write_address(alloc, "internal_rva", "rva", address, form, out)?;
@@ -189,8 +199,13 @@ fn write_loaded_of_internal<W: Write>(
 
 /// Writes what is made of an address in the original image.
 #[tactic(auto, unfolding(crate::specs::Mapped::internal_text))]
-fn write_internal<W: Write>(alloc: Global, made: &OfInternal, form: Form, out: &mut W) -> Result<()>
-    ensures { Writes (internal_text form made.now) (W.contents out.old) (W.contents out.new) result }
+fn write_internal<W: Write>(
+    alloc: Global,
+    made: &OfInternal,
+    form: Form,
+    out: &mut Output<W>,
+) -> Result<()>
+    ensures { Writes (internal_text form made.now) out.old out.new result }
 {
     let place = numbers_of(made.internal_offset);
     write_place(alloc, "internal_rva", "internal_offset", place, form, out)?;
@@ -199,15 +214,16 @@ fn write_internal<W: Write>(alloc: Global, made: &OfInternal, form: Form, out: &
 
 /// Writes what is made of an address in the image as it is loaded, and then what is made of one in
 /// the original image.
+#[tactic(auto)]
 pub(crate) fn write_made<W: Write>(
     alloc: Global,
     loaded: &OfLoaded,
     internal: &OfInternal,
     form: Form,
-    out: &mut W,
+    out: &mut Output<W>,
 ) -> Result<()>
     ensures { Writes (loaded_text form loaded.now ++ internal_text form internal.now)
-        (W.contents out.old) (W.contents out.new) result }
+        out.old out.new result }
 {
     write_loaded(alloc, loaded, form, out)?;
     write_internal(alloc, internal, form, out)

@@ -3,9 +3,11 @@
 mod asked;
 mod channels;
 mod dumped;
+mod failing;
 mod listings;
 mod printed;
 mod processes;
 mod rows;
 mod runs;
+mod unread;
 mod uses;

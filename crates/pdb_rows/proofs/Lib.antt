@@ -1,4 +1,3 @@
-pub mod lemmas
 pub mod Digits
 pub mod LineLaws
 pub mod PlainText

@@ -8,5 +8,4 @@ pub mod EntryRows
 pub mod IdRows
 pub mod TableRows
 pub mod Refused
-pub mod Written
 pub mod Laws

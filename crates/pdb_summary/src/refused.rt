@@ -5,10 +5,11 @@ ghost use Rattle.pdb_base.specs.Memory.{FailsOnlyForMemory};
 ghost use Rattle.pdb_base.specs.Refusal.{refusal_of};
 ghost use Rattle.pdb_rows.specs.Row.{field_shown, row_shown};
 ghost use Rattle.pdb_rows.specs.Row.{text as shown_text};
-ghost use Rattle.pdb_rows.specs.Written.{Writes};
+ghost use Rattle.pdb_output.specs.Output.{Writes};
 ghost use Rattle.pdb_summary.specs.Refused.{part_shown, refused_line};
 
 use pdb_base::{Error, Result};
+use pdb_output::Output;
 use pdb_rows::{Field, Form, Row, Value, error_field, error_text, field, write_row};
 use std::alloc::Global;
 use std::io::Write;
@@ -54,15 +55,15 @@ fn refused_row<'t>(alloc: Global, part: Part, text: &'t [u8]) -> Result<Row<'t>>
 }
 
 /// Writes which part is refused, and why.
-#[tactic(auto, unfolding(crate::specs::Refused::refused_line), using(pdb_rows::proofs::lemmas::Written::front_none))]
+#[tactic(auto, unfolding(crate::specs::Refused::refused_line), using(pdb_output::proofs::lemmas::Written::writing))]
 pub fn write_refused<W: Write>(
     alloc: Global,
     part: Part,
     error: &Error,
     form: Form,
-    out: &mut W,
+    out: &mut Output<W>,
 ) -> Result<()>
-    ensures { Writes (refused_line form part (refusal_of error.now)) (W.contents out.old) (W.contents out.new) result }
+    ensures { Writes (refused_line form part (refusal_of error.now)) out.old out.new result }
 {
     let text = error_text(alloc, error)?;
     let row = refused_row(alloc, part, &text)?;

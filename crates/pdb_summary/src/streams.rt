@@ -7,7 +7,7 @@ ghost use Rattle.pdb_base.specs.Answer.{Answers};
 ghost use Rattle.pdb_msf.specs.File.{stream_of};
 ghost use Rattle.pdb_file.specs.StreamNames.{named_view};
 ghost use Rattle.pdb_rows.specs.Row.{row_shown, value_shown};
-ghost use Rattle.pdb_rows.specs.Written.{Writes};
+ghost use Rattle.pdb_output.specs.Output.{Writes};
 ghost use Rattle.pdb_summary.specs.Known.{known_view};
 ghost use Rattle.pdb_summary.specs.Streams.{pages_held, size_line, stream_line, stream_lines, stream_shown};
 
@@ -16,6 +16,7 @@ use crate::roles::{name_of, role_of};
 use pdb_base::{Error, RawString, Result, Stream};
 use pdb_file::{DBIExtraStreams, PDB, StreamName};
 use pdb_msf::Msf;
+use pdb_output::Output;
 use pdb_rows::{Form, Row, Value, field, optional_text, optional_word, write_row};
 use std::alloc::Global;
 use std::io::Write;
@@ -77,17 +78,17 @@ fn stream_row<'t>(
 }
 
 /// Writes the line of a stream with this number and this size in bytes.
-#[tactic(auto, using(pdb_rows::proofs::lemmas::Written::front_none))]
+#[tactic(auto, using(pdb_output::proofs::lemmas::Written::writing))]
 fn write_size<W: Write>(
     alloc: Global,
     number: u32,
     size: usize,
     known: Known<'_, '_>,
     form: Form,
-    out: &mut W,
+    out: &mut Output<W>,
 ) -> Result<()>
     ensures { Writes (size_line form (known_view known.entry) number size)
-        (W.contents out.old) (W.contents out.new) result }
+        out.old out.new result }
 {
     let role = role_of(&known.roles, number);
     let name = name_of(known.names, number);
@@ -97,17 +98,17 @@ fn write_size<W: Write>(
 
 /// Writes the line of the stream with this number, if there is one. If the stream is refused, the
 /// line says so.
-#[tactic(auto, unfolding(crate::specs::Streams::stream_line), using(pdb_rows::proofs::lemmas::Written::front_none))]
+#[tactic(auto, unfolding(crate::specs::Streams::stream_line), using(pdb_output::proofs::lemmas::Written::writing))]
 fn write_stream<W: Write>(
     alloc: Global,
     file: &mut PDB<Vec<u8>>,
     number: u32,
     known: Known<'_, '_>,
     form: Form,
-    out: &mut W,
+    out: &mut Output<W>,
 ) -> Result<()>
     ensures line { Writes (stream_line form (known_view known.entry) file.old.source.items file.old.head number)
-        (W.contents out.old) (W.contents out.new) result }
+        out.old out.new result }
     ensures bytes { file.new.source.items ≡ file.old.source.items }
     ensures head { file.new.head ≡ file.old.head }
 {
@@ -125,10 +126,10 @@ pub fn write_streams<W: Write>(
     file: &mut PDB<Vec<u8>>,
     known: Known<'_, '_>,
     form: Form,
-    out: &mut W,
+    out: &mut Output<W>,
 ) -> Result<()>
     ensures lines { Writes (stream_lines form (known_view known.entry) file.old.source.items file.old.head)
-        (W.contents out.old) (W.contents out.new) result }
+        out.old out.new result }
     ensures bytes { file.new.source.items ≡ file.old.source.items }
     ensures head { file.new.head ≡ file.old.head }
 {

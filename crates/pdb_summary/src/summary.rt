@@ -7,7 +7,7 @@ ghost use Rattle.pdb_base.specs.Refusal.{refusal_of};
 ghost use Rattle.pdb_file.specs.File.{file_roles};
 ghost use Rattle.pdb_file.specs.StreamNames.{stream_names_of};
 ghost use Rattle.pdb_rows.specs.Row.{row_shown};
-ghost use Rattle.pdb_rows.specs.Written.{Writes, done_of};
+ghost use Rattle.pdb_output.specs.Output.{Writes, done_of};
 ghost use Rattle.pdb_summary.specs.Known.{known_view};
 ghost use Rattle.pdb_summary.specs.Refused.{refused_line};
 ghost use Rattle.pdb_summary.specs.Streams.{stream_lines};
@@ -21,6 +21,7 @@ use crate::tables::write_table;
 use pdb_base::{Error, ParseBuffer, Result};
 use pdb_file::{DBIExtraStreams, ID_STREAM, PDB, PDBInformation, TYPE_STREAM};
 use pdb_msf::Msf;
+use pdb_output::Output;
 use pdb_rows::{Form, Row, Value, field, write_row};
 use std::alloc::Global;
 use std::io::Write;
@@ -92,16 +93,16 @@ fn read_directory(alloc: Global, file: &mut PDB<Vec<u8>>) -> Result<()>
 
 /// Returns the roles of streams that stream 3 gives. If these are refused, writes that, and returns
 /// that no stream has a role.
-#[tactic(auto, using(pdb_rows::proofs::lemmas::Written::front_none))]
+#[tactic(auto, using(pdb_output::proofs::lemmas::Written::writing))]
 fn known_roles<W: Write>(
     alloc: Global,
     file: &mut PDB<Vec<u8>>,
     form: Form,
-    out: &mut W,
+    out: &mut Output<W>,
 ) -> Result<DBIExtraStreams>
     ensures roles { IfOk result (λ roles. roles ≡ said_or no_roles (file_roles file.old.source.items file.old.head)) }
     ensures told { Writes (told form parts.Roles (file_roles file.old.source.items file.old.head))
-        (W.contents out.old) (W.contents out.new) (done_of result) }
+        out.old out.new (done_of result) }
     ensures bytes { file.new.source.items ≡ file.old.source.items }
     ensures head { file.new.head ≡ file.old.head }
 {
@@ -116,18 +117,18 @@ fn known_roles<W: Write>(
 }
 
 /// Writes that the names of streams are refused, and then the streams as `known` describes them.
-#[tactic(auto, using(pdb_rows::proofs::lemmas::Written::front_none, pdb_rows::proofs::lemmas::Written::front_first, pdb_rows::proofs::lemmas::Written::front_second, pdb_rows::proofs::lemmas::Written::writes_second))]
+#[tactic(auto, using(pdb_output::proofs::lemmas::Written::writing))]
 fn write_unnamed<W: Write>(
     alloc: Global,
     file: &mut PDB<Vec<u8>>,
     known: Known<'_, '_>,
     error: &Error,
     form: Form,
-    out: &mut W,
+    out: &mut Output<W>,
 ) -> Result<()>
     ensures lines { Writes (refused_line form parts.Names (refusal_of error.now) ++
         stream_lines form (known_view known.entry) file.old.source.items file.old.head)
-        (W.contents out.old) (W.contents out.new) result }
+        out.old out.new result }
     ensures bytes { file.new.source.items ≡ file.old.source.items }
     ensures head { file.new.head ≡ file.old.head }
 {
@@ -137,7 +138,7 @@ fn write_unnamed<W: Write>(
 
 /// Writes the streams of a file, with the names that stream 1 gives. If these are refused, writes
 /// that, and then the streams without names.
-#[tactic(auto, using(pdb_rows::proofs::lemmas::Written::front_none, pdb_rows::proofs::lemmas::Written::front_first, pdb_rows::proofs::lemmas::Written::front_second, pdb_rows::proofs::lemmas::Written::writes_second))]
+#[tactic(auto, using(pdb_output::proofs::lemmas::Written::writing))]
 fn write_named<W: Write>(
     alloc: Global,
     file: &mut PDB<Vec<u8>>,
@@ -145,10 +146,10 @@ fn write_named<W: Write>(
     roles: DBIExtraStreams,
     information: &PDBInformation,
     form: Form,
-    out: &mut W,
+    out: &mut Output<W>,
 ) -> Result<()>
     ensures lines { Writes (named_part form page_size roles file.old.source.items file.old.head
-        (stream_names_of information.now)) (W.contents out.old) (W.contents out.new) result }
+        (stream_names_of information.now)) out.old out.new result }
     ensures bytes { file.new.source.items ≡ file.old.source.items }
     ensures head { file.new.head ≡ file.old.head }
 {
@@ -168,16 +169,16 @@ fn write_named<W: Write>(
 
 /// Writes the streams of a file. If their names are refused, writes that first, and no stream has a
 /// name.
-#[tactic(auto, unfolding(crate::specs::Summary::names_of), using(pdb_rows::proofs::lemmas::Written::front_none, pdb_rows::proofs::lemmas::Written::front_first, pdb_rows::proofs::lemmas::Written::front_second, pdb_rows::proofs::lemmas::Written::writes_second))]
+#[tactic(auto, unfolding(crate::specs::Summary::names_of), using(pdb_output::proofs::lemmas::Written::writing))]
 fn write_all_streams<W: Write>(
     alloc: Global,
     file: &mut PDB<Vec<u8>>,
     roles: DBIExtraStreams,
     form: Form,
-    out: &mut W,
+    out: &mut Output<W>,
 ) -> Result<()>
     ensures lines { Writes (named_part form (page_size_of file.old.source.items) roles file.old.source.items
-        file.old.head (names_of file.old.source.items file.old.head)) (W.contents out.old) (W.contents out.new) result }
+        file.old.head (names_of file.old.source.items file.old.head)) out.old out.new result }
     ensures bytes { file.new.source.items ≡ file.old.source.items }
     ensures head { file.new.head ≡ file.old.head }
 {
@@ -190,15 +191,15 @@ fn write_all_streams<W: Write>(
 }
 
 /// Writes the streams of a file, and what is refused of their roles and names.
-#[tactic(auto, unfolding(crate::specs::Summary::streams_part), using(pdb_rows::proofs::lemmas::Written::front_none, pdb_rows::proofs::lemmas::Written::front_first, pdb_rows::proofs::lemmas::Written::front_second, pdb_rows::proofs::lemmas::Written::writes_second))]
+#[tactic(auto, unfolding(crate::specs::Summary::streams_part), using(pdb_output::proofs::lemmas::Written::writing))]
 fn write_streams_part<W: Write>(
     alloc: Global,
     file: &mut PDB<Vec<u8>>,
     form: Form,
-    out: &mut W,
+    out: &mut Output<W>,
 ) -> Result<()>
     ensures lines { Writes (streams_part form file.old.source.items file.old.head)
-        (W.contents out.old) (W.contents out.new) result }
+        out.old out.new result }
     ensures bytes { file.new.source.items ≡ file.old.source.items }
     ensures head { file.new.head ≡ file.old.head }
 {
@@ -207,46 +208,46 @@ fn write_streams_part<W: Write>(
 }
 
 /// Writes the tables of types and of ids.
-#[tactic(auto, unfolding(crate::specs::Summary::tables_part), using(pdb_rows::proofs::lemmas::Written::front_none, pdb_rows::proofs::lemmas::Written::front_first, pdb_rows::proofs::lemmas::Written::front_second, pdb_rows::proofs::lemmas::Written::writes_second))]
+#[tactic(auto, unfolding(crate::specs::Summary::tables_part), using(pdb_output::proofs::lemmas::Written::writing))]
 fn write_tables<W: Write>(
     alloc: Global,
     file: &mut PDB<Vec<u8>>,
     form: Form,
-    out: &mut W,
+    out: &mut Output<W>,
 ) -> Result<()>
     ensures { Writes (tables_part form file.old.source.items file.old.head)
-        (W.contents out.old) (W.contents out.new) result }
+        out.old out.new result }
 {
     write_table(alloc, file, TYPE_STREAM, form, out)?;
     write_table(alloc, file, ID_STREAM, form, out)
 }
 
 /// Writes the parts of a file whose directory is read.
-#[tactic(auto, using(pdb_rows::proofs::lemmas::Written::front_none, pdb_rows::proofs::lemmas::Written::front_first, pdb_rows::proofs::lemmas::Written::front_second, pdb_rows::proofs::lemmas::Written::writes_second))]
+#[tactic(auto, using(pdb_output::proofs::lemmas::Written::writing))]
 fn write_read_parts<W: Write>(
     alloc: Global,
     file: &mut PDB<Vec<u8>>,
     form: Form,
-    out: &mut W,
+    out: &mut Output<W>,
 ) -> Result<()>
     ensures { Writes (streams_part form file.old.source.items file.old.head ++
         tables_part form file.old.source.items file.old.head)
-        (W.contents out.old) (W.contents out.new) result }
+        out.old out.new result }
 {
     write_streams_part(alloc, file, form, out)?;
     write_tables(alloc, file, form, out)
 }
 
 /// Writes all parts of a file, or that its directory is refused.
-#[tactic(auto, unfolding(crate::specs::Summary::parts_lines), using(pdb_rows::proofs::lemmas::Written::front_none, pdb_rows::proofs::lemmas::Written::front_first, pdb_rows::proofs::lemmas::Written::front_second, pdb_rows::proofs::lemmas::Written::writes_second))]
+#[tactic(auto, unfolding(crate::specs::Summary::parts_lines), using(pdb_output::proofs::lemmas::Written::writing))]
 fn write_parts<W: Write>(
     alloc: Global,
     file: &mut PDB<Vec<u8>>,
     form: Form,
-    out: &mut W,
+    out: &mut Output<W>,
 ) -> Result<()>
     ensures { Writes (parts_lines form file.old.source.items file.old.head)
-        (W.contents out.old) (W.contents out.new) result }
+        out.old out.new result }
 {
     match read_directory(alloc, file) {
         Ok(()) => write_read_parts(alloc, file, form, out),
@@ -256,9 +257,9 @@ fn write_parts<W: Write>(
 }
 
 /// Writes the line of a file, or that its header is refused.
-#[tactic(auto, unfolding(crate::specs::Summary::pages_line), using(pdb_rows::proofs::lemmas::Written::front_none, pdb_rows::proofs::lemmas::Written::front_first, pdb_rows::proofs::lemmas::Written::front_second, pdb_rows::proofs::lemmas::Written::writes_second))]
-fn write_pages<W: Write>(alloc: Global, file: &[u8], form: Form, out: &mut W) -> Result<()>
-    ensures { Writes (pages_line form file.now) (W.contents out.old) (W.contents out.new) result }
+#[tactic(auto, unfolding(crate::specs::Summary::pages_line), using(pdb_output::proofs::lemmas::Written::writing))]
+fn write_pages<W: Write>(alloc: Global, file: &[u8], form: Form, out: &mut Output<W>) -> Result<()>
+    ensures { Writes (pages_line form file.now) out.old out.new result }
 {
     match pages_of(file) {
         Ok((page_size, pages)) => {
@@ -270,15 +271,15 @@ fn write_pages<W: Write>(alloc: Global, file: &[u8], form: Form, out: &mut W) ->
 }
 
 /// Writes the line of a file, and then all its parts.
-#[tactic(auto, using(pdb_rows::proofs::lemmas::Written::front_none, pdb_rows::proofs::lemmas::Written::front_first, pdb_rows::proofs::lemmas::Written::front_second, pdb_rows::proofs::lemmas::Written::writes_second))]
+#[tactic(auto, using(pdb_output::proofs::lemmas::Written::writing))]
 fn write_summary<W: Write>(
     alloc: Global,
     file: &mut PDB<Vec<u8>>,
     form: Form,
-    out: &mut W,
+    out: &mut Output<W>,
 ) -> Result<()>
     ensures { Writes (pages_line form file.old.source.items ++ parts_lines form file.old.source.items file.old.head)
-        (W.contents out.old) (W.contents out.new) result }
+        out.old out.new result }
 {
     write_pages(alloc, file.msf().source(), form, out)?;
     write_parts(alloc, file, form, out)
@@ -294,10 +295,10 @@ pub fn list_summary<W: Write>(
     alloc: Global,
     file: &mut PDB<Vec<u8>>,
     form: Form,
-    out: &mut W,
+    out: &mut Output<W>,
 ) -> Result<()>
     ensures { IsListed (summary_listing form file.old.source.items file.old.head)
-        (W.contents out.old) (W.contents out.new) result }
+        out.old out.new result }
 {
     write_summary(alloc, file, form, out)
 }

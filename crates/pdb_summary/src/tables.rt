@@ -7,7 +7,7 @@ ghost use Rattle.pdb_base.specs.Answer.{Answers};
 ghost use Rattle.pdb_base.specs.Refusal.{refusal_of};
 ghost use Rattle.pdb_rows.specs.Lines.{row_text};
 ghost use Rattle.pdb_rows.specs.Row.{row_shown};
-ghost use Rattle.pdb_rows.specs.Written.{Writes};
+ghost use Rattle.pdb_output.specs.Output.{Writes};
 ghost use Rattle.pdb_summary.specs.Kinds.{kind_lines, kind_shown, stop_line, table_found, table_lines, table_part, table_shown};
 
 use crate::kinds::{KindCount, Walked, walk_over};
@@ -15,6 +15,7 @@ use crate::refused::{Part, write_refused};
 use crate::streams::stream;
 use pdb_base::{Error, Result};
 use pdb_file::PDB;
+use pdb_output::Output;
 use pdb_rows::{Form, Row, Value, field, write_row};
 use pdb_tpi::TypeInformation;
 use std::alloc::Global;
@@ -45,18 +46,18 @@ fn table_row<'t>(
 
 /// Writes the line of a table: how many records it has and how many of them are lists of fields
 /// that another list continues, and the indexes that its header counts.
-#[tactic(auto, using(pdb_rows::proofs::lemmas::Written::front_none))]
+#[tactic(auto, using(pdb_output::proofs::lemmas::Written::writing))]
 fn write_head<W: Write>(
     alloc: Global,
     number: u32,
     table: &TypeInformation,
     walked: &Walked,
     form: Form,
-    out: &mut W,
+    out: &mut Output<W>,
 ) -> Result<()>
     ensures { Writes (row_text form
         (table_shown number walked.now.records walked.now.continued table.now.header.minimum_index
-        table.now.header.maximum_index)) (W.contents out.old) (W.contents out.new) result }
+        table.now.header.maximum_index)) out.old out.new result }
 {
     let header = table.header();
     let row = table_row(
@@ -88,9 +89,9 @@ fn write_kinds<W: Write>(
     number: u32,
     kinds: &[KindCount],
     form: Form,
-    out: &mut W,
+    out: &mut Output<W>,
 ) -> Result<()>
-    ensures { Writes (kind_lines form number kinds.now) (W.contents out.old) (W.contents out.new) result }
+    ensures { Writes (kind_lines form number kinds.now) out.old out.new result }
 {
     let mut line = Vec::new(alloc);
     for kind in kinds {
@@ -106,10 +107,10 @@ fn write_stop<W: Write>(
     number: u32,
     fault: &Option<Error>,
     form: Form,
-    out: &mut W,
+    out: &mut Output<W>,
 ) -> Result<()>
     ensures { Writes (stop_line form number (option_map refusal_of fault.now))
-        (W.contents out.old) (W.contents out.new) result }
+        out.old out.new result }
 {
     match fault {
         Some(fault) => write_refused(alloc, Part::Table(number), fault, form, out),
@@ -118,17 +119,17 @@ fn write_stop<W: Write>(
 }
 
 /// Writes the kinds of a table's records, and the fault at which its walk stops, if it does.
-#[tactic(auto, using(pdb_rows::proofs::lemmas::Written::front_none, pdb_rows::proofs::lemmas::Written::front_first, pdb_rows::proofs::lemmas::Written::front_second, pdb_rows::proofs::lemmas::Written::writes_second))]
+#[tactic(auto, using(pdb_output::proofs::lemmas::Written::writing))]
 fn write_rest<W: Write>(
     alloc: Global,
     number: u32,
     walked: &Walked,
     form: Form,
-    out: &mut W,
+    out: &mut Output<W>,
 ) -> Result<()>
     ensures { Writes (kind_lines form number walked.now.kinds.items ++
         stop_line form number (option_map refusal_of walked.now.fault))
-        (W.contents out.old) (W.contents out.new) result }
+        out.old out.new result }
 {
     write_kinds(alloc, number, &walked.kinds, form, out)?;
     write_stop(alloc, number, &walked.fault, form, out)
@@ -136,35 +137,35 @@ fn write_rest<W: Write>(
 
 /// Writes a table that was walked over: its line, the kinds of its records, and the fault at which
 /// its walk stops, if it does.
-#[tactic(auto, using(pdb_rows::proofs::lemmas::Written::front_none, pdb_rows::proofs::lemmas::Written::front_first, pdb_rows::proofs::lemmas::Written::front_second, pdb_rows::proofs::lemmas::Written::writes_second))]
+#[tactic(auto, using(pdb_output::proofs::lemmas::Written::writing))]
 fn write_walked<W: Write>(
     alloc: Global,
     number: u32,
     table: &TypeInformation,
     walked: &Walked,
     form: Form,
-    out: &mut W,
+    out: &mut Output<W>,
 ) -> Result<()>
     ensures { Writes (row_text form (table_shown number walked.now.records walked.now.continued
         table.now.header.minimum_index table.now.header.maximum_index)
         ++ (kind_lines form number walked.now.kinds.items ++
         stop_line form number (option_map refusal_of walked.now.fault)))
-        (W.contents out.old) (W.contents out.new) result }
+        out.old out.new result }
 {
     write_head(alloc, number, table, walked, form, out)?;
     write_rest(alloc, number, walked, form, out)
 }
 
 /// Walks over a table, and writes what it holds.
-#[tactic(auto, unfolding(crate::specs::Kinds::table_lines), using(pdb_rows::proofs::lemmas::Written::front_none))]
+#[tactic(auto, unfolding(crate::specs::Kinds::table_lines), using(pdb_output::proofs::lemmas::Written::writing))]
 fn write_found<W: Write>(
     alloc: Global,
     number: u32,
     table: &TypeInformation,
     form: Form,
-    out: &mut W,
+    out: &mut Output<W>,
 ) -> Result<()>
-    ensures { Writes (table_lines form number table.now) (W.contents out.old) (W.contents out.new) result }
+    ensures { Writes (table_lines form number table.now) out.old out.new result }
 {
     let walked = walk_over(alloc, table)?;
     write_walked(alloc, number, table, &walked, form, out)
@@ -181,16 +182,16 @@ fn table_found(alloc: Global, file: &mut PDB<Vec<u8>>, number: u32) -> Result<Ty
 }
 
 /// Writes the table in the stream with this number, or that it is refused.
-#[tactic(auto, unfolding(crate::specs::Kinds::table_part), using(pdb_rows::proofs::lemmas::Written::front_none))]
+#[tactic(auto, unfolding(crate::specs::Kinds::table_part), using(pdb_output::proofs::lemmas::Written::writing))]
 pub fn write_table<W: Write>(
     alloc: Global,
     file: &mut PDB<Vec<u8>>,
     number: u32,
     form: Form,
-    out: &mut W,
+    out: &mut Output<W>,
 ) -> Result<()>
     ensures lines { Writes (table_part form number file.old.source.items file.old.head)
-        (W.contents out.old) (W.contents out.new) result }
+        out.old out.new result }
     ensures bytes { file.new.source.items ≡ file.old.source.items }
     ensures head { file.new.head ≡ file.old.head }
 {

@@ -1,10 +1,9 @@
 -- A listing: lines, one behind the other, and how they end.
-use Rattle.std.specs.Prelude.{◌≡◌, ◌⊎◌, ℕ, List, [], ◌++◌, Option, Result, Ok, Err}
-use Rattle.std.specs.Io.KnownBytes.{Appends}
+use Rattle.std.specs.Prelude.{◌≡◌, ◌⊎◌, ℕ, List, [], ◌++◌, Result, Ok, Err}
 use Rattle.pdb_base.specs.declared.error.Error.{Error}
 use Rattle.pdb_base.specs.Answer.{Answer, ◌>>=◌}
 use Rattle.pdb_base.specs.Refusal.{Refusal, refusal_of}
-use Rattle.pdb_rows.specs.Written.{IsOutputFailure, IsPrefix}
+use Rattle.pdb_output.specs.Output.{OutputState, Gets, IsCutShort}
 
 -- The lines up to the first fault, and the refusal behind them, if there is one.
 pub record Listing : Type 0 where
@@ -40,8 +39,8 @@ followed_by first next = record {
   end = first.end >>= λ done. next.end;
 }
 
--- A writer received the lines of a listing, and the result is how the listing ends; or the call was cut
--- short, and the writer received a front of the lines.
-abbrev pub IsListed : Listing → Option (List ℕ) → Option (List ℕ) → Result (Unit {0}) Error → Type 0
-IsListed listing old new (Ok done) = (listing.end ≡ Ok tt) × Appends old new listing.lines
-IsListed listing old new (Err e) = ((listing.end ≡ Err (refusal_of e)) × Appends old new listing.lines) ⊎ (IsOutputFailure e × IsPrefix listing.lines old new)
+-- An output received the lines of a listing, and the result is how the listing ends; or the output failed
+-- or memory was refused, and the output received a prefix of the lines.
+abbrev pub IsListed : Listing → OutputState → OutputState → Result (Unit {0}) Error → Type 0
+IsListed listing old new (Ok done) = (listing.end ≡ Ok tt) × Gets old new listing.lines
+IsListed listing old new (Err e) = ((listing.end ≡ Err (refusal_of e)) × Gets old new listing.lines) ⊎ IsCutShort listing.lines old new e

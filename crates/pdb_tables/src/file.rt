@@ -14,6 +14,7 @@ use pdb_base::Result;
 use pdb_file::PDB;
 use pdb_frames::FrameTable;
 use pdb_msf::{Msf, Source};
+use pdb_output::Output;
 use pdb_rows::Form;
 use pdb_space::StringTable;
 use std::alloc::Global;
@@ -26,15 +27,15 @@ use std::io::Write;
 /// and with `UnexpectedEof`, after the lines of the whole headers, if the last one is cut short.
 /// Fails with `IoError` if the writer fails, and with `OutOfMemory` if memory is refused.
 #[tactic(auto, unfolding(crate::specs::Files::file_sections), using(crate::proofs::ListedLemmas::refused_listed))]
-pub fn list_sections<S: Source + Drop, W: Write>(
+pub fn list_sections<W: Write>(
     alloc: Global,
-    mut file: PDB<S>,
+    mut file: PDB<Vec<u8>>,
     stream: Option<u32>,
     form: Form,
-    out: &mut W,
+    out: &mut Output<W>,
 ) -> Result<()>
-    ensures { IsListed (file_sections form (S.state file.source).bytes file.head stream)
-        (W.contents out.old) (W.contents out.new) result }
+    ensures { IsListed (file_sections form file.source.items file.head stream)
+        out.old out.new result }
 {
     let number = section_number(alloc, &mut file, stream)?;
     match file.numbered_stream(alloc, number)? {
@@ -63,15 +64,15 @@ fn names_in<S: Source>(alloc: Global, file: &mut PDB<S>, stream: Option<u32>) ->
 /// stream, and then as `StringTable::parse` does for its bytes. Fails with `IoError` if the writer
 /// fails, and with `OutOfMemory` if memory is refused.
 #[tactic(auto, unfolding(crate::specs::Files::file_names), using(crate::proofs::ListedLemmas::refused_listed))]
-pub fn list_names<S: Source + Drop, W: Write>(
+pub fn list_names<W: Write>(
     alloc: Global,
-    mut file: PDB<S>,
+    mut file: PDB<Vec<u8>>,
     stream: Option<u32>,
     form: Form,
-    out: &mut W,
+    out: &mut Output<W>,
 ) -> Result<()>
-    ensures { IsListed (file_names form (S.state file.source).bytes file.head stream)
-        (W.contents out.old) (W.contents out.new) result }
+    ensures { IsListed (file_names form file.source.items file.head stream)
+        out.old out.new result }
 {
     let table = names_in(alloc, &mut file, stream)?;
     write_table(alloc, &table, form, out)
@@ -83,14 +84,14 @@ pub fn list_names<S: Source + Drop, W: Write>(
 /// Fails as `frame_table` does, with `IoError` if the writer fails, and with `OutOfMemory` if
 /// memory is refused.
 #[tactic(auto, unfolding(crate::specs::Files::file_frames), using(crate::proofs::ListedLemmas::refused_listed))]
-pub fn list_frames<S: Source + Drop, W: Write>(
+pub fn list_frames<W: Write>(
     alloc: Global,
-    mut file: PDB<S>,
+    mut file: PDB<Vec<u8>>,
     form: Form,
-    out: &mut W,
+    out: &mut Output<W>,
 ) -> Result<()>
-    ensures { IsListed (file_frames form (S.state file.source).bytes file.head)
-        (W.contents out.old) (W.contents out.new) result }
+    ensures { IsListed (file_frames form file.source.items file.head)
+        out.old out.new result }
 {
     let table = file.frame_table(alloc)?;
     write_frames(alloc, &table, form, out)
@@ -103,16 +104,16 @@ pub fn list_frames<S: Source + Drop, W: Write>(
 /// Fails as `Msf::get` does for the streams, the older one first, and then as `FrameTable::parse`
 /// does. Fails with `IoError` if the writer fails, and with `OutOfMemory` if memory is refused.
 #[tactic(auto, unfolding(crate::specs::Files::frames_in), using(crate::proofs::ListedLemmas::refused_listed))]
-pub fn list_frames_in<S: Source + Drop, W: Write>(
+pub fn list_frames_in<W: Write>(
     alloc: Global,
-    mut file: PDB<S>,
+    mut file: PDB<Vec<u8>>,
     old: Option<u32>,
     new: Option<u32>,
     form: Form,
-    out: &mut W,
+    out: &mut Output<W>,
 ) -> Result<()>
-    ensures { IsListed (frames_in form (S.state file.source).bytes file.head old new)
-        (W.contents out.old) (W.contents out.new) result }
+    ensures { IsListed (frames_in form file.source.items file.head old new)
+        out.old out.new result }
 {
     let old = file.numbered_stream(alloc, old)?;
     let new = file.numbered_stream(alloc, new)?;

@@ -6,6 +6,7 @@ ghost use Rattle.pdb_tables.specs.Tables.{frames_listing};
 
 use pdb_base::{FallibleIterator, Result};
 use pdb_frames::FrameTable;
+use pdb_output::Output;
 use pdb_rows::{Form, frame_row, write_row};
 use std::alloc::Global;
 use std::io::Write;
@@ -19,9 +20,9 @@ pub fn write_frames<W: Write>(
     alloc: Global,
     table: &FrameTable,
     form: Form,
-    out: &mut W,
+    out: &mut Output<W>,
 ) -> Result<()>
-    ensures { IsListed (frames_listing form table.now) (W.contents out.old) (W.contents out.new) result }
+    ensures { IsListed (frames_listing form table.now) out.old out.new result }
 {
     let mut line = Vec::new(alloc);
     let mut frames = table.iter();

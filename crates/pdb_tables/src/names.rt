@@ -7,6 +7,7 @@ ghost use Rattle.pdb_tables.specs.Listing.{IsListed, whole};
 ghost use Rattle.pdb_tables.specs.Tables.{all_names, name_lines, name_shown, next_place};
 
 use pdb_base::{Error, RawString, Result};
+use pdb_output::Output;
 use pdb_rows::{Form, Row, Value, field, write_row};
 use pdb_space::{StringRef, StringTable};
 use std::alloc::Global;
@@ -38,10 +39,10 @@ pub(crate) fn write_table<W: Write>(
     alloc: Global,
     table: &StringTable,
     form: Form,
-    out: &mut W,
+    out: &mut Output<W>,
 ) -> Result<()>
     ensures { IsListed (whole (name_lines form (all_names table.now)))
-        (W.contents out.old) (W.contents out.new) result }
+        out.old out.new result }
 {
     let mut line = Vec::new(alloc);
     let mut place = 0;

@@ -3,19 +3,25 @@
 ghost use Rattle.std.specs.Prelude.{◌≡◌, IfOk};
 ghost use Rattle.pdb_base.specs.Memory.{FailsOnlyForMemory};
 ghost use Rattle.pdb_rows.specs.Row.{row_shown};
-ghost use Rattle.pdb_rows.specs.Written.{Writes};
+ghost use Rattle.pdb_output.specs.Output.{Writes};
 ghost use Rattle.pdb_tables.specs.Listing.{IsListed};
 ghost use Rattle.pdb_tables.specs.Tables.{omap_all, omap_lines, omap_listing, order_shown, rises};
 
 use pdb_base::{Error, Result, Stream};
+use pdb_output::Output;
 use pdb_rows::{Form, Row, Value, field, omap_row, write_row};
 use pdb_space::OMAPTable;
 use std::alloc::Global;
 use std::io::Write;
 
 /// Writes the records of a table.
-fn write_records<W: Write>(alloc: Global, table: &OMAPTable, form: Form, out: &mut W) -> Result<()>
-    ensures { Writes (omap_lines form table.now) (W.contents out.old) (W.contents out.new) result }
+fn write_records<W: Write>(
+    alloc: Global,
+    table: &OMAPTable,
+    form: Form,
+    out: &mut Output<W>,
+) -> Result<()>
+    ensures { Writes (omap_lines form table.now) out.old out.new result }
 {
     let mut line = Vec::new(alloc);
     for record in table.records() {
@@ -42,9 +48,14 @@ fn order_row<'t>(alloc: Global, is_sorted: bool) -> Result<Row<'t>>
 }
 
 /// Writes the records of a table, and then whether their sources never decrease.
-#[tactic(auto, using(pdb_rows::proofs::lemmas::Written::front_first, pdb_rows::proofs::lemmas::Written::writes_second))]
-fn write_table<W: Write>(alloc: Global, table: &OMAPTable, form: Form, out: &mut W) -> Result<()>
-    ensures { Writes (omap_all form table.now) (W.contents out.old) (W.contents out.new) result }
+#[tactic(auto, using(pdb_output::proofs::lemmas::Written::writing))]
+fn write_table<W: Write>(
+    alloc: Global,
+    table: &OMAPTable,
+    form: Form,
+    out: &mut Output<W>,
+) -> Result<()>
+    ensures { Writes (omap_all form table.now) out.old out.new result }
 {
     write_records(alloc, table, form, out)?;
     let row = order_row(alloc, is_sorted(table))?;
@@ -56,8 +67,13 @@ fn write_table<W: Write>(alloc: Global, table: &OMAPTable, form: Form, out: &mut
 /// # Errors
 /// Fails with `InvalidStreamLength` if the stream's length isn't a multiple of eight. Fails with
 /// `IoError` if the writer fails, and with `OutOfMemory` if memory is refused.
-pub fn write_omap<W: Write>(alloc: Global, stream: Stream, form: Form, out: &mut W) -> Result<()>
-    ensures { IsListed (omap_listing form stream) (W.contents out.old) (W.contents out.new) result }
+pub fn write_omap<W: Write>(
+    alloc: Global,
+    stream: Stream,
+    form: Form,
+    out: &mut Output<W>,
+) -> Result<()>
+    ensures { IsListed (omap_listing form stream) out.old out.new result }
 {
     let table = OMAPTable::parse(stream)?;
     write_table(alloc, &table, form, out)

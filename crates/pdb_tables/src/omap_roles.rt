@@ -2,17 +2,17 @@
 
 ghost use Rattle.std.specs.Prelude.{◌≡◌, IfOk};
 ghost use Rattle.pdb_base.specs.Memory.{FailsOnlyForMemory};
-ghost use Rattle.pdb_msf.specs.Source.{IsKept};
 ghost use Rattle.pdb_rows.specs.Lines.{row_text};
 ghost use Rattle.pdb_rows.specs.Row.{row_shown};
-ghost use Rattle.pdb_rows.specs.Written.{Writes};
+ghost use Rattle.pdb_output.specs.Output.{Writes};
 ghost use Rattle.pdb_tables.specs.Files.{both_omaps, file_omap, numbered_omap, role_omap, role_shown};
 ghost use Rattle.pdb_tables.specs.Listing.{IsListed};
 
 use crate::omap::write_omap;
 use pdb_base::{Error, Result};
 use pdb_file::{DBIExtraStreams, PDB};
-use pdb_msf::{Msf, Source};
+use pdb_msf::Msf;
+use pdb_output::Output;
 use pdb_rows::{Form, Row, Value, field, write_row};
 use std::alloc::Global;
 use std::io::Write;
@@ -30,31 +30,31 @@ fn role_row<'t>(alloc: Global, role: &'static str, number: u32) -> Result<Row<'t
 }
 
 /// Writes the role of the table that follows, and the number of its stream.
-#[tactic(auto, using(pdb_rows::proofs::lemmas::Written::front_none))]
+#[tactic(auto, using(pdb_output::proofs::lemmas::Written::writing))]
 fn write_role<W: Write>(
     alloc: Global,
     role: &'static str,
     number: u32,
     form: Form,
-    out: &mut W,
+    out: &mut Output<W>,
 ) -> Result<()>
-    ensures { Writes (row_text form (role_shown role.now number)) (W.contents out.old) (W.contents out.new) result }
+    ensures { Writes (row_text form (role_shown role.now number)) out.old out.new result }
 {
     let row = role_row(alloc, role, number)?;
     write_row(form, &row, &mut Vec::new(alloc), out)
 }
 
 /// Lists the records of the OMAP table in a stream, and then whether their sources never decrease.
-fn list_numbered<S: Source, W: Write>(
+fn list_numbered<W: Write>(
     alloc: Global,
-    file: &mut PDB<S>,
+    file: &mut PDB<Vec<u8>>,
     number: u32,
     form: Form,
-    out: &mut W,
+    out: &mut Output<W>,
 ) -> Result<()>
-    ensures listed { IsListed (numbered_omap form (S.state file.old.source).bytes file.old.head number)
-        (W.contents out.old) (W.contents out.new) result }
-    ensures source { IsKept (S.state file.old.source) (S.state file.new.source) }
+    ensures listed { IsListed (numbered_omap form file.old.source.items file.old.head number)
+        out.old out.new result }
+    ensures bytes { file.new.source.items ≡ file.old.source.items }
     ensures head { file.new.head ≡ file.old.head }
 {
     let stream = file.get(alloc, number, None)?;
@@ -63,17 +63,17 @@ fn list_numbered<S: Source, W: Write>(
 
 /// Lists the records of the OMAP table that has a role, after a line that says which role it is.
 /// Lists nothing if no stream has the role.
-fn list_role<S: Source, W: Write>(
+fn list_role<W: Write>(
     alloc: Global,
-    file: &mut PDB<S>,
+    file: &mut PDB<Vec<u8>>,
     role: &'static str,
     number: Option<u32>,
     form: Form,
-    out: &mut W,
+    out: &mut Output<W>,
 ) -> Result<()>
-    ensures listed { IsListed (role_omap form (S.state file.old.source).bytes file.old.head role.now number)
-        (W.contents out.old) (W.contents out.new) result }
-    ensures source { IsKept (S.state file.old.source) (S.state file.new.source) }
+    ensures listed { IsListed (role_omap form file.old.source.items file.old.head role.now number)
+        out.old out.new result }
+    ensures bytes { file.new.source.items ≡ file.old.source.items }
     ensures head { file.new.head ≡ file.old.head }
 {
     let Some(number) = number else {
@@ -84,15 +84,15 @@ fn list_role<S: Source, W: Write>(
 }
 
 /// Lists the records of both OMAP tables, each table after a line with its role and its stream.
-fn list_both<S: Source, W: Write>(
+fn list_both<W: Write>(
     alloc: Global,
-    file: &mut PDB<S>,
+    file: &mut PDB<Vec<u8>>,
     roles: &DBIExtraStreams,
     form: Form,
-    out: &mut W,
+    out: &mut Output<W>,
 ) -> Result<()>
-    ensures { IsListed (both_omaps form (S.state file.old.source).bytes file.old.head roles.now)
-        (W.contents out.old) (W.contents out.new) result }
+    ensures { IsListed (both_omaps form file.old.source.items file.old.head roles.now)
+        out.old out.new result }
 {
     let to_source = roles.omap_to_src.msf_number();
     list_role(alloc, file, "omap_to_src", to_source, form, out)?;
@@ -112,15 +112,15 @@ fn list_both<S: Source, W: Write>(
 /// and the line with its own role, have been listed by then. Fails with `IoError` if the writer
 /// fails, and with `OutOfMemory` if memory is refused.
 #[tactic(auto, unfolding(crate::specs::Files::file_omap), using(crate::proofs::ListedLemmas::refused_listed))]
-pub fn list_omap<S: Source + Drop, W: Write>(
+pub fn list_omap<W: Write>(
     alloc: Global,
-    mut file: PDB<S>,
+    mut file: PDB<Vec<u8>>,
     stream: Option<u32>,
     form: Form,
-    out: &mut W,
+    out: &mut Output<W>,
 ) -> Result<()>
-    ensures { IsListed (file_omap form (S.state file.source).bytes file.head stream)
-        (W.contents out.old) (W.contents out.new) result }
+    ensures { IsListed (file_omap form file.source.items file.head stream)
+        out.old out.new result }
 {
     match stream {
         Some(number) => list_numbered(alloc, &mut file, number, form, out),

@@ -5,6 +5,7 @@ ghost use Rattle.pdb_tables.specs.Listing.{IsListed};
 ghost use Rattle.pdb_tables.specs.Tables.{sections_listing};
 
 use pdb_base::{Error, Result, Stream};
+use pdb_output::Output;
 use pdb_rows::{Form, section_row, write_row};
 use pdb_space::ImageSectionHeader;
 use std::alloc::Global;
@@ -23,9 +24,9 @@ pub fn write_sections<W: Write>(
     alloc: Global,
     stream: &Stream,
     form: Form,
-    out: &mut W,
+    out: &mut Output<W>,
 ) -> Result<()>
-    ensures { IsListed (sections_listing form stream.now) (W.contents out.old) (W.contents out.new) result }
+    ensures { IsListed (sections_listing form stream.now) out.old out.new result }
 {
     let mut line = Vec::new(alloc);
     let mut buffer = stream.parse_buffer();

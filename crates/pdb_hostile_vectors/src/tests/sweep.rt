@@ -2,7 +2,7 @@
 //! them ends, and replies to each query unless the file can't be opened.
 
 use pdb_base::{Error, Result};
-use pdb_container::{Query, run};
+use pdb_container::{Query, Reply, run};
 use pdb_vectors::s1;
 use std::alloc::Global;
 use std::test::Fail;
@@ -15,12 +15,22 @@ fn stream(number: u32) -> Query {
     }
 }
 
+/// Returns whether none of these replies is that memory was refused, of which there is plenty.
+fn have_memory(replies: &[Reply]) -> bool {
+    for reply in replies {
+        if matches!(reply, Reply::Refused(Error::OutOfMemory)) {
+            return false;
+        }
+    }
+    true
+}
+
 /// Returns whether a run over a file, which asks for the streams of the example file and for one that
 /// it lacks, replies to each query, or fails since the file can't be opened.
 fn ends(alloc: Global, file: Vec<u8>) -> bool {
     let queries = [stream(0), stream(1), stream(2), stream(3), stream(4)];
     match run(alloc, file, &queries) {
-        Ok(replies) => replies.len() == queries.len(),
+        Ok(replies) => replies.len() == queries.len() && have_memory(&replies),
         Err(error) => !matches!(error, Error::OutOfMemory),
     }
 }

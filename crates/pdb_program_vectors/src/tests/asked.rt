@@ -2,6 +2,7 @@
 
 use pdb_asking::ask;
 use pdb_container::Result;
+use pdb_output::Output;
 use pdb_rows::Form;
 use pdb_vectors::s1;
 use std::alloc::Global;
@@ -44,9 +45,9 @@ const ASKED: &[Asked] = &[
 /// Whether S1 answers this.
 fn answers(alloc: Global, row: &Asked) -> Result<bool> {
     let (questions, form, lines, all) = *row;
-    let mut out = Vec::new(alloc);
+    let mut out = Output::new(Vec::new(alloc));
     let answered = ask(alloc, s1(alloc)?, questions, form, &mut out)?;
-    Ok(answered == all && out.as_slice() == lines.as_bytes())
+    Ok(answered == all && out.into_inner().as_slice() == lines.as_bytes())
 }
 
 #[test]

@@ -2,7 +2,8 @@
 
 use super::printed::{ABSENT_2, EXAMPLE};
 use pdb_base::{Error, Result};
-use pdb_cli::{Ended, read_all, read_within, serve};
+use pdb_cli::{read_all, read_within, serve};
+use pdb_output::Output;
 use pdb_vectors::s1;
 use std::alloc::Global;
 use std::env::Args;
@@ -61,6 +62,7 @@ const DENIED: ErrorKind = ErrorKind::PermissionDenied;
 const INPUTS: &[Input] = &[
     (0, 1, None, None, None),
     (100_000, 1, None, None, None),
+    (1_100_000, 1, None, None, None),
     (100_000, 65_536, None, None, None),
     (100_000, 65_536, Some((100_000, INTERRUPTED)), None, None),
     (200_000, 70_000, Some((70_000, INTERRUPTED)), None, None),
@@ -260,6 +262,20 @@ const CALLS: &[Call] = &[
         (100, 200, IO_ERROR),
         1,
     ),
+    (
+        Ok(&["stream"]),
+        Hundred(Some((50, DENIED))),
+        (100, 100, ""),
+        (100, 200, IO_ERROR),
+        1,
+    ),
+    (
+        Err(ErrorKind::InvalidData),
+        Hundred(Some((50, DENIED))),
+        (100, 100, ""),
+        (100, 200, IO_ERROR),
+        1,
+    ),
     (Ok(&["stream"]), Empty, (100, 100, ""), (100, 0, ""), 2),
 ];
 
@@ -276,22 +292,19 @@ fn begins(got: &[u8], wanted: &str) -> bool {
     got.starts_with(wanted.as_bytes()) && got.is_empty() == wanted.is_empty()
 }
 
-/// Whether a call ended so. All that is told finds room, unless there is none at all.
-fn is_ended(ended: &Ended, status: u8, room: usize) -> bool {
-    ended.status == status && ended.told.is_ok() == (room > 0)
-}
-
 /// Whether a call over an input ends, and writes, as its row says.
 fn is_served<I: Read>(alloc: Global, row: &Call, input: &mut I) -> Result<bool> {
     let (words, _, (out_at_once, out_room, wanted), (at_once, room, told), status) = row;
     let words = arguments(alloc, words)?;
-    let mut out = Slow::new(alloc, *out_at_once, *out_room);
-    let mut err = Slow::new(alloc, *at_once, *room);
+    let mut out = Output::new(Slow::new(alloc, *out_at_once, *out_room));
+    let mut err = Output::new(Slow::new(alloc, *at_once, *room));
     let ended = serve(alloc, words, input, &mut out, &mut err);
+    let has_room = *room > 0;
     Ok(
-        is_ended(&ended, *status, *room)
-            && out.taken.as_slice() == wanted.as_bytes()
-            && begins(&err.taken, told),
+        ended == *status
+            && err.has_failed() != has_room
+            && out.into_inner().taken.as_slice() == wanted.as_bytes()
+            && begins(&err.into_inner().taken, told),
     )
 }
 

@@ -1,7 +1,8 @@
 //! What is listed of small files, row by row: S1 with other bytes as its stream 3.
 
 use pdb_container::Result;
-use pdb_dump::{Command, Task, any_is, asked_of_file, list, plain_words};
+use pdb_dump::{Call, Command, Task, any_is, call_of, list, plain_words};
+use pdb_output::Output;
 use pdb_rows::Form;
 use pdb_vectors::s1_with;
 use std::alloc::Global;
@@ -38,7 +39,7 @@ const FRAME: &[u8] = b"\0\x10\0\0\x10\0\0\0\x01\0\0\0\x02\0\x05\x13";
 
 const LISTED: &[Listed] = &[
     (
-        &[],
+        &["small.pdb"],
         b"hello",
         "page_size=512 pages=8 bytes=4096\npart=roles error=Unimplemented PDB feature: ancient DBI header\n\
         part=names error=UnexpectedEof\nstream=0 bytes=0 pages=0\nstream=1 bytes=600 pages=2 role=pdb_information\n\
@@ -47,7 +48,7 @@ const LISTED: &[Listed] = &[
         "",
     ),
     (
-        &["sections", "3"],
+        &["sections", "--stream", "3", "small.pdb"],
         SECTION,
         "1 .text virtual_address=0x1000 virtual_size=133 pointer_to_raw_data=0x400 size_of_raw_data=512 \
         pointer_to_relocations=0x0 number_of_relocations=0 pointer_to_line_numbers=0x0 number_of_line_numbers=0 \
@@ -55,52 +56,62 @@ const LISTED: &[Listed] = &[
         "UnexpectedEof",
     ),
     (
-        &["omap", "3"],
+        &["omap", "small.pdb", "--stream", "3"],
         OMAP,
         "source_address=0x2000 target_address=0x1000\nsource_address=0x1000 target_address=0x0\nis_sorted=false\n",
         "",
     ),
     (
-        &["omap", "0x3", "--json"],
+        &["omap", "--stream", "0x3", "--json", "small.pdb"],
         b"\0\x20\0\0\0\x10\0\0",
         "{\"source_address\":8192,\"target_address\":4096}\n{\"is_sorted\":true}\n",
         "",
     ),
     (
-        &["omap"],
+        &["omap", "small.pdb"],
         b"hello",
         "",
         "Unimplemented PDB feature: ancient DBI header",
     ),
     (
-        &["omap", "3"],
+        &["omap", "small.pdb", "--stream", "3"],
         b"hello",
         "",
         "OMAP stream has an invalid length or alignment for its records",
     ),
-    (&["names", "3"], NAMES, "offset=0x0 \noffset=0x1 a\"\n", ""),
     (
-        &["names", "3", "--json"],
+        &["names", "--stream", "3", "small.pdb"],
+        NAMES,
+        "offset=0x0 \noffset=0x1 a\"\n",
+        "",
+    ),
+    (
+        &["names", "small.pdb", "--json", "--stream", "3"],
         NAMES,
         "{\"offset\":0,\"name\":\"\"}\n{\"offset\":1,\"name\":\"a\\\"\"}\n",
         "",
     ),
     (
-        &["frames", "3"],
+        &["frames", "--old", "3", "small.pdb"],
         FRAME,
         "code_start=0x1000 code_size=16 locals_size=4 params_size=8 prolog_size=5 saved_regs_size=12 ty=fpo \
         has_structured_eh=false has_cpp_eh=false is_function_start=false uses_base_pointer=true\n",
         "",
     ),
-    (&["frames", "-", "-"], FRAME, "", ""),
     (
-        &["frames", "-", "2"],
+        &["frames", "small.pdb"],
+        FRAME,
+        "",
+        "Unimplemented PDB feature: ancient DBI header",
+    ),
+    (
+        &["frames", "--new", "2", "small.pdb"],
         FRAME,
         "",
         "The requested stream (2) is not stored in this file",
     ),
     (
-        &["map", "0x1010", "--sections", "3"],
+        &["map", "--sections", "3", "small.pdb", "0x1010"],
         &SECTION_ALONE,
         "from=rva to=section_offset found=true section=1 offset=0x10\nfrom=rva to=internal_rva found=true address=0x1010\n\
         from=rva to=internal_offset found=true section=1 offset=0x10\nfrom=internal_rva to=internal_offset found=true section=1 offset=0x10\n\
@@ -108,7 +119,7 @@ const LISTED: &[Listed] = &[
         "",
     ),
     (
-        &["map", "0x2004", "--to", "3", "--json"],
+        &["map", "small.pdb", "0x2004", "--to", "3", "--json"],
         MOVED,
         "{\"from\":\"rva\",\"to\":\"section_offset\",\"found\":false}\n{\"from\":\"rva\",\"to\":\"internal_rva\",\"found\":true,\"address\":4100}\n\
         {\"from\":\"rva\",\"to\":\"internal_offset\",\"found\":false}\n{\"from\":\"internal_rva\",\"to\":\"internal_offset\",\"found\":false}\n\
@@ -116,7 +127,7 @@ const LISTED: &[Listed] = &[
         "",
     ),
     (
-        &["map", "0x2004", "--from", "3"],
+        &["map", "--from", "3", "small.pdb", "0x2004"],
         MOVED,
         "from=rva to=section_offset found=false\nfrom=rva to=internal_rva found=true address=0x2004\n\
         from=rva to=internal_offset found=false\nfrom=internal_rva to=internal_offset found=false\n\
@@ -124,13 +135,13 @@ const LISTED: &[Listed] = &[
         "",
     ),
     (
-        &["map", "1", "--sections", "9"],
+        &["map", "small.pdb", "--sections", "9", "1"],
         b"hello",
         "",
         "The requested stream (9) is not stored in this file",
     ),
     (
-        &["sections"],
+        &["sections", "small.pdb"],
         b"hello",
         "",
         "Unimplemented PDB feature: ancient DBI header",
@@ -157,17 +168,22 @@ fn is_told(alloc: Global, answer: Result<()>, refusal: &str) -> Result<bool> {
 /// Whether a command lists this of S1 with these bytes as its stream 3, up to this refusal.
 fn is_listed(alloc: Global, command: Command, form: Form, row: &Listed) -> Result<bool> {
     let (_, stream, lines, refusal) = *row;
-    let mut out = Vec::new(alloc);
+    let mut out = Output::new(Vec::new(alloc));
     let answer = list(alloc, s1_with(alloc, stream)?, command, form, &mut out);
-    Ok(is_told(alloc, answer, refusal)? && out.as_slice() == lines.as_bytes())
+    Ok(is_told(alloc, answer, refusal)? && out.into_inner().as_slice() == lines.as_bytes())
 }
 
 /// Whether the words of a row ask for what it lists.
 fn lists(alloc: Global, row: &Listed) -> Result<bool> {
     let (words, ..) = *row;
     let plain = plain_words(alloc, words)?;
-    match asked_of_file("small.pdb", &plain) {
-        Ok(Task::List(command)) => is_listed(alloc, command, form_of(words), row),
+    match call_of(&plain) {
+        Ok(
+            Call {
+                path: "small.pdb",
+                task: Task::List(command),
+            },
+        ) => is_listed(alloc, command, form_of(words), row),
         _ => Ok(false),
     }
 }
@@ -200,10 +216,10 @@ fn is_front(line: &[u8], taken: &[u8], count: usize, is_refused: bool) -> bool {
 fn is_cut(alloc: Global, room: usize) -> Result<bool> {
     let mut taken = vec![in alloc; 0; room]?;
     let file = s1_with(alloc, &SECTION_ALONE)?;
-    let mut out = Cursor::new(taken.as_mut_slice());
+    let mut out = Output::new(Cursor::new(taken.as_mut_slice()));
     let command = Command::Sections { stream: Some(3) };
     let is_refused = list(alloc, file, command, Form::Text, &mut out).is_err();
-    let count = out.position() as usize;
+    let count = out.into_inner().position() as usize;
     Ok(is_front(SECTION_LINE.as_bytes(), &taken, count, is_refused))
 }
 

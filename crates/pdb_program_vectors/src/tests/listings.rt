@@ -2,6 +2,7 @@
 
 use pdb_base::{Error, Result, Stream};
 use pdb_listing::{id_at, ids, type_at, types};
+use pdb_output::Output;
 use pdb_rows::Form;
 use pdb_vectors::item_table;
 use std::alloc::Global;
@@ -215,7 +216,7 @@ fn write(
     stream: Stream,
     asked: &Asked,
     form: Form,
-    out: &mut Vec<u8>,
+    out: &mut Output<Vec<u8>>,
 ) -> Result<()> {
     match asked {
         Asked::Types => types(alloc, stream, form, out),
@@ -239,9 +240,9 @@ fn ends(answer: Result<()>, end: &End) -> bool {
 fn is_listed(alloc: Global, row: &Listed) -> Result<bool> {
     let (records, asked, form, wanted, end) = row;
     let stream = stream_of(alloc, records)?;
-    let mut out = Vec::new(alloc);
+    let mut out = Output::new(Vec::new(alloc));
     let is_ended = ends(write(alloc, stream, asked, *form, &mut out), end);
-    Ok(is_ended && out.as_slice() == wanted.as_bytes())
+    Ok(is_ended && out.into_inner().as_slice() == wanted.as_bytes())
 }
 
 #[test]

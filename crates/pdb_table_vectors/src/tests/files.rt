@@ -1,15 +1,17 @@
-//! Files, their pages and their sources. Errors are compared by their texts.
+//! Files, their pages and their sources.
 
 mod openings;
 mod pages;
 mod sources;
 mod streams;
+mod watched;
 
-use super::base::shows;
-use pdb_base::Stream;
+use super::is_error;
+use pdb_base::{Error, Stream};
 use pdb_msf::{BigMSF, Source};
 use pdb_vectors::s1;
 use std::alloc::Global;
+use std::io::ErrorKind;
 
 /// What a file or a source is made of.
 enum Made {
@@ -70,11 +72,12 @@ fn bytes_of(alloc: Global, file: &Made) -> pdb_base::Result<Vec<u8>> {
     }
 }
 
-/// What is answered for a stream: bytes, bytes with others behind them, or an error of this text.
+/// What is answered for a stream: bytes, bytes with others behind them, an error, or that the source ends too soon.
 enum Answer {
     Bytes(&'static [u8]),
     Joined(&'static [u8], &'static [u8]),
-    Error(&'static str),
+    Error(Error),
+    SourceEnds,
 }
 
 /// The bytes of stream 1 of S1.
@@ -87,22 +90,32 @@ fn are_bytes(bytes: &[u8], answer: &Answer) -> bool {
         Answer::Joined(first, second) => {
             matches!(bytes.strip_prefix(*first), Some(rest) if rest == *second)
         }
-        Answer::Error(_) => false,
+        Answer::Error(_) | Answer::SourceEnds => false,
+    }
+}
+
+/// Whether an error is that of an answer.
+fn is_refused(error: &Error, answer: &Answer) -> bool {
+    match (error, answer) {
+        (Error::IoError(fault), Answer::SourceEnds) => fault.kind() == ErrorKind::UnexpectedEof,
+        (error, Answer::Error(want)) => is_error(error, want),
+        _ => false,
     }
 }
 
 /// Whether a call for a stream answers so.
-fn answers(alloc: Global, found: pdb_base::Result<Stream>, answer: &Answer) -> bool {
+fn answers(found: pdb_base::Result<Stream>, answer: &Answer) -> bool {
     match found {
         Ok(stream) => are_bytes(&stream.into_bytes(), answer),
-        Err(error) => matches!(answer, Answer::Error(text) if shows(alloc, &error, text)),
+        Err(error) => is_refused(&error, answer),
     }
 }
 
-/// Whether opening a file fails with the text `want`, or succeeds if that is empty.
-fn opens<S: Source + Drop>(alloc: Global, found: pdb_base::Result<BigMSF<S>>, want: &str) -> bool {
-    match found {
-        Ok(_) => want.is_empty(),
-        Err(error) => shows(alloc, &error, want),
+/// Whether a file opens, or fails with the error that is wanted, if there is one.
+fn opens<S: Source + Drop>(found: pdb_base::Result<BigMSF<S>>, want: Option<&Error>) -> bool {
+    match (found, want) {
+        (Ok(_), None) => true,
+        (Err(error), Some(want)) => is_error(&error, want),
+        _ => false,
     }
 }

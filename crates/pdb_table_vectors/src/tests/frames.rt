@@ -1,6 +1,6 @@
 //! Frames of both formats.
 
-use super::{says, stream};
+use super::{is_error, stream};
 use pdb_base::{Error, FallibleIterator, Le, Parse, Result as Answer, Stream};
 use pdb_frames::{
     AddrRange, FrameData, FrameDataIter, FrameTable, FrameType, NewFrameData, OldFrameData,
@@ -12,7 +12,7 @@ use std::test::Fail;
 /// What is asked, and its answer.
 enum Ask {
     /// What a table is refused with whose streams of old frames and of new ones have these bytes.
-    Refusal(Option<&'static [u8]>, Option<&'static [u8]>, &'static str),
+    Refusal(Option<&'static [u8]>, Option<&'static [u8]>, Error),
     /// That the table of such streams is not refused.
     Table(Option<&'static [u8]>, Option<&'static [u8]>),
     /// The formats and starts of the frames that an iterator of such a table gives, and whether the
@@ -85,9 +85,9 @@ const EMPTY: Option<&[u8]> = Some(b"");
 const MERGED: Frames = &[(NEW, 0x10), (OLD, 0x20), (NEW, 0x30)];
 
 /// What tables are refused with whose streams have no whole number of frames.
-const BAD_OLD: &str = "FPO stream has an invalid length or alignment for its records";
+const BAD_OLD: Error = Error::InvalidStreamLength("FPO");
 
-const BAD_NEW: &str = "FrameData stream has an invalid length or alignment for its records";
+const BAD_NEW: Error = Error::InvalidStreamLength("FrameData");
 
 /// The bytes of an old frame.
 const OLD_BYTES: &[u8] = b"\x00\x10\x00\x00\x20\x00\x00\x00\x01\x00\x00\x40\x03\x00\x05\x9a";
@@ -289,19 +289,16 @@ fn is_told(table: &FrameTable, ask: &Ask) -> bool {
     }
 }
 
-/// Whether a table is to be refused with the text of this error.
-fn is_refusal(alloc: Global, error: Error, ask: &Ask) -> Result<bool, Fail> {
-    match ask {
-        Ask::Refusal(_, _, want) => says(alloc, error, want.as_bytes()),
-        _ => Ok(false),
-    }
+/// Whether a table is to be refused with this error.
+fn is_refusal(error: &Error, ask: &Ask) -> bool {
+    matches!(ask, Ask::Refusal(_, _, want) if is_error(error, want))
 }
 
-/// Whether a table answers so, or is refused with the text that is wanted.
-fn is_parsed(alloc: Global, table: Answer<FrameTable>, ask: &Ask) -> Result<bool, Fail> {
+/// Whether a table answers so, or is refused with the error that is wanted.
+fn is_parsed(table: Answer<FrameTable>, ask: &Ask) -> bool {
     match table {
-        Ok(table) => Ok(is_told(&table, ask)),
-        Err(error) => is_refusal(alloc, error, ask),
+        Ok(table) => is_told(&table, ask),
+        Err(error) => is_refusal(&error, ask),
     }
 }
 
@@ -322,7 +319,7 @@ fn table_answers(
 ) -> Result<bool, Fail> {
     let old = some_stream(alloc, old)?;
     let new = some_stream(alloc, new)?;
-    is_parsed(alloc, FrameTable::parse(old, new), ask)
+    Ok(is_parsed(FrameTable::parse(old, new), ask))
 }
 
 /// Whether the old frame says what it should, and answers each question of its own.

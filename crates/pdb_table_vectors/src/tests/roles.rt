@@ -3,6 +3,7 @@
 mod files;
 mod headers;
 mod names;
+mod refusals;
 
 /// The first so many bytes, or all where there are fewer.
 fn front(bytes: &[u8], len: usize) -> &[u8] {

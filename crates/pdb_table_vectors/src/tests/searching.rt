@@ -234,21 +234,39 @@ fn begins(table: &FrameTable, address: u32, want: &[(u32, u32)]) -> Result<bool,
     Ok(first == want.first().copied() && second == want.get(1).copied())
 }
 
-/// Whether a long table of frames is searched alike in either format: around some hundred frames all along it.
+/// Whether frames are found alike in either format around a frame: at its start, at its last byte, behind it, and
+/// before the next one.
+fn around_alike(
+    old: &FrameTable,
+    new: &FrameTable,
+    frames: &[(u32, u32)],
+    frame: (u32, u32),
+) -> Result<bool, Fail> {
+    let (start, size) = frame;
+    for address in [
+        start,
+        start.saturating_add(size).saturating_sub(1),
+        start.saturating_add(size),
+        start.saturating_add(7),
+    ] {
+        let want = plain_frames(frames, address);
+        if !begins(old, address, want)? || !begins(new, address, want)? {
+            return Ok(false);
+        }
+    }
+    Ok(true)
+}
+
+/// Whether a long table of frames is searched alike in either format: around 128 frames all along it, among which are
+/// those that halve it, halve a half of it, and so on.
 fn long_table_alike(alloc: Global, len: u32) -> Result<bool, Fail> {
     let frames = regular(alloc, len)?;
     let old = FrameTable::parse(Some(stream(alloc, &frames, &[0; 8])?), None)?;
     let new = FrameTable::parse(None, Some(stream(alloc, &frames, &[0; 24])?))?;
-    let apart = frames.len() / 100 + 1;
-    for (start, size) in frames.iter().step_by(apart) {
-        for address in [
-            *start,
-            start.saturating_add(*size).saturating_sub(1),
-            start.saturating_add(*size),
-            start.saturating_add(7),
-        ] {
-            let want = plain_frames(&frames, address);
-            if !begins(&old, address, want)? || !begins(&new, address, want)? {
+    for part in 0..128usize {
+        let place = frames.len().saturating_mul(part) / 128;
+        if let Some(frame) = frames.get(place) {
+            if !around_alike(&old, &new, &frames, *frame)? {
                 return Ok(false);
             }
         }
@@ -258,7 +276,7 @@ fn long_table_alike(alloc: Global, len: u32) -> Result<bool, Fail> {
 
 #[test]
 fn long_frame_tables(rt: HostRuntime) -> Result<(), Fail> {
-    for len in [9, 300, 140_000] {
+    for len in [8, 9, 16, 300, 140_000] {
         assert!(rt; long_table_alike(rt.alloc(), len)?, "{len} frames");
     }
     Ok(())

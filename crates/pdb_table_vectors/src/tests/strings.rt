@@ -1,6 +1,6 @@
 //! String tables, and the names in them.
 
-use super::{says, stream};
+use super::{is_error, stream};
 use pdb_base::{Error, RawString, Result as Answered};
 use pdb_space::{StringRef, StringTable};
 use std::alloc::Global;
@@ -13,18 +13,18 @@ const TABLE: &[u8] = b"\xfe\xef\xfe\xef\x01\0\0\0\x07\0\0\0\0foo\0ba\0";
 /// A name that is not UTF-8.
 const BROKEN: &[u8] = b"\xfe\xef\xfe\xef\x02\0\0\0\x04\0\0\0f\xffo\0";
 
-const ENDS: &[u8] = b"UnexpectedEof";
+const ENDS: Error = Error::UnexpectedEof;
 
-const OTHER_SIGNATURE: &[u8] = b"Unimplemented PDB feature: invalid string table signature";
+const OTHER_SIGNATURE: Error = Error::UnimplementedFeature("invalid string table signature");
 
-const OTHER_VERSION: &[u8] = b"Unimplemented PDB feature: unknown string table hash version";
+const OTHER_VERSION: Error = Error::UnimplementedFeature("unknown string table hash version");
 
 /// What the table of some bytes is asked, and what is answered.
 enum Answer {
     /// That it is a table.
     Parsed,
-    /// That it is none: the text of the error.
-    Refused(&'static [u8]),
+    /// That it is none: the error.
+    Refused(Error),
     /// The name at an offset, and the same as text.
     Name(u32, &'static [u8], &'static str),
     /// That no NUL stands at an offset or behind it among the names: `UnexpectedEof`.
@@ -125,18 +125,15 @@ fn holds(alloc: Global, table: &StringTable, want: &Answer) -> bool {
 }
 
 /// Whether an error is what is answered.
-fn is_refused(alloc: Global, error: Error, want: &Answer) -> Result<bool, Fail> {
-    match want {
-        Answer::Refused(text) => says(alloc, error, text),
-        _ => Ok(false),
-    }
+fn is_refused(error: &Error, want: &Answer) -> bool {
+    matches!(want, Answer::Refused(same) if is_error(error, same))
 }
 
 /// Whether the table of these bytes answers so.
 fn is_answered(alloc: Global, bytes: &[u8], want: &Answer) -> Result<bool, Fail> {
     match StringTable::parse(stream(alloc, bytes)?) {
         Ok(table) => Ok(holds(alloc, &table, want)),
-        Err(error) => is_refused(alloc, error, want),
+        Err(error) => Ok(is_refused(&error, want)),
     }
 }
 

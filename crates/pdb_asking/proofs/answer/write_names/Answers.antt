@@ -2,7 +2,7 @@ use Rattle.std.proofs.Common.{ℕ, List, [], ◌∷◌, Option, ap, sym, ◌∙�
 use Rattle.std.specs.Global.{Vec}
 use Rattle.std.specs.Option.{option_map}
 use Rattle.pdb_base.proofs.lemmas.Refused.{passed_on}
-use Rattle.pdb_rows.proofs.lemmas.Written.{cut_more, written_more}
+use Rattle.pdb_output.proofs.lemmas.Written.{cut_more, lacks_more, written_more}
 use Rattle.pdb_rows.specs.declared.form.Form.TheVariants.{Json}
 use Rattle.pdb_rows.specs.Lines.{row_text}
 use Rattle.pdb_rows.specs.Row.{ShownField}
@@ -23,3 +23,6 @@ returns-in_err-write_row g c =
     let shown = c.in_ok-row.ensures.ok ∙ ap (λ (field : ShownField). field ∷ []) (c.name_field.ensures ∙ ap name_field same) in
     let next = flat_next _ c.args.names.now c.loop-name.name-index c.name-item.result _ c.loop-name-test.true (ap (row_text Json) (sym shown)) in
     rw (passed_on _ _ c.from_residual-in_err-write_row.ensures.1) (cut_more _ _ _ _ _ _ _ _ next c.loop-name.invariant c.in_err-write_row.ensures)
+
+pub returns-in_err-row : goal.returns-in_err-row
+returns-in_err-row g c = rw (passed_on _ _ c.from_residual.ensures.1) (lacks_more _ _ _ _ _ c.loop-name.invariant c.in_err-row.ensures.memory)

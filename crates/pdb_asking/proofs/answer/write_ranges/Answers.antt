@@ -1,6 +1,6 @@
 use Rattle.std.proofs.Common.{ap, sym}
 use Rattle.pdb_base.proofs.lemmas.Refused.{passed_on}
-use Rattle.pdb_rows.proofs.lemmas.Written.{cut_more, written_more}
+use Rattle.pdb_output.proofs.lemmas.Written.{cut_more, written_more}
 use Rattle.pdb_rows.specs.declared.form.Form.TheVariants.{Json}
 use Rattle.pdb_rows.specs.Lines.{row_text}
 use Rattle.pdb_asking.proofs.AnsweredLemmas.{flat_next}

@@ -1,6 +1,6 @@
 use Rattle.std.proofs.Common.{◌∙◌, refl, sym}
 use Rattle.pdb_base.proofs.lemmas.Refused.{passed_on}
-use Rattle.pdb_rows.proofs.lemmas.Written.{cut_more, written_all, written_more}
+use Rattle.pdb_output.proofs.lemmas.Written.{cut_more, written_all, written_more}
 use Rattle.pdb_asking.proofs.AnsweredLemmas.{all_end, all_next, answers_end, answers_next}
 use Rattle.pdb_asking.proofs.asked.write_answers.Goals as goal
 

@@ -1,13 +1,13 @@
 -- The lines of the questions that are left are still to be written.
 use Rattle.std.proofs.Common.{◌≡◌, ◌&&◌, drop, map}
-use Rattle.pdb_rows.specs.Written.{IsWritten}
+use Rattle.pdb_output.specs.Output.{IsWritten}
 use Rattle.pdb_asking.specs.Answers.{answers_text, are_answers}
 use Rattle.pdb_asking.specs.Questions.{asked}
 use Rattle.pdb_asking.proofs.asked.write_answers.Given as goal
 
 abbrev pub invariant-loop-question : goal.invariant-loop-question
 invariant-loop-question g l = record {
-  written : IsWritten (g.W.Write.contents l.fn.out) (g.W.Write.contents l.out) (answers_text l.form (map asked l.questions) l.fn.replies)
+  written : IsWritten l.fn.out l.out (answers_text l.form (map asked l.questions) l.fn.replies)
       (answers_text l.form (map asked (drop l.question-index l.questions)) l.replies);
   all : are_answers (map asked l.questions) l.fn.replies ≡ (are_answers (map asked (drop l.question-index l.questions)) l.replies && l.all);
 }

@@ -1,11 +1,10 @@
-use Rattle.std.proofs.KnownBytes.{Keeps-refl}
 use Rattle.std.proofs.Common.{refl}
 use Rattle.pdb_dump.specs.Listed.{read, unread}
-use Rattle.pdb_dump.proofs.DoneLemmas.{told_or_cut}
+use Rattle.pdb_dump.proofs.DoneLemmas.{refused_or_lacking}
 use Rattle.pdb_dump.proofs.listed.list_ids.Goals as goal
 
 pub returns-in-Err : goal.returns-in-Err
-returns-in-Err g c = unread c.in-Err.fault refl (told_or_cut _ _ (rw c.into_msf.ensures at c.in-Err.ensures.answer)) (Keeps-refl _)
+returns-in-Err g c = unread c.in-Err.fault refl (refused_or_lacking _ _ (rw c.into_msf.ensures at c.in-Err.ensures.answer)) refl
 
 pub returns-in-Some : goal.returns-in-Some
 returns-in-Some g c = rw c.in-Some.is (read c.in-Ok.stream (rw c.into_msf.ensures at c.in-Ok.ensures.answer) c.id_at.ensures)

@@ -5,7 +5,7 @@ use Rattle.pdb_tpi.specs.Steps.{items_left}
 use Rattle.pdb_listing.proofs.id_listing.list_ids.Given as goal
 
 abbrev pub invariant-loop-line : goal.invariant-loop-line
-invariant-loop-line g l = IsSoFar (id_line l.form) l.table l.items (g.W.Write.contents l.initial.out) (g.W.Write.contents l.out)
+invariant-loop-line g l = IsSoFar (id_line l.form) l.table l.items l.initial.out l.out
 
 abbrev pub decreases-loop-line : goal.decreases-loop-line
 decreases-loop-line g l = items_left l.items

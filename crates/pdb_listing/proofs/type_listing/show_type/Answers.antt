@@ -1,10 +1,9 @@
 -- What stands there at each exit.
-use Rattle.std.proofs.Common.{inl, ap}
+use Rattle.std.proofs.Common.{Ok, Err, inl, ap}
 use Rattle.pdb_base.proofs.lemmas.Refused.{passed_on}
-use Rattle.pdb_base.specs.declared.error.Error.TheVariants.{IoError}
 use Rattle.pdb_base.specs.declared.index.TypeIndex.{TypeIndex}
-use Rattle.pdb_listing.proofs.ListingLemmas.{front_written, line_written}
-use Rattle.pdb_listing.proofs.ShownLemmas.{cut_members, cut_record, full_cut, full_written, lacks_early, refuses_early, refuses_late, shows_whole, type_meant, type_unfound, type_unparsed}
+use Rattle.pdb_listing.proofs.ListingLemmas.{line_written}
+use Rattle.pdb_listing.proofs.ShownLemmas.{cut_members, cut_record, full_written, lacks_early, refuses_early, refuses_late, shows_whole, type_meant, type_unfound, type_unparsed}
 use Rattle.pdb_rows.specs.TypeRows.{type_row}
 use Rattle.pdb_values.specs.TypeView.{type_value}
 use Rattle.pdb_listing.proofs.type_listing.show_type.Goals as goal
@@ -23,34 +22,35 @@ returns-in_err-row g c = rw (passed_on _ _ c.from_residual-in_err-row.ensures.1)
 pub returns-in_err-push_fields : goal.returns-in_err-push_fields
 returns-in_err-push_fields g c = rw (passed_on _ _ c.from_residual-in_err-push_fields.ensures.1) (lacks_early _ _ _ c.in_err-push_fields.ensures.memory)
 
-pub returns-in_err-write_bytes : goal.returns-in_err-write_bytes
-returns-in_err-write_bytes g c =
-    rw (passed_on _ (IoError c.in_err-write_bytes.field-0.0) c.from_residual-in_err-write_bytes.ensures.1)
-    (cut_record _ _ _ _ _ c.in_err-write_bytes.field-0.0
+pub returns-in_err-write : goal.returns-in_err-write
+returns-in_err-write g c =
+    rw (passed_on _ _ c.from_residual-in_err-write.ensures.1)
+    (cut_record _ _ _ _ _ _
     (type_meant _ _ _ _ _ _ c.in_ok-item.ensures.item (ap (λ (index : TypeIndex). index.0) c.in_ok-item.ensures.index) c.in_ok-value.ensures.read)
-    (full_cut c.args.form (λ leaf. type_row c.args.index leaf (type_value c.in_ok-value.value)) _ _ _ _ _ _ _ _ c.in_ok-row.ensures.ok c.raw_kind.ensures c.new-text.ensures.items c.in_ok-push_fields.ensures.ok c.deref.ensures.value c.in_err-write_bytes.ensures.front))
+    c.in_err-write.ensures.failed
+    (full_written c.args.form (λ leaf. type_row c.args.index leaf (type_value c.in_ok-value.value)) _ _ _ _ _ _ _ _ (Err _) c.in_ok-row.ensures.ok c.raw_kind.ensures c.new-text.ensures.items c.in_ok-push_fields.ensures.ok c.deref.ensures.value c.in_err-write.ensures.bytes))
 
 pub returns-in_err-push_members : goal.returns-in_err-push_members
 returns-in_err-push_members g c =
     rw (passed_on _ _ c.from_residual-in_err-push_members.ensures.1)
     (refuses_late _ _ _ _ _ _
     (type_meant _ _ _ _ _ _ c.in_ok-item.ensures.item (ap (λ (index : TypeIndex). index.0) c.in_ok-item.ensures.index) c.in_ok-value.ensures.read)
-    (full_written c.args.form (λ leaf. type_row c.args.index leaf (type_value c.in_ok-value.value)) _ _ _ _ _ _ _ _ c.in_ok-row.ensures.ok c.raw_kind.ensures c.new-text.ensures.items c.in_ok-push_fields.ensures.ok c.deref.ensures.value c.in_ok-write_bytes.ensures.all)
+    (full_written c.args.form (λ leaf. type_row c.args.index leaf (type_value c.in_ok-value.value)) _ _ _ _ _ _ _ _ (Ok tt) c.in_ok-row.ensures.ok c.raw_kind.ensures c.new-text.ensures.items c.in_ok-push_fields.ensures.ok c.deref.ensures.value c.in_ok-write.ensures.bytes)
     c.in_err-push_members.ensures)
 
-pub returns-in_err-write_bytes-2 : goal.returns-in_err-write_bytes-2
-returns-in_err-write_bytes-2 g c =
-    rw (passed_on _ (IoError c.in_err-write_bytes-2.field-0.0) c.from_residual-in_err-write_bytes-2.ensures.1)
-    (cut_members _ _ _ _ _ _ _ c.in_err-write_bytes-2.field-0.0
+pub returns-in_err-write-2 : goal.returns-in_err-write-2
+returns-in_err-write-2 g c =
+    rw (passed_on _ _ c.from_residual-in_err-write-2.ensures.1)
+    (cut_members _ _ _ _ _ _ _ _
     (type_meant _ _ _ _ _ _ c.in_ok-item.ensures.item (ap (λ (index : TypeIndex). index.0) c.in_ok-item.ensures.index) c.in_ok-value.ensures.read)
     c.in_ok-push_members.ensures.1
-    (full_written c.args.form (λ leaf. type_row c.args.index leaf (type_value c.in_ok-value.value)) _ _ _ _ _ _ _ _ c.in_ok-row.ensures.ok c.raw_kind.ensures c.new-text.ensures.items c.in_ok-push_fields.ensures.ok c.deref.ensures.value c.in_ok-write_bytes.ensures.all)
-    (front_written _ _ _ _ _ _ c.new-lines.ensures.items c.in_ok-push_members.ensures.2 c.deref-2.ensures.value c.in_err-write_bytes-2.ensures.front))
+    (full_written c.args.form (λ leaf. type_row c.args.index leaf (type_value c.in_ok-value.value)) _ _ _ _ _ _ _ _ (Ok tt) c.in_ok-row.ensures.ok c.raw_kind.ensures c.new-text.ensures.items c.in_ok-push_fields.ensures.ok c.deref.ensures.value c.in_ok-write.ensures.bytes)
+    c.in_err-write-2.ensures.failed (line_written _ _ _ _ _ _ (Err _) c.new-lines.ensures.items c.in_ok-push_members.ensures.2 c.deref-2.ensures.value c.in_err-write-2.ensures.bytes))
 
 pub returns : goal.returns
 returns g c =
     shows_whole _ _ _ _ _ _ _
     (type_meant _ _ _ _ _ _ c.in_ok-item.ensures.item (ap (λ (index : TypeIndex). index.0) c.in_ok-item.ensures.index) c.in_ok-value.ensures.read)
     c.in_ok-push_members.ensures.1
-    (full_written c.args.form (λ leaf. type_row c.args.index leaf (type_value c.in_ok-value.value)) _ _ _ _ _ _ _ _ c.in_ok-row.ensures.ok c.raw_kind.ensures c.new-text.ensures.items c.in_ok-push_fields.ensures.ok c.deref.ensures.value c.in_ok-write_bytes.ensures.all)
-    (line_written _ _ _ _ _ _ c.new-lines.ensures.items c.in_ok-push_members.ensures.2 c.deref-2.ensures.value c.in_ok-write_bytes-2.ensures.all)
+    (full_written c.args.form (λ leaf. type_row c.args.index leaf (type_value c.in_ok-value.value)) _ _ _ _ _ _ _ _ (Ok tt) c.in_ok-row.ensures.ok c.raw_kind.ensures c.new-text.ensures.items c.in_ok-push_fields.ensures.ok c.deref.ensures.value c.in_ok-write.ensures.bytes)
+    (line_written _ _ _ _ _ _ (Ok tt) c.new-lines.ensures.items c.in_ok-push_members.ensures.2 c.deref-2.ensures.value c.in_ok-write-2.ensures.bytes)

@@ -1,7 +1,6 @@
-use Rattle.std.proofs.Common.{refl, subst, ◌∙◌}
-use Rattle.std.specs.Io.KnownBytes.{Appends}
+use Rattle.std.proofs.Common.{refl, ◌∙◌}
 use Rattle.pdb_base.proofs.lemmas.Refused.{passed_on}
-use Rattle.pdb_rows.proofs.lemmas.Written.{cut_more, written_none, written_more, written_all, written_as}
+use Rattle.pdb_output.proofs.lemmas.Written.{cut_more, written_none, written_more, written_all, written_as}
 use Rattle.pdb_summary.specs.Known.{known_view}
 use Rattle.pdb_summary.proofs.StreamLemmas.{made_next, made_end, lines_from_first, same_line}
 use Rattle.pdb_summary.proofs.streams.write_streams.Goals as goal
@@ -17,7 +16,7 @@ pub loop-number-preserved : goal.loop-number-preserved
 loop-number-preserved g c =
     let same = same_line c.args.form (known_view c.args.known) c.loop-number.number c.loop-number.invariant.bytes c.loop-number.invariant.head in
     record {
-      written = written_more _ _ _ _ _ _ _ (made_next _ 0xffff c.loop-number.number c.loop-number-test.true) c.loop-number.invariant.written (subst (Appends _ _) same c.in_ok-write_stream.ensures.line);
+      written = written_more _ _ _ _ _ _ _ (made_next _ 0xffff c.loop-number.number c.loop-number-test.true) c.loop-number.invariant.written (rw same at c.in_ok-write_stream.ensures.line);
       bytes = c.in_ok-write_stream.ensures.bytes ∙ c.loop-number.invariant.bytes;
       head = c.in_ok-write_stream.ensures.head ∙ c.loop-number.invariant.head;
     }

@@ -1,6 +1,6 @@
 -- The lines of the streams that are left are still to be written.
 use Rattle.std.proofs.Common.{◌≡◌}
-use Rattle.pdb_rows.specs.Written.{IsWritten}
+use Rattle.pdb_output.specs.Output.{IsWritten}
 use Rattle.pdb_summary.specs.Known.{known_view}
 use Rattle.pdb_summary.specs.Streams.{stream_line, stream_lines}
 use Rattle.pdb_summary.proofs.StreamLemmas.{made_from}
@@ -8,7 +8,7 @@ use Rattle.pdb_summary.proofs.streams.write_streams.Given as goal
 
 abbrev pub invariant-loop-number : goal.invariant-loop-number
 invariant-loop-number g l = record {
-  written : IsWritten (g.W.Write.contents l.fn.out) (g.W.Write.contents l.out) (stream_lines l.form (known_view l.known) l.fn.file.source.items l.fn.file.head)
+  written : IsWritten l.fn.out l.out (stream_lines l.form (known_view l.known) l.fn.file.source.items l.fn.file.head)
       (made_from (stream_line l.form (known_view l.known) l.fn.file.source.items l.fn.file.head) 0xffff l.number);
   bytes : l.file.source.items ≡ l.fn.file.source.items;
   head : l.file.head ≡ l.fn.file.head;

@@ -1,7 +1,8 @@
-use Rattle.pdb_rows.proofs.lemmas.Written.{front_none}
+use Rattle.std.proofs.Common.{refl}
+use Rattle.pdb_output.proofs.lemmas.Written.{lacks_all}
 use Rattle.pdb_summary.specs.Summary.{parts_lines}
 use Rattle.pdb_summary.proofs.summary.write_parts.Goals as goal
 
 pub returns-in-Err-OutOfMemory : goal.returns-in-Err-OutOfMemory
 unfolding parts_lines
-returns-in-Err-OutOfMemory g c = (tt, front_none _ _)
+returns-in-Err-OutOfMemory g c = lacks_all _ _ _ refl

@@ -1,8 +1,8 @@
 use Rattle.pdb_base.proofs.lemmas.Refused.{passed_on}
-use Rattle.pdb_rows.proofs.lemmas.Written.{front_first}
+use Rattle.pdb_output.proofs.lemmas.Written.{first_cut}
 use Rattle.pdb_summary.specs.Summary.{streams_part}
 use Rattle.pdb_summary.proofs.summary.write_streams_part.Goals as goal
 
 pub returns-in_err-roles-clause-lines : goal.returns-in_err-roles-clause-lines
 unfolding streams_part
-returns-in_err-roles-clause-lines g c = rw (passed_on _ _ c.from_residual.ensures.1) (c.in_err-roles.ensures.told.0, front_first _ _ _ _ c.in_err-roles.ensures.told.1)
+returns-in_err-roles-clause-lines g c = rw (passed_on _ _ c.from_residual.ensures.1) (first_cut _ _ _ _ _ c.in_err-roles.ensures.told)

@@ -1,5 +1,5 @@
 use Rattle.pdb_base.proofs.lemmas.Refused.{passed_on}
-use Rattle.pdb_rows.proofs.lemmas.Written.{cut_more, lacks_more, written_all, written_more, written_none}
+use Rattle.pdb_output.proofs.lemmas.Written.{cut_more, lacks_more, written_all, written_more, written_none}
 use Rattle.pdb_summary.proofs.LineLemmas.{kind_next, kinds_end}
 use Rattle.pdb_summary.proofs.tables.write_kinds.Goals as goal
 

@@ -233,7 +233,7 @@ fn is_fault<T: Drop>(answer: pdb_base::Result<T>, kind: ErrorKind) -> bool {
 fn recovers(alloc: Global, mut file: BigMSF<Failing>, kind: ErrorKind, located: bool) -> bool {
     let refused = is_fault(file.get(alloc, 1, None), kind);
     let stays = file.located() == located;
-    let again = answers(alloc, file.get(alloc, 1, None), &STREAM_1);
+    let again = answers(file.get(alloc, 1, None), &STREAM_1);
     refused && stays && again && file.located()
 }
 

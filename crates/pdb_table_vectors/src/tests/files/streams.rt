@@ -1,6 +1,7 @@
 //! The streams of S1, also of one with some bytes set to others.
 
 use super::{Answer, STREAM_1, answers, edited};
+use pdb_base::Error;
 use pdb_msf::{BigMSF, Msf, open_msf};
 use std::alloc::Global;
 use std::test::Fail;
@@ -13,23 +14,17 @@ const PAGE_OF_1: usize = 1048;
 
 pub(crate) const DIRECTORY_SIZE: usize = 44;
 
-const STREAM_2_ABSENT: Answer = Answer::Error(
-    "The requested stream (2) is not stored in this file",
-);
+const STREAM_2_ABSENT: Answer = Answer::Error(Error::StreamNotFound(2));
 
-const STREAM_4_ABSENT: Answer = Answer::Error(
-    "The requested stream (4) is not stored in this file",
-);
+const STREAM_4_ABSENT: Answer = Answer::Error(Error::StreamNotFound(4));
 
-const STREAM_LAST_ABSENT: Answer = Answer::Error(
-    "The requested stream (4294967295) is not stored in this file",
-);
+const STREAM_LAST_ABSENT: Answer = Answer::Error(Error::StreamNotFound(u32::MAX));
 
-const SOURCE_ENDS: Answer = Answer::Error("IO error while reading PDB: unexpected end of file");
+const SOURCE_ENDS: Answer = Answer::SourceEnds;
 
-const OUT_OF_RANGE: Answer = Answer::Error("MSF referred to page number (9) out of range");
+const OUT_OF_RANGE: Answer = Answer::Error(Error::PageReferenceOutOfRange(9));
 
-const BYTES_END: Answer = Answer::Error("UnexpectedEof");
+const BYTES_END: Answer = Answer::Error(Error::UnexpectedEof);
 
 const NO_BYTES: Answer = Answer::Bytes(b"");
 
@@ -79,9 +74,9 @@ fn answers_twice(
     limit: Option<usize>,
     answer: &Answer,
 ) -> bool {
-    let once = answers(alloc, file.get(alloc, number, limit), answer);
-    let again = answers(alloc, file.get(alloc, number, limit), answer);
-    let last = answers(alloc, file.into_stream(alloc, number, limit), answer);
+    let once = answers(file.get(alloc, number, limit), answer);
+    let again = answers(file.get(alloc, number, limit), answer);
+    let last = answers(file.into_stream(alloc, number, limit), answer);
     once && again && last
 }
 
@@ -103,7 +98,7 @@ const OF_THE_CLAIMED: &[(u32, Answer)] = &[
 /// Whether a file answers so for one stream after another.
 fn answers_in_turn(alloc: Global, mut file: BigMSF<Vec<u8>>, streams: &[(u32, Answer)]) -> bool {
     for (number, answer) in streams {
-        if !answers(alloc, file.get(alloc, *number, None), answer) {
+        if !answers(file.get(alloc, *number, None), answer) {
             return false;
         }
     }

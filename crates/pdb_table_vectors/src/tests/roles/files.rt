@@ -1,6 +1,6 @@
 //! What a file says by the roles and the names of its streams.
 
-use super::super::says;
+use super::super::is_error;
 use pdb_base::{Error, FallibleIterator, Result as Answer};
 use pdb_file::PDB;
 use pdb_frames::{FrameDataIter, FrameTable};
@@ -74,10 +74,10 @@ const PAGES: [&[u8]; 15] = [
 ];
 
 /// The number that stands for no stream.
-const NONE: u16 = 0xffff;
+pub(crate) const NONE: u16 = 0xffff;
 
 /// The streams of some roles. The others have none.
-enum Roles {
+pub(crate) enum Roles {
     /// Of an address map: the section headers, the original ones, OMAP to source and OMAP from source.
     Map([u16; 4]),
     /// Of a frame table: the FPO stream and the frame data.
@@ -89,15 +89,17 @@ enum Ask {
     /// That it has an address map.
     Map,
     /// What its address map is refused with.
-    NoMap(&'static str),
+    NoMap(Error),
     /// What its address map answers.
     Translation(Translation),
     /// The starts of the first two frames of its frame table.
     Frames(Option<u32>, Option<u32>),
     /// What its frame table is refused with.
-    NoFrames(&'static str),
-    /// A name: the bytes of the stream, or the text of the refusal.
+    NoFrames(Error),
+    /// A name: the bytes of the stream.
     Stream(&'static [u8], &'static [u8]),
+    /// A name without a stream, and the error.
+    NoStream(&'static [u8], Error),
     /// That the first name of its string table is `foo`.
     Foo,
     /// Its age.
@@ -117,11 +119,11 @@ struct Translation {
     lie: (bool, bool, bool),
 }
 
-const NOT_STORED_2: &str = "The requested stream (2) is not stored in this file";
+const NOT_STORED_2: Error = Error::StreamNotFound(2);
 
-const NOT_STORED_99: &str = "The requested stream (99) is not stored in this file";
+const NOT_STORED_99: Error = Error::StreamNotFound(99);
 
-const BAD_OMAP: &str = "OMAP stream has an invalid length or alignment for its records";
+const BAD_OMAP: Error = Error::InvalidStreamLength("OMAP");
 
 /// Files by the streams of their roles, and what is asked of each.
 const ROWS: &[(&str, Roles, Ask)] = &[
@@ -154,12 +156,12 @@ const ROWS: &[(&str, Roles, Ask)] = &[
     (
         "no sections 65534",
         Roles::Map([65534, 5, 0, 0]),
-        Ask::NoMap("The requested stream (65534) is not stored in this file"),
+        Ask::NoMap(Error::StreamNotFound(65534)),
     ),
     (
         "cut sections",
         Roles::Map([9, 99, 0, 0]),
-        Ask::NoMap("UnexpectedEof"),
+        Ask::NoMap(Error::UnexpectedEof),
     ),
     (
         "no such original ones",
@@ -169,7 +171,7 @@ const ROWS: &[(&str, Roles, Ask)] = &[
     (
         "cut original ones",
         Roles::Map([6, 10, 2, 2]),
-        Ask::NoMap("UnexpectedEof"),
+        Ask::NoMap(Error::UnexpectedEof),
     ),
     (
         "absent OMAP to source",
@@ -247,12 +249,12 @@ const ROWS: &[(&str, Roles, Ask)] = &[
     (
         "bad old frames",
         Roles::Frames([4, 9]),
-        Ask::NoFrames("FPO stream has an invalid length or alignment for its records"),
+        Ask::NoFrames(Error::InvalidStreamLength("FPO")),
     ),
     (
         "bad new frames",
         Roles::Frames([9, 9]),
-        Ask::NoFrames("FrameData stream has an invalid length or alignment for its records"),
+        Ask::NoFrames(Error::InvalidStreamLength("FrameData")),
     ),
     (
         "absent old frames",
@@ -270,12 +272,12 @@ const ROWS: &[(&str, Roles, Ask)] = &[
 const IN_TURN: &[(&str, Ask)] = &[
     (
         "an absent stream's name",
-        Ask::Stream(
-            b"/a",
-            b"The requested stream (2) is not stored in this file",
-        ),
+        Ask::NoStream(b"/a", NOT_STORED_2),
     ),
-    ("no such name", Ask::Stream(b"/b", b"StreamNameNotFound")),
+    (
+        "no such name",
+        Ask::NoStream(b"/b", Error::StreamNameNotFound),
+    ),
     ("a name", Ask::Stream(b"/names", NAMES)),
     ("the string table", Ask::Foo),
     ("the age", Ask::Age(1)),
@@ -313,12 +315,17 @@ fn push_debug(bytes: &mut Vec<u8>, numbers: &[u16]) -> Result<(), Fail> {
     Ok(())
 }
 
-/// A file with these roles, each stream in a page of its own.
-fn file(alloc: Global, roles: &Roles) -> Result<PDB<Vec<u8>>, Fail> {
+/// The bytes of a file with these roles, each stream in a page of its own.
+pub(crate) fn bytes_of(alloc: Global, roles: &Roles) -> Result<Vec<u8>, Fail> {
     let mut bytes = Vec::new(alloc);
     push_pages(&mut bytes)?;
     push_debug(&mut bytes, &numbers(roles))?;
-    Ok(PDB::open(alloc, bytes)?)
+    Ok(bytes)
+}
+
+/// A file with these roles.
+fn file(alloc: Global, roles: &Roles) -> Result<PDB<Vec<u8>>, Fail> {
+    Ok(PDB::open(alloc, bytes_of(alloc, roles)?)?)
 }
 
 /// Whether the addresses lie so.
@@ -335,11 +342,11 @@ fn translates(map: &AddressMap, want: &Translation) -> bool {
         && lie(map, want.lie)
 }
 
-/// Whether a file is to be refused with the text of this error.
-fn is_refusal(alloc: Global, error: Error, ask: &Ask) -> Result<bool, Fail> {
+/// Whether an error is the one that is wanted.
+fn is_refusal(error: &Error, ask: &Ask) -> bool {
     match ask {
-        Ask::NoMap(want) | Ask::NoFrames(want) => says(alloc, error, want.as_bytes()),
-        _ => Ok(false),
+        Ask::NoMap(want) | Ask::NoFrames(want) | Ask::NoStream(_, want) => is_error(error, want),
+        _ => false,
     }
 }
 
@@ -353,10 +360,10 @@ fn is_mapped(map: &AddressMap, ask: &Ask) -> bool {
 }
 
 /// Whether an address map answers so, or is refused so.
-fn map_answers(alloc: Global, map: Answer<AddressMap>, ask: &Ask) -> Result<bool, Fail> {
+fn map_answers(map: Answer<AddressMap>, ask: &Ask) -> bool {
     match map {
-        Ok(map) => Ok(is_mapped(&map, ask)),
-        Err(error) => is_refusal(alloc, error, ask),
+        Ok(map) => is_mapped(&map, ask),
+        Err(error) => is_refusal(&error, ask),
     }
 }
 
@@ -375,20 +382,20 @@ fn start(mut frames: FrameDataIter<'_>, first: Option<u32>, second: Option<u32>)
 }
 
 /// Whether a frame table answers so, or is refused so.
-fn frames_answer(alloc: Global, table: Answer<FrameTable>, ask: &Ask) -> Result<bool, Fail> {
+fn frames_answer(table: Answer<FrameTable>, ask: &Ask) -> bool {
     match table {
         Ok(table) => {
-            Ok(matches!(ask, Ask::Frames(first, second) if start(table.iter(), *first, *second)))
+            matches!(ask, Ask::Frames(first, second) if start(table.iter(), *first, *second))
         }
-        Err(error) => is_refusal(alloc, error, ask),
+        Err(error) => is_refusal(&error, ask),
     }
 }
 
-/// Whether the stream of a name has these bytes, or is refused with this text.
-fn gives(alloc: Global, file: &mut PDB<Vec<u8>>, name: &[u8], want: &[u8]) -> Result<bool, Fail> {
+/// Whether the stream of a name has the bytes that are wanted, or there is the error.
+fn gives(alloc: Global, file: &mut PDB<Vec<u8>>, name: &[u8], ask: &Ask) -> bool {
     match file.named_stream(alloc, name) {
-        Ok(stream) => Ok(stream.as_slice() == want),
-        Err(error) => says(alloc, error, want),
+        Ok(stream) => matches!(ask, Ask::Stream(_, want) if stream.as_slice() == *want),
+        Err(error) => is_refusal(&error, ask),
     }
 }
 
@@ -401,7 +408,7 @@ fn has_foo(alloc: Global, file: &mut PDB<Vec<u8>>) -> Answer<bool> {
 /// Whether the names, the string table, the age and the roles of a file are these.
 fn names_answer(alloc: Global, file: &mut PDB<Vec<u8>>, ask: &Ask) -> Result<bool, Fail> {
     match ask {
-        Ask::Stream(name, want) => gives(alloc, file, name, want),
+        Ask::Stream(name, _) | Ask::NoStream(name, _) => Ok(gives(alloc, file, name, ask)),
         Ask::Foo => Ok(has_foo(alloc, file)?),
         Ask::Age(age) => Ok(file.pdb_information(alloc)?.age == *age),
         Ask::NoOldFrames => Ok(file.extra_streams(alloc)?.fpo.is_none()),
@@ -413,9 +420,9 @@ fn names_answer(alloc: Global, file: &mut PDB<Vec<u8>>, ask: &Ask) -> Result<boo
 fn is_answered(alloc: Global, file: &mut PDB<Vec<u8>>, ask: &Ask) -> Result<bool, Fail> {
     match ask {
         Ask::Map | Ask::NoMap(_) | Ask::Translation(_) => {
-            map_answers(alloc, file.address_map(alloc), ask)
+            Ok(map_answers(file.address_map(alloc), ask))
         }
-        Ask::Frames(..) | Ask::NoFrames(_) => frames_answer(alloc, file.frame_table(alloc), ask),
+        Ask::Frames(..) | Ask::NoFrames(_) => Ok(frames_answer(file.frame_table(alloc), ask)),
         _ => names_answer(alloc, file, ask),
     }
 }

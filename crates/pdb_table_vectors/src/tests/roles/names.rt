@@ -1,8 +1,8 @@
 //! The header of stream 1, and the names of streams.
 
-use super::super::{says, stream};
+use super::super::{is_error, stream};
 use super::front;
-use pdb_base::{Error, Result as Answer, StreamIndex};
+use pdb_base::{Error, RawString, Result as Answer, StreamIndex};
 use pdb_file::{PDBInformation, StreamName, StreamNames};
 use std::alloc::Global;
 use std::test::Fail;
@@ -24,13 +24,18 @@ const ONE: &[u8] = b"\x01\0\0\0\x01\0\0\0\0\0\0\0\0\0\0\0";
 const WHOLE: &[u8] =
     b"\x94\x2e\x31\x01\x01\x02\x03\x04\x05\0\0\0\xa0\xa1\xa2\xa3\xa4\xa5\xa6\xa7\xa8\xa9\xaa\xab\xac\xad\xae\xaf\x0c\0\0\0/a\0/names\0\0x\x02\0\0\0\x08\0\0\0\x01\0\0\0\x03\0\0\0\x02\0\0\0\xff\xff\xff\xff\0\0\0\0\x03\0\0\0\x07\0\0\0\0\0\0\0\x2c\x01\0\0";
 
-const ENDS: &[u8] = b"UnexpectedEof";
+/// What the names of a stream 1 are: each with the number of its stream, or an error.
+enum Listed {
+    These(&'static [(&'static str, u16)]),
+    Error(Error),
+}
+
+const ENDS: Listed = Listed::Error(Error::UnexpectedEof);
 
 /// What is asked of a stream 1.
 enum Ask {
-    /// Of one with such a table and its entries: the names and streams that these are, or why there are
-    /// none.
-    Names(&'static [u8], &'static [u8], &'static [u8]),
+    /// Of one with such a table and its entries: its names.
+    Names(&'static [u8], &'static [u8], Listed),
     /// Of the one with two names: that it ends too soon if it has fewer bytes than these.
     Fronts(usize),
     /// Of the same: its fields, and the numbers of its names.
@@ -44,7 +49,7 @@ const ROWS: &[(&str, Ask)] = &[
         Ask::Names(
             TWO,
             b"\x03\0\0\0\x07\0\0\0\0\0\0\0\x2c\x01\0\0",
-            b"/names=7;/a=300;",
+            Listed::These(&[("/names", 7), ("/a", 300)]),
         ),
     ),
     (
@@ -52,7 +57,7 @@ const ROWS: &[(&str, Ask)] = &[
         Ask::Names(
             TWO,
             b"\x01\0\0\0\x07\0\0\0\x01\0\0\0\x08\0\0\0behind",
-            b"a=7;a=8;",
+            Listed::These(&[("a", 7), ("a", 8)]),
         ),
     ),
     (
@@ -61,15 +66,27 @@ const ROWS: &[(&str, Ask)] = &[
     ),
     (
         "65534",
-        Ask::Names(ONE, b"\x0a\0\0\0\xfe\xff\0\0", b"=65534;"),
+        Ask::Names(
+            ONE,
+            b"\x0a\0\0\0\xfe\xff\0\0",
+            Listed::These(&[("", 65534)]),
+        ),
     ),
     (
         "65535",
-        Ask::Names(ONE, b"\x0a\0\0\0\xff\xff\0\0", b"=None;"),
+        Ask::Names(
+            ONE,
+            b"\x0a\0\0\0\xff\xff\0\0",
+            Listed::These(&[("", 65535)]),
+        ),
     ),
     (
         "65538",
-        Ask::Names(ONE, b"\x0a\0\0\0\x02\0\x01\0", b"=None;"),
+        Ask::Names(
+            ONE,
+            b"\x0a\0\0\0\x02\0\x01\0",
+            Listed::These(&[("", 65535)]),
+        ),
     ),
     (
         "without a NUL",
@@ -85,7 +102,7 @@ const ROWS: &[(&str, Ask)] = &[
     ),
     (
         "no name",
-        Ask::Names(b"\0\0\0\0\0\0\0\0\0\0\0\0\0\0\0\0", b"", b""),
+        Ask::Names(b"\0\0\0\0\0\0\0\0\0\0\0\0\0\0\0\0", b"", Listed::These(&[])),
     ),
     (
         "a false count of entries",
@@ -125,40 +142,45 @@ fn information(alloc: Global, table: &[u8], entries: &[u8]) -> Result<Vec<u8>, F
     Ok(bytes)
 }
 
-/// Adds a name and its stream to a text.
-fn push_name(alloc: Global, text: &mut String, named: &StreamName<'_>) -> Result<(), Fail> {
-    let StreamName { name, stream_id } = named;
-    text.push_str(format!(in alloc; "{name}={stream_id};")?.as_str())?;
-    Ok(())
+/// Whether a name and its stream are these.
+fn is_name(named: &StreamName<'_>, want: &(&str, u16)) -> bool {
+    let (name, number) = want;
+    named.name == RawString::from(*name) && named.stream_id == StreamIndex(*number)
 }
 
-/// Whether names and their streams are this text, one behind the other.
-fn read(alloc: Global, names: &[StreamName<'_>], want: &[u8]) -> Result<bool, Fail> {
-    let mut text = String::new(alloc);
-    for named in names {
-        push_name(alloc, &mut text, named)?;
+/// Whether names and their streams are these, one after the other.
+fn are_names(names: &[StreamName<'_>], want: &[(&str, u16)]) -> bool {
+    for (named, want) in names.iter().zip(want) {
+        if !is_name(named, want) {
+            return false;
+        }
     }
-    Ok(text.as_str().as_bytes() == want)
+    names.len() == want.len()
 }
 
-/// Whether the names and the streams of stream 1 are this text, or why there are none.
-fn lists(alloc: Global, information: &PDBInformation, want: &[u8]) -> Result<bool, Fail> {
+/// Whether there is to be this error.
+fn is_refused(error: &Error, want: &Listed) -> bool {
+    matches!(want, Listed::Error(same) if is_error(error, same))
+}
+
+/// Whether the names and the streams of stream 1 are these, or there is the error.
+fn lists(alloc: Global, information: &PDBInformation, want: &Listed) -> bool {
     match information.stream_names(alloc) {
-        Ok(names) => read(alloc, names.as_slice(), want),
-        Err(error) => says(alloc, error, want),
+        Ok(names) => matches!(want, Listed::These(want) if are_names(names.as_slice(), want)),
+        Err(error) => is_refused(&error, want),
     }
 }
 
 /// The same of a stream 1 of these bytes.
-fn is_shown(alloc: Global, bytes: &[u8], want: &[u8]) -> Result<bool, Fail> {
+fn is_shown(alloc: Global, bytes: &[u8], want: &Listed) -> Result<bool, Fail> {
     match PDBInformation::parse(stream(alloc, bytes)?) {
-        Ok(information) => lists(alloc, &information, want),
-        Err(error) => says(alloc, error, want),
+        Ok(information) => Ok(lists(alloc, &information, want)),
+        Err(error) => Ok(is_refused(&error, want)),
     }
 }
 
 /// The same of a stream 1 with such a table and its entries.
-fn is_listed(alloc: Global, table: &[u8], entries: &[u8], want: &[u8]) -> Result<bool, Fail> {
+fn is_listed(alloc: Global, table: &[u8], entries: &[u8], want: &Listed) -> Result<bool, Fail> {
     let bytes = information(alloc, table, entries)?;
     is_shown(alloc, &bytes, want)
 }
@@ -166,7 +188,7 @@ fn is_listed(alloc: Global, table: &[u8], entries: &[u8], want: &[u8]) -> Result
 /// Whether each front of stream 1 of fewer bytes than these ends too soon.
 fn end_soon(alloc: Global, len: usize) -> Result<bool, Fail> {
     for len in 0..len {
-        if !is_shown(alloc, front(WHOLE, len), ENDS)? {
+        if !is_shown(alloc, front(WHOLE, len), &ENDS)? {
             return Ok(false);
         }
     }

@@ -1,6 +1,6 @@
 use Rattle.std.proofs.Common.{inr}
 use Rattle.pdb_base.proofs.lemmas.Refused.{passed_on}
-use Rattle.pdb_rows.proofs.lemmas.Written.{cut_more, lacks_more, written_more}
+use Rattle.pdb_output.proofs.lemmas.Written.{cut_more, lacks_more, written_more}
 use Rattle.pdb_tables.proofs.TableLemmas.{frame_next, given_first}
 use Rattle.pdb_tables.proofs.frames.write_frames.Goals as goal
 

@@ -2,11 +2,11 @@
 use Rattle.std.proofs.Common.{length}
 use Rattle.pdb_frames.specs.Merge.{by_heads}
 use Rattle.pdb_tables.specs.Tables.{frame_lines}
-use Rattle.pdb_rows.specs.Written.{IsWritten}
+use Rattle.pdb_output.specs.Output.{IsWritten}
 use Rattle.pdb_tables.proofs.frames.write_frames.Given as goal
 
 abbrev pub invariant-loop-frame : goal.invariant-loop-frame
-invariant-loop-frame g l = IsWritten (g.W.Write.contents l.fn.out) (g.W.Write.contents l.out) (frame_lines l.form (by_heads l.table.old l.table.new)) (frame_lines l.form l.frames)
+invariant-loop-frame g l = IsWritten l.fn.out l.out (frame_lines l.form (by_heads l.table.old l.table.new)) (frame_lines l.form l.frames)
 
 abbrev pub decreases-loop-frame : goal.decreases-loop-frame
 decreases-loop-frame g l = length l.frames

@@ -2,7 +2,7 @@ use Rattle.std.proofs.Common.{[], refl, sym, ap, inr, ◌∙◌}
 use Rattle.pdb_base.proofs.lemmas.Refused.{passed_on}
 use Rattle.pdb_tables.specs.Tables.{all_names, next_place}
 use Rattle.pdb_tables.proofs.TableLemmas.{name_first, name_step, name_end, name_none, name_most}
-use Rattle.pdb_rows.proofs.lemmas.Written.{cut_more, lacks_more, written_none, written_more, written_all}
+use Rattle.pdb_output.proofs.lemmas.Written.{cut_more, lacks_more, written_none, written_more, written_all}
 use Rattle.pdb_tables.proofs.names.write_table.Goals as goal
 
 pub loop-init : goal.loop-init

@@ -1,5 +1,5 @@
 use Rattle.pdb_base.proofs.lemmas.Refused.{passed_on}
-use Rattle.pdb_rows.proofs.lemmas.Written.{cut_more, lacks_more, written_more}
+use Rattle.pdb_output.proofs.lemmas.Written.{cut_more, lacks_more, written_more}
 use Rattle.pdb_tables.proofs.TableLemmas.{omap_next}
 use Rattle.pdb_tables.proofs.omap.write_records.Goals as goal
 

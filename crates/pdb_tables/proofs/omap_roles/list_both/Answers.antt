@@ -13,4 +13,4 @@ pub returns : goal.returns
 unfolding both_omaps
 returns g c =
     listed_second _ _ _ _ _ _ (rw c.msf_number-to_source.ensures at c.in_ok-list_role.ensures.listed)
-    (rw (c.in_ok-list_role.ensures.source.bytes, c.in_ok-list_role.ensures.head, c.msf_number-from_source.ensures) at c.list_role-2.ensures.listed)
+    (rw (c.in_ok-list_role.ensures.bytes, c.in_ok-list_role.ensures.head, c.msf_number-from_source.ensures) at c.list_role-2.ensures.listed)

@@ -1,14 +1,13 @@
 -- The listing behind the line of the role.
 use Rattle.std.proofs.Common.{refl}
-use Rattle.std.proofs.KnownBytes.{Appends-nil}
 use Rattle.pdb_base.proofs.lemmas.Refused.{passed_on}
 use Rattle.pdb_tables.specs.Files.{role_omap}
-use Rattle.pdb_tables.proofs.ListedLemmas.{head_cut, listed_headed}
+use Rattle.pdb_tables.proofs.ListedLemmas.{gets_none, head_cut, listed_headed}
 use Rattle.pdb_tables.proofs.omap_roles.list_role.Goals as goal
 
 pub returns-in_default-clause-listed : goal.returns-in_default-clause-listed
 unfolding role_omap
-returns-in_default-clause-listed g c = rw c.in_default.is (refl, Appends-nil _)
+returns-in_default-clause-listed g c = rw c.in_default.is (refl, gets_none _)
 
 pub returns-in_err-write_role-clause-listed : goal.returns-in_err-write_role-clause-listed
 unfolding role_omap

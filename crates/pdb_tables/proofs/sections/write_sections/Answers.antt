@@ -4,7 +4,7 @@ use Rattle.pdb_base.proofs.lemmas.Refused.{passed_on}
 use Rattle.pdb_file.proofs.HeaderLemmas.{header_refused}
 use Rattle.pdb_tables.specs.Tables.{sections_listing}
 use Rattle.pdb_tables.proofs.TableLemmas.{section_next, read_first, whole_end, cut_end, no_section}
-use Rattle.pdb_rows.proofs.lemmas.Written.{cut_more, lacks_more, written_more, written_all}
+use Rattle.pdb_output.proofs.lemmas.Written.{cut_more, lacks_more, written_more, written_all}
 use Rattle.pdb_tables.proofs.sections.write_sections.Goals as goal
 
 pub returns-in_err-header : goal.returns-in_err-header

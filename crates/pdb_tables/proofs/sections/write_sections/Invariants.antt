@@ -4,11 +4,11 @@ use Rattle.pdb_base.specs.Place.{left}
 use Rattle.pdb_base.specs.Records.{spelled}
 use Rattle.pdb_space.specs.SectionHeader.{section_header}
 use Rattle.pdb_tables.specs.Tables.{section_lines}
-use Rattle.pdb_rows.specs.Written.{IsWritten}
+use Rattle.pdb_output.specs.Output.{IsWritten}
 use Rattle.pdb_tables.proofs.sections.write_sections.Given as goal
 
 abbrev pub invariant-loop-place : goal.invariant-loop-place
 invariant-loop-place g l = record {
-  written : IsWritten (g.W.Write.contents l.fn.out) (g.W.Write.contents l.out) (section_lines l.form 1 (spelled 40 section_header l.fn.stream)) (section_lines l.form (l.place + 1) (spelled 40 section_header (left l.buffer)));
+  written : IsWritten l.fn.out l.out (section_lines l.form 1 (spelled 40 section_header l.fn.stream)) (section_lines l.form (l.place + 1) (spelled 40 section_header (left l.buffer)));
   rest : length (left l.buffer) ≡ length l.fn.stream - 40 * l.place;
 }

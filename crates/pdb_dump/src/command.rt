@@ -1,0 +1,107 @@
+//! What the program can be asked.
+
+use pdb_mapping::MapStreams;
+
+/// The name of a command.
+#[derive(Clone, Copy, Debug, PartialEq, Eq)]
+pub enum Verb {
+    /// `summary`: what the file is made of.
+    Summary,
+    /// `types`: the records of a table of types.
+    Types,
+    /// `ids`: the records of a table of ids.
+    Ids,
+    /// `names`: the names of a string table.
+    Names,
+    /// `sections`: the headers of sections.
+    Sections,
+    /// `omap`: the records of an OMAP table.
+    Omap,
+    /// `frames`: the records of a frame table.
+    Frames,
+    /// `map`: what an address map makes of an address.
+    Map,
+    /// `ask`: the answers to questions on standard input.
+    Ask,
+}
+
+/// What the program is asked to list of a file. A stream that isn't given is found by its role.
+#[derive(Clone, Copy, Debug, PartialEq, Eq)]
+pub enum Command {
+    /// What the file is made of.
+    Summary,
+    /// Each type of a table in the stream, or in stream 2; or only the one of an index.
+    Types {
+        /// The number of the stream.
+        stream: Option<u32>,
+        /// The index of the only type.
+        index: Option<u32>,
+    },
+    /// Each id of a table in the stream, or in stream 4; or only the one of an index.
+    Ids {
+        /// The number of the stream.
+        stream: Option<u32>,
+        /// The index of the only id.
+        index: Option<u32>,
+    },
+    /// Each name of the string table in the stream.
+    Names {
+        /// The number of the stream.
+        stream: Option<u32>,
+    },
+    /// Each section header in the stream.
+    Sections {
+        /// The number of the stream.
+        stream: Option<u32>,
+    },
+    /// Each record of the OMAP table in the stream.
+    Omap {
+        /// The number of the stream.
+        stream: Option<u32>,
+    },
+    /// Each frame of the file's own streams.
+    Frames,
+    /// Each frame of the given streams, either of which may be absent.
+    FramesIn {
+        /// The number of the stream of records of the older format.
+        old: Option<u32>,
+        /// The number of the stream of records of the newer format.
+        new: Option<u32>,
+    },
+    /// What an address map makes of an address.
+    Map {
+        /// The address.
+        address: u32,
+        /// The streams of the map, or none of them for the file's own map.
+        streams: MapStreams,
+    },
+}
+
+/// What the program is asked to do with a file.
+#[derive(Clone, Copy, Debug, PartialEq, Eq)]
+pub enum Task {
+    /// To list what a command says.
+    List(Command),
+    /// To answer the questions on standard input.
+    Answer,
+}
+
+/// What the program is called for: a task, and the path of the file, or `-` for standard input.
+#[derive(Clone, Copy, Debug, PartialEq, Eq)]
+pub struct Call<'w> {
+    /// The path of the file.
+    pub path: &'w str,
+    /// What to do with it.
+    pub task: Task,
+}
+
+/// Why words ask nothing of a file.
+#[derive(Clone, Copy, Debug, PartialEq, Eq)]
+pub enum Misuse {
+    /// There is no command of that name.
+    NoCommand,
+    /// The command does not take the words after it.
+    Arguments(Verb),
+    /// Both the questions and the file are to be read from standard input.
+    InputTwice,
+}

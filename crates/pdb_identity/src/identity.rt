@@ -1,0 +1,119 @@
+//! The numbers that identify a program database.
+
+ghost use Rattle.std.specs.Prelude.{◌≡◌, Some};
+ghost use Rattle.pdb_base.specs.Answer.{Gives};
+ghost use Rattle.pdb_msf.specs.File.{ReadsFile};
+ghost use Rattle.pdb_identity.specs.Identity.{age_of, file_debug_header, file_identity, header_in};
+
+use crate::key::{LowerKey, UpperKey};
+use pdb_base::{Error, Result, Stream};
+use pdb_file::{DBIHeader, PDB};
+use pdb_msf::{Msf, Source};
+use std::alloc::Global;
+use uuid::Uuid;
+
+/// The number of the stream of debug information.
+const DEBUG_STREAM: u32 = 3;
+
+/// The size of the header of that stream in bytes.
+const HEADER_SIZE: usize = 64;
+
+/// The numbers that identify a program database, and the header of its debug information.
+#[derive(Clone, Copy, PartialEq, Eq)]
+pub struct Identity {
+    /// The GUID that the linker gave the file, and wrote into the debug directory of the program
+    /// too.
+    pub guid: Uuid,
+
+    /// The version of the format, for example 20000404 for version 7.
+    pub version: u32,
+
+    /// The time at which the file was made, in seconds since 1970, or a hash in its place.
+    pub signature: u32,
+
+    /// The age in stream 1: the number of times the file was written.
+    pub information_age: u32,
+
+    /// The header of stream 3, or None if the file has no such stream or an empty one, as the files
+    /// of type servers do.
+    pub debug_header: Option<DBIHeader>,
+}
+
+impl Identity {
+    /// Reads what identifies a file from stream 1 and the first 64 bytes of stream 3.
+    ///
+    /// # Errors
+    /// Fails as `PDB::pdb_information` does for stream 1, and then as `Msf::get` and
+    /// `DBIHeader::parse` do for stream 3, but not if there is no such stream or if it is empty.
+    #[tactic(auto, unfolding(crate::specs::Identity::file_identity))]
+    pub fn of<S: Source>(alloc: Global, pdb: &mut PDB<S>) -> Result<Identity>
+        ensures { ReadsFile S.state pdb.old pdb.new (λ identity. identity) result file_identity }
+    {
+        let information = pdb.pdb_information(alloc)?;
+        let debug_header = debug_header(alloc, pdb)?;
+        Ok(Identity {
+            guid: Uuid::from_bytes_le(information.guid),
+            version: information.version,
+            signature: information.signature,
+            information_age: information.age,
+            debug_header,
+        })
+    }
+
+    /// Returns the age under which symbol servers store the file: that of the debug information,
+    /// or that of stream 1 if there is none.
+    pub fn age(&self) -> u32
+        ensures { result ≡ age_of self.now }
+    {
+        match self.debug_header {
+            Some(header) => header.age,
+            None => self.information_age,
+        }
+    }
+
+    /// Returns the key under which a symbol store keeps the file: the 32 digits of the GUID and the
+    /// age, in upper case.
+    pub fn key(&self) -> UpperKey
+        ensures guid { result.guid ≡ self.now.guid }
+        ensures age { result.age ≡ age_of self.now }
+    {
+        UpperKey {
+            guid: self.guid,
+            age: self.age(),
+        }
+    }
+
+    /// Returns the same key in lower case, as the conventions for SSQP have it.
+    pub fn lower_key(&self) -> LowerKey
+        ensures guid { result.guid ≡ self.now.guid }
+        ensures age { result.age ≡ age_of self.now }
+    {
+        LowerKey {
+            guid: self.guid,
+            age: self.age(),
+        }
+    }
+}
+
+/// Reads the header at the front of the stream of debug information, or returns None if the stream
+/// is empty.
+fn header_in(stream: &Stream) -> Result<Option<DBIHeader>>
+    ensures { Gives (λ header. header) result (header_in (Some stream.now)) }
+{
+    if stream.as_slice().is_empty() {
+        return Ok(None);
+    }
+    Ok(Some(DBIHeader::parse(stream)?))
+}
+
+/// Reads the header of stream 3, or returns None if there is no such stream or if it is empty.
+#[tactic(auto, unfolding(crate::specs::Identity::file_debug_header))]
+fn debug_header<S: Source>(alloc: Global, pdb: &mut PDB<S>) -> Result<Option<DBIHeader>>
+    ensures { ReadsFile S.state pdb.old pdb.new (λ header. header) result file_debug_header }
+{
+    match pdb.get(alloc, DEBUG_STREAM, Some(HEADER_SIZE)) {
+        Ok(stream) => header_in(&stream),
+        Err(Error::StreamNotFound(_)) => Ok(None),
+        Err(error) => Err(error),
+    }
+}

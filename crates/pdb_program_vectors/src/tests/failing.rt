@@ -1,0 +1,224 @@
+//! Outputs and inputs that fail at each of their calls in turn.
+
+use pdb_base::Result;
+use pdb_dump::{Command, serve, serve_questions};
+use pdb_output::Output;
+use pdb_rows::Form;
+use pdb_vectors::s1_with;
+use std::alloc::Global;
+use std::io;
+use std::io::{ErrorKind, Read, Write};
+use std::test::Fail;
+
+/// A channel that fails at a call: it holds what it took, or gives what is left of its bytes.
+#[derive(Drop)]
+struct Failing {
+    bytes: Vec<u8>,
+    at: usize,
+    calls: usize,
+    kind: ErrorKind,
+}
+
+impl Failing {
+    fn new(bytes: Vec<u8>, calls: usize, kind: ErrorKind) -> Self {
+        Failing {
+            bytes,
+            at: 0,
+            calls,
+            kind,
+        }
+    }
+
+    /// Counts a call, and fails if it is the one to fail at.
+    fn call(&mut self) -> io::Result<()> {
+        if self.calls == 0 {
+            return Err(io::Error::from(self.kind));
+        }
+        self.calls -= 1;
+        Ok(())
+    }
+}
+
+impl Write for Failing {
+    fn write(&mut self, bytes: &[u8]) -> io::Result<usize> {
+        self.call()?;
+        self.bytes.extend_from_slice(bytes)?;
+        Ok(bytes.len())
+    }
+
+    fn flush(&mut self) -> io::Result<()> {
+        self.call()
+    }
+}
+
+impl Read for Failing {
+    fn read(&mut self, room: &mut [u8]) -> io::Result<usize> {
+        self.call()?;
+        let Some(rest) = self.bytes.get(self.at..) else {
+            return Ok(0);
+        };
+        let count = rest.len().min(room.len()).min(1000);
+        room[..count].copy_from_slice(&rest[..count]);
+        self.at = self.at.saturating_add(count);
+        Ok(count)
+    }
+}
+
+/// A program between its channels.
+#[derive(Clone, Copy, Debug)]
+enum Served {
+    /// The bytes of stream 1 that `pdbq` prints.
+    Query,
+    /// The OMAP records that `pdbdump` lists.
+    Records(Form),
+    /// The answers of `pdbdump ask` to two questions.
+    Answers(Form),
+}
+
+/// Runs a program, and returns its status.
+fn run(
+    alloc: Global,
+    served: Served,
+    input: &mut Failing,
+    out: &mut Output<Failing>,
+    err: &mut Output<Failing>,
+) -> Result<u8> {
+    match served {
+        Served::Query => {
+            let mut words = Vec::new(alloc);
+            words.push(String::from_str(alloc, "pdbq")?)?;
+            for word in ["stream", "1"] {
+                words.push(String::from_str(alloc, word)?)?;
+            }
+            Ok(pdb_cli::serve(alloc, Ok(words.into_iter()), input, out, err))
+        }
+        Served::Records(form) => {
+            let command = Command::Omap { stream: Some(3) };
+            Ok(serve(alloc, command, form, input, out, err))
+        }
+        Served::Answers(form) => {
+            let mut questions = b"stream 3\nstream 1 2\n".as_slice();
+            Ok(serve_questions(alloc, form, input, &mut questions, out, err))
+        }
+    }
+}
+
+/// Two OMAP records, which are stream 3 of the file.
+const OMAP: &[u8] = b"\0\x20\0\0\0\x10\0\0\0\x10\0\0\0\0\0\0";
+
+const IO_ERROR: &[u8] = b"IO error while reading PDB: ";
+
+/// More calls than any program makes.
+const NEVER: usize = 1_000_000;
+
+/// The status of a run in which a channel fails at a call, and what each output then has.
+#[derive(Drop)]
+struct Ended {
+    status: u8,
+    out: Vec<u8>,
+    out_failed: bool,
+    err: Vec<u8>,
+    err_failed: bool,
+}
+
+/// The calls at which the input, the output and the channel of errors fail, and how the output does.
+type Calls = (usize, usize, usize, ErrorKind);
+
+/// Runs a program with these calls.
+fn end_of(alloc: Global, served: Served, calls: Calls) -> Result<Ended> {
+    let (reads, writes, messages, kind) = calls;
+    let mut input = Failing::new(s1_with(alloc, OMAP)?, reads, ErrorKind::BrokenPipe);
+    let mut out = Output::new(Failing::new(Vec::new(alloc), writes, kind));
+    let mut err = Output::new(Failing::new(Vec::new(alloc), messages, ErrorKind::StorageFull));
+    let status = run(alloc, served, &mut input, &mut out, &mut err)?;
+    let (out_failed, err_failed) = (out.has_failed(), err.has_failed());
+    Ok(Ended {
+        status,
+        out: out.into_inner().bytes,
+        out_failed,
+        err: err.into_inner().bytes,
+        err_failed,
+    })
+}
+
+/// Whether a run is told of a fault, with status 1.
+fn is_told(ended: &Ended) -> bool {
+    ended.status == 1 && ended.err.starts_with(IO_ERROR)
+}
+
+/// Whether an output that was closed ends a program in silence.
+fn is_silent(served: Served, kind: ErrorKind) -> bool {
+    kind == ErrorKind::BrokenPipe && !matches!(served, Served::Query)
+}
+
+/// Whether a run whose output failed wrote a prefix of the whole output, and ended as it must.
+fn is_cut(served: Served, kind: ErrorKind, whole: &[u8], ended: &Ended) -> bool {
+    let is_ended = if is_silent(served, kind) {
+        ended.status == 0 && ended.err.is_empty()
+    } else {
+        is_told(ended)
+    };
+    is_ended && whole.starts_with(&ended.out)
+}
+
+/// Whether a program whose output fails at each call in turn ends as it must, and how many calls it
+/// makes.
+fn fails_at_each_write(alloc: Global, served: Served, kind: ErrorKind) -> Result<Option<usize>> {
+    let whole = end_of(alloc, served, (NEVER, NEVER, NEVER, kind))?;
+    for call in 0..NEVER {
+        let run = end_of(alloc, served, (NEVER, call, NEVER, kind))?;
+        if !run.out_failed {
+            let is_whole = run.status == 0 && run.out == whole.out && run.err.is_empty();
+            return Ok(if is_whole { Some(call) } else { None });
+        }
+        if !is_cut(served, kind, &whole.out, &run) {
+            return Ok(None);
+        }
+    }
+    Ok(None)
+}
+
+/// Whether a program whose input fails at each read in turn says so and writes nothing, even if the
+/// channel of errors fails.
+fn fails_at_each_read(alloc: Global, served: Served) -> Result<bool> {
+    for call in 0..NEVER {
+        let run = end_of(alloc, served, (call, NEVER, NEVER, ErrorKind::StorageFull))?;
+        if run.status == 0 {
+            return Ok(call > 4);
+        }
+        let silent = end_of(alloc, served, (call, NEVER, 0, ErrorKind::StorageFull))?;
+        let is_alone = silent.status == 1 && silent.err_failed && silent.err.is_empty();
+        if !(is_told(&run) && run.out.is_empty() && is_alone) {
+            return Ok(false);
+        }
+    }
+    Ok(false)
+}
+
+/// The programs, and how many calls of its output each makes.
+const SERVED: &[(Served, usize)] = &[
+    (Served::Query, 2),
+    (Served::Records(Form::Text), 4),
+    (Served::Records(Form::Json), 4),
+    (Served::Answers(Form::Text), 5),
+    (Served::Answers(Form::Json), 5),
+];
+
+#[test]
+fn outputs(rt: HostRuntime) -> std::result::Result<(), Fail> {
+    for (served, calls) in SERVED {
+        for kind in [ErrorKind::StorageFull, ErrorKind::BrokenPipe] {
+            let found = fails_at_each_write(rt.alloc(), *served, kind)?;
+            assert!(rt; found == Some(*calls), "{served:?}: {found:?}");
+        }
+    }
+    Ok(())
+}
+
+#[test]
+fn inputs(rt: HostRuntime) -> std::result::Result<(), Fail> {
+    for (served, _) in SERVED {
+        assert!(rt; fails_at_each_read(rt.alloc(), *served)?, "{served:?}");
+    }
+    Ok(())
+}

@@ -1,0 +1,98 @@
+//! Inputs and outputs that fail with an error that has a text of its own, which is told as it stands. The input is
+//! read before the words are looked at, so that where it fails, bad words are not told of.
+
+use pdb_base::Result;
+use pdb_cli::serve;
+use pdb_output::Output;
+use std::alloc::Global;
+use std::env::Args;
+use std::io;
+use std::io::{ErrorKind, Read, Write};
+use std::test::Fail;
+
+/// An input or an output that fails at once.
+#[derive(Drop)]
+struct Broken;
+
+/// The error with which it fails.
+fn fault() -> io::Error {
+    io::Error::new(ErrorKind::Other, "the disk is gone")
+}
+
+impl Read for Broken {
+    fn read(&mut self, _room: &mut [u8]) -> io::Result<usize> {
+        Err(fault())
+    }
+}
+
+impl Write for Broken {
+    fn write(&mut self, _bytes: &[u8]) -> io::Result<usize> {
+        Err(fault())
+    }
+
+    fn flush(&mut self) -> io::Result<()> {
+        Ok(())
+    }
+}
+
+/// The line that is told of the error.
+const TOLD: &[u8] = b"IO error while reading PDB: the disk is gone\n";
+
+/// What the system hands over: words behind the program's name, or that one of them is not UTF-8.
+type Words = Option<&'static [&'static str]>;
+
+/// Good words, words of each kind that is bad, and words that are not UTF-8.
+const WORDS: &[Words] = &[
+    Some(&["stream", "3"]),
+    Some(&["stream"]),
+    Some(&["streams", "3"]),
+    Some(&["stream", "-1"]),
+    Some(&["stream", "4294967296"]),
+    Some(&[""]),
+    None,
+];
+
+/// What the system hands over.
+fn arguments(alloc: Global, words: &Words) -> Result<io::Result<Args>> {
+    let Some(words) = words else {
+        return Ok(Err(io::Error::from(ErrorKind::InvalidData)));
+    };
+    let mut call = Vec::new(alloc);
+    call.push(String::from_str(alloc, "pdbq")?)?;
+    for word in *words {
+        call.push(String::from_str(alloc, word)?)?;
+    }
+    Ok(Ok(call.into_iter()))
+}
+
+/// Whether a call ended with status 1, and told the error.
+fn is_told(status: u8, err: Output<Vec<u8>>) -> bool {
+    status == 1 && !err.has_failed() && err.into_inner().as_slice() == TOLD
+}
+
+/// Whether a call over an input that fails tells its error, and writes nothing else.
+fn is_unread(alloc: Global, words: &Words) -> Result<bool> {
+    let words = arguments(alloc, words)?;
+    let mut out = Output::new(Vec::new(alloc));
+    let mut err = Output::new(Vec::new(alloc));
+    let status = serve(alloc, words, &mut Broken, &mut out, &mut err);
+    Ok(is_told(status, err) && out.into_inner().is_empty())
+}
+
+/// Whether a call without words, which reads no input, tells the error of its output.
+fn is_unwritten(alloc: Global) -> Result<bool> {
+    let words = arguments(alloc, &Some(&[]))?;
+    let mut out = Output::new(Broken);
+    let mut err = Output::new(Vec::new(alloc));
+    let status = serve(alloc, words, &mut Broken, &mut out, &mut err);
+    Ok(is_told(status, err))
+}
+
+#[test]
+fn broken_channels(rt: HostRuntime) -> std::result::Result<(), Fail> {
+    for words in WORDS {
+        assert!(rt; is_unread(rt.alloc(), words)?, "{words:?}");
+    }
+    assert!(rt; is_unwritten(rt.alloc())?);
+    Ok(())
+}

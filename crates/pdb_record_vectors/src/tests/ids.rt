@@ -1,0 +1,317 @@
+//! Records of ids. Each field has a value of its own, so that one read in the place of another shows.
+
+use super::is_error;
+use super::read::table_of;
+use pdb_base::{Error, IdIndex, RawString, Result, TypeIndex};
+use pdb_records::parse_id_data;
+use pdb_space::StringRef;
+use pdb_tpi::{Id, IdFinder, IdInformation};
+use pdb_values::{
+    BuildInfoId, FunctionId, IdData, MemberFunctionId, StringId, StringListId,
+    UserDefinedTypeSourceFileRef, UserDefinedTypeSourceId,
+};
+use std::alloc::Global;
+use std::test::Fail;
+
+/// What a record says.
+enum Said {
+    /// A function: its scope, its type and its name.
+    Function(Option<IdIndex>, u32, &'static str),
+    /// A method: its class, its type and its name.
+    Method(u32, u32, &'static str),
+    /// The text `a` with first parts.
+    Text(Option<IdIndex>),
+    /// Where the type 0x1000 is declared: the id of the file, and the line.
+    Local(u32, u32),
+    /// The same by a module and the offset of the file's name in it.
+    Remote(u16, u32, u32),
+    /// What a module was built with.
+    BuildInfo(&'static [IdIndex]),
+    /// The parts of a text.
+    Parts(&'static [TypeIndex]),
+}
+
+/// The bytes of a record, and what they say.
+const ROWS: &[(&[u8], Said)] = &[
+    // Functions, in a scope and in none, and a method.
+    (
+        b"\x01\x16\x00\x00\x00\x00\x02\x10\x00\x00f\x00",
+        Said::Function(None, 0x1002, "f"),
+    ),
+    (
+        b"\x01\x16\x03\x10\x00\x00\x04\x10\x00\x00name\x00",
+        Said::Function(Some(IdIndex(0x1003)), 0x1004, "name"),
+    ),
+    (
+        b"\x01\x16\xff\xff\x00\x00\x04\x10\x00\x00\x00",
+        Said::Function(Some(IdIndex(0xffff)), 0x1004, ""),
+    ),
+    (
+        b"\x02\x16\x06\x10\x00\x00\x07\x10\x00\x00name\x00",
+        Said::Method(0x1006, 0x1007, "name"),
+    ),
+
+    // The text `a`, with first parts and without.
+    (b"\x05\x16\x00\x00\x00\x00\x61\x00", Said::Text(None)),
+    (
+        b"\x05\x16\x08\x10\x00\x00\x61\x00",
+        Said::Text(Some(IdIndex(0x1008))),
+    ),
+    (
+        b"\x05\x16\xff\xff\x00\x00\x61\x00",
+        Said::Text(Some(IdIndex(0xffff))),
+    ),
+
+    // Where a type is declared. The last stands in the line 0x0102_0304 of a file of module 0xfeff.
+    (
+        b"\x06\x16\x00\x10\x00\x00\x05\x10\x00\x00\x2a\x00\x00\x00",
+        Said::Local(0x1005, 42),
+    ),
+    (
+        b"\x07\x16\x00\x10\x00\x00\x05\x10\x00\x00\x2a\x00\x00\x00\x03\x00",
+        Said::Remote(3, 0x1005, 42),
+    ),
+    (
+        b"\x07\x16\x00\x10\x00\x00\x0d\x0c\x0b\x0a\x04\x03\x02\x01\xff\xfe",
+        Said::Remote(0xfeff, 0xa0b0c0d, 0x1020304),
+    ),
+
+    // What a module was built with.
+    (b"\x03\x16\x00\x00", Said::BuildInfo(&[])),
+    (
+        b"\x03\x16\x02\x00\x01\x10\x00\x00\x02\x10\x00\x00",
+        Said::BuildInfo(&[IdIndex(0x1001), IdIndex(0x1002)]),
+    ),
+
+    // The parts of a text.
+    (b"\x04\x16\x00\x00\x00\x00", Said::Parts(&[])),
+    (
+        b"\x04\x16\x01\x00\x00\x00\x02\x10\x00\x00",
+        Said::Parts(&[TypeIndex(0x1002)]),
+    ),
+    (
+        b"\x04\x16\x02\x00\x00\x00\x09\x10\x00\x00\x0a\x10\x00\x00",
+        Said::Parts(&[TypeIndex(0x1009), TypeIndex(0x100a)]),
+    ),
+];
+
+/// Where the type 0x1000 is declared.
+fn source_id(source_file: UserDefinedTypeSourceFileRef, line: u32) -> IdData<'static> {
+    IdData::UserDefinedTypeSource(UserDefinedTypeSourceId {
+        udt: TypeIndex(0x1000),
+        source_file,
+        line,
+    })
+}
+
+/// A function or a method, or where a type is declared; or the text `a`, with no first parts where nothing is said of them.
+fn plain_id(said: &Said) -> IdData<'static> {
+    match said {
+        Said::Function(scope, function_type, name) => IdData::Function(FunctionId {
+            scope: *scope,
+            function_type: TypeIndex(*function_type),
+            name: RawString::from(*name),
+        }),
+        Said::Method(parent, function_type, name) => IdData::MemberFunction(MemberFunctionId {
+            parent: TypeIndex(*parent),
+            function_type: TypeIndex(*function_type),
+            name: RawString::from(*name),
+        }),
+        Said::Local(file, line) => source_id(
+            UserDefinedTypeSourceFileRef::Local(IdIndex(*file)),
+            *line,
+        ),
+        Said::Remote(module, name, line) => source_id(
+            UserDefinedTypeSourceFileRef::Remote(*module, StringRef(*name)),
+            *line,
+        ),
+        Said::Text(substrings) => text_id(*substrings),
+        _ => text_id(None),
+    }
+}
+
+/// The text `a`.
+fn text_id(substrings: Option<IdIndex>) -> IdData<'static> {
+    IdData::String(StringId {
+        substrings,
+        name: RawString::from("a"),
+    })
+}
+
+/// What a record says.
+fn wanted(alloc: Global, said: &Said) -> Result<IdData<'static>> {
+    match said {
+        Said::BuildInfo(arguments) => Ok(IdData::BuildInfo(BuildInfoId {
+            arguments: Vec::from_slice(alloc, arguments)?,
+        })),
+        Said::Parts(substrings) => Ok(IdData::StringList(StringListId {
+            substrings: Vec::from_slice(alloc, substrings)?,
+        })),
+        _ => Ok(plain_id(said)),
+    }
+}
+
+/// What is wanted of a record: a value, or an error.
+#[derive(Clone, Copy)]
+enum Want<'w> {
+    Value(&'w IdData<'w>),
+    Error(&'w Error),
+}
+
+/// Whether what was read is what is wanted.
+fn is_wanted(read: &Result<IdData<'_>>, want: Want<'_>) -> bool {
+    match (read, want) {
+        (Ok(data), Want::Value(value)) => *data == *value,
+        (Err(error), Want::Error(same)) => is_error(error, same),
+        _ => false,
+    }
+}
+
+/// Whether an id is what is wanted.
+fn is_item(alloc: Global, item: Id<'_>, want: Want<'_>) -> bool {
+    is_wanted(&item.parse(alloc), want)
+}
+
+/// Whether the first id of a finder's table is what is wanted.
+fn is_found(alloc: Global, finder: &IdFinder<'_>, want: Want<'_>) -> Result<bool> {
+    Ok(is_item(alloc, finder.find(IdIndex(0x1000))?, want))
+}
+
+/// Whether the first id of a table is what is wanted.
+fn is_first(alloc: Global, table: &IdInformation, want: Want<'_>) -> Result<bool> {
+    is_found(alloc, &table.finder(alloc)?, want)
+}
+
+/// Whether the id of a record is what is wanted, in a table whose one item is the record.
+fn is_read(alloc: Global, record: &[u8], want: Want<'_>) -> std::result::Result<bool, Fail> {
+    let table = IdInformation::parse(table_of(alloc, record)?)?;
+    Ok(is_first(alloc, &table, want)?)
+}
+
+/// The same of a record with more bytes behind it.
+fn is_read_with(
+    alloc: Global,
+    record: &[u8],
+    more: &[u8],
+    want: Want<'_>,
+) -> std::result::Result<bool, Fail> {
+    let mut longer = Vec::from_slice(alloc, record)?;
+    longer.extend_from_slice(more)?;
+    is_read(alloc, &longer, want)
+}
+
+/// Whether each front of a record, the whole not among them, ends too soon.
+fn ends_soon(alloc: Global, record: &[u8]) -> bool {
+    for length in 0..record.len() {
+        let read = parse_id_data(alloc, &record[..length]);
+        if !matches!(read, Err(Error::UnexpectedEof)) {
+            return false;
+        }
+    }
+    true
+}
+
+/// Whether a copy of an id's list is equal, where it has one.
+fn is_list_copied(alloc: Global, data: &IdData<'_>) -> bool {
+    match data {
+        IdData::BuildInfo(list) => matches!(list.clone(alloc), Ok(copy) if copy == *list),
+        IdData::StringList(list) => matches!(list.clone(alloc), Ok(copy) if copy == *list),
+        _ => true,
+    }
+}
+
+/// Whether a copy of an id is equal, and a copy of its list.
+fn is_copied(alloc: Global, data: &IdData<'_>) -> bool {
+    matches!(data.clone(alloc), Ok(copy) if copy == *data) && is_list_copied(alloc, data)
+}
+
+/// Whether an id is the one that is wanted and the one that its record says when it is read again, and is copied.
+fn is_id(alloc: Global, data: &IdData<'_>, again: &IdData<'_>, want: &IdData<'_>) -> bool {
+    *data == *want && *data == *again && is_copied(alloc, data)
+}
+
+/// The same of what a record says that stands in no table.
+fn is_parsed(alloc: Global, record: &[u8], want: &IdData<'_>) -> Result<bool> {
+    let data = parse_id_data(alloc, record)?;
+    Ok(is_id(alloc, &data, &parse_id_data(alloc, record)?, want))
+}
+
+/// Whether a record says this with padding behind it too, and with another byte behind that, and
+/// no front of it says anything.
+fn is_told(alloc: Global, record: &[u8], want: &IdData<'_>) -> std::result::Result<bool, Fail> {
+    let want = Want::Value(want);
+    let is_padded = is_read_with(alloc, record, b"\xf2\xf1", want)?;
+    let is_longer = is_read_with(alloc, record, b"\xf2\xf1\x41", want)?;
+    Ok(is_padded && is_longer && is_read(alloc, record, want)? && ends_soon(alloc, record))
+}
+
+/// Whether a record says its row, and what it says is copied.
+fn is_row(alloc: Global, record: &[u8], said: &Said) -> std::result::Result<bool, Fail> {
+    let want = wanted(alloc, said)?;
+    Ok(is_told(alloc, record, &want)? && is_parsed(alloc, record, &want)?)
+}
+
+#[test]
+fn id_records(rt: HostRuntime) -> std::result::Result<(), Fail> {
+    for (record, want) in ROWS {
+        assert!(rt; is_row(rt.alloc(), record, want)?, "{record:?}");
+    }
+    Ok(())
+}
+
+/// What is wrong with a record, its bytes, and the error.
+const REFUSED: &[(&str, &[u8], Error)] = &[
+    (
+        "a count of three before two",
+        b"\x03\x16\x03\x00\x01\x10\x00\x00\x02\x10\x00\x00",
+        Error::UnexpectedEof,
+    ),
+    (
+        "a false count of ids",
+        b"\x03\x16\xff\xff\x01\x10\x00\x00",
+        Error::UnexpectedEof,
+    ),
+    (
+        "a false count of parts",
+        b"\x04\x16\xff\xff\xff\xff",
+        Error::UnexpectedEof,
+    ),
+    (
+        "a count of parts whose bytes are 2^32",
+        b"\x04\x16\x00\x00\x00\x40\x02\x10\x00\x00",
+        Error::UnexpectedEof,
+    ),
+    (
+        "a module without its high byte",
+        b"\x07\x16\x00\x10\x00\x00\x05\x10\x00\x00\x2a\x00\x00\x00\x03",
+        Error::UnexpectedEof,
+    ),
+    (
+        "a leaf above",
+        b"\x08\x16",
+        Error::UnimplementedTypeKind(0x1608),
+    ),
+    (
+        "a leaf below",
+        b"\x00\x16",
+        Error::UnimplementedTypeKind(0x1600),
+    ),
+    (
+        "a type in the table of ids",
+        b"\x01\x10\x74\x00\x00\x00\x05\x00",
+        Error::UnimplementedTypeKind(0x1001),
+    ),
+    (
+        "a struct in the table of ids",
+        b"\x09\x16\x00\x02\x00\x00",
+        Error::UnimplementedTypeKind(0x1609),
+    ),
+];
+
+#[test]
+fn refused_ids(rt: HostRuntime) -> std::result::Result<(), Fail> {
+    for (name, record, want) in REFUSED {
+        assert!(rt; is_read(rt.alloc(), record, Want::Error(want))?, "{name}");
+    }
+    Ok(())
+}

@@ -1,0 +1,5 @@
+pub mod DefinitionLemmas
+pub mod EntryLemmas
+pub mod SearchLemmas
+pub mod SizeLemmas
+pub mod SpanLemmas

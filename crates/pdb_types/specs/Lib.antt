@@ -1,0 +1,10 @@
+pub mod PrimitiveSize
+pub mod SizeSource
+pub mod TypeAt
+pub mod Declaration
+pub mod NameHash
+pub mod Definition
+pub mod DefinitionLaws
+pub mod Entries
+pub mod Size
+pub mod Span

@@ -1,0 +1,177 @@
+//! The definitions of the types of a table, by their names.
+
+ghost use Rattle.std.specs.Prelude.{◌≡◌, ◌≤◌, length, drop, map, Ok};
+ghost use Rattle.std.specs.Option.{option_map};
+ghost use Rattle.pdb_base.specs.Answer.{Answers};
+ghost use Rattle.pdb_tpi.specs.Steps.{walk_rest};
+ghost use Rattle.pdb_types.specs.Declaration.{source_name, type_name};
+ghost use Rattle.pdb_types.specs.Definition.{all_definitions, defines, definition_of, first_definition, if_none_left, walked};
+ghost use Rattle.pdb_types.specs.Entries.{AreCandidates, all_entries};
+ghost use Rattle.pdb_types.specs.TypeAt.{type_at};
+
+use crate::declaration::declaration_of;
+use crate::entry::{Entry, push_entries};
+use crate::name_hash::name_hash;
+use crate::type_at::type_at;
+use crate::type_name::TypeName;
+use pdb_base::{Error, FallibleIterator, Result, TypeIndex};
+use pdb_tpi::{OpenTable, TypeInformation};
+use std::alloc::Global;
+use std::marker::Model;
+
+/// The definitions of the classes, unions and enumerations of a table, which are found by their
+/// names.
+///
+/// It keeps two entries of eight bytes for each definition, or one if that has no unique name, and
+/// no names: it reads those again from the table. So let the table learn where its items stand
+/// first, up to its last index (`OpenTable::learn`); otherwise each look-up walks along the table.
+#[derive(Debug, Drop)]
+pub struct Definitions<'t> {
+    types: &'t OpenTable<TypeIndex>,
+    /// An entry for each name of a definition, sorted by their ranks.
+    entries: Vec<Entry>,
+}
+
+impl<'t> Model for Definitions<'t> {
+    ghost use Rattle.pdb_tpi.specs.Table.{Table};
+    ghost use Rattle.pdb_types.specs.Entries.{IsIndexed};
+
+    ghost Value = { Table };
+
+    ghost view = { λ d. d.types.now.table };
+
+    ghost invariant = { λ d. IsIndexed d.types.now.table d.entries.items };
+}
+
+/// Returns an entry for each name of a definition in a table, in the order of the types.
+fn entries_in(alloc: Global, table: &TypeInformation) -> Result<Vec<Entry>>
+    ensures { Answers (λ entries. entries.items) result
+        (if_none_left (all_entries table.now) (walk_rest table.now)) }
+{
+    let mut items = table.iter();
+    let mut entries = Vec::new(alloc);
+    while let Some(item) = items.next()? {
+        push_entries(alloc, &item, &mut entries)?;
+    }
+    Ok(entries)
+}
+
+/// Returns the entries from a place on.
+fn entries_from(entries: &[Entry], start: usize) -> &[Entry]
+    requires { start ≤ length entries.now }
+    ensures { result.now ≡ drop start entries.now }
+{
+    &entries[start..]
+}
+
+impl<'t> Definitions<'t> {
+    /// Finds the definitions of a table in one walk along it.
+    ///
+    /// A record that can't be read defines nothing.
+    ///
+    /// # Errors
+    /// Fails with the fault at which the walk stops if that is before the end of the table, and
+    /// with `OutOfMemory` if memory is refused.
+    pub fn new(alloc: Global, types: &'t OpenTable<TypeIndex>) -> Result<Self>
+        ensures { Answers (λ definitions. definitions) result (walked types.now.table) }
+    {
+        let mut entries = entries_in(alloc, types.items())?;
+        entries.sort_unstable_by_key(|entry| entry.rank());
+        Ok(Definitions { types, entries })
+    }
+
+    /// Returns the table.
+    pub fn types(&self) -> &'t OpenTable<TypeIndex>
+        ensures { result.now.table ≡ self.now }
+    {
+        self.types
+    }
+
+    /// Returns whether the type of an index is a definition of a name.
+    fn defines(&self, alloc: Global, index: TypeIndex, name: TypeName<'_>) -> Result<bool>
+        ensures { Answers (λ is. is) result (Ok (defines (type_name name.entry) (type_at self.now index.0))) }
+    {
+        match type_at(self.types, alloc, index) {
+            Ok(value) => match declaration_of(&value) {
+                Some(names) => Ok(!names.is_forward() && names.bears(name)),
+                None => Ok(false),
+            },
+            Err(Error::OutOfMemory) => Err(Error::OutOfMemory),
+            Err(_) => Ok(false),
+        }
+    }
+
+    /// Returns the entries of a hash.
+    fn candidates(&self, hash: u32) -> &[Entry]
+        ensures { AreCandidates self.now hash result.now }
+    {
+        let entries = self.entries.as_slice();
+        let start = entries.partition_point(|entry| entry.hash < hash);
+        let rest = entries_from(entries, start);
+        let count = rest.partition_point(|entry| entry.hash <= hash);
+        &rest[..count]
+    }
+
+    /// Returns the first definition of a name.
+    fn first_definition(&self, alloc: Global, name: TypeName<'_>) -> Result<Option<TypeIndex>>
+        ensures { Answers (option_map (λ index. index.0)) result
+            (Ok (first_definition self.now (type_name name.entry))) }
+    {
+        let candidates = self.candidates(name_hash(name.text()));
+        for entry in candidates {
+            if self.defines(alloc, entry.index, name)? {
+                return Ok(Some(entry.index));
+            }
+        }
+        Ok(None)
+    }
+
+    /// Returns the definition of a class, a union or an enumeration: the index itself, or for a
+    /// forward reference that of the first type in the table that defines its unique name, or its
+    /// name if it has no unique name. Returns None for a forward reference that the table doesn't
+    /// define, and for any other type.
+    ///
+    /// # Errors
+    /// Fails as `OpenTable::item` and `Type::parse` do, and with `OutOfMemory` if memory is
+    /// refused.
+    #[tactic(auto, unfolding(crate::specs::Definition::definition_of))]
+    pub fn definition_of(&self, alloc: Global, index: TypeIndex) -> Result<Option<TypeIndex>>
+        ensures { Answers (option_map (λ index. index.0)) result (definition_of self.now index.0) }
+    {
+        let value = type_at(self.types, alloc, index)?;
+        match declaration_of(&value) {
+            Some(names) if names.is_forward() => self.first_definition(alloc, names.sought_name()),
+            Some(_) => Ok(Some(index)),
+            None => Ok(None),
+        }
+    }
+
+    /// Returns the indexes of all definitions of a name in increasing order. The name is the one
+    /// that the source gives a class, a union or an enumeration, with the names of the scopes around
+    /// it, as the record has it.
+    ///
+    /// # Errors
+    /// Fails only with `OutOfMemory`, if memory is refused.
+    pub fn all_definitions(&self, alloc: Global, name: &[u8]) -> Result<Vec<TypeIndex>>
+        ensures { Answers (λ found. map (λ index. index.0) found.items) result
+            (Ok (all_definitions self.now (source_name name.now))) }
+    {
+        let name = TypeName::Source(name);
+        let candidates = self.candidates(name_hash(name.text()));
+        let mut found = Vec::new(alloc);
+        // A definition has two entries of one hash if its names have that hash.
+        let mut next = self.types.items().header().minimum_index as u64;
+        for entry in candidates {
+            let number = entry.index.0 as u64;
+            if number < next {
+                continue;
+            }
+            next = number + 1;
+            if !self.defines(alloc, entry.index, name)? {
+                continue;
+            }
+            found.push(entry.index)?;
+        }
+        Ok(found)
+    }
+}

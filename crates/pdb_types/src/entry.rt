@@ -1,0 +1,76 @@
+//! The entries of the index of definitions.
+
+ghost use Rattle.std.specs.Prelude.{◌≡◌, ◌++◌, OnOk};
+ghost use Rattle.pdb_base.specs.Memory.{FailsOnlyForMemory};
+ghost use Rattle.pdb_tpi.specs.Item.{bytes_of, index_of};
+ghost use Rattle.pdb_tpi.specs.Record.{type_of};
+ghost use Rattle.pdb_types.specs.Declaration.{declaration_value};
+ghost use Rattle.pdb_types.specs.Entries.{entries_of, entry_of, names_entries, rank};
+
+use crate::declaration::{Declaration, declaration_of};
+use crate::name_hash::name_hash;
+use pdb_base::{Error, Result, TypeIndex};
+use pdb_tpi::Type;
+use std::alloc::Global;
+
+/// How many indexes there are.
+const INDEXES: u64 = 0x1_0000_0000;
+
+/// The hash of a name, and the index of a definition that has the name.
+#[derive(Clone, Copy, Debug)]
+pub(crate) struct Entry {
+    pub(crate) hash: u32,
+    pub(crate) index: TypeIndex,
+}
+
+impl Entry {
+    /// Returns the entry of a name of a definition.
+    fn of(index: TypeIndex, name: &[u8]) -> Self
+        ensures { result ≡ entry_of index.0 name.now }
+    {
+        Entry {
+            hash: name_hash(name),
+            index,
+        }
+    }
+
+    /// Returns the number by which entries are sorted: first by their hashes, and then by their
+    /// indexes.
+    pub(crate) fn rank(self) -> u64
+        ensures { result ≡ rank self }
+    {
+        self.hash as u64 * INDEXES + self.index.0 as u64
+    }
+}
+
+/// Appends an entry for each name of a definition.
+fn push_names(index: TypeIndex, names: &Declaration<'_>, entries: &mut Vec<Entry>) -> Result<()>
+    ensures ok { OnOk result
+        (entries.new.items ≡ entries.old.items ++ names_entries index.0 (declaration_value names.now)) }
+    ensures memory { FailsOnlyForMemory result }
+{
+    entries.push(Entry::of(index, names.name.as_bytes()))?;
+    if let Some(name) = names.unique_name {
+        entries.push(Entry::of(index, name.as_bytes()))?;
+    }
+    Ok(())
+}
+
+/// Appends the entries of a type: one for each name, if it is a definition.
+///
+/// # Errors
+/// Fails with `OutOfMemory` if memory is refused.
+pub(crate) fn push_entries(alloc: Global, item: &Type<'_>, entries: &mut Vec<Entry>) -> Result<()>
+    ensures ok { OnOk result (entries.new.items ≡
+        entries.old.items ++ entries_of (index_of item.now).0 (type_of (index_of item.now).0 (bytes_of item.now))) }
+    ensures memory { FailsOnlyForMemory result }
+{
+    match item.parse(alloc) {
+        Ok(value) => match declaration_of(&value) {
+            Some(names) if !names.is_forward() => push_names(item.index(), &names, entries),
+            _ => Ok(()),
+        },
+        Err(Error::OutOfMemory) => Err(Error::OutOfMemory),
+        Err(_) => Ok(()),
+    }
+}

@@ -1,0 +1,75 @@
+//! Spans of places, and the gaps between them.
+
+ghost use Rattle.std.specs.Prelude.{◌≡◌, ◌++◌, IfOk, OnOk, max, min};
+ghost use Rattle.std.specs.List.Sorted.{IsNonDecreasingBy};
+ghost use Rattle.pdb_base.specs.Memory.{FailsOnlyForMemory};
+ghost use Rattle.pdb_types.specs.Span.{AreGaps, gap_of};
+
+use pdb_base::Result;
+use std::alloc::Global;
+
+/// Places one behind another, such as the bits of a member of a class.
+#[derive(Clone, Copy, Debug, PartialEq, Eq)]
+pub struct Span {
+    /// The first place.
+    pub start: u64,
+
+    /// The place behind the last one. There is no place in a span whose end isn't above its start.
+    pub end: u64,
+}
+
+/// Returns the lesser of two places.
+fn least(left: u64, right: u64) -> u64
+    ensures { result ≡ min left right }
+{
+    if left < right { left } else { right }
+}
+
+/// Returns the greater of two places.
+fn greatest(left: u64, right: u64) -> u64
+    ensures { result ≡ max left right }
+{
+    if left < right { right } else { left }
+}
+
+/// Appends the gap from a place to another, if there is one.
+fn push_gap(gaps: &mut Vec<Span>, start: u64, end: u64) -> Result<()>
+    ensures ok { OnOk result (gaps.new.items ≡ gaps.old.items ++ gap_of start end) }
+    ensures memory { FailsOnlyForMemory result }
+{
+    if start < end {
+        gaps.push(Span { start, end })?;
+    }
+    Ok(())
+}
+
+/// Returns the gaps between spans that are sorted by their starts.
+fn sorted_gaps(alloc: Global, spans: &[Span], end: u64) -> Result<Vec<Span>>
+    requires { IsNonDecreasingBy (λ span. span.start) spans.now }
+    ensures gaps { IfOk result (λ gaps. AreGaps spans.now end gaps.items) }
+    ensures memory { FailsOnlyForMemory result }
+{
+    let mut gaps = Vec::new(alloc);
+    let mut at = 0;
+    for span in spans {
+        push_gap(&mut gaps, at, least(span.start, end))?;
+        at = greatest(greatest(at, span.start), span.end);
+    }
+    push_gap(&mut gaps, at, end)?;
+    Ok(gaps)
+}
+
+/// Sorts spans by their starts, and returns the gaps between them up to an end, in order: each
+/// place before the end that no span holds is in exactly one gap, and no other place is in any.
+///
+/// The spans may overlap and come in any order, and may go beyond the end.
+///
+/// # Errors
+/// Fails with `OutOfMemory` if memory is refused.
+pub fn gaps(alloc: Global, spans: &mut [Span], end: u64) -> Result<Vec<Span>>
+    ensures gaps { IfOk result (λ gaps. AreGaps spans.old end gaps.items) }
+    ensures memory { FailsOnlyForMemory result }
+{
+    spans.sort_unstable_by_key(|span| span.start);
+    sorted_gaps(alloc, spans, end)
+}
