@@ -19,7 +19,7 @@ table_of_stream table_in streams number = streams number None >>= table_in
 
 -- An open table, if there is one, is the one in the stream of its number.
 abbrev pub IsOf : {T : Type 0} → (List ℕ → Answer T) → (ℕ → Option ℕ → Answer (List ℕ)) → Option (Numbered T) → Type 0
-IsOf table_in streams last = IfSome last (λ kept. table_of_stream table_in streams kept.number ≡ Ok kept.table)
+IsOf table_in streams last = IfSome last (λ kept. table_of_stream table_in streams kept.number ≡ Ok kept.table.value)
 
 -- Each open table is the one in the stream of its number.
 pub record AreOf (streams : ℕ → Option ℕ → Answer (List ℕ)) (tables : OpenTables) : Type 0 where

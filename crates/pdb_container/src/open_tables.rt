@@ -50,11 +50,12 @@ impl Table for OMAPTable {
     }
 }
 
-/// A table, and the number of the stream that holds it.
+/// A table, and the number of the stream that holds it. The table is boxed, so that it is not copied
+/// each time it is taken up and laid down.
 #[derive(Drop)]
 pub struct Numbered<T> {
     number: u32,
-    table: T,
+    table: Box<T>,
 }
 
 /// Returns the table in a stream: the open one if it is that stream's, or else one that is read.
@@ -66,7 +67,7 @@ fn opened<T: Table, F: ReadStreams>(
 ) -> Result<Numbered<T>>
     requires can_read { F.can_read file.old }
     requires of { IsOf T.table_in (F.stream file.old) last }
-    ensures table { AnswersUnless (F.failed file.old file.new) (λ opened. opened.table) result
+    ensures table { AnswersUnless (F.failed file.old file.new) (λ opened. opened.table.value) result
         (table_of_stream T.table_in (F.stream file.old) number) }
     ensures number { IfOk result (λ opened. opened.number ≡ number) }
     ensures kept { F.kept file.old file.new }
@@ -77,7 +78,7 @@ fn opened<T: Table, F: ReadStreams>(
         }
     }
     let stream = file.read(alloc, number, None)?;
-    let table = T::parse_in(alloc, stream)?;
+    let table = Box::new(alloc, T::parse_in(alloc, stream)?)?;
     Ok(Numbered { number, table })
 }
 

@@ -1,5 +1,6 @@
 //! The worked rows, a file a topic.
 
+mod changed;
 mod equal;
 mod flags;
 mod ids;

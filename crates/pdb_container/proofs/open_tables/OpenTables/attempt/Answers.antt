@@ -17,7 +17,7 @@ pub returns-in_ok-types-in-TypeRecord-clause-reply : goal.returns-in_ok-types-in
 unfolding type_within
 returns-in_ok-types-in-TypeRecord-clause-reply g c =
     rw c.in-TypeRecord.is
-    (items_replied _ _ _ (type_in c.in-TypeRecord.index) _ c.in_ok-types-in-TypeRecord.ensures.table (rw c.learn_for_later.ensures at c.type_reply-reply.ensures))
+    (items_replied _ _ _ (type_in c.in-TypeRecord.index) _ c.in_ok-types-in-TypeRecord.ensures.table (rw (c.deref.ensures, c.learn_for_later.ensures, c.deref_mut.ensures.value) at c.type_reply-reply.ensures))
 
 pub returns-in_err-types-in-Fields-clause-reply : goal.returns-in_err-types-in-Fields-clause-reply
 unfolding fields_within
@@ -29,7 +29,7 @@ pub returns-in_ok-types-in-Fields-clause-reply : goal.returns-in_ok-types-in-Fie
 unfolding fields_within
 returns-in_ok-types-in-Fields-clause-reply g c =
     rw c.in-Fields.is
-    (items_replied _ _ _ (fields_in c.in-Fields.index) _ c.in_ok-types-in-Fields.ensures.table c.fields_reply-reply.ensures.reply)
+    (items_replied _ _ _ (fields_in c.in-Fields.index) _ c.in_ok-types-in-Fields.ensures.table (rw c.deref_mut-in-Fields.ensures.value at c.fields_reply-reply.ensures.reply))
 
 pub returns-in_err-ids-in-IdRecord-clause-reply : goal.returns-in_err-ids-in-IdRecord-clause-reply
 unfolding id_within
@@ -41,7 +41,7 @@ pub returns-in_ok-ids-in-IdRecord-clause-reply : goal.returns-in_ok-ids-in-IdRec
 unfolding id_within
 returns-in_ok-ids-in-IdRecord-clause-reply g c =
     rw c.in-IdRecord.is
-    (items_replied _ _ _ (id_in c.in-IdRecord.index) _ c.in_ok-ids-in-IdRecord.ensures.table (rw c.learn_for_later-in-IdRecord.ensures at c.id_reply-reply.ensures))
+    (items_replied _ _ _ (id_in c.in-IdRecord.index) _ c.in_ok-ids-in-IdRecord.ensures.table (rw (c.deref-in-IdRecord.ensures, c.learn_for_later-in-IdRecord.ensures, c.deref_mut-in-IdRecord.ensures.value) at c.id_reply-reply.ensures))
 
 pub returns-in_err-names-in-Name-clause-reply : goal.returns-in_err-names-in-Name-clause-reply
 unfolding name_within
@@ -53,7 +53,7 @@ pub returns-in_ok-names-in-Name-clause-reply : goal.returns-in_ok-names-in-Name-
 unfolding name_within
 returns-in_ok-names-in-Name-clause-reply g c =
     rw c.in-Name.is
-    (replied _ _ _ names_of (name_in c.in-Name.offset) _ c.in_ok-names-in-Name.ensures.table c.name_reply-reply.ensures)
+    (replied _ _ _ names_of (name_in c.in-Name.offset) _ c.in_ok-names-in-Name.ensures.table (rw c.deref-in-Name.ensures at c.name_reply-reply.ensures))
 
 pub returns-in_err-table-in-Ranges-clause-reply : goal.returns-in_err-table-in-Ranges-clause-reply
 unfolding moved_within
@@ -65,4 +65,4 @@ pub returns-in_ok-table-in-Ranges-clause-reply : goal.returns-in_ok-table-in-Ran
 unfolding moved_within
 returns-in_ok-table-in-Ranges-clause-reply g c =
     rw c.in-Ranges.is
-    (replied _ _ _ omap_table_of (λ table. Ok (moved table (record { start = c.in-Ranges.start; end = c.in-Ranges.end }))) _ c.in_ok-table-in-Ranges.ensures.table c.ranges_reply-reply.ensures)
+    (replied _ _ _ omap_table_of (λ table. Ok (moved table (record { start = c.in-Ranges.start; end = c.in-Ranges.end }))) _ c.in_ok-table-in-Ranges.ensures.table (rw c.deref-in-Ranges.ensures at c.ranges_reply-reply.ensures))

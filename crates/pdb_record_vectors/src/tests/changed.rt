@@ -1,0 +1,84 @@
+//! Records that differ in one byte: their values differ in the field to which the byte belongs.
+
+use super::read::is_value_copied;
+use pdb_records::parse_type_data;
+use pdb_values::TypeData;
+use std::alloc::Global;
+use std::test::Fail;
+
+/// `struct Name`, with a unique name.
+const CLASS: &[u8] =
+    b"\x05\x15\x03\x00\x00\x02\x01\x10\x00\x00\x02\x10\x00\x00\x03\x10\x00\x00\x18\x00Name\0Unique\0";
+
+/// `union Name`, with a unique name.
+const UNION: &[u8] = b"\x06\x15\x03\x00\x00\x02\x01\x10\x00\x00\x18\x00Name\0Unique\0";
+
+/// `enum Name`, with a unique name.
+const ENUMERATION: &[u8] =
+    b"\x07\x15\x03\x00\x00\x02\x74\x00\x00\x00\x01\x10\x00\x00Name\0Unique\0";
+
+/// A list of one enumerator.
+const ENUMERATOR: &[u8] = b"\x03\x12\x02\x15\x03\x00\x18\x00Name\0";
+
+/// A list of one member.
+const MEMBER: &[u8] = b"\x03\x12\x0d\x15\x03\x00\x74\x00\x00\x00\x18\x00Name\0";
+
+/// A list of one static member.
+const STATIC_MEMBER: &[u8] = b"\x03\x12\x0e\x15\x03\x00\x74\x00\x00\x00Name\0";
+
+/// A list of one nested type, with attributes.
+const NESTED_TYPE: &[u8] = b"\x03\x12\x12\x15\x03\x00\x01\x10\x00\x00Name\0";
+
+/// A list of one method, which introduces a virtual function.
+const METHOD: &[u8] = b"\x03\x12\x11\x15\x13\x00\x01\x10\x00\x00\x20\x00\x00\x00Name\0";
+
+/// Records, and the place of a byte of each field.
+const ROWS: [(&[u8], &[usize]); 8] = [
+    (CLASS, &[0, 2, 4, 6, 10, 14, 18, 20, 25]),
+    (UNION, &[2, 4, 6, 10, 12, 17]),
+    (ENUMERATION, &[2, 4, 6, 10, 14, 19]),
+    (ENUMERATOR, &[4, 6, 8]),
+    (MEMBER, &[4, 6, 10, 12]),
+    (STATIC_MEMBER, &[4, 6, 10]),
+    (NESTED_TYPE, &[4, 6, 10]),
+    (METHOD, &[4, 6, 10, 14]),
+];
+
+/// Whether two values are equal.
+fn are_equal<'t>(left: &TypeData<'t>, right: &TypeData<'t>) -> bool {
+    left == right
+}
+
+/// Whether two records are read as values that aren't equal, though each is equal to its clone.
+fn are_apart<'t>(alloc: Global, record: &'t [u8], other: &'t [u8]) -> Result<bool, Fail> {
+    let value = parse_type_data(alloc, record)?;
+    let again = parse_type_data(alloc, record)?;
+    let changed = parse_type_data(alloc, other)?;
+    Ok(
+        are_equal(&value, &again)
+            && !are_equal(&value, &changed)
+            && is_value_copied(alloc, &value)?
+            && is_value_copied(alloc, &changed)?,
+    )
+}
+
+/// Whether a record is read as another value if the lowest bit of the byte at a place is changed.
+fn is_byte_compared(alloc: Global, record: &[u8], place: usize) -> Result<bool, Fail> {
+    let mut other = Vec::from_slice(alloc, record)?;
+    let byte = other.get_mut(place).ok_or("no such byte")?;
+    *byte ^= 1;
+    are_apart(alloc, record, &other)
+}
+
+#[test]
+fn changed_bytes(rt: HostRuntime) -> Result<(), Fail> {
+    for (record, places) in ROWS.iter() {
+        for place in places.iter() {
+            assert!(rt;
+                is_byte_compared(rt.alloc(), record, *place)?,
+                "{record:?}: {place}"
+            );
+        }
+    }
+    Ok(())
+}
