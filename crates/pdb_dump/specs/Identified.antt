@@ -1,7 +1,9 @@
 -- What `id` does with a file, and how the program ends.
-use Rattle.std.specs.Prelude.{◌≡◌, ◌↔◌, ℕ, Bool, true, false, IsTrue, ⊤, List, ◌∷◌, ◌++◌, [], codes, Option, Some, None, Result, Ok, Err, IfOk, IfSome}
+use Rattle.std.specs.Prelude.{◌≡◌, ◌⊎◌, ◌↔◌, ℕ, Bool, true, false, IsTrue, ⊤, List, codes, Option, Some, None, Result, Ok, Err, IfOk, IfSome}
 use Rattle.pdb_base.specs.declared.error.Error.{Error}
+use Rattle.pdb_base.specs.declared.error.Error.TheVariants.{OutOfMemory}
 use Rattle.pdb_base.specs.Answer.{Answer, ◌>>=◌}
+use Rattle.pdb_base.specs.Refusal.{refusal_of}
 use Rattle.pdb_cli.specs.Channels.{IsTold, IsUnread}
 use Rattle.pdb_identity.specs.Format.{format_of}
 use Rattle.pdb_identity.specs.Identity.{file_identity}
@@ -9,11 +11,9 @@ use Rattle.pdb_identity.specs.declared.format.Format.{Format}
 use Rattle.pdb_identity.specs.declared.format.Format.TheVariants as formats
 use Rattle.pdb_identity.specs.declared.identity.Identity.{Identity}
 use Rattle.pdb_msf.specs.Header.{opened}
-use Rattle.pdb_output.specs.Output.{GetsUnlessFailed, OutputState, done_of}
+use Rattle.pdb_output.specs.Output.{GetsUnlessFailed, OutputState, Writes, done_of}
 use Rattle.pdb_rows.specs.declared.form.Form.{Form}
 use Rattle.pdb_summary.specs.Identity.{IsKey, identity_line}
-use Rattle.pdb_summary.specs.declared.identity.KeyStyle.{KeyStyle}
-use Rattle.pdb_tables.specs.Listing.{IsListed, Listing, listed_of, whole}
 use Rattle.pdb_dump.specs.IdWords.{IdentifyValue}
 use Rattle.pdb_dump.specs.Served.{IsEnded}
 
@@ -21,19 +21,22 @@ use Rattle.pdb_dump.specs.Served.{IsEnded}
 unfoldable pub identity_in : List ℕ → Answer Identity
 identity_in file = opened file >>= file_identity file
 
--- the line of what identifies a file
-abbrev pub identity_listing : Form → KeyStyle → List ℕ → List ℕ → Listing
-identity_listing form style name file = listed_of (λ identity. whole (identity_line form style name identity)) (identity_in file)
-
 -- the file has the key that is expected, if any is
 abbrev pub IsExpected : Option (List ℕ) → Identity → Type 0
 IsExpected None identity = ⊤
 IsExpected (Some word) identity = IsKey word identity
 
--- The line of what identifies a file was written; and the result says whether the file is the expected one.
-pub record IsIdentified (form : Form) (asked : IdentifyValue) (file : List ℕ) (out out' : OutputState) (result : Result Bool Error) : Type 0 where
-  pub listed : IsListed (identity_listing form asked.style asked.name file) out out' (done_of result)
-  pub expected : IfOk result (λ is_expected. (identity : Identity) → identity_in file ≡ Ok identity → IsTrue is_expected ↔ IsExpected asked.expected identity)
+-- The line of what identifies a file was written, or cut short; and the result says whether the file is the
+-- expected one.
+pub record IsFound (form : Form) (asked : IdentifyValue) (identity : Identity) (out out' : OutputState) (result : Result Bool Error) : Type 0 where
+  pub writes : Writes (identity_line form asked.style asked.name identity) out out' (done_of result)
+  pub expected : IfOk result (λ is_expected. IsTrue is_expected ↔ IsExpected asked.expected identity)
+
+-- What `id` does with a file: what identifies it was found and written; or it is refused, or memory for it, and
+-- nothing is written.
+pub data IsIdentified (form : Form) (asked : IdentifyValue) (file : List ℕ) (out out' : OutputState) (result : Result Bool Error) : Type 0 where
+  found : (identity : Identity) → identity_in file ≡ Ok identity → IsFound form asked identity out out' result → IsIdentified form asked file out out' result
+  refused : (fault : Error) → result ≡ Err fault → (identity_in file ≡ Err (refusal_of fault)) ⊎ (fault ≡ OutOfMemory) → out' ≡ out → IsIdentified form asked file out out' result
 
 -- what is written of a file of another format than the one that is read
 abbrev pub other_format : Format → Option (List ℕ)

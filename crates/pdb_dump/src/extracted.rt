@@ -3,7 +3,7 @@
 ghost use Rattle.std.specs.Prelude.{◌≡◌};
 ghost use Rattle.pdb_msf.specs.File.{ReadsFile};
 ghost use Rattle.pdb_tables.specs.Listing.{IsListed};
-ghost use Rattle.pdb_dump.specs.Extracted.{IsExtractServed, extraction_of, number_meant};
+ghost use Rattle.pdb_dump.specs.Extracted.{IsExtractServed, IsExtracted, extraction_in, number_meant};
 ghost use Rattle.pdb_dump.specs.Words.{extract_view};
 
 use crate::command::Extract;
@@ -28,6 +28,23 @@ fn number_meant<S: Source>(alloc: Global, file: &mut PDB<S>, word: &str) -> Resu
     }
 }
 
+/// Writes a part of the bytes of a stream of a file that was opened.
+#[tactic(auto, unfolding(crate::specs::Extracted::extraction_in))]
+fn extract_opened<W: Write>(
+    alloc: Global,
+    file: &mut PDB<Vec<u8>>,
+    asked: &Extract<'_>,
+    out: &mut Output<W>,
+) -> Result<()>
+    ensures { IsListed (extraction_in file.old.source.items file.old.head (extract_view asked.now))
+        out.old out.new result }
+{
+    match number_meant(alloc, file, asked.stream) {
+        Ok(number) => extract(alloc, file, number, asked.skip, asked.limit, out),
+        Err(fault) => Err(fault),
+    }
+}
+
 /// Writes a part of the bytes of a stream.
 fn extract_from<W: Write>(
     alloc: Global,
@@ -35,11 +52,12 @@ fn extract_from<W: Write>(
     asked: &Extract<'_>,
     out: &mut Output<W>,
 ) -> Result<()>
-    ensures { IsListed (extraction_of file.items (extract_view asked.now)) out.old out.new result }
+    ensures { IsExtracted (extract_view asked.now) file.items out.old out.new result }
 {
-    let mut file = PDB::open(alloc, file)?;
-    let number = number_meant(alloc, &mut file, asked.stream)?;
-    extract(alloc, &mut file, number, asked.skip, asked.limit, out)
+    match PDB::open(alloc, file) {
+        Ok(mut file) => extract_opened(alloc, &mut file, asked, out),
+        Err(fault) => Err(fault),
+    }
 }
 
 /// Reads a file from the input and writes a part of the bytes of a stream to the output. Returns the

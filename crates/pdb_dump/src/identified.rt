@@ -5,7 +5,7 @@ ghost use Rattle.std.specs.Option.{option_map};
 ghost use Rattle.pdb_base.specs.Answer.{Answers};
 ghost use Rattle.pdb_base.specs.Memory.{FailsOnlyForMemory};
 ghost use Rattle.pdb_dump.specs.IdWords.{identify_view};
-ghost use Rattle.pdb_dump.specs.Identified.{IsConcluded, IsExpected, IsIdServed, IsIdentified, identity_in, other_format, unexpected};
+ghost use Rattle.pdb_dump.specs.Identified.{IsConcluded, IsExpected, IsFound, IsIdServed, IsIdentified, identity_in, other_format, unexpected};
 
 use crate::command::Identify;
 use crate::served::end;
@@ -61,6 +61,22 @@ fn is_expected(alloc: Global, expected: Option<&str>, identity: &Identity) -> Re
 }
 
 /// Writes what identifies a file, and returns whether it is the expected one.
+#[tactic(auto, using(pdb_output::proofs::lemmas::Written::writing))]
+fn write_found<W: Write>(
+    alloc: Global,
+    asked: &Identify<'_>,
+    identity: &Identity,
+    form: Form,
+    out: &mut Output<W>,
+) -> Result<bool>
+    ensures { IsFound form (identify_view asked.now) identity.now out.old out.new result }
+{
+    let is_expected = is_expected(alloc, asked.expected, identity)?;
+    write_identity(alloc, asked.style, asked.name, identity, form, out)?;
+    Ok(is_expected)
+}
+
+/// Finds and writes what identifies a file, and returns whether it is the expected one.
 fn identify<W: Write>(
     alloc: Global,
     file: Vec<u8>,
@@ -70,10 +86,10 @@ fn identify<W: Write>(
 ) -> Result<bool>
     ensures { IsIdentified form (identify_view asked.now) file.items out.old out.new result }
 {
-    let identity = identity_in(alloc, file)?;
-    let is_expected = is_expected(alloc, asked.expected, &identity)?;
-    write_identity(alloc, asked.style, asked.name, &identity, form, out)?;
-    Ok(is_expected)
+    match identity_in(alloc, file) {
+        Ok(identity) => write_found(alloc, asked, &identity, form, out),
+        Err(fault) => Err(fault),
+    }
 }
 
 /// Ends the program after a file was identified.

@@ -1,7 +1,7 @@
 use Rattle.std.proofs.Common.{◌≡◌, ℕ, Bool, true, false, List, [], ◌∷◌, Bor, map, Some, refl, sym, ap, ◌∙◌}
 use Rattle.pdb_dump.specs.IdWords.{IdGiven, id_view, id_words, with_id_option, with_path}
 use Rattle.pdb_dump.specs.Words.{is_option}
-use Rattle.pdb_dump.proofs.id_words.with_words.Goals as goal
+use Rattle.pdb_dump.proofs.id_words.+with_words.Goals as goal
 
 -- a word that is no option is taken off
 path_taken : (given more : IdGiven) (word : List ℕ) (words : List (List ℕ)) → is_option word ≡ false → Some more ≡ with_path given word → id_words more words ≡ id_words given (word ∷ words)
