@@ -32,7 +32,7 @@ pub enum Format {
 }
 
 /// Returns whether a file begins as those of version 7.00 do.
-#[tactic(auto, unfolding(pdb_msf::specs::Header::big_magic))]
+#[tactic(auto, using(pdb_msf::proofs::MagicLemmas::is_big))]
 fn is_msf_7(file: &[u8]) -> bool
     ensures { result ≡ starts_with nat_eq file.now big_magic }
 {
@@ -40,7 +40,7 @@ fn is_msf_7(file: &[u8]) -> bool
 }
 
 /// Returns whether a file begins as those of version 2.00 do.
-#[tactic(auto, unfolding(pdb_msf::specs::Header::small_magic))]
+#[tactic(auto, using(pdb_msf::proofs::MagicLemmas::is_small))]
 fn is_msf_2(file: &[u8]) -> bool
     ensures { result ≡ starts_with nat_eq file.now small_magic }
 {
