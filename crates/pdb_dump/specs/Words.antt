@@ -1,5 +1,5 @@
 -- The words that the program takes: `COMMAND [OPTION].. FILE [OPERAND]`, or `FILE` alone.
-use Rattle.std.specs.Prelude.{ℕ, Bool, false, ◌&&◌, nat_eq, not, filter, if◌then◌else◌, List, [], ◌∷◌, codes, Option, Some, None, option_and_then, Result, Ok, Err}
+use Rattle.std.specs.Prelude.{ℕ, Bool, false, ◌&&◌, nat_eq, not, filter, if◌then◌else◌, List, [], ◌∷◌, codes, Option, Some, None, option_and_then, unwrap_or, Result, Ok, Err}
 use Rattle.std.specs.List.{starts_with}
 use Rattle.std.specs.Option.{is_none, option_map, option_map_or}
 use Rattle.pdb_cli.specs.Words.{number_of, same}
@@ -11,6 +11,7 @@ use Rattle.pdb_dump.specs.declared.command.Command.TheVariants as commands
 use Rattle.pdb_dump.specs.declared.command.Task.{Task}
 use Rattle.pdb_dump.specs.declared.command.Task.TheVariants as tasks
 use Rattle.pdb_dump.specs.declared.command.Call.{Call}
+use Rattle.pdb_dump.specs.declared.command.Extract.{Extract}
 use Rattle.pdb_dump.specs.declared.command.Misuse.{Misuse}
 use Rattle.pdb_dump.specs.declared.command.Misuse.TheVariants as misuses
 use Rattle.pdb_dump.specs.declared.words.Options.{Options}
@@ -32,6 +33,8 @@ verb_of word =
     else if same word (codes "frames") then Some verbs.Frames
     else if same word (codes "map") then Some verbs.Map
     else if same word (codes "ask") then Some verbs.Ask
+    else if same word (codes "id") then Some verbs.Id
+    else if same word (codes "extract") then Some verbs.Extract
     else None
 
 -- the command that the first word names
@@ -68,6 +71,13 @@ frame_option options option value =
     else if same option (codes "--new") && is_none options.new then Some (record options { new = Some value })
     else None
 
+-- the options of `extract`: `--skip N` and `--take N`
+abbrev pub part_option : Options → List ℕ → ℕ → Option Options
+part_option options option value =
+    if same option (codes "--skip") && is_none options.skip then Some (record options { skip = Some value })
+    else if same option (codes "--take") && is_none options.limit then Some (record options { limit = Some value })
+    else None
+
 -- the options of a command, with one more
 abbrev pub with_option : Verb → Options → List ℕ → ℕ → Option Options
 with_option verbs.Types options option value = record_option options option value
@@ -77,8 +87,10 @@ with_option verbs.Sections options option value = stream_option options option v
 with_option verbs.Omap options option value = stream_option options option value
 with_option verbs.Frames options option value = frame_option options option value
 with_option verbs.Map options option value = option_map (λ streams. record options { map = streams }) (with_stream options.map option value)
+with_option verbs.Extract options option value = part_option options option value
 with_option verbs.Summary options option value = None
 with_option verbs.Ask options option value = None
+with_option verbs.Id options option value = None
 
 -- the options with the one that its name and the number in the word after it give
 unfoldable pub option_given : Verb → Options → List ℕ → List ℕ → Option Options
@@ -107,6 +119,8 @@ none_given = record {
     index = None;
     old = None;
     new = None;
+    skip = None;
+    limit = None;
     map = record { sections = None; transformed = None; to_original = None; to_transformed = None };
   };
   path = None;
@@ -172,6 +186,26 @@ unfoldable pub call_with : Verb → List (List ℕ) → Option CallValue
 call_with verb words =
     option_and_then (λ given. option_and_then (λ path. option_map (λ task. record { path = path; task = task }) (task_with verb given.options given.operand)) given.path)
     (arguments_with verb none_given words)
+
+-- what `extract` is asked: the path of the file, the word for the stream, how many bytes are left out, and how
+-- many are written at most
+pub record ExtractValue : Type 0 where
+  pub path : List ℕ
+  pub stream : List ℕ
+  pub skip : ℕ
+  pub limit : Option ℕ
+
+abbrev pub extract_view : Extract → ExtractValue
+extract_view extract = record { path = extract.path.now; stream = extract.stream.now; skip = extract.skip; limit = extract.limit }
+
+-- what `extract` is asked with the words behind its name
+unfoldable pub extract_of : List (List ℕ) → Option ExtractValue
+extract_of words =
+    option_and_then
+    (λ given. option_and_then
+    (λ path. option_map (λ stream. record { path = path; stream = stream; skip = unwrap_or given.options.skip 0; limit = given.options.limit }) given.operand)
+    given.path)
+    (arguments_with verbs.Extract none_given words)
 
 abbrev pub result_view : Result Call Misuse → Result CallValue Misuse
 result_view (Ok call) = Ok (call_view call)

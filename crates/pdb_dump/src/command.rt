@@ -1,6 +1,7 @@
 //! What the program can be asked.
 
 use pdb_mapping::MapStreams;
+use pdb_summary::KeyStyle;
 
 /// The name of a command.
 #[derive(Clone, Copy, Debug, PartialEq, Eq)]
@@ -23,6 +24,10 @@ pub enum Verb {
     Map,
     /// `ask`: the answers to questions on standard input.
     Ask,
+    /// `id`: the key under which symbol servers keep the file.
+    Id,
+    /// `extract`: the bytes of a stream.
+    Extract,
 }
 
 /// What the program is asked to list of a file. A stream that isn't given is found by its role.
@@ -93,6 +98,32 @@ pub struct Call<'w> {
     pub path: &'w str,
     /// What to do with it.
     pub task: Task,
+}
+
+/// What `extract` is asked: a part of the bytes of a stream.
+#[derive(Clone, Copy, Debug, PartialEq, Eq)]
+pub struct Extract<'w> {
+    /// The path of the file, or `-` for standard input.
+    pub path: &'w str,
+    /// The number, the role or the name of the stream.
+    pub stream: &'w str,
+    /// How many bytes are left out at the start.
+    pub skip: u32,
+    /// How many bytes are written at most.
+    pub limit: Option<u32>,
+}
+
+/// What `id` is asked: the identity of a file.
+#[derive(Clone, Copy, Debug, PartialEq, Eq)]
+pub struct Identify<'w> {
+    /// The path of the file, or `-` for standard input.
+    pub path: &'w str,
+    /// How the identity is written as text.
+    pub style: KeyStyle,
+    /// The name of the file, which is the last part of its path if it isn't given.
+    pub name: &'w str,
+    /// The key that the file should have.
+    pub expected: Option<&'w str>,
 }
 
 /// Why words ask nothing of a file.

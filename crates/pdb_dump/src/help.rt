@@ -18,6 +18,8 @@ FILE is a path, or `-` for standard input.
   frames [--old S] [--new S]      each frame
   map .. FILE RVA                 what the address map makes of an address, both ways, with its sections
   ask                             the answers to questions on standard input, a line each
+  id [--format F] [--name NAME]   the key under which symbol servers keep the file
+  extract .. FILE STREAM          the bytes of a stream, which is a number, a role or a name
 
 S is the number of a stream, I an index and RVA an address, in decimal, or in hexadecimal after 0x. A stream
 that isn't given is found by its role. With --index only that record is shown, in full. With --json each line
@@ -36,6 +38,10 @@ pub fn usage_of(verb: Verb) -> &'static str {
         Verb::Frames => "pdbdump frames [--old S] [--new S] FILE",
         Verb::Map => { "pdbdump map [--sections S] [--transformed S] [--to S] [--from S] FILE RVA" }
         Verb::Ask => "pdbdump ask FILE < QUESTIONS",
+        Verb::Id => {
+            "pdbdump id [--format key|ssqp|breakpad|guid] [--name NAME] [--expect KEY] FILE"
+        }
+        Verb::Extract => "pdbdump extract [--skip N] [--take N] FILE STREAM > OUT",
     }
 }
 
@@ -82,6 +88,21 @@ that leads to the original image, and --from the one that leads from it."
 id S I, fields S I, name S O or ranges S A B. Each line is repeated, and its answer follows: the lines that
 pdbq prints, or why there is none. Lines that are empty are passed over. The status is 0 if all questions
 were answered, and else 1. All are asked at once, so that a table is read and walked along once."
+        }
+        Verb::Id => {
+            "The path of FILE in a symbol store, NAME/KEY/NAME. The key is the GUID of the file and its age: that of the
+debug information, or that of stream 1 if the file has none. NAME is the last part of FILE if it isn't given.
+--format key   that path (as without the option)
+--format ssqp  that path in lower case, as the conventions for SSQP have it
+--format breakpad  the line that a symbol file of Breakpad begins with
+--format guid  the GUID alone, with hyphens
+With --json all numbers by which the file is known, in one object. With --expect the status is 1 if the file has
+another key, in either case of letters. A file of another format is refused with the name of that format."
+        }
+        Verb::Extract => {
+            "The bytes of a stream and nothing else: without the first N bytes with --skip, and N bytes at most with --take.
+STREAM is the number of a stream, a role as `summary` shows it (types, ids, omap_from_src), or the name of a
+stream (/names, srcsrv). There is no form in JSON."
         }
     }
 }

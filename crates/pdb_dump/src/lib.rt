@@ -4,15 +4,21 @@
 
 mod asking;
 mod command;
+mod extracted;
 mod help;
+mod id_words;
+mod identified;
 mod listed;
 mod process;
 mod served;
 mod words;
 
 pub use asking::serve_questions;
-pub use command::{Call, Command, Misuse, Task, Verb};
+pub use command::{Call, Command, Extract, Identify, Misuse, Task, Verb};
+pub use extracted::serve_extract;
+pub use id_words::identify_of;
+pub use identified::serve_id;
 pub use listed::list;
 pub use process::program;
 pub use served::serve;
-pub use words::{any_is, call_of, first_verb, plain_words, verb_named};
+pub use words::{any_is, call_of, extract_of, first_verb, plain_words, verb_named};

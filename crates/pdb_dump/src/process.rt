@@ -1,10 +1,13 @@
 //! The program on the channels of its process.
 
 use crate::asking::serve_questions;
-use crate::command::{Call, Command, Misuse, Task, Verb};
+use crate::command::{Call, Command, Extract, Identify, Misuse, Task, Verb};
+use crate::extracted::serve_extract;
 use crate::help::{HELP, meaning_of, usage_of};
+use crate::id_words::identify_of;
+use crate::identified::serve_id;
 use crate::served::serve;
-use crate::words::{any_is, call_of, first_verb, plain_words};
+use crate::words::{any_is, call_of, extract_of, first_verb, plain_words};
 use pdb_cli::{Errors, tell, texts_of, words_of};
 use pdb_container::{Error, Result};
 use pdb_output::Output;
@@ -103,6 +106,86 @@ fn answer_questions<P: Files + Input + Print + Eprint + AllocGlobal>(
     }
 }
 
+/// Writes what identifies the file at a path, or the one in standard input if the path is `-`.
+fn identify_file<P: Files + Input + Print + Eprint + AllocGlobal>(
+    process: &P,
+    asked: &Identify<'_>,
+    form: Form,
+) -> Result<u8> {
+    let alloc = process.alloc();
+    let mut out = Output::new(io::writer(process));
+    let mut err = Output::new(Errors { process });
+    if asked.path == "-" {
+        let mut input = process.reader();
+        return Ok(serve_id(alloc, asked, form, &mut input, &mut out, &mut err));
+    }
+    match fs::open(process, asked.path) {
+        Ok(mut input) => Ok(serve_id(alloc, asked, form, &mut input, &mut out, &mut err)),
+        Err(fault) => Ok(tell(alloc, &Error::from(fault), &mut err)),
+    }
+}
+
+/// Writes the bytes of a stream of the file at a path, or of the one in standard input if the path is
+/// `-`.
+fn extract_file<P: Files + Input + Print + Eprint + AllocGlobal>(
+    process: &P,
+    asked: &Extract<'_>,
+) -> Result<u8> {
+    let alloc = process.alloc();
+    let mut out = Output::new(io::writer(process));
+    let mut err = Output::new(Errors { process });
+    if asked.path == "-" {
+        let mut input = process.reader();
+        return Ok(serve_extract(alloc, asked, &mut input, &mut out, &mut err));
+    }
+    match fs::open(process, asked.path) {
+        Ok(mut input) => Ok(serve_extract(alloc, asked, &mut input, &mut out, &mut err)),
+        Err(fault) => Ok(tell(alloc, &Error::from(fault), &mut err)),
+    }
+}
+
+/// Does what the words after `id` ask.
+fn call_id<P: Files + Input + Print + Eprint + AllocGlobal>(
+    process: &P,
+    plain: &[&str],
+    words: &[&str],
+    form: Form,
+) -> Result<u8> {
+    match identify_of(plain) {
+        Some(asked) => identify_file(process, &asked, form),
+        None => tell_misuse(process, Misuse::Arguments(Verb::Id), words),
+    }
+}
+
+/// Does what the words after `extract` ask, which has no form in JSON.
+fn call_extract<P: Files + Input + Print + Eprint + AllocGlobal>(
+    process: &P,
+    plain: &[&str],
+    words: &[&str],
+    form: Form,
+) -> Result<u8> {
+    match (extract_of(plain), form) {
+        (Some(asked), Form::Text) => extract_file(process, &asked),
+        _ => tell_misuse(process, Misuse::Arguments(Verb::Extract), words),
+    }
+}
+
+/// Lists what the words ask, or answers questions.
+fn call_listing<P: Files + Input + Print + Eprint + AllocGlobal>(
+    process: &P,
+    plain: &[&str],
+    words: &[&str],
+    form: Form,
+) -> Result<u8> {
+    match call_of(plain) {
+        Ok(Call { path, task }) => match task {
+            Task::List(command) => list_file(process, path, command, form),
+            Task::Answer => answer_questions(process, path, form),
+        },
+        Err(misuse) => tell_misuse(process, misuse, words),
+    }
+}
+
 /// Does what the words after the program's name ask, and returns the status that it ends with.
 fn call<P: Files + Input + Print + Eprint + AllocGlobal>(
     process: &P,
@@ -117,16 +200,14 @@ fn call<P: Files + Input + Print + Eprint + AllocGlobal>(
         Form::Text
     };
     let plain = plain_words(process.alloc(), words)?;
-    if plain.is_empty() {
+    let Some((_, rest)) = plain.split_first() else {
         let _ = eprint!(process; "{HELP}");
         return Ok(MISUSED);
-    }
-    match call_of(&plain) {
-        Ok(Call { path, task }) => match task {
-            Task::List(command) => list_file(process, path, command, form),
-            Task::Answer => answer_questions(process, path, form),
-        },
-        Err(misuse) => tell_misuse(process, misuse, words),
+    };
+    match first_verb(&plain) {
+        Some(Verb::Id) => call_id(process, rest, words, form),
+        Some(Verb::Extract) => call_extract(process, rest, words, form),
+        _ => call_listing(process, &plain, words, form),
     }
 }
 

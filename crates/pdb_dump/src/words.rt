@@ -5,10 +5,10 @@ ghost use Rattle.std.specs.Option.{option_map};
 ghost use Rattle.std.specs.List.{list_any};
 ghost use Rattle.pdb_base.specs.Memory.{FailsOnlyForMemory};
 ghost use Rattle.pdb_cli.specs.Words.{same};
-ghost use Rattle.pdb_dump.specs.Words.{arguments_view, arguments_with, call_of, call_view, call_with, command_with, first_verb, frame_option, is_option};
-ghost use Rattle.pdb_dump.specs.Words.{none_given, option_given, plain_words, record_option, result_view, stream_option, task_with, unless_twice, verb_of, with_operand, with_option, with_stream};
+ghost use Rattle.pdb_dump.specs.Words.{arguments_view, arguments_with, call_of, call_view, call_with, command_with, extract_of, extract_view, first_verb, frame_option, is_option};
+ghost use Rattle.pdb_dump.specs.Words.{none_given, option_given, part_option, plain_words, record_option, result_view, stream_option, task_with, unless_twice, verb_of, with_operand, with_option, with_stream};
 
-use crate::command::{Call, Command, Misuse, Task, Verb};
+use crate::command::{Call, Command, Extract, Misuse, Task, Verb};
 use pdb_cli::number;
 use pdb_container::Error;
 use pdb_mapping::MapStreams;
@@ -55,6 +55,8 @@ pub fn verb_named(word: &str) -> Option<Verb>
         "frames" => Some(Verb::Frames),
         "map" => Some(Verb::Map),
         "ask" => Some(Verb::Ask),
+        "id" => Some(Verb::Id),
+        "extract" => Some(Verb::Extract),
         _ => None,
     }
 }
@@ -80,6 +82,10 @@ struct Options {
     old: Option<u32>,
     /// `--new S`.
     new: Option<u32>,
+    /// `--skip N`.
+    skip: Option<u32>,
+    /// `--take N`.
+    limit: Option<u32>,
     /// The streams of an address map.
     map: MapStreams,
 }
@@ -110,6 +116,8 @@ fn none_given<'w>() -> Arguments<'w>
         index: None,
         old: None,
         new: None,
+        skip: None,
+        limit: None,
         map,
     };
     Arguments {
@@ -195,6 +203,24 @@ fn frame_option(options: Options, option: &str, value: u32) -> Option<Options>
     }
 }
 
+/// Returns the options of `extract` with one more, if it takes it.
+fn part_option(options: Options, option: &str, value: u32) -> Option<Options>
+    ensures { result ≡ part_option options option.now value }
+{
+    let value = Some(value);
+    match option {
+        "--skip" if options.skip.is_none() => Some(Options {
+            skip: value,
+            ..options
+        }),
+        "--take" if options.limit.is_none() => Some(Options {
+            limit: value,
+            ..options
+        }),
+        _ => None,
+    }
+}
+
 /// Returns the options of a command with one more, if the command takes it.
 fn with_option(verb: Verb, options: Options, option: &str, value: u32) -> Option<Options>
     ensures { result ≡ with_option verb options option.now value }
@@ -207,7 +233,8 @@ fn with_option(verb: Verb, options: Options, option: &str, value: u32) -> Option
             let map = with_stream(options.map, option, value)?;
             Some(Options { map, ..options })
         }
-        Verb::Summary | Verb::Ask => None,
+        Verb::Extract => part_option(options, option, value),
+        Verb::Summary | Verb::Ask | Verb::Id => None,
     }
 }
 
@@ -239,7 +266,7 @@ fn with_operand<'w>(arguments: Arguments<'w>, word: &'w str) -> Option<Arguments
 }
 
 /// Returns whether a word is the name of an option.
-fn is_option(word: &str) -> bool
+pub(crate) fn is_option(word: &str) -> bool
     ensures { result ≡ is_option word.now }
 {
     word.as_bytes().starts_with(b"--")
@@ -282,13 +309,14 @@ fn command_with(verb: Verb, options: Options, operand: Option<&str>) -> Option<C
         old,
         new,
         map: streams,
+        ..
     } = options;
     match (verb, operand) {
         (Verb::Map, Some(address)) => {
             let address = number(address)?;
             Some(Command::Map { address, streams })
         }
-        (Verb::Map | Verb::Ask, _) | (_, Some(_)) => None,
+        (Verb::Map | Verb::Ask | Verb::Id | Verb::Extract, _) | (_, Some(_)) => None,
         (Verb::Summary, None) => Some(Command::Summary),
         (Verb::Types, None) => Some(Command::Types { stream, index }),
         (Verb::Ids, None) => Some(Command::Ids { stream, index }),
@@ -324,6 +352,23 @@ fn call_with<'w>(verb: Verb, words: &[&'w str]) -> Option<Call<'w>>
     let path = arguments.path?;
     let task = task_with(verb, arguments.options, arguments.operand)?;
     Some(Call { path, task })
+}
+
+/// Returns what `extract` is asked with the words behind its name, if it takes them.
+#[tactic(auto, unfolding(crate::specs::Words::extract_of))]
+pub fn extract_of<'w>(words: &[&'w str]) -> Option<Extract<'w>>
+    ensures { option_map extract_view result ≡ extract_of (map (λ word. word.now) words.now) }
+{
+    let arguments = arguments_with(Verb::Extract, none_given(), words)?;
+    let path = arguments.path?;
+    let stream = arguments.operand?;
+    let options = arguments.options;
+    Some(Extract {
+        path,
+        stream,
+        skip: options.skip.unwrap_or(0),
+        limit: options.limit,
+    })
 }
 
 /// Returns a call, unless both the file and the questions would be read from standard input.

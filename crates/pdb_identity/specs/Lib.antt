@@ -1,2 +1,4 @@
 pub mod Identity
+pub mod Header
 pub mod Key
+pub mod Format

@@ -3,10 +3,12 @@
 ghost use Rattle.std.specs.Prelude.{◌≡◌, Some};
 ghost use Rattle.pdb_base.specs.Answer.{Gives};
 ghost use Rattle.pdb_msf.specs.File.{ReadsFile};
+ghost use Rattle.pdb_identity.specs.Header.{cpu_of, machine_of, stripped_in, stripped_of};
 ghost use Rattle.pdb_identity.specs.Identity.{age_of, file_debug_header, file_identity, header_in};
 
+use crate::cpu::cpu_name;
 use crate::key::{LowerKey, UpperKey};
-use pdb_base::{Error, Result, Stream};
+use pdb_base::{Error, Result, Stream, is_bit_set};
 use pdb_file::{DBIHeader, PDB};
 use pdb_msf::{Msf, Source};
 use std::alloc::Global;
@@ -17,6 +19,10 @@ const DEBUG_STREAM: u32 = 3;
 
 /// The size of the header of that stream in bytes.
 const HEADER_SIZE: usize = 64;
+
+/// The bit of the header's flags that says that private symbols are stripped: `fStripped` of
+/// `NewDBIHdr` in Microsoft's dbi.h.
+const STRIPPED: u32 = 1;
 
 /// The numbers that identify a program database, and the header of its debug information.
 #[derive(Clone, Copy, PartialEq, Eq)]
@@ -71,6 +77,39 @@ impl Identity {
         }
     }
 
+    /// Returns the number of the machine for which the program is, as the header of an image has it,
+    /// for example 0x8664 for x86-64; or None if there is no debug information.
+    pub fn machine(&self) -> Option<u16>
+        ensures { result ≡ machine_of self.now }
+    {
+        match self.debug_header {
+            Some(header) => Some(header.machine_type),
+            None => None,
+        }
+    }
+
+    /// Returns the name that Breakpad has for the machine: `x86`, `x86_64`, `arm64`, `arm`, or
+    /// `unknown` for all others and if there is no debug information.
+    pub fn cpu(&self) -> &'static str
+        ensures { result.now ≡ cpu_of self.now }
+    {
+        match self.debug_header {
+            Some(header) => cpu_name(header.machine_type),
+            None => "unknown",
+        }
+    }
+
+    /// Returns whether private symbols are stripped from the file, or None if there is no debug
+    /// information.
+    pub fn is_stripped(&self) -> Option<bool>
+        ensures { result ≡ stripped_of self.now }
+    {
+        match self.debug_header {
+            Some(header) => Some(stripped_in(header)),
+            None => None,
+        }
+    }
+
     /// Returns the key under which a symbol store keeps the file: the 32 digits of the GUID and the
     /// age, in upper case.
     pub fn key(&self) -> UpperKey
@@ -93,6 +132,13 @@ impl Identity {
             age: self.age(),
         }
     }
+}
+
+/// Returns whether a header says that private symbols are stripped from the file.
+fn stripped_in(header: DBIHeader) -> bool
+    ensures { result ≡ stripped_in header }
+{
+    is_bit_set(header.flags as u32, STRIPPED)
 }
 
 /// Reads the header at the front of the stream of debug information, or returns None if the stream

@@ -2,8 +2,11 @@
 //! server stores it.
 #![tactic(auto)]
 
+mod cpu;
+mod format;
 mod identity;
 mod key;
 
+pub use format::Format;
 pub use identity::Identity;
 pub use key::{LowerKey, UpperKey};

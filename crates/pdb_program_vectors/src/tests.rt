@@ -4,6 +4,7 @@ mod asked;
 mod channels;
 mod dumped;
 mod failing;
+mod identities;
 mod listings;
 mod printed;
 mod processes;

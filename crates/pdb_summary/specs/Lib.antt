@@ -4,3 +4,5 @@ pub mod Known
 pub mod Kinds
 pub mod Tally
 pub mod Summary
+pub mod Identity
+pub mod Extracted

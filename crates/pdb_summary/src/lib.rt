@@ -2,6 +2,8 @@
 //! names, and the kinds of records in its tables.
 #![tactic(auto)]
 
+mod extracted;
+mod identity;
 mod kinds;
 mod refused;
 mod roles;
@@ -9,5 +11,7 @@ mod streams;
 mod summary;
 mod tables;
 
+pub use extracted::{extract, stream_meant};
+pub use identity::{KeyStyle, is_key, write_identity};
 pub use refused::Part;
 pub use summary::list_summary;
