@@ -1,5 +1,5 @@
 -- What `id` does with a file, and how the program ends.
-use Rattle.std.specs.Prelude.{◌≡◌, ◌⊎◌, ◌↔◌, ℕ, Bool, true, false, IsTrue, ⊤, List, codes, Option, Some, None, Result, Ok, Err, IfOk, IfSome}
+use Rattle.std.specs.Prelude.{◌≡◌, ◌⊎◌, ◌↔◌, ℕ, Bool, false, IsTrue, ⊤, List, codes, Option, Some, None, Result, Ok, Err, IfOk, IfSome}
 use Rattle.pdb_base.specs.declared.error.Error.{Error}
 use Rattle.pdb_base.specs.declared.error.Error.TheVariants.{OutOfMemory}
 use Rattle.pdb_base.specs.Answer.{Answer, ◌>>=◌}

@@ -5,7 +5,7 @@ ghost use Rattle.std.specs.Option.{option_map};
 ghost use Rattle.pdb_base.specs.Answer.{Answers};
 ghost use Rattle.pdb_base.specs.Memory.{FailsOnlyForMemory};
 ghost use Rattle.pdb_dump.specs.IdWords.{identify_view};
-ghost use Rattle.pdb_dump.specs.Identified.{IsConcluded, IsExpected, IsFound, IsIdServed, IsIdentified, identity_in, other_format, unexpected};
+ghost use Rattle.pdb_dump.specs.Identified.{IsConcluded, IsExpected, IsFound, IsIdServed, IsIdentified, identity_in, other_format};
 
 use crate::command::Identify;
 use crate::served::end;

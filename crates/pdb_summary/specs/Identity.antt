@@ -1,9 +1,7 @@
 -- How the identity of a file is shown.
 use Rattle.std.specs.Prelude.{◌≡◌, ℕ, Bool, List, [], ◌∷◌, ◌++◌, map, codes, Option, Some, None}
 use Rattle.std.specs.Char.{to_ascii_lowercase}
-use Rattle.std.specs.Option.{is_some}
 use Rattle.uuid.specs.Text.{hyphenated_text, lower, upper}
-use Rattle.pdb_msf.specs.Header.{Head}
 use Rattle.pdb_file.specs.declared.dbi_header.DBIHeader.{DBIHeader}
 use Rattle.pdb_identity.specs.Header.{cpu_of, machine_of, stripped_of}
 use Rattle.pdb_identity.specs.Identity.{age_of}

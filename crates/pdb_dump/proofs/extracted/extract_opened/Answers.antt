@@ -1,8 +1,4 @@
-use Rattle.std.proofs.Common.{List, ℕ, subst}
-use Rattle.pdb_msf.specs.Header.{Head}
-use Rattle.pdb_summary.specs.Extracted.{extraction}
 use Rattle.pdb_tables.proofs.ListedLemmas.{refused_listed}
-use Rattle.pdb_tables.specs.Listing.{IsListed}
 use Rattle.pdb_dump.specs.Extracted.{extraction_in}
 use Rattle.pdb_dump.proofs.extracted.extract_opened.Goals as goal
 

@@ -1,4 +1,4 @@
-use Rattle.std.proofs.Common.{◌≡◌, ℕ, Bool, true, false, List, [], ◌∷◌, Bor, map, Some, refl, sym, ap, ◌∙◌}
+use Rattle.std.proofs.Common.{◌≡◌, ℕ, true, false, List, [], ◌∷◌, Bor, map, Some, refl, sym, ap, ◌∙◌}
 use Rattle.pdb_dump.specs.IdWords.{IdGiven, id_view, id_words, with_id_option, with_path}
 use Rattle.pdb_dump.specs.Words.{is_option}
 use Rattle.pdb_dump.proofs.id_words.+with_words.Goals as goal

@@ -1,6 +1,5 @@
-use Rattle.std.proofs.Common.{◌≡◌, ap, refl, sym, Some, None, ◌∙◌}
-use Rattle.std.specs.Option.{option_map}
-use Rattle.pdb_dump.specs.Identified.{identified, other, other_format, unread}
+use Rattle.std.proofs.Common.{refl, sym}
+use Rattle.pdb_dump.specs.Identified.{identified, other, unread}
 use Rattle.pdb_dump.proofs.identified.serve_id.Goals as goal
 
 pub returns-in-Some : goal.returns-in-Some
