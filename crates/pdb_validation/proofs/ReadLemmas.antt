@@ -1,9 +1,10 @@
 -- Which errors come from a file, and which from outside it.
-use Rattle.std.proofs.Common.{◌≡◌, ◌⊎◌, ℕ, ◌*◌, true, List, [], drop, refl, ap, subst, inl, inr, Option, Some, None, Ok, Err}
-use Rattle.std.specs.Prelude.{Result, MatchResult}
+use Rattle.std.proofs.Common.{◌≡◌, ◌⊎◌, ℕ, ◌*◌, Bool, true, false, List, [], drop, refl, ap, subst, inl, inr, Option, Some, None, Ok, Err}
+use Rattle.std.specs.Prelude.{Result, IsOk, IsTrue, MatchResult}
 use Rattle.std.specs.declared.io.ErrorKind.{ErrorKind}
 use Rattle.std.specs.declared.io.ErrorKind.TheVariants as kinds
 use Rattle.std.specs.IoError.{error_kind}
+use Rattle.std.proofs.lemmas.Bool.{false≢true}
 use Rattle.pdb_base.specs.Answer.{Answer, ◌>>=◌, Answers, AnswersUnless, RefusesUnless, IsOtherFault}
 use Rattle.pdb_base.specs.Refusal.{Refusal, refusal_of, io_error}
 use Rattle.pdb_base.specs.declared.error.Error.{Error}
@@ -16,6 +17,7 @@ use Rattle.pdb_msf.specs.Directory.{Entry, directory_of, entry_of}
 use Rattle.pdb_msf.specs.File.{stream_of}
 use Rattle.pdb_msf.proofs.KindLemmas.{tells_entry, tells_numbers}
 use Rattle.pdb_validation.specs.Outside.{IsFromOutside, answered}
+use Rattle.pdb_validation.specs.Streams.{directory_answer}
 
 -- ---- what the definitions of streams refuse
 
@@ -76,3 +78,35 @@ pub refused_or_outside : {X : Type 0} (failed : Type 0) (e : Error) (meant : Ans
     → AnswersUnless failed answered result (Ok meant)
 refused_or_outside {X = X} failed e meant (Ok answer) tells refuses given = rw given.0 (ap (λ (m : Answer X). Ok m) (is_meant failed e meant given.1 refuses))
 refused_or_outside {X = X} failed e meant (Err other) tells refuses given = rw given.0 (is_outside failed e meant (let whole : Answer (Answer X) = Ok meant in whole) tells given.1 refuses)
+
+-- ---- the directory
+
+abbrev whole : {A : Type 0} → Answer A → Answer (Answer A)
+whole answer = Ok answer
+
+abbrev done : Answer (Unit {0})
+done = Ok tt
+
+pub directory_kept : (answer : Answer (List ℕ)) → IsOk answer → whole (answer >>= λ directory. done) ≡ whole done
+directory_kept (Ok directory) kept = refl
+directory_kept (Err refusal) kept = absurd (false≢true kept)
+
+tells_done : Tells done
+tells_done e state is = absurd cc
+
+pub tells_answer : (file : List ℕ) (head : Head) → Tells (directory_answer file head)
+tells_answer file head = tells_then (directory_of file head) (λ directory. done) (tells_directory file head) (λ directory. tells_done)
+
+pub directory_refused : (failed : Type 0) (e : Error) (file : List ℕ) (head : Head) → RefusesUnless failed e (directory_of file head) → RefusesUnless failed e (directory_answer file head)
+directory_refused failed e file head (inl is) = inl (rw is refl)
+directory_refused failed e file head (inr why) = inr why
+
+pub directory_or_refused : (failed : Type 0) (e : Error) (file : List ℕ) (head : Head) (kept : Bool) (result : Result (Result (Unit {0}) Error) Error)
+    → (IsTrue kept → IsOk (directory_of file head)) → (kept ≡ false → RefusesUnless failed e (directory_of file head))
+    → MatchResult result (λ answer. MatchResult answer (λ done. IsTrue kept) (λ other. (other ≡ e) × ((¬ IsFromOutside e) × (kept ≡ false)))) (λ other. (other ≡ e) × (IsFromOutside e × (kept ≡ false)))
+    → AnswersUnless failed answered result (whole (directory_answer file head))
+directory_or_refused failed e file head kept (Ok (Ok done)) reads refuses given = directory_kept (directory_of file head) (reads given)
+directory_or_refused failed e file head kept (Ok (Err other)) reads refuses given =
+    rw given.0 (ap whole (is_meant failed e (directory_answer file head) given.1.0 (directory_refused failed e file head (refuses given.1.1))))
+directory_or_refused failed e file head kept (Err other) reads refuses given =
+    rw given.0 (is_outside failed e (directory_answer file head) (whole (directory_answer file head)) (tells_answer file head) given.1.0 (directory_refused failed e file head (refuses given.1.1)))

@@ -2,7 +2,7 @@
 
 ghost use Rattle.std.specs.Prelude.{◌≡◌};
 ghost use Rattle.pdb_base.specs.Refusal.{refusal_of};
-ghost use Rattle.pdb_validation.specs.Finding.{finding_view, record_fault, stream_fault};
+ghost use Rattle.pdb_validation.specs.Finding.{directory_fault, finding_view, record_fault, stream_fault};
 
 use pdb_base::Error;
 
@@ -73,6 +73,18 @@ pub(crate) fn at_record(part: Part, stream: u32, index: u64, error: Error) -> Fi
         part,
         stream: Some(stream),
         index: Some(index),
+        error,
+    }
+}
+
+/// Returns the finding of the directory.
+pub(crate) fn in_directory(error: Error) -> Finding
+    ensures { finding_view result ≡ directory_fault (refusal_of error) }
+{
+    Finding {
+        part: Part::Directory,
+        stream: None,
+        index: None,
         error,
     }
 }

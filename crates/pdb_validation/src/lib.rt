@@ -2,8 +2,13 @@
 //! refuse, and why.
 #![tactic(auto)]
 
+mod checks;
 mod finding;
+mod names;
 mod read;
+mod roles;
+mod streams;
 mod tables;
 
+pub use checks::validate;
 pub use finding::{Finding, Part};
