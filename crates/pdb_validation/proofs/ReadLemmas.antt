@@ -1,11 +1,10 @@
 -- Which errors come from a file, and which from outside it.
-use Rattle.std.proofs.Common.{◌≡◌, ◌⊎◌, ℕ, ◌*◌, Bool, true, false, List, [], drop, refl, ap, subst, inl, inr, Option, Some, None, Ok, Err}
+use Rattle.std.proofs.Common.{◌≡◌, ℕ, ◌*◌, Bool, true, false, List, [], refl, ap, subst, inl, inr, Option, Some, None, Ok, Err}
 use Rattle.std.specs.Prelude.{Result, IsOk, IsTrue, MatchResult}
-use Rattle.std.specs.declared.io.ErrorKind.{ErrorKind}
 use Rattle.std.specs.declared.io.ErrorKind.TheVariants as kinds
 use Rattle.std.specs.IoError.{error_kind}
 use Rattle.std.proofs.lemmas.Bool.{false≢true}
-use Rattle.pdb_base.specs.Answer.{Answer, ◌>>=◌, Answers, AnswersUnless, RefusesUnless, IsOtherFault}
+use Rattle.pdb_base.specs.Answer.{Answer, ◌>>=◌, AnswersUnless, RefusesUnless, IsOtherFault}
 use Rattle.pdb_base.specs.Refusal.{Refusal, refusal_of, io_error}
 use Rattle.pdb_base.specs.declared.error.Error.{Error}
 use Rattle.pdb_base.specs.declared.error.Error.TheVariants as errors

@@ -1,8 +1,8 @@
 -- The first stream whose bytes can't be read, among those from a number on.
-use Rattle.std.proofs.Common.{◌≡◌, ℕ, suc, ◌+◌, ◌-◌, ◌<◌, ◌≤◌, List, [], refl, sym, ap, ◌∙◌, arith, Option, Some, None, Ok, Err}
+use Rattle.std.proofs.Common.{◌≡◌, ℕ, suc, ◌+◌, ◌-◌, ◌<◌, ◌≤◌, List, refl, sym, ap, ◌∙◌, arith, Option, Some, None, Ok}
 use Rattle.std.specs.List.{range_with_len}
 use Rattle.std.specs.Option.{option_map}
-use Rattle.pdb_base.specs.Answer.{Answer, ◌>>=◌}
+use Rattle.pdb_base.specs.Answer.{Answer}
 use Rattle.pdb_base.proofs.lemmas.Collected.{ok_is}
 use Rattle.pdb_msf.specs.Header.{Head}
 use Rattle.pdb_validation.specs.Finding.{Fault, finding_view}

@@ -1,8 +1,8 @@
 -- A file has no fault exactly if it is whole.
-use Rattle.std.proofs.Common.{◌≡◌, ◌↔◌, inl, inr, ℕ, zero, suc, ◌+◌, ◌-◌, ◌<◌, ◌≤◌, true, false, nat_lt, cond, List, [], ◌∷◌, ◌++◌, length, map, refl, sym, ap, ◌∙◌, arith, append-nil, Option, Some, None, Ok, Err, Result}
-use Rattle.std.specs.Prelude.{IsOk, IfOk, ⊤}
+use Rattle.std.proofs.Common.{◌≡◌, ◌↔◌, inl, inr, ℕ, zero, suc, ◌+◌, ◌-◌, ◌<◌, ◌≤◌, true, false, List, [], ◌∷◌, ◌++◌, length, map, refl, sym, ap, ◌∙◌, arith, Option, Some, None, Ok, Err, Result}
+use Rattle.std.specs.Prelude.{IsOk, IfOk}
 use Rattle.std.specs.List.{range_with_len}
-use Rattle.std.specs.Option.{option_map, option_to_list}
+use Rattle.std.specs.Option.{option_to_list}
 use Rattle.std.proofs.lemmas.Bool.{cases_lt, false≢true, lt-ltb, le-ltb}
 use Rattle.pdb_base.specs.Answer.{Answer, ◌>>=◌, AnswersUnless}
 use Rattle.pdb_base.specs.Refusal.{Refusal, stream_not_found}
@@ -17,7 +17,7 @@ use Rattle.pdb_file.specs.declared.debug_header.DBIExtraStreams.{DBIExtraStreams
 use Rattle.pdb_tpi.specs.Record.{id_of}
 use Rattle.pdb_tpi.specs.Steps.{walk, walk_rest}
 use Rattle.pdb_tpi.specs.Table.{Table, table_of}
-use Rattle.pdb_validation.specs.Finding.{Fault, finding_view, record_fault, stream_fault}
+use Rattle.pdb_validation.specs.Finding.{Fault, finding_view, record_fault}
 use Rattle.pdb_validation.specs.IsWhole.{AreAnswered, AreIds, AreNames, AreTypes, HasRole, HasWholeRecords, IfRead, IsNumbered, IsReadOrAbsent, IsThere, IsWhole}
 use Rattle.pdb_validation.specs.Names.{fault_of_answer, named_fault, names_fault, string_table_fault, string_table_number, table_of_names}
 use Rattle.pdb_validation.specs.Roles.{known_roles, numbered_fault, role_answer, role_fault, role_index, roles_fault}

@@ -9,6 +9,8 @@ mod read;
 mod roles;
 mod streams;
 mod tables;
+#[cfg(test)]
+mod tests;
 
 pub use checks::validate;
 pub use finding::{Finding, Part};

@@ -1,6 +1,6 @@
 //! Stream 3 and the streams to which it gives roles.
 
-ghost use Rattle.std.specs.Prelude.{◌≡◌, map, Ok, Some};
+ghost use Rattle.std.specs.Prelude.{◌≡◌, Ok, Some};
 ghost use Rattle.std.specs.Option.{option_map};
 ghost use Rattle.pdb_base.specs.Answer.{Answers, Gives};
 ghost use Rattle.pdb_msf.specs.File.{ReadsFile};
