@@ -1,0 +1,4 @@
+pub mod WalkLemmas
+pub mod ReadLemmas
+pub mod StreamLemmas
+pub mod WholeLemmas

@@ -1,0 +1,44 @@
+-- The names of streams in stream 1, and the string table.
+use Rattle.std.specs.Prelude.{ℕ, List, Option, Some, None, Ok, Err, codes}
+use Rattle.std.specs.Result.{result_ok}
+use Rattle.pdb_base.specs.Answer.{Answer, ◌>>=◌}
+use Rattle.pdb_msf.specs.File.{stream_of}
+use Rattle.pdb_msf.specs.Header.{Head}
+use Rattle.pdb_file.specs.Information.{information_of}
+use Rattle.pdb_file.specs.StreamNames.{number_named, stream_names_of}
+use Rattle.pdb_space.specs.StringTable.{names_of}
+use Rattle.pdb_validation.specs.Finding.{Fault, stream_fault}
+use Rattle.pdb_validation.specs.Streams.{fault_there}
+use Rattle.pdb_validation.specs.declared.finding.Part.{Part}
+use Rattle.pdb_validation.specs.declared.finding.Part.TheVariants as parts
+
+-- the fault of a part whose bytes are refused
+abbrev pub fault_of_answer : {A : Type 0} → Part → ℕ → Answer A → Option Fault
+fault_of_answer part number (Ok x) = None
+fault_of_answer part number (Err refusal) = Some (stream_fault part number refusal)
+
+-- the number of the stream that stream 1 names `/names`, if it names one so
+unfoldable pub string_table_number : List ℕ → Answer (Option ℕ)
+string_table_number stream = do
+  information ← information_of stream
+  streams ← stream_names_of information
+  Ok (result_ok (number_named (codes "/names") streams))
+
+-- a string table, whose header is one and whose names fit in the stream
+unfoldable pub table_of_names : List ℕ → Answer (Unit {0})
+table_of_names stream = names_of stream >>= λ names. Ok tt
+
+-- the fault of the string table in the stream of that number
+unfoldable pub string_table_fault : List ℕ → Head → ℕ → Option Fault
+string_table_fault file head number =
+    fault_there parts.StringTable number (λ stream. fault_of_answer parts.StringTable number (table_of_names stream)) (stream_of file head number None)
+
+-- the fault of the names of streams, or that of the string table if there is one
+abbrev pub named_fault : List ℕ → Head → Answer (Option ℕ) → Option Fault
+named_fault file head (Ok None) = None
+named_fault file head (Ok (Some number)) = string_table_fault file head number
+named_fault file head (Err refusal) = Some (stream_fault parts.Names 1 refusal)
+
+-- the fault of stream 1, of its names, or of the string table
+unfoldable pub names_fault : List ℕ → Head → Option Fault
+names_fault file head = fault_there parts.Names 1 (λ stream. named_fault file head (string_table_number stream)) (stream_of file head 1 None)

@@ -1,0 +1,176 @@
+//! The records of the tables of types and of ids.
+
+ghost use Rattle.std.specs.Prelude.{◌≡◌, Ok};
+ghost use Rattle.std.specs.Option.{option_map};
+ghost use Rattle.pdb_base.specs.Answer.{Answers, Gives};
+ghost use Rattle.pdb_base.specs.Refusal.{refusal_of};
+ghost use Rattle.pdb_tpi.specs.Item.{bytes_of, index_of};
+ghost use Rattle.pdb_tpi.specs.Record.{id_of};
+ghost use Rattle.pdb_values.specs.TypeView.{type_value};
+ghost use Rattle.pdb_validation.specs.Finding.{finding_view, record_fault};
+ghost use Rattle.pdb_validation.specs.Tables.{continued_in, continues_at, ids_fault, missing_fault, opened_table, records_fault, refusal_in};
+ghost use Rattle.pdb_validation.specs.Tables.{types_fault, type_in};
+ghost use Rattle.pdb_validation.specs.declared.finding.Part.TheVariants as parts;
+
+use crate::finding::{Finding, Part, at_record, in_stream};
+use pdb_base::{Error, FallibleIterator, IdIndex, Result, Stream, TypeIndex};
+use pdb_file::{ID_STREAM, TYPE_STREAM};
+use pdb_tpi::constants::LF_FIELDLIST;
+use pdb_tpi::{IdInformation, Item, OpenTable, TypeInformation};
+use pdb_values::TypeData;
+use std::alloc::Global;
+
+/// Checks that a field list is continued by a list below it.
+#[tactic(auto, unfolding(crate::specs::Tables::continues_at))]
+fn check_continuation(types: &OpenTable<TypeIndex>, index: TypeIndex, next: TypeIndex) -> Result<()>
+    ensures { Gives (λ done. done) result (continues_at types.now.table index.0 next.0) }
+{
+    if next.0 >= index.0 {
+        return Err(Error::UnimplementedFeature("field list continuation not below its list"));
+    }
+    let list = types.item(next)?;
+    if list.raw_kind() != LF_FIELDLIST {
+        return Err(Error::UnimplementedTypeKind(list.raw_kind()));
+    }
+    Ok(())
+}
+
+/// Checks that a type is continued by a list below it, if it is a field list with a continuation.
+fn check_value(types: &OpenTable<TypeIndex>, index: TypeIndex, value: &TypeData<'_>) -> Result<()>
+    ensures { Gives (λ done. done) result (continued_in types.now.table index.0 (type_value value.now)) }
+{
+    match value {
+        TypeData::FieldList(list) => match list.continuation {
+            Some(next) => check_continuation(types, index, next),
+            None => Ok(()),
+        },
+        _ => Ok(()),
+    }
+}
+
+/// Reads the record of a type, and checks its continuation.
+#[tactic(auto, unfolding(crate::specs::Tables::type_in))]
+fn read_type(alloc: Global, types: &OpenTable<TypeIndex>, item: &Item<'_, TypeIndex>) -> Result<()>
+    ensures { Answers (λ done. done) result (type_in types.now.table (index_of item.now).0 (bytes_of item.now)) }
+{
+    let value = item.parse(alloc)?;
+    check_value(types, item.index(), &value)
+}
+
+/// Returns the error of the record of a type, if it is refused.
+fn type_error(
+    alloc: Global,
+    types: &OpenTable<TypeIndex>,
+    item: &Item<'_, TypeIndex>,
+) -> Result<Option<Error>>
+    ensures { Answers (option_map refusal_of) result
+        (Ok (refusal_in (type_in types.now.table (index_of item.now).0 (bytes_of item.now)))) }
+{
+    match read_type(alloc, types, item) {
+        Ok(()) => Ok(None),
+        Err(Error::OutOfMemory) => Err(Error::OutOfMemory),
+        Err(error) => Ok(Some(error)),
+    }
+}
+
+/// Returns the error of the record of an id, if it is refused.
+fn id_error(alloc: Global, item: &Item<'_, IdIndex>) -> Result<Option<Error>>
+    ensures { Answers (option_map refusal_of) result (Ok (refusal_in (id_of (bytes_of item.now)))) }
+{
+    match item.parse(alloc) {
+        Ok(_) => Ok(None),
+        Err(Error::OutOfMemory) => Err(Error::OutOfMemory),
+        Err(error) => Ok(Some(error)),
+    }
+}
+
+/// Returns the finding that a table ends before an index that its header counts, if it does.
+fn missing(part: Part, stream: u32, index: u64, maximum: u32) -> Option<Finding>
+    ensures { option_map finding_view result ≡ missing_fault (record_fault part stream) index maximum }
+{
+    if index < maximum as u64 {
+        return Some(at_record(part, stream, index, Error::UnexpectedEof));
+    }
+    None
+}
+
+/// Returns the finding of the first record of a table of types that is refused, if there is one.
+fn check_type_records(alloc: Global, types: &OpenTable<TypeIndex>) -> Result<Option<Finding>>
+    ensures { Answers (option_map finding_view) result
+        (Ok (records_fault (record_fault parts.Types 2) (type_in types.now.table) types.now.table)) }
+{
+    let mut items = types.items().iter();
+    loop {
+        let (index, _) = items.place();
+        match items.next() {
+            Ok(Some(item)) => {
+                if let Some(error) = type_error(alloc, types, &item)? {
+                    return Ok(Some(at_record(Part::Types, TYPE_STREAM, index, error)));
+                }
+            }
+            Ok(None) => {
+                let maximum = types.items().header().maximum_index;
+                return Ok(missing(Part::Types, TYPE_STREAM, index, maximum));
+            }
+            Err(error) => return Ok(Some(at_record(Part::Types, TYPE_STREAM, index, error))),
+        }
+    }
+}
+
+/// Returns the finding of the first record of a table of ids that is refused, if there is one.
+fn check_id_records(alloc: Global, ids: &IdInformation) -> Result<Option<Finding>>
+    ensures { Answers (option_map finding_view) result
+        (Ok (records_fault (record_fault parts.Ids 4) (λ index. id_of) ids.now)) }
+{
+    let mut items = ids.iter();
+    loop {
+        let (index, _) = items.place();
+        match items.next() {
+            Ok(Some(item)) => {
+                if let Some(error) = id_error(alloc, &item)? {
+                    return Ok(Some(at_record(Part::Ids, ID_STREAM, index, error)));
+                }
+            }
+            Ok(None) => {
+                let maximum = ids.header().maximum_index;
+                return Ok(missing(Part::Ids, ID_STREAM, index, maximum));
+            }
+            Err(error) => return Ok(Some(at_record(Part::Ids, ID_STREAM, index, error))),
+        }
+    }
+}
+
+/// Opens the table of types in a stream, with the places of all its records.
+#[tactic(auto, unfolding(crate::specs::Tables::opened_table))]
+fn open_types(alloc: Global, stream: Stream) -> Result<OpenTable<TypeIndex>>
+    ensures { Answers (λ table. table) result (opened_table stream) }
+{
+    let table = TypeInformation::parse(stream)?;
+    let maximum = table.header().maximum_index;
+    let mut types = OpenTable::new(alloc, table)?;
+    types.learn(TypeIndex(maximum.saturating_sub(1)));
+    Ok(types)
+}
+
+/// Checks the table of types in a stream: its header and each of its records.
+#[tactic(auto, unfolding(crate::specs::Tables::opened_table, crate::specs::Tables::types_fault))]
+pub(crate) fn check_types(alloc: Global, stream: Stream) -> Result<Option<Finding>>
+    ensures { Answers (option_map finding_view) result (Ok (types_fault stream)) }
+{
+    match open_types(alloc, stream) {
+        Ok(types) => check_type_records(alloc, &types),
+        Err(Error::OutOfMemory) => Err(Error::OutOfMemory),
+        Err(error) => Ok(Some(in_stream(Part::Types, TYPE_STREAM, error))),
+    }
+}
+
+/// Checks the table of ids in a stream: its header and each of its records.
+#[tactic(auto, unfolding(crate::specs::Tables::ids_fault))]
+pub(crate) fn check_ids(alloc: Global, stream: Stream) -> Result<Option<Finding>>
+    ensures { Answers (option_map finding_view) result (Ok (ids_fault stream)) }
+{
+    match IdInformation::parse(stream) {
+        Ok(ids) => check_id_records(alloc, &ids),
+        Err(error) => Ok(Some(in_stream(Part::Ids, ID_STREAM, error))),
+    }
+}

@@ -1,0 +1,134 @@
+//! A small file that is whole, and damages of each of its parts. The bytes are written by hand.
+
+use crate::{Part, validate};
+use pdb_file::PDB;
+use std::alloc::Global;
+use std::test::Fail;
+
+/// The size of a page in bytes.
+const PAGE_SIZE: usize = 512;
+
+/// The header: page size 512, free page map 1, 13 pages used, a directory of 80 bytes, and page 3,
+/// which says where the directory is.
+const HEADER: &[u8] =
+    b"Microsoft C/C++ MSF 7.00\r\n\x1aDS\0\0\0\x00\x02\0\0\x01\0\0\0\x0d\0\0\0\x50\0\0\0\0\0\0\0\x03\0\0\0";
+
+/// The directory: ten streams with their sizes, and a page for each but stream 0, which is empty.
+const DIRECTORY: [u32; 20] = [
+    10, 0, 67, 82, 86, 66, 15, 40, 16, 64, 32, 4, 5, 6, 7, 8, 9, 10, 11, 12,
+];
+
+/// Stream 1: the numbers of the file, and a table that names stream 5 `/names`.
+const INFORMATION: &[u8] =
+    b"\x94\x2e\x31\x01\0\0\0\0\x01\0\0\0\0\0\0\0\0\0\0\0\0\0\0\0\0\0\0\0\x07\0\0\0/names\0\x01\0\0\0\x01\0\0\0\x01\0\0\0\x01\0\0\0\0\0\0\0\0\0\0\0\x05\0\0\0";
+
+/// Stream 2: `const int`, an empty field list, and one that it continues.
+const TYPES: &[u8] =
+    b"\x0b\xca\x31\x01\x38\0\0\0\x00\x10\0\0\x03\x10\0\0\0\0\0\0\0\0\0\0\0\0\0\0\0\0\0\0\0\0\0\0\0\0\0\0\0\0\0\0\0\0\0\0\0\0\0\0\0\0\0\0\x08\0\x01\x10\x74\0\0\0\x01\0\x02\0\x03\x12\x0a\0\x03\x12\x04\x14\0\0\x01\x10\0\0";
+
+/// Stream 3: a header, and the roles of streams 6 to 9.
+const DEBUG: &[u8] =
+    b"\xff\xff\xff\xff\0\0\0\0\0\0\0\0\0\0\0\0\0\0\0\0\0\0\0\0\0\0\0\0\0\0\0\0\0\0\0\0\0\0\0\0\0\0\0\0\0\0\0\0\x16\0\0\0\0\0\0\0\0\0\0\0\0\0\0\0\x09\0\xff\xff\xff\xff\x07\0\xff\xff\x06\0\xff\xff\xff\xff\xff\xff\x08\0\xff\xff";
+
+/// Stream 4: the id of a string.
+const IDS: &[u8] =
+    b"\x0b\xca\x31\x01\x38\0\0\0\x00\x10\0\0\x01\x10\0\0\0\0\0\0\0\0\0\0\0\0\0\0\0\0\0\0\0\0\0\0\0\0\0\0\0\0\0\0\0\0\0\0\0\0\0\0\0\0\0\0\x08\0\x05\x16\0\0\0\0a\0";
+
+/// Stream 5: a string table.
+const NAMES: &[u8] = b"\xfe\xef\xfe\xef\x01\0\0\0\x03\0\0\0\0a\0";
+
+/// Stream 7: an OMAP table.
+const OMAP: &[u8] = b"\x01\0\0\0\x02\0\0\0\x03\0\0\0\x04\0\0\0";
+
+/// Stream 8: two frames in the newer format.
+const NEW_FRAMES: &[u8] =
+    b"\x01\0\0\0\0\0\0\0\0\0\0\0\0\0\0\0\0\0\0\0\0\0\0\0\0\0\0\0\0\0\0\0\x02\0\0\0";
+
+/// Stream 9: two frames in the older format.
+const OLD_FRAMES: &[u8] = b"\x01\0\0\0\0\0\0\0\0\0\0\0\0\0\0\0\x02\0\0\0";
+
+/// Offsets in the file, the byte that is written there, and the part that is then refused first.
+const DAMAGES: [(usize, u8, Part); 13] = [
+    // The page of the directory.
+    (0x600, 0x00, Part::Directory),
+    // The page of stream 9.
+    (0x44c, 0x00, Part::Stream),
+    // The size of the names in stream 1.
+    (0x81c, 0xff, Part::Names),
+    // The signature of the string table.
+    (0x1000, 0x00, Part::StringTable),
+    // The signature of stream 3.
+    (0xc00, 0x00, Part::Roles),
+    // The kind of type 0x1000.
+    (0xa3a, 0xff, Part::Types),
+    // The list that continues type 0x1002, which becomes that list itself.
+    (0xa4e, 0x02, Part::Types),
+    // The end of the indexes of types.
+    (0xa0c, 0x04, Part::Types),
+    // The kind of id 0x1000.
+    (0xe3a, 0xff, Part::Ids),
+    // The size of the section headers.
+    (0x41c, 0x27, Part::SectionHeaders),
+    // The first source of the OMAP table.
+    (0x1400, 0x09, Part::OmapToSource),
+    // The starts of the first frames.
+    (0x1600, 0x02, Part::NewFrames),
+    (0x1800, 0x02, Part::OldFrames),
+];
+
+/// Adds a page that begins with these bytes.
+fn push_page(file: &mut Vec<u8>, bytes: &[u8]) -> Result<(), Fail> {
+    file.extend_from_slice(bytes)?;
+    for _ in bytes.len()..PAGE_SIZE {
+        file.push(0)?;
+    }
+    Ok(())
+}
+
+/// Returns the small file.
+fn small_file(alloc: Global) -> Result<Vec<u8>, Fail> {
+    let mut directory = Vec::new(alloc);
+    for word in DIRECTORY.iter() {
+        directory.extend_from_slice(&word.to_le_bytes())?;
+    }
+    let mut file = Vec::new(alloc);
+    push_page(&mut file, HEADER)?;
+    push_page(&mut file, b"")?;
+    push_page(&mut file, &directory)?;
+    push_page(&mut file, b"\x02\0\0\0")?;
+    push_page(&mut file, INFORMATION)?;
+    push_page(&mut file, TYPES)?;
+    push_page(&mut file, DEBUG)?;
+    push_page(&mut file, IDS)?;
+    push_page(&mut file, NAMES)?;
+    push_page(&mut file, b"")?;
+    push_page(&mut file, OMAP)?;
+    push_page(&mut file, NEW_FRAMES)?;
+    push_page(&mut file, OLD_FRAMES)?;
+    Ok(file)
+}
+
+#[test]
+fn whole(rt: HostRuntime) -> Result<(), Fail> {
+    let mut pdb = PDB::open(rt.alloc(), small_file(rt.alloc())?)?;
+    let findings = validate(rt.alloc(), &mut pdb)?;
+    assert!(rt; findings.is_empty());
+    Ok(())
+}
+
+#[test]
+fn damaged(rt: HostRuntime) -> Result<(), Fail> {
+    for (offset, byte, part) in DAMAGES.iter() {
+        let mut file = small_file(rt.alloc())?;
+        if let Some(place) = file.get_mut(*offset) {
+            *place = *byte;
+        }
+        let mut pdb = PDB::open(rt.alloc(), file)?;
+        let findings = validate(rt.alloc(), &mut pdb)?;
+        match findings.first() {
+            Some(finding) => assert_eq!(rt; finding.part, *part, "{offset:#x}"),
+            None => assert!(rt; false, "{offset:#x}"),
+        }
+    }
+    Ok(())
+}
