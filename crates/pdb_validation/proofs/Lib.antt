@@ -1,4 +1,5 @@
 pub mod WalkLemmas
 pub mod ReadLemmas
 pub mod StreamLemmas
+pub mod NameLemmas
 pub mod WholeLemmas

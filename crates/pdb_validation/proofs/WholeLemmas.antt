@@ -18,8 +18,10 @@ use Rattle.pdb_tpi.specs.Record.{id_of}
 use Rattle.pdb_tpi.specs.Steps.{walk, walk_rest}
 use Rattle.pdb_tpi.specs.Table.{Table, table_of}
 use Rattle.pdb_validation.specs.Finding.{Fault, finding_view, record_fault}
-use Rattle.pdb_validation.specs.IsWhole.{AreAnswered, AreIds, AreNames, AreTypes, HasRole, HasWholeRecords, IfRead, IsNumbered, IsReadOrAbsent, IsThere, IsWhole}
-use Rattle.pdb_validation.specs.Names.{fault_of_answer, named_fault, names_fault, string_table_fault, string_table_number, table_of_names}
+use Rattle.pdb_validation.specs.IsWhole.{AreAnswered, AreIds, AreNames, AreTypes, HasRole, HasWholeRecords, HasWholeNames, IfRead, IsNumbered, IsReadOrAbsent, IsThere, IsWhole}
+use Rattle.pdb_validation.specs.Names.{fault_of_answer, named_fault, names_fault, string_table_fault, string_table_number, whole_names}
+use Rattle.pdb_space.specs.StringTable.{names_of}
+use Rattle.pdb_validation.proofs.NameLemmas.{names_whole, whole_from_names}
 use Rattle.pdb_validation.specs.Roles.{known_roles, numbered_fault, role_answer, role_fault, role_index, roles_fault}
 use Rattle.pdb_validation.specs.Streams.{bytes_fault, directory_answer, fault_before, fault_there, fault_within, first_fault, streams_fault, unless_absent}
 use Rattle.pdb_validation.specs.Tables.{fault_behind, fault_or, first_refused, ids_fault, missing_fault, records_fault, table_fault, type_in, types_fault}
@@ -211,16 +213,16 @@ named_whole : (file : List ℕ) (head : Head) (answer : Answer (Option ℕ)) →
 unfolding string_table_fault
 named_whole file head (Ok None) is = tt
 named_whole file head (Ok (Some number)) is =
-    there_so parts.StringTable number (λ stream. fault_of_answer parts.StringTable number (table_of_names stream)) (λ stream. IsOk (table_of_names stream))
-    (λ stream. answers parts.StringTable number (table_of_names stream)) (stream_of file head number None) is
+    there_so parts.StringTable number (λ stream. fault_of_answer parts.StringTable number (whole_names stream)) (λ stream. HasWholeNames (names_of stream))
+    (λ stream none. names_whole stream (answers parts.StringTable number (whole_names stream) none)) (stream_of file head number None) is
 named_whole file head (Err refusal) is = absurd cc
 
 whole_named : (file : List ℕ) (head : Head) (answer : Answer (Option ℕ)) → AreNames file head answer → named_fault file head answer ≡ None
 unfolding string_table_fault
 whole_named file head (Ok None) is = refl
 whole_named file head (Ok (Some number)) is =
-    so_there parts.StringTable number (λ stream. fault_of_answer parts.StringTable number (table_of_names stream)) (λ stream. IsOk (table_of_names stream))
-    (λ stream. no_fault parts.StringTable number (table_of_names stream)) (stream_of file head number None) is
+    so_there parts.StringTable number (λ stream. fault_of_answer parts.StringTable number (whole_names stream)) (λ stream. HasWholeNames (names_of stream))
+    (λ stream each. no_fault parts.StringTable number (whole_names stream) (whole_from_names stream each)) (stream_of file head number None) is
 whole_named file head (Err refusal) is = absurd is
 
 -- ---- roles

@@ -11,7 +11,8 @@ use Rattle.pdb_file.specs.declared.debug_header.DBIExtraStreams.{DBIExtraStreams
 use Rattle.pdb_tpi.specs.Record.{id_of}
 use Rattle.pdb_tpi.specs.Steps.{walk, walk_rest}
 use Rattle.pdb_tpi.specs.Table.{Table, table_of}
-use Rattle.pdb_validation.specs.Names.{string_table_number, table_of_names}
+use Rattle.pdb_space.specs.StringTable.{name_of, names_of}
+use Rattle.pdb_validation.specs.Names.{string_table_number}
 use Rattle.pdb_validation.specs.Roles.{known_roles, role_answer, role_index}
 use Rattle.pdb_validation.specs.Tables.{type_in}
 use Rattle.pdb_validation.specs.declared.finding.Part.{Part}
@@ -54,10 +55,15 @@ abbrev pub AreIds : Answer Table → Type 0
 AreIds (Ok table) = HasWholeRecords (λ index. id_of) table
 AreIds (Err refusal) = ⊥
 
+-- The bytes of a stream are a string table, and there is a name at each byte of its names.
+abbrev pub HasWholeNames : Answer (List ℕ) → Type 0
+HasWholeNames (Ok names) = (offset : ℕ) → offset < length names → IsOk (name_of names offset)
+HasWholeNames (Err refusal) = ⊥
+
 -- The names of streams are there. If one of them is that of the string table, there is one in its stream.
 abbrev pub AreNames : List ℕ → Head → Answer (Option ℕ) → Type 0
 AreNames file head (Ok None) = ⊤
-AreNames file head (Ok (Some number)) = IsThere (λ stream. IsOk (table_of_names stream)) (stream_of file head number None)
+AreNames file head (Ok (Some number)) = IsThere (λ stream. HasWholeNames (names_of stream)) (stream_of file head number None)
 AreNames file head (Err refusal) = ⊥
 
 -- The stream of a number is there, and its bytes mean something by the role of the part, if there is a number.

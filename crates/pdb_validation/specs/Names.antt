@@ -1,12 +1,12 @@
 -- The names of streams in stream 1, and the string table.
-use Rattle.std.specs.Prelude.{ℕ, List, Option, Some, None, Ok, Err, codes}
+use Rattle.std.specs.Prelude.{ℕ, List, [], ◌∷◌, length, Option, Some, None, Ok, Err, codes}
 use Rattle.std.specs.Result.{result_ok}
 use Rattle.pdb_base.specs.Answer.{Answer, ◌>>=◌}
 use Rattle.pdb_msf.specs.File.{stream_of}
 use Rattle.pdb_msf.specs.Header.{Head}
 use Rattle.pdb_file.specs.Information.{information_of}
 use Rattle.pdb_file.specs.StreamNames.{number_named, stream_names_of}
-use Rattle.pdb_space.specs.StringTable.{names_of}
+use Rattle.pdb_space.specs.StringTable.{name_of, names_of}
 use Rattle.pdb_validation.specs.Finding.{Fault, stream_fault}
 use Rattle.pdb_validation.specs.Streams.{fault_there}
 use Rattle.pdb_validation.specs.declared.finding.Part.{Part}
@@ -24,14 +24,20 @@ string_table_number stream = do
   streams ← stream_names_of information
   Ok (result_ok (number_named (codes "/names") streams))
 
--- a string table, whose header is one and whose names fit in the stream
-unfoldable pub table_of_names : List ℕ → Answer (Unit {0})
-table_of_names stream = names_of stream >>= λ names. Ok tt
+-- the name at the last of the names' bytes, if there are any
+abbrev pub last_name : List ℕ → Answer (Unit {0})
+last_name [] = Ok tt
+last_name (byte ∷ names) = name_of (byte ∷ names) (length names) >>= λ name. Ok tt
+
+-- a string table whose header is one, and whose names fit in the stream and end with a NUL, so that there is a
+-- name at each of their bytes
+unfoldable pub whole_names : List ℕ → Answer (Unit {0})
+whole_names stream = names_of stream >>= last_name
 
 -- the fault of the string table in the stream of that number
 unfoldable pub string_table_fault : List ℕ → Head → ℕ → Option Fault
 string_table_fault file head number =
-    fault_there parts.StringTable number (λ stream. fault_of_answer parts.StringTable number (table_of_names stream)) (stream_of file head number None)
+    fault_there parts.StringTable number (λ stream. fault_of_answer parts.StringTable number (whole_names stream)) (stream_of file head number None)
 
 -- the fault of the names of streams, or that of the string table if there is one
 abbrev pub named_fault : List ℕ → Head → Answer (Option ℕ) → Option Fault

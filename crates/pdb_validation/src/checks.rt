@@ -138,17 +138,27 @@ fn check_file<S: Source>(alloc: Global, pdb: &mut PDB<S>) -> Result<Vec<Finding>
     }
 }
 
-/// Returns what is found wrong in a file: for each part that the definitions of this library
-/// refuse, the first fault. The list is empty exactly if the file is whole.
+/// Returns what is found wrong in an open file: for each part that the definitions of this library
+/// refuse, the first fault. The list is empty exactly if the file is whole. The header is not among
+/// the parts, since no file opens whose header is refused.
 ///
-/// These parts are checked: the directory; the bytes of each stream that is present; stream 1 with
-/// its names, and the header of the string table if there is one; the header of stream 3 and its
-/// roles; each record of the table of types, with the list that continues a field list; each record
-/// of the table of ids; the section headers of both images; both OMAP tables, whose sources must
-/// not decrease; and the frames of both formats, whose starts must increase. If the directory is
-/// refused, nothing else is checked.
+/// These parts are checked:
+/// - the directory; if it is refused, nothing else is checked;
+/// - the bytes of each stream that is present, among the numbers of 16 bits; if those of a stream
+///   can't be read, that is one finding, and what they mean isn't checked;
+/// - stream 1, which must be there, and the names of streams; and the string table with each of its
+///   names, if the file names one;
+/// - the header of stream 3 and the roles of streams, if stream 3 is there;
+/// - the tables of types and of ids in streams 2 and 4, if these are there: the header, each record,
+///   that a field list is continued by one below it, and that each index which the header counts
+///   has a record;
+/// - the streams by their roles, which must be there: the section headers of both images, both OMAP
+///   tables, whose sources must not decrease, and the frames of both formats, whose starts must
+///   increase.
 ///
-/// The work is linear in the sizes of the streams that the directory lists.
+/// Streams are read one at a time: each for its bytes, and again for the parts that it holds. So the
+/// work is linear in the sum of the sizes of the streams, which is larger than the file if the
+/// directory names the same pages several times. Each table is walked once.
 ///
 /// # Errors
 /// Fails with `OutOfMemory` if memory is refused, and with the source's own error if the source

@@ -1,22 +1,27 @@
 //! The names of streams in stream 1, and the string table.
 
-ghost use Rattle.std.specs.Prelude.{Ok};
+ghost use Rattle.std.specs.Prelude.{◌≡◌, ◌≤◌, length, Ok};
+ghost use Rattle.pdb_base.specs.Reading.{word_at};
 ghost use Rattle.std.specs.Option.{option_map};
 ghost use Rattle.pdb_base.specs.Answer.{Answers, Gives};
 ghost use Rattle.pdb_msf.specs.File.{ReadsFile};
 ghost use Rattle.pdb_validation.specs.Finding.{finding_view};
-ghost use Rattle.pdb_validation.specs.Names.{named_fault, names_fault, string_table_fault, string_table_number, table_of_names};
+ghost use Rattle.pdb_validation.specs.Names.{last_name, named_fault, names_fault, string_table_fault, string_table_number, whole_names};
 
 use crate::finding::{Finding, Part, in_stream};
 use crate::read::read;
+use byteorder::{ByteOrder, LittleEndian};
 use pdb_base::{Error, Result, Stream};
 use pdb_file::{PDB, PDBInformation};
 use pdb_msf::Source;
-use pdb_space::StringTable;
+use pdb_space::{StringRef, StringTable};
 use std::alloc::Global;
 
 /// The number of the stream that identifies the file and names streams.
 const INFORMATION_STREAM: u32 = 1;
+
+/// The size of the header of a string table in bytes.
+const HEADER_SIZE: usize = 12;
 
 /// Reads the names of streams, and returns the number of the stream of the string table, if there
 /// is one.
@@ -29,13 +34,38 @@ fn string_table_number(alloc: Global, stream: Stream) -> Result<Option<u32>>
     Ok(names.number(b"/names").ok())
 }
 
-/// Checks the header of the string table in a stream, and that the names fit in the stream.
-#[tactic(auto, unfolding(crate::specs::Names::table_of_names))]
-fn check_table_of_names(stream: Stream) -> Result<()>
-    ensures { Gives (λ done. done) result (table_of_names stream) }
+/// Returns the size of the names that the header of a string table says, or 0 if the stream ends
+/// before it.
+fn names_size(stream: &Stream) -> u32
+    ensures { 12 ≤ length stream.now → result ≡ word_at 8 stream.now }
 {
-    StringTable::parse(stream)?;
+    let bytes = stream.as_slice();
+    if bytes.len() < HEADER_SIZE {
+        return 0;
+    }
+    LittleEndian::read_u32(&bytes[8..12])
+}
+
+/// Checks that there is a name at the last of the names' bytes, and so at each.
+fn check_last(names: &StringTable, size: u32) -> Result<()>
+    requires { length names.now ≡ size }
+    ensures { Gives (λ done. done) result (last_name names.now) }
+{
+    if size == 0 {
+        return Ok(());
+    }
+    names.get(StringRef(size - 1))?;
     Ok(())
+}
+
+/// Checks the string table in a stream: its header and each of its names.
+#[tactic(auto, unfolding(crate::specs::Names::whole_names))]
+fn check_names_in(stream: Stream) -> Result<()>
+    ensures { Gives (λ done. done) result (whole_names stream) }
+{
+    let size = names_size(&stream);
+    let names = StringTable::parse(stream)?;
+    check_last(&names, size)
 }
 
 /// Returns the finding of the string table in the stream of a number, if it is refused.
@@ -49,7 +79,7 @@ fn check_string_table<S: Source>(
         (λ file head. Ok (string_table_fault file head number)) }
 {
     match read(alloc, pdb, number)? {
-        Ok(stream) => match check_table_of_names(stream) {
+        Ok(stream) => match check_names_in(stream) {
             Ok(()) => Ok(None),
             Err(error) => Ok(Some(in_stream(Part::StringTable, number, error))),
         },
