@@ -8,3 +8,5 @@ pub mod DefinitionLaws
 pub mod Entries
 pub mod Size
 pub mod Span
+pub mod Extent
+pub mod FieldPlace

@@ -5,6 +5,8 @@
 mod declaration;
 mod definitions;
 mod entry;
+mod extent;
+mod field_place;
 pub mod laws;
 mod name_hash;
 mod primitive_size;
@@ -17,4 +19,6 @@ mod type_at;
 mod type_name;
 
 pub use definitions::Definitions;
+pub use extent::Extent;
+pub use field_place::{FieldKind, FieldPlace};
 pub use span::{Span, gaps};
