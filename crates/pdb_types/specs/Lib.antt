@@ -10,3 +10,6 @@ pub mod Size
 pub mod Span
 pub mod Extent
 pub mod FieldPlace
+pub mod Gap
+pub mod Layout
+pub mod Text

@@ -6,7 +6,20 @@ ghost use Rattle.pdb_values.specs.TypeView.{type_value};
 ghost use Rattle.pdb_types.specs.FieldPlace.{place_of, place_value};
 
 use pdb_base::{RawString, TypeIndex};
-use pdb_values::{TypeData, VirtualBaseClassType};
+use pdb_values::TypeData;
+
+/// A virtual base class, of which no record says where it is in an object.
+#[derive(Clone, Copy, Debug, PartialEq, Eq)]
+pub struct VirtualBase {
+    /// The base class.
+    pub base_class: TypeIndex,
+
+    /// Whether the class itself names it, and not a base class.
+    pub direct: bool,
+
+    /// The position of the base class in the table of virtual bases.
+    pub position: u32,
+}
 
 /// What a field of a class is.
 #[derive(Clone, Copy, Debug, PartialEq, Eq)]
@@ -16,7 +29,7 @@ pub enum FieldKind<'t> {
 
     /// A pointer to a table of virtual bases, of which a virtual base class speaks. Each record of a
     /// virtual base class states its pointer, so one pointer may be several fields.
-    VirtualBasePointer(VirtualBaseClassType),
+    VirtualBasePointer(VirtualBase),
 
     /// A pointer to a table of virtual functions.
     VirtualFunctionPointer,
@@ -51,7 +64,11 @@ pub(crate) fn place_of<'t>(value: &TypeData<'t>) -> Option<FieldPlace<'t>>
             offset: base.offset as u64,
         }),
         TypeData::VirtualBaseClass(base) => Some(FieldPlace {
-            kind: FieldKind::VirtualBasePointer(*base),
+            kind: FieldKind::VirtualBasePointer(VirtualBase {
+                base_class: base.base_class,
+                direct: base.direct,
+                position: base.virtual_base_offset,
+            }),
             field_type: base.base_pointer,
             offset: base.base_pointer_offset as u64,
         }),

@@ -26,7 +26,7 @@ fn least(left: u128, right: u128) -> u128
 }
 
 /// Returns the greater of two places.
-fn greatest(left: u128, right: u128) -> u128
+pub(crate) fn greatest(left: u128, right: u128) -> u128
     ensures { result ≡ max left right }
 {
     if left < right { right } else { left }
