@@ -3,3 +3,5 @@ pub mod EntryLemmas
 pub mod SearchLemmas
 pub mod SizeLemmas
 pub mod SpanLemmas
+pub mod GapLemmas
+pub mod LayoutLemmas

@@ -1,9 +1,10 @@
 -- The gaps between sorted spans.
 use Rattle.std.proofs.Common.{◌≡◌, inl, inr, ℕ, ◌+◌, ◌<◌, ◌≤◌, min, max, List, [], ◌++◌, length, get_or, take, refl, sym, ap, ◌∙◌, arith, Bool, true, false, ◌&&◌, ◌||◌, cond, ltb, leb}
-use Rattle.std.specs.List.{count_by, list_any}
+use Rattle.std.specs.List.{All, count_by, list_any}
 use Rattle.std.specs.List.Sorted.{IsNonDecreasingBy, IsPermutation}
 use Rattle.std.proofs.lemmas.Bool.{cases_lt, cases_Bool, both_ways, and_from, and_left, and_right, or_parts, or_from, lt-ltb, le-ltb, le-leb, lt-leb}
 use Rattle.std.proofs.lemmas.List.{get_or_default, take_all}
+use Rattle.std.proofs.lemmas.List.Elements.{All-append, All-cons, All-nil}
 use Rattle.std.proofs.lemmas.List.Folds.{list_any_more}
 use Rattle.std.proofs.lemmas.List.Sorted.{list_any-IsPermutation}
 use Rattle.std.proofs.lemmas.List.Sums.{sum_by-append}
@@ -15,31 +16,47 @@ use Rattle.pdb_types.specs.Span.{AreGaps, gap_of, holds}
 counted_more : (place : ℕ) (gaps more : List Span) → count_by (holds place) (gaps ++ more) ≡ count_by (holds place) gaps + count_by (holds place) more
 counted_more place gaps more = sum_by-append (λ (span : Span). cond (holds place span) 1 0) gaps more
 
-held_test : (place start end : ℕ) → start ≤ place → place < end → (leb start place && ltb place end) ≡ true
+pub held_test : (place start end : ℕ) → start ≤ place → place < end → (leb start place && ltb place end) ≡ true
 held_test place start end from to = and_from (leb start place) (ltb place end) (le-leb start place from) (lt-ltb place end to)
 
-before_test : (place start end : ℕ) → place < start → (leb start place && ltb place end) ≡ false
+pub before_test : (place start end : ℕ) → place < start → (leb start place && ltb place end) ≡ false
 before_test place start end before = and_left (leb start place) (ltb place end) (lt-leb start place before)
 
-behind_test : (place start end : ℕ) → end ≤ place → (leb start place && ltb place end) ≡ false
+pub behind_test : (place start end : ℕ) → end ≤ place → (leb start place && ltb place end) ≡ false
 behind_test place start end behind = and_right (leb start place) (ltb place end) (le-ltb place end behind)
 
-gap_holds : (place start end : ℕ) → start ≤ place → place < end → count_by (holds place) (gap_of start end) ≡ 1
+pub gap_holds : (place start end : ℕ) → start ≤ place → place < end → count_by (holds place) (gap_of start end) ≡ 1
 gap_holds place start end from to =
     let some : ltb start end ≡ true = lt-ltb start end (omega (arith, from, to)) in
     rw some (rw (held_test place start end from to) refl)
 
-gap_before : (place start end : ℕ) → place < start → count_by (holds place) (gap_of start end) ≡ 0
+pub gap_before : (place start end : ℕ) → place < start → count_by (holds place) (gap_of start end) ≡ 0
 gap_before place start end before = elim (cases_Bool (ltb start end)) [
   | inl some ↦ rw some (rw (before_test place start end before) refl)
   | inr none ↦ rw none refl
 ]
 
-gap_behind : (place start end : ℕ) → end ≤ place → count_by (holds place) (gap_of start end) ≡ 0
+pub gap_behind : (place start end : ℕ) → end ≤ place → count_by (holds place) (gap_of start end) ≡ 0
 gap_behind place start end behind = elim (cases_Bool (ltb start end)) [
   | inl some ↦ rw some (rw (behind_test place start end behind) refl)
   | inr none ↦ rw none refl
 ]
+
+pub gap_some : (start end : ℕ) → All (λ (gap : Span). gap.start < gap.end) (gap_of start end)
+gap_some start end =
+    let P : Span → Type 0 = λ gap. gap.start < gap.end in
+    elim (cases_lt start end) [
+      | inl some ↦ rw (lt-ltb start end some) (All-cons P (record { start = start; end = end }) [] some (All-nil P))
+      | inr none ↦ rw (le-ltb start end none) (All-nil P)
+    ]
+
+pub gap_within : (start end most : ℕ) → end ≤ most → All (λ (gap : Span). gap.end ≤ most) (gap_of start end)
+gap_within start end most below =
+    let P : Span → Type 0 = λ gap. gap.end ≤ most in
+    elim (cases_lt start end) [
+      | inl some ↦ rw (lt-ltb start end some) (All-cons P (record { start = start; end = end }) [] below (All-nil P))
+      | inr none ↦ rw (le-ltb start end none) (All-nil P)
+    ]
 
 -- ---- the gaps between the first spans
 
@@ -55,6 +72,8 @@ pub record AreGapsTo (spans : List Span) (end k at : ℕ) (gaps : List Span) : T
   pub ahead : (place : ℕ) → at ≤ place → count_by (holds place) gaps ≡ 0
   pub over : (place : ℕ) → at ≤ place → holders place k spans ≡ false
   pub later : (place i : ℕ) (d : Span) → place < at → holders place k spans ≡ false → k ≤ i → i < length spans → holds place (get_or spans i d) ≡ false
+  pub some : All (λ gap. gap.start < gap.end) gaps
+  pub within : All (λ gap. gap.end ≤ end) gaps
 
 pub gaps_begin : (spans : List Span) (end : ℕ) → AreGapsTo spans end 0 0 []
 gaps_begin spans end = record {
@@ -64,6 +83,8 @@ gaps_begin spans end = record {
   ahead = λ place from. refl;
   over = λ place from. refl;
   later = λ place i d before none from within. absurd (omega (arith, before));
+  some = All-nil (λ (gap : Span). gap.start < gap.end);
+  within = All-nil (λ (gap : Span). gap.end ≤ end);
 }
 
 abbrev pub next_at : ℕ → ℕ → ℕ → ℕ
@@ -138,6 +159,8 @@ gaps_more spans end k at gaps span order are within here =
                 let its = start_there d in
                 before_test place (get_or spans i d).start (get_or spans i d).end (omega (arith, up, its, early))
           ];
+      some = All-append (λ (gap : Span). gap.start < gap.end) gaps gap are.some (gap_some at stop);
+      within = All-append (λ (gap : Span). gap.end ≤ end) gaps gap are.within (gap_within at stop end (omega arith));
     }
 
 -- and the last one
@@ -163,6 +186,8 @@ gaps_end spans end k at gaps are past =
       beyond = λ place past'.
           counted_more place gaps gap
           ∙ (let a = are.beyond place past' in let b = gap_behind place at end past' in omega (arith, a, b));
+      some = All-append (λ (gap : Span). gap.start < gap.end) gaps gap are.some (gap_some at end);
+      within = All-append (λ (gap : Span). gap.end ≤ end) gaps gap are.within (gap_within at end end (omega arith));
     }
 
 -- the order of the spans doesn't matter
@@ -171,4 +196,6 @@ gaps_moved spans sorted end gaps moved are = record {
   free = λ place inside none. are.free place inside (sym (list_any-IsPermutation (holds place) spans sorted moved) ∙ none);
   taken = λ place some. are.taken place (sym (list_any-IsPermutation (holds place) spans sorted moved) ∙ some);
   beyond = are.beyond;
+  some = are.some;
+  within = are.within;
 }

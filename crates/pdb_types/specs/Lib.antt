@@ -8,3 +8,8 @@ pub mod DefinitionLaws
 pub mod Entries
 pub mod Size
 pub mod Span
+pub mod Extent
+pub mod FieldPlace
+pub mod Gap
+pub mod Layout
+pub mod Text

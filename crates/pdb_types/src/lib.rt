@@ -1,20 +1,33 @@
-//! What a type is: its definition and its size in bytes, as the records of Microsoft's cvinfo.h say
-//! them; and the gaps between spans, such as those between the members of a class.
+//! What a type is: its definition, its size in bytes, the layout of a class, as the records of
+//! Microsoft's cvinfo.h say them, and its text in C++; and the gaps between spans, such as those
+//! between the members of a class.
 #![tactic(auto)]
 
 mod declaration;
+mod declarator;
 mod definitions;
 mod entry;
+mod extent;
+mod field_place;
+mod gap;
+mod kind_name;
 pub mod laws;
+mod layout;
 mod name_hash;
 mod primitive_size;
+mod qualifiers;
 mod size;
 mod size_source;
 mod span;
 #[cfg(test)]
 mod tests;
+mod text;
 mod type_at;
 mod type_name;
 
 pub use definitions::Definitions;
+pub use extent::Extent;
+pub use field_place::{FieldKind, FieldPlace, VirtualBase};
+pub use gap::{Gap, GapKind};
+pub use layout::{Layout, LayoutField};
 pub use span::{Span, gaps};

@@ -12,28 +12,28 @@ use std::alloc::Global;
 #[derive(Clone, Copy, Debug, PartialEq, Eq)]
 pub struct Span {
     /// The first place.
-    pub start: u64,
+    pub start: u128,
 
     /// The place behind the last one. There is no place in a span whose end isn't above its start.
-    pub end: u64,
+    pub end: u128,
 }
 
 /// Returns the lesser of two places.
-fn least(left: u64, right: u64) -> u64
+fn least(left: u128, right: u128) -> u128
     ensures { result ≡ min left right }
 {
     if left < right { left } else { right }
 }
 
 /// Returns the greater of two places.
-fn greatest(left: u64, right: u64) -> u64
+pub(crate) fn greatest(left: u128, right: u128) -> u128
     ensures { result ≡ max left right }
 {
     if left < right { right } else { left }
 }
 
 /// Appends the gap from a place to another, if there is one.
-fn push_gap(gaps: &mut Vec<Span>, start: u64, end: u64) -> Result<()>
+fn push_gap(gaps: &mut Vec<Span>, start: u128, end: u128) -> Result<()>
     ensures ok { OnOk result (gaps.new.items ≡ gaps.old.items ++ gap_of start end) }
     ensures memory { FailsOnlyForMemory result }
 {
@@ -44,7 +44,7 @@ fn push_gap(gaps: &mut Vec<Span>, start: u64, end: u64) -> Result<()>
 }
 
 /// Returns the gaps between spans that are sorted by their starts.
-fn sorted_gaps(alloc: Global, spans: &[Span], end: u64) -> Result<Vec<Span>>
+fn sorted_gaps(alloc: Global, spans: &[Span], end: u128) -> Result<Vec<Span>>
     requires { IsNonDecreasingBy (λ span. span.start) spans.now }
     ensures gaps { IfOk result (λ gaps. AreGaps spans.now end gaps.items) }
     ensures memory { FailsOnlyForMemory result }
@@ -60,13 +60,14 @@ fn sorted_gaps(alloc: Global, spans: &[Span], end: u64) -> Result<Vec<Span>>
 }
 
 /// Sorts spans by their starts, and returns the gaps between them up to an end, in order: each
-/// place before the end that no span holds is in exactly one gap, and no other place is in any.
+/// place before the end that no span holds is in exactly one gap, and no other place is in any. No
+/// gap is empty.
 ///
 /// The spans may overlap and come in any order, and may go beyond the end.
 ///
 /// # Errors
 /// Fails with `OutOfMemory` if memory is refused.
-pub fn gaps(alloc: Global, spans: &mut [Span], end: u64) -> Result<Vec<Span>>
+pub fn gaps(alloc: Global, spans: &mut [Span], end: u128) -> Result<Vec<Span>>
     ensures gaps { IfOk result (λ gaps. AreGaps spans.old end gaps.items) }
     ensures memory { FailsOnlyForMemory result }
 {

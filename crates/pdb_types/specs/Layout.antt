@@ -1,0 +1,110 @@
+-- Where the fields of a class are, and which of its bits no field takes.
+use Rattle.std.specs.Prelude.{ℕ, ◌==◌, Bool, if◌then◌else◌, List, [], ◌∷◌, ◌++◌, map, Option, Some, None, Ok}
+use Rattle.std.specs.List.{cons_option, list_any}
+use Rattle.std.specs.Option.{option_to_list}
+use Rattle.pdb_base.specs.Answer.{Answer, ◌>>=◌}
+use Rattle.pdb_base.specs.declared.index.TypeIndex.{TypeIndex}
+use Rattle.pdb_tpi.specs.Chain.{fields_of}
+use Rattle.pdb_tpi.specs.Finder.{item_of}
+use Rattle.pdb_tpi.specs.Table.{Table}
+use Rattle.pdb_values.specs.TypeValue.{TypeValue, PlainValue, plain, class, union}
+use Rattle.pdb_types.specs.declared.extent.Extent.{Extent}
+use Rattle.pdb_types.specs.declared.layout.ClassBody.{ClassBody}
+use Rattle.pdb_types.specs.declared.layout.Layout.{Layout}
+use Rattle.pdb_types.specs.declared.layout.LayoutField.{LayoutField}
+use Rattle.pdb_types.specs.declared.span.Span.{Span}
+use Rattle.pdb_types.specs.Definition.{definition_of}
+use Rattle.pdb_types.specs.Extent.{bits_of, extent_at}
+use Rattle.pdb_types.specs.FieldPlace.{PlaceValue, field_role, is_virtual_role, place_of, place_value}
+use Rattle.pdb_types.specs.Gap.{AreGapRows}
+use Rattle.pdb_types.specs.TypeAt.{type_at}
+
+-- a field of a class: what it is, where it begins and how far it goes
+pub record FieldValue : Type 0 where
+  pub place : PlaceValue
+  pub extent : Extent
+
+-- the value of a `LayoutField`
+abbrev pub field_value : LayoutField → FieldValue
+field_value field = record { place = place_value field.place; extent = field.extent }
+
+-- the bits that a field takes
+abbrev pub field_span : LayoutField → Span
+field_span field = bits_of field.place.offset field.extent
+
+-- whether a field is a pointer to a table of virtual bases
+abbrev pub is_virtual_field : LayoutField → Bool
+is_virtual_field field = is_virtual_role (field_role field.place.kind)
+
+-- the field that begins at a place, which goes as far as its type says
+abbrev pub field_from : Table → Option PlaceValue → Answer (Option FieldValue)
+field_from table (Some place) = extent_at table place.field_type.0 >>= λ extent. Ok (Some (record { place = place; extent = extent }))
+field_from table None = Ok None
+
+-- the field of a record in a list of fields, if the record is of one
+unfoldable pub field_of : Table → TypeValue → Answer (Option FieldValue)
+field_of table value = field_from table (place_of value)
+
+-- fields, followed by one more if there is one
+abbrev pub with_field : List FieldValue → Answer (Option FieldValue) → Answer (List FieldValue)
+with_field fields field = field >>= λ one. Ok (fields ++ option_to_list one)
+
+-- the fields of records in order, or the first refusal among them
+abbrev pub fields_in : Table → List TypeValue → Answer (List FieldValue)
+fields_in table [] = Ok []
+fields_in table (value ∷ values) = field_of table value >>= λ field. fields_in table values >>= λ fields. Ok (cons_option field fields)
+
+-- a list of an index, unless that stands for no type
+abbrev pub list_there : TypeIndex → Option TypeIndex
+list_there list = if list.0 == 0 then None else Some list
+
+-- what a class or a union says of its layout: its size, and the list of its fields
+abbrev pub plain_body : PlainValue → Option ClassBody
+plain_body (class value) = Some (record { size = value.size; list = value.fields })
+plain_body (union value) = Some (record { size = value.size; list = list_there value.fields })
+plain_body value = None
+
+-- the same of any type
+abbrev pub body_of : TypeValue → Option ClassBody
+body_of (plain value) = plain_body value
+body_of value = None
+
+-- the records of a list of fields and of the lists in which it continues
+abbrev pub records_of : Table → Option TypeIndex → Answer (List TypeValue)
+records_of table (Some list) = fields_of (item_of table) list.0
+records_of table None = Ok []
+
+-- a layout: the index of the definition, the size in bytes, and the fields in the order of their records
+pub record LayoutValue : Type 0 where
+  pub index : ℕ
+  pub size : ℕ
+  pub fields : List FieldValue
+
+-- the value of a `Layout`, without its gaps
+abbrev pub layout_value : Layout → LayoutValue
+layout_value layout = record { index = layout.index.0; size = layout.size; fields = map field_value layout.fields.items }
+
+-- the gaps of a layout are those that its fields leave
+abbrev pub HasGaps : Layout → Type 0
+HasGaps layout = AreGapRows (map field_span layout.fields.items) layout.size (list_any is_virtual_field layout.fields.items) layout.gaps.items
+
+-- the layout of a class or a union that says this of it
+abbrev pub body_layout : Table → ℕ → ClassBody → Answer LayoutValue
+body_layout table index body = do
+  records ← records_of table body.list
+  fields ← fields_in table records
+  Ok (record { index = index; size = body.size; fields = fields })
+
+-- the same if it is a class or a union
+abbrev pub layout_from : Table → ℕ → Option ClassBody → Answer (Option LayoutValue)
+layout_from table index (Some body) = body_layout table index body >>= λ layout. Ok (Some layout)
+layout_from table index None = Ok None
+
+-- the layout of a definition
+abbrev pub definition_layout : Table → Option ℕ → Answer (Option LayoutValue)
+definition_layout table (Some index) = type_at table index >>= λ value. layout_from table index (body_of value)
+definition_layout table None = Ok None
+
+-- the layout of the type of an index: that of its definition, if it is a class or a union and has a definition
+unfoldable pub layout_of : Table → ℕ → Answer (Option LayoutValue)
+layout_of table index = definition_of table index >>= definition_layout table

@@ -1,0 +1,85 @@
+//! Declarators of C++, which are built from the name outwards.
+
+ghost use Rattle.pdb_base.specs.Memory.{FailsOnlyForMemory};
+
+use crate::qualifiers::Qualifiers;
+use pdb_base::Result;
+use std::alloc::Global;
+
+/// A part of a declaration: a name with what stands around it, such as `*names[4]`.
+#[derive(Debug, Drop)]
+pub(crate) struct Declarator {
+    text: Vec<u8>,
+    /// Whether it begins with the sign of a pointer, so that brackets behind it would bind tighter.
+    is_pointer: bool,
+}
+
+impl Declarator {
+    /// Returns the declarator of a name, which may be empty.
+    pub(crate) fn of(alloc: Global, name: &[u8]) -> Result<Self>
+        ensures { FailsOnlyForMemory result }
+    {
+        let text = Vec::from_slice(alloc, name)?;
+        Ok(Declarator {
+            text,
+            is_pointer: false,
+        })
+    }
+
+    /// Returns the declarator with the sign of a pointer and its qualifiers in front.
+    pub(crate) fn pointer(&self, alloc: Global, sign: &[u8], qualifiers: Qualifiers) -> Result<Self>
+        ensures { FailsOnlyForMemory result }
+    {
+        let mut text = Vec::from_slice(alloc, sign)?;
+        text.extend_from_slice(qualifiers.text().trim_end().as_bytes())?;
+        if !self.text.is_empty() && !qualifiers.text().is_empty() {
+            text.push(b' ')?;
+        }
+        text.extend_from_slice(&self.text)?;
+        Ok(Declarator {
+            text,
+            is_pointer: true,
+        })
+    }
+
+    /// Puts brackets behind, and parentheses around what is there if it begins with the sign of a
+    /// pointer.
+    pub(crate) fn push_brackets(&mut self, alloc: Global, brackets: &[u8]) -> Result<()>
+        ensures { FailsOnlyForMemory result }
+    {
+        if self.is_pointer {
+            let mut text = Vec::from_slice(alloc, "(".as_bytes())?;
+            text.extend_from_slice(&self.text)?;
+            text.push(b')')?;
+            self.text = text;
+            self.is_pointer = false;
+        }
+        self.push_behind(brackets)
+    }
+
+    /// Puts a text behind.
+    pub(crate) fn push_behind(&mut self, text: &[u8]) -> Result<()>
+        ensures { FailsOnlyForMemory result }
+    {
+        self.text.extend_from_slice(text)?;
+        Ok(())
+    }
+
+    /// Returns the declaration: the name of a type with its qualifiers, and the declarator behind it.
+    pub(crate) fn declaration(
+        &self,
+        alloc: Global,
+        qualifiers: Qualifiers,
+        type_name: &[u8],
+    ) -> Result<Vec<u8>>
+        ensures { FailsOnlyForMemory result }
+    {
+        let mut text = Vec::from_slice(alloc, qualifiers.text().as_bytes())?;
+        text.extend_from_slice(type_name)?;
+        if !text.is_empty() && !self.text.is_empty() {
+            text.push(b' ')?;
+        }
+        text.extend_from_slice(&self.text)?;
+        Ok(text)
+    }
+}
