@@ -80,7 +80,8 @@ fn add_role<S: Source>(
     findings: &mut Vec<Finding>,
 ) -> Result<()>
     ensures { ReadsFile S.state pdb.old pdb.new (λ done. map finding_view findings.new.items) result
-        (λ file head. Ok (map finding_view findings.old.items ++ option_to_list (role_fault file head part roles.now))) }
+        (λ file head. Ok (map finding_view findings.old.items
+        ++ option_to_list (role_fault file head part roles.now))) }
 {
     let found = check_role(alloc, pdb, roles, part)?;
     add(findings, found)
