@@ -214,7 +214,13 @@ const TYPES: [(u32, Option<u64>, Option<u32>); 18] = [
 ];
 
 /// Opens a table.
+///
+/// # Errors
+/// A failure if it has more than 4,096 bytes.
 fn open_table(alloc: Global, bytes: &[u8]) -> Result<OpenTable<TypeIndex>, Fail> {
+    if bytes.len() > 4096 {
+        return Err(Fail::new("a long table"));
+    }
     let bytes = Vec::from_slice(alloc, bytes)?;
     let table = TypeInformation::parse(Stream::new(bytes))?;
     let mut types = OpenTable::new(alloc, table)?;
