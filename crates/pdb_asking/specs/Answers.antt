@@ -47,8 +47,10 @@ range_shown range = (codes "start", hexadecimal range.start) ∷ (codes "end", h
 -- the lines of a reply in JSON: for a list, one line for each field; for ranges, one line for each
 abbrev pub json_text : Reply → List ℕ
 json_text (replies.Bytes stream) = row_text Json (bytes_shown stream.items)
-json_text (replies.Record index leaf name) = row_text Json (record_shown index leaf (option_map (λ copy. copy.items) name))
-json_text (replies.Fields names) = flat_map (λ name. row_text Json (name_field (option_map (λ copy. copy.items) name) ∷ [])) names.items
+json_text (replies.Record index leaf name) =
+    row_text Json (record_shown index leaf (option_map (λ copy. copy.items) name))
+json_text (replies.Fields names) = flat_map
+    (λ name. row_text Json (name_field (option_map (λ copy. copy.items) name) ∷ [])) names.items
 json_text (replies.Name name) = row_text Json (name_field (Some name.items) ∷ [])
 json_text (replies.Ranges ranges) = flat_map (λ range. row_text Json (range_shown range)) ranges.items
 json_text (replies.Refused e) = row_text Json (refusal_shown (refusal_of e) ∷ [])
@@ -85,9 +87,11 @@ next_reply (Some query) (reply ∷ replies) = (Some reply, replies)
 unfoldable pub answers_text : Form → List Asking → List Reply → List ℕ
 answers_text form [] replies = []
 answers_text form (question ∷ questions) replies =
-    let next = next_reply question.1 replies in answered_text form question.0 next.0 ++ answers_text form questions next.1
+    let next = next_reply question.1 replies in answered_text form question.0 next.0
+    ++ answers_text form questions next.1
 
 -- whether all questions are answered
 unfoldable pub are_answers : List Asking → List Reply → Bool
 are_answers [] replies = true
-are_answers (question ∷ questions) replies = let next = next_reply question.1 replies in is_answer next.0 && are_answers questions next.1
+are_answers (question ∷ questions) replies = let next = next_reply question.1 replies in is_answer next.0
+    && are_answers questions next.1

@@ -1,5 +1,6 @@
 -- What is written when a file is asked questions.
-use Rattle.std.specs.Prelude.{◌≡◌, ◌⊎◌, ◌&&◌, ℕ, Bool, true, false, List, [], ◌∷◌, ◌++◌, Option, Some, None, Result, Ok, Err}
+use Rattle.std.specs.Prelude.{◌≡◌, ◌⊎◌, ◌&&◌, ℕ, Bool, true, false, List, [], ◌∷◌, ◌++◌, Option, Some, None, Result, Ok}
+use Rattle.std.specs.Prelude.{Err}
 use Rattle.pdb_base.specs.declared.error.Error.{Error}
 use Rattle.pdb_base.specs.declared.error.Error.TheVariants.{OutOfMemory}
 use Rattle.pdb_base.specs.Refusal.{refusal_of}
@@ -21,7 +22,8 @@ IsReplied file head (Some query) (Some reply) = IsReply ⊥ reply (reply_of file
 
 -- The lines of the first question and of its answer, followed by those of the others, and whether all are
 -- answered.
-pub record IsAnsweredThen (form : Form) (file : List ℕ) (head : Head) (question : Asking) (others : List ℕ → Bool → Type 0) (lines : List ℕ) (all : Bool) : Type 0 where
+pub record IsAnsweredThen (form : Form) (file : List ℕ) (head : Head) (question : Asking)
+    (others : List ℕ → Bool → Type 0) (lines : List ℕ) (all : Bool) : Type 0 where
   pub reply : Option Reply
   pub is_reply : IsReplied file head question.1 reply
   pub rest : List ℕ
@@ -33,7 +35,8 @@ pub record IsAnsweredThen (form : Form) (file : List ℕ) (head : Head) (questio
 -- the answers to questions, in order
 abbrev pub AreAnswered : Form → List ℕ → Head → List Asking → List ℕ → Bool → Type 0
 AreAnswered form file head [] lines all = (lines ≡ []) × (all ≡ true)
-AreAnswered form file head (question ∷ questions) lines all = IsAnsweredThen form file head question (AreAnswered form file head questions) lines all
+AreAnswered form file head (question ∷ questions) lines all =
+    IsAnsweredThen form file head question (AreAnswered form file head questions) lines all
 
 -- the lines of all answers to the questions of a text, and whether all are answered
 pub record AreLinesOf (form : Form) (file questions : List ℕ) (lines : List ℕ) (all : Bool) : Type 0 where
@@ -45,7 +48,9 @@ pub record AreLinesOf (form : Form) (file questions : List ℕ) (lines : List �
 -- whether all are answered. Or the file is refused, or memory was refused before the first line, and
 -- nothing was written; or the lines were cut short.
 abbrev pub IsAsked : Form → List ℕ → List ℕ → OutputState → OutputState → Result Bool Error → Type 0
-IsAsked form file questions old new (Ok all) = (lines : List ℕ) × AreLinesOf form file questions lines all × Gets old new lines
+IsAsked form file questions old new (Ok all) = (lines : List ℕ) × AreLinesOf form file questions lines all
+    × Gets old new lines
 IsAsked form file questions old new (Err e) =
     ((opened file ≡ Err (refusal_of e)) × (new ≡ old))
-    ⊎ (((e ≡ OutOfMemory) × (new ≡ old)) ⊎ ((lines : List ℕ) × (all : Bool) × AreLinesOf form file questions lines all × IsCutShort lines old new e))
+    ⊎ (((e ≡ OutOfMemory) × (new ≡ old)) ⊎ ((lines : List ℕ) × (all : Bool) × AreLinesOf form file questions lines all
+    × IsCutShort lines old new e))

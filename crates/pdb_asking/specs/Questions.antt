@@ -1,5 +1,6 @@
 -- Questions: the lines of a text, and the query that the words of each line form.
-use Rattle.std.specs.Prelude.{ℕ, Bool, ◌==◌, ◌||◌, if◌then◌else◌, not, filter, List, [], ◌∷◌, length, map, Option, Some, None, option_and_then}
+use Rattle.std.specs.Prelude.{ℕ, Bool, ◌==◌, ◌||◌, if◌then◌else◌, not, filter, List, [], ◌∷◌, length, map, Option, Some}
+use Rattle.std.specs.Prelude.{None, option_and_then}
 use Rattle.std.specs.List.{filter_map, list_all, slice_split}
 use Rattle.std.specs.Str.{is_utf8}
 use Rattle.pdb_cli.specs.Words.{query_of}

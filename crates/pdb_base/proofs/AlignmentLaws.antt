@@ -18,7 +18,8 @@ below number less more lt = elim (cases_lt less more) [
 next_is : (number place : ℕ) → number ≢ 0 → IsNextMultiple number place (div_ceil place number * number)
 next_is number place some =
     let positive : 0 < number = omega (arith, some) in
-    let bounds : (place ≤ div_ceil place number * number) × (div_ceil place number * number < place + number) = div_ceil_times place number positive in
+    let bounds : (place ≤ div_ceil place number * number) × (div_ceil place number * number < place + number) =
+    div_ceil_times place number positive in
     record {
       multiple = mul-mod_left (div_ceil place number) number;
       above = bounds.0;
@@ -26,8 +27,10 @@ next_is number place some =
           let whole : other / number * number + other % number ≡ other = div-add-mod' other number in
           elim (cases_lt other (div_ceil place number * number)) [
             | inl less ↦
-                let lt : other / number * number < div_ceil place number * number = omega (arith, whole, multiple, less) in
-                let far : other / number * number + number ≤ div_ceil place number * number = below number (other / number) (div_ceil place number) lt in
+                let lt : other / number * number < div_ceil place number * number =
+                omega (arith, whole, multiple, less) in
+                let far : other / number * number + number ≤ div_ceil place number * number =
+                below number (other / number) (div_ceil place number) lt in
                 absurd (omega (arith, far, bounds.1, whole, multiple, above))
             | inr enough ↦ enough
           ];

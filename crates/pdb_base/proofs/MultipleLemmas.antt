@@ -5,7 +5,8 @@ use Rattle.std.proofs.lemmas.Bool.{cases_lt}
 use Rattle.std.specs.Int.{div_ceil}
 
 -- one step forward from a place reaches it
-pub next_multiple : (place number : ℕ) → number ≢ 0 → div_ceil place number * number ≡ place + (number - place % number) % number
+pub next_multiple : (place number : ℕ) → number ≢ 0
+    → div_ceil place number * number ≡ place + (number - place % number) % number
 next_multiple place number some =
     let positive : 0 < number = omega (arith, some) in
     let whole : place / number * number + place % number ≡ place = div-add-mod' place number in

@@ -8,14 +8,18 @@ use Rattle.pdb_base.specs.Reading.{number_at}
 use Rattle.pdb_base.specs.Laws.{ReadsSpelling}
 use Rattle.pdb_base.proofs.lemmas.Reading.{number_whole, number_cut}
 
-spelled : (width number : ℕ) (rest : List ℕ) → number < 256 ^ width → number_at width (little_bytes width number ++ rest) ≡ Ok (number, rest)
+spelled : (width number : ℕ) (rest : List ℕ) → number < 256 ^ width
+    → number_at width (little_bytes width number ++ rest) ≡ Ok (number, rest)
 spelled width number rest small =
     let size : length (little_bytes width number) ≡ width = length-bytes_low_first 0 width number in
-    let all : length (little_bytes width number ++ rest) ≡ length (little_bytes width number) + length rest = length-append (little_bytes width number) rest in
+    let all : length (little_bytes width number ++ rest) ≡ length (little_bytes width number) + length rest =
+    length-append (little_bytes width number) rest in
     let is : little_number width (take width (little_bytes width number ++ rest)) ≡ number =
-    little_from-take 0 width width (little_bytes width number ++ rest) (omega arith) ∙ little_number-reads_back width number rest small in
+    little_from-take 0 width width (little_bytes width number ++ rest) (omega arith)
+    ∙ little_number-reads_back width number rest small in
     let behind : drop width (little_bytes width number ++ rest) ≡ rest =
-    ap (λ (n : ℕ). drop n (little_bytes width number ++ rest)) (sym size) ∙ drop-append_seam (little_bytes width number) rest in
+    ap (λ (n : ℕ). drop n (little_bytes width number ++ rest)) (sym size)
+    ∙ drop-append_seam (little_bytes width number) rest in
     number_whole width (little_bytes width number ++ rest) (omega (arith, size, all)) ∙ rw (is, behind) refl
 
 pub reads_spelling : (width : ℕ) (bytes : List ℕ) → ReadsSpelling width bytes

@@ -4,7 +4,8 @@ use Rattle.pdb_base.specs.Bits.{bits}
 
 -- The number in several bits is put together from the lower ones and the higher ones.
 abbrev pub ArePutTogether : ℕ → ℕ → ℕ → ℕ → Type 0
-ArePutTogether word place low high = bits word place (low + high) ≡ bits word (place + low) high * 2 ^ low + bits word place low
+ArePutTogether word place low high = bits word place (low + high)
+    ≡ bits word (place + low) high * 2 ^ low + bits word place low
 
 -- A number that fits in `count` bits is the number in them.
 abbrev pub IsAllItsBits : ℕ → ℕ → Type 0

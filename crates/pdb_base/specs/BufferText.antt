@@ -10,4 +10,5 @@ escaped byte = codes "\\x" ++ replicate (2 - length (digits 16 false byte)) digi
 
 -- the whole slice, however much of it was read, and the position in decimal
 abbrev pub buffer_text : Place → List ℕ
-buffer_text place = codes "ParseBuf::from(\"" ++ flat_map escaped place.slice ++ codes "\").as_bytes() at offset " ++ decimal place.pos
+buffer_text place = codes "ParseBuf::from(\"" ++ flat_map escaped place.slice ++ codes "\").as_bytes() at offset "
+    ++ decimal place.pos

@@ -9,7 +9,8 @@ TellsApart {A} eq = (a b : A) → IsTrue (eq a b) ↔ (a ≡ b)
 
 -- Values compare as less or greater as their numbers do, and as equal exactly if they are the same value.
 abbrev pub OrdersBy : {A : Type 0} → (A → ℕ) → (A → A → Ordering) → Type 0
-OrdersBy {A} number compared = (a b : A) → MatchOrdering (compared a b) (number a < number b) (a ≡ b) (number b < number a)
+OrdersBy {A} number compared = (a b : A) → MatchOrdering (compared a b) (number a < number b) (a ≡ b)
+    (number b < number a)
 
 -- The default value is this value and no other.
 abbrev pub DefaultsTo : {A : Type 0} → (A → Type 0) → A → Type 0

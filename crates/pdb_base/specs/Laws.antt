@@ -1,5 +1,6 @@
 -- The definitions of `Answer`, `Reading`, `Numeric`, `Place`, `Halving` and `Records`, stated in other words.
-use Rattle.std.specs.Prelude.{◌≡◌, ℕ, ◌%◌, ◌+◌, ◌*◌, ◌/◌, ◌<◌, ◌≤◌, ◌^◌, List, ◌∷◌, ◌++◌, length, map, drop, slice_get, Some, None, Ok, Err}
+use Rattle.std.specs.Prelude.{◌≡◌, ℕ, ◌%◌, ◌+◌, ◌*◌, ◌/◌, ◌<◌, ◌≤◌, ◌^◌, List, ◌∷◌, ◌++◌, length, map, drop, slice_get}
+use Rattle.std.specs.Prelude.{Some, None, Ok, Err}
 use Rattle.byteorder.specs.Endian.{little_bytes}
 use Rattle.pdb_base.specs.Refusal.{Refusal, unexpected_eof, unexpected_numeric_prefix}
 use Rattle.pdb_base.specs.Answer.{Answer, collected}
@@ -20,14 +21,17 @@ CollectsAll {A} answers =
 -- and then it gives the first one.
 abbrev pub RefusesAsFirst : {A : Type 0} → List (Answer A) → Type 0
 RefusesAsFirst {A} answers =
-    ((e : Refusal) → collected answers ≡ Err e → (before : List A) × (behind : List (Answer A)) × (answers ≡ map (λ x. Ok x) before ++ Err e ∷ behind))
-    × ((e : Refusal) (before : List A) (behind : List (Answer A)) → answers ≡ map (λ x. Ok x) before ++ Err e ∷ behind → collected answers ≡ Err e)
+    ((e : Refusal) → collected answers ≡ Err e → (before : List A) × (behind : List (Answer A))
+    × (answers ≡ map (λ x. Ok x) before ++ Err e ∷ behind))
+    × ((e : Refusal) (before : List A) (behind : List (Answer A)) → answers ≡ map (λ x. Ok x) before ++ Err e ∷ behind
+    → collected answers ≡ Err e)
 
 -- If bytes begin with the little-endian spelling of a number, that number is read, with the rest. If there
 -- are too few bytes, reading fails with `unexpected_eof`.
 abbrev pub ReadsSpelling : ℕ → List ℕ → Type 0
 ReadsSpelling width bytes =
-    ((number : ℕ) (rest : List ℕ) → number < 256 ^ width → bytes ≡ little_bytes width number ++ rest → number_at width bytes ≡ Ok (number, rest))
+    ((number : ℕ) (rest : List ℕ) → number < 256 ^ width → bytes ≡ little_bytes width number ++ rest
+    → number_at width bytes ≡ Ok (number, rest))
     × (length bytes < width → number_at width bytes ≡ Err unexpected_eof)
 
 -- The bytes begin with two bytes that should be a prefix, since they spell 0x8000 or more, but
@@ -40,9 +44,12 @@ pub record BeginsBadly (leaves : List (ℕ × NumberKind)) (bytes : List ℕ) (p
 
 -- If bytes begin with an unknown prefix, reading fails with a refusal that names it. Otherwise it fails only
 -- because the bytes end too soon.
-pub record RefusesPrefixFirst {A : Type 0} (leaves : List (ℕ × NumberKind)) (read : List ℕ → Answer (A × List ℕ)) : Type 0 where
-  pub named : (bytes : List ℕ) (prefix : ℕ) → BeginsBadly leaves bytes prefix → read bytes ≡ Err (unexpected_numeric_prefix prefix)
-  pub short : (bytes : List ℕ) (e : Refusal) → ((prefix : ℕ) → ¬ BeginsBadly leaves bytes prefix) → read bytes ≡ Err e → e ≡ unexpected_eof
+pub record RefusesPrefixFirst {A : Type 0} (leaves : List (ℕ × NumberKind))
+    (read : List ℕ → Answer (A × List ℕ)) : Type 0 where
+  pub named : (bytes : List ℕ) (prefix : ℕ) → BeginsBadly leaves bytes prefix
+      → read bytes ≡ Err (unexpected_numeric_prefix prefix)
+  pub short : (bytes : List ℕ) (e : Refusal) → ((prefix : ℕ) → ¬ BeginsBadly leaves bytes prefix) → read bytes ≡ Err e
+      → e ≡ unexpected_eof
 
 -- `next` is the least multiple of a number at or above a place.
 pub record IsNextMultiple (number place next : ℕ) : Type 0 where
@@ -66,4 +73,5 @@ pub record IsLeastToHold (number bits : ℕ) : Type 0 where
 -- The bytes spell as many values as fit, and each is read where the one before it ends.
 pub record AreReadInTurn {A : Type 0} (size : ℕ) (value : List ℕ → A) (bytes : List ℕ) : Type 0 where
   pub count : length (spelled size value bytes) ≡ length bytes / size
-  pub each : (k : ℕ) (x : A) → slice_get (spelled size value bytes) k ≡ Some x → read_as value (front_at size (drop (size * k) bytes)) ≡ Ok (x, drop (size * (k + 1)) bytes)
+  pub each : (k : ℕ) (x : A) → slice_get (spelled size value bytes) k ≡ Some x
+      → read_as value (front_at size (drop (size * k) bytes)) ≡ Ok (x, drop (size * (k + 1)) bytes)

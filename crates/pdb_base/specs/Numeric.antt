@@ -1,6 +1,7 @@
 -- Numbers of variable width. A number below 0x8000 stands for itself, in two bytes. Any other follows a
 -- prefix of two bytes that says its kind: a numeric leaf of Microsoft's cvinfo.h.
-use Rattle.std.specs.Prelude.{ℕ, Bool, true, false, ◌==◌, nat_lt, if◌then◌else◌, List, [], ◌∷◌, filter, Option, Some, None, Ok, Err}
+use Rattle.std.specs.Prelude.{ℕ, Bool, true, false, ◌==◌, nat_lt, if◌then◌else◌, List, [], ◌∷◌, filter, Option, Some}
+use Rattle.std.specs.Prelude.{None, Ok, Err}
 use Rattle.std.specs.Fmt.{decimal, signed_decimal}
 use Rattle.std.specs.Int.{w16, w32, w64, cast_signed}
 use Rattle.std.specs.Map.{lookup}
@@ -78,13 +79,15 @@ variant_of numeral = variant_of_kind numeral.kind numeral.number
 -- the number of that kind at the front of bytes; a prefix that says no kind is refused
 abbrev pub number_of_kind : ℕ → Option NumberKind → List ℕ → Answer (Numeral × List ℕ)
 number_of_kind prefix None bytes = Err (unexpected_numeric_prefix prefix)
-number_of_kind prefix (Some kind) bytes = number_at (bytes_of kind) bytes >>= λ number. Ok (record { kind = kind; number = number.0 }, number.1)
+number_of_kind prefix (Some kind) bytes = number_at (bytes_of kind) bytes
+    >>= λ number. Ok (record { kind = kind; number = number.0 }, number.1)
 
 -- the number whose first two bytes are `prefix`: `prefix` itself if it is below 0x8000, and
 -- otherwise the number that follows it
 unfoldable pub numeral_behind : List (ℕ × NumberKind) → ℕ → List ℕ → Answer (Numeral × List ℕ)
 numeral_behind leaves prefix bytes =
-    if nat_lt prefix least_leaf then Ok (record { kind = u16; number = prefix }, bytes) else number_of_kind prefix (kind_behind leaves prefix) bytes
+    if nat_lt prefix least_leaf then Ok (record { kind = u16; number = prefix }, bytes) else number_of_kind prefix
+    (kind_behind leaves prefix) bytes
 
 -- the number of variable width at the front of bytes, with these leaves as its prefixes
 unfoldable pub numeral_at : List (ℕ × NumberKind) → List ℕ → Answer (Numeral × List ℕ)

@@ -27,4 +27,5 @@ aligned alignment place =
 -- the first `len` bytes of the slice, if it has them; a position after them moves to their end
 unfoldable pub cut : ℕ → Place → Answer Place
 cut len place =
-    if nat_le len (length place.slice) then Ok (record { slice = take len place.slice; pos = min place.pos len }) else Err unexpected_eof
+    if nat_le len (length place.slice) then Ok
+    (record { slice = take len place.slice; pos = min place.pos len }) else Err unexpected_eof

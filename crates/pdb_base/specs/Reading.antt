@@ -16,7 +16,8 @@ read_as meant read = read >>= λ value. Ok (meant value.0, value.1)
 
 -- the first `count` bytes
 unfoldable pub front_at : ℕ → List ℕ → Answer (List ℕ × List ℕ)
-front_at count bytes = if nat_lt (length bytes) count then Err unexpected_eof else Ok (take count bytes, drop count bytes)
+front_at count bytes = if nat_lt (length bytes) count then Err unexpected_eof else Ok
+    (take count bytes, drop count bytes)
 
 -- the little-endian number in the first `width` bytes
 unfoldable pub number_at : ℕ → List ℕ → Answer (ℕ × List ℕ)

@@ -5,7 +5,8 @@ use Rattle.pdb_base.specs.Answer.{Answer, ◌>>=◌}
 -- `front` spells the values, each after the one before.
 abbrev pub SpellsEach : {A : Type 0} → (A → List ℕ → Type 0) → List A → List ℕ → Type 0
 SpellsEach {A} Spells [] front = front ≡ []
-SpellsEach {A} Spells (x ∷ xs) front = (head : List ℕ) × (tail : List ℕ) × Spells x head × SpellsEach Spells xs tail × (head ++ tail ≡ front)
+SpellsEach {A} Spells (x ∷ xs) front = (head : List ℕ) × (tail : List ℕ) × Spells x head × SpellsEach Spells xs tail
+    × (head ++ tail ≡ front)
 
 -- `count` values, each read after the one before
 abbrev pub repeated : {A : Type 0} → (List ℕ → Answer (A × List ℕ)) → ℕ → List ℕ → Answer (List A × List ℕ)

@@ -5,7 +5,8 @@ use Rattle.std.specs.Int.{Width, cast_signed}
 use Rattle.byteorder.specs.Endian.{little_number}
 use Rattle.pdb_base.specs.declared.variant.Variant.{Variant}
 use Rattle.pdb_base.specs.Answer.{Answer}
-use Rattle.pdb_base.specs.Numeric.{NumberKind, u16, Numeral, least_leaf, numeric_leaves, unsigned_leaves, kind_behind, bytes_of, variant_of}
+use Rattle.pdb_base.specs.Numeric.{NumberKind, u16, Numeral, least_leaf, numeric_leaves, unsigned_leaves, kind_behind}
+use Rattle.pdb_base.specs.Numeric.{bytes_of, variant_of}
 
 -- `front` spells a number in `width` bytes, little-endian.
 pub record SpellsNumber (width number : ℕ) (front : List ℕ) : Type 0 where
@@ -60,13 +61,17 @@ pub record SpellsVariant (value : Variant) (front : List ℕ) : Type 0 where
   pub is : variant_of numeral ≡ value
 
 -- The bytes begin with a front that spells the value, and the rest follows it.
-pub record Begins {A : Type 0} (Spells : A → List ℕ → Type 0) (bytes : List ℕ) (value : A) (rest : List ℕ) : Type 0 where
+pub record Begins {A : Type 0} (Spells : A → List ℕ → Type 0) (bytes : List ℕ) (value : A)
+    (rest : List ℕ) : Type 0 where
   pub front : List ℕ
   pub spelled : Spells value front
   pub is : front ++ rest ≡ bytes
 
 -- A reader reads exactly what is spelled: the value that a front of the bytes spells, and the rest. So at
 -- most one front of any bytes spells a value.
-pub record ReadsWhatIsSpelled {A : Type 0} (Spells : A → List ℕ → Type 0) (read : List ℕ → Answer (A × List ℕ)) : Type 0 where
-  pub found : (bytes : List ℕ) (value : A) (rest : List ℕ) → read bytes ≡ Ok (value, rest) → Begins Spells bytes value rest
-  pub only : (bytes : List ℕ) (value : A) (rest : List ℕ) → Begins Spells bytes value rest → read bytes ≡ Ok (value, rest)
+pub record ReadsWhatIsSpelled {A : Type 0} (Spells : A → List ℕ → Type 0)
+    (read : List ℕ → Answer (A × List ℕ)) : Type 0 where
+  pub found : (bytes : List ℕ) (value : A) (rest : List ℕ) → read bytes ≡ Ok (value, rest)
+      → Begins Spells bytes value rest
+  pub only : (bytes : List ℕ) (value : A) (rest : List ℕ) → Begins Spells bytes value rest
+      → read bytes ≡ Ok (value, rest)

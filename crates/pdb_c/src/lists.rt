@@ -28,7 +28,8 @@ pub extern "C" fn pdb_type_methods(
     copy_if(methods_of(alloc, bytes, index), room, length).tell(fault)
 }
 
-/// Copies the size of an array in bytes up to each dimension, the innermost first.
+/// Copies the size of an array in bytes up to each dimension, the innermost first, each including
+/// those before it.
 #[unsafe(no_mangle)]
 pub extern "C" fn pdb_type_dimensions(
     alloc: Global,

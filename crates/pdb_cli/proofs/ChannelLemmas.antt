@@ -5,12 +5,19 @@ use Rattle.pdb_cli.specs.Channels.{IsShownOf}
 use Rattle.pdb_cli.specs.Printed.{Shows, asked}
 
 -- what words ask is shown of the file that was read
-pub shown_of : (words texts : List (List ℕ)) (had : Option (List ℕ)) (file : List ℕ) (outcome : Outcome) → words ≡ texts → IfSome had (λ bytes. file ≡ bytes)
+pub shown_of : (words texts : List (List ℕ)) (had : Option (List ℕ)) (file : List ℕ) (outcome : Outcome) → words ≡ texts
+    → IfSome had (λ bytes. file ≡ bytes)
     → Shows (asked texts file) outcome → IsShownOf words had outcome
 shown_of words texts had file outcome same whole shows =
-    record { file = file; whole = whole; shows = subst (λ (ws : List (List ℕ)). Shows (asked ws file) outcome) (sym same) shows }
+    record {
+      file = file;
+      whole = whole;
+      shows =
+          subst (λ (ws : List (List ℕ)). Shows (asked ws file) outcome) (sym same) shows;
+    }
 
 -- without words no input is asked
-pub shown_of_nothing : (words : List (List ℕ)) (had : Option (List ℕ)) (outcome : Outcome) → words ≡ [] → Shows (asked [] []) outcome → IsShownOf words had outcome
+pub shown_of_nothing : (words : List (List ℕ)) (had : Option (List ℕ)) (outcome : Outcome) → words ≡ []
+    → Shows (asked [] []) outcome → IsShownOf words had outcome
 shown_of_nothing words None outcome none shows = shown_of words [] None [] outcome none tt shows
 shown_of_nothing words (Some bytes) outcome none shows = shown_of words [] (Some bytes) bytes outcome none refl shows

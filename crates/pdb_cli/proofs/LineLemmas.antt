@@ -1,6 +1,7 @@
 -- Lines of hexadecimal digits, one after another.
 use Rattle.std.specs.Int.{div_ceil}
-use Rattle.std.proofs.Common.{◌≡◌, ℕ, ◌+◌, ◌-◌, ◌*◌, ◌^◌, ◌<◌, ◌≤◌, List, [], ◌∷◌, ◌++◌, length, map, replicate, take, drop, get_or, false, sym, ap, ◌∙◌, arith, min, Option, Bor}
+use Rattle.std.proofs.Common.{◌≡◌, ℕ, ◌+◌, ◌-◌, ◌*◌, ◌^◌, ◌<◌, ◌≤◌, List, [], ◌∷◌, ◌++◌, length, map, replicate, take}
+use Rattle.std.proofs.Common.{drop, get_or, false, sym, ap, ◌∙◌, arith, min, Option, Bor}
 use Rattle.std.specs.Global.{Vec}
 use Rattle.std.specs.Option.{option_map}
 use Rattle.std.specs.Fmt.{padded_integral, format_spec}
@@ -29,28 +30,34 @@ lines_more all n =
     ∙ ap (λ (r : List ℕ). lines_to all n ++ r) (append-nil (hex_line (line_of all n)))
 
 -- the next of the pieces of what is left is the next line, and behind it stands what is left then
-pub piece_is_line : (all piece rest : List ℕ) (n : ℕ) → drop (32 * n) all ≡ piece ++ rest → length piece ≡ min 32 (length (drop (32 * n) all))
+pub piece_is_line : (all piece rest : List ℕ) (n : ℕ) → drop (32 * n) all ≡ piece ++ rest
+    → length piece ≡ min 32 (length (drop (32 * n) all))
     → (piece ≡ line_of all n) × (rest ≡ drop (32 * (n + 1)) all)
 piece_is_line all piece rest n is long =
     let left = drop (32 * n) all in (
-      sym (take-append_seam piece rest) ∙ ap (λ (k : ℕ). take k (piece ++ rest)) long ∙ ap (λ (xs : List ℕ). take (min 32 (length left)) xs) (sym is) ∙ take_min 32 left,
-      sym (drop-append_seam piece rest) ∙ ap (λ (k : ℕ). drop k (piece ++ rest)) long ∙ ap (λ (xs : List ℕ). drop (min 32 (length left)) xs) (sym is)
+      sym (take-append_seam piece rest) ∙ ap (λ (k : ℕ). take k (piece ++ rest)) long
+          ∙ ap (λ (xs : List ℕ). take (min 32 (length left)) xs) (sym is) ∙ take_min 32 left,
+      sym (drop-append_seam piece rest) ∙ ap (λ (k : ℕ). drop k (piece ++ rest)) long
+          ∙ ap (λ (xs : List ℕ). drop (min 32 (length left)) xs) (sym is)
           ∙ drop_min 32 left ∙ drop-drop 32 (32 * n) all ∙ ap (λ (k : ℕ). drop k all) (omega arith),
     )
 
 -- as long as something is left there is another line
-pub line_left : (all : List ℕ) (n : ℕ) → 0 < length (drop (32 * n) all) → n ≤ div_ceil (length all) 32 → n + 1 ≤ div_ceil (length all) 32
+pub line_left : (all : List ℕ) (n : ℕ) → 0 < length (drop (32 * n) all) → n ≤ div_ceil (length all) 32
+    → n + 1 ≤ div_ceil (length all) 32
 line_left all n some most = omega (arith, some, most, length-drop (32 * n) all)
 
 -- and where nothing is left, those are all
-pub no_line_left : (all : List ℕ) (n : ℕ) → length (drop (32 * n) all) ≡ 0 → n ≤ div_ceil (length all) 32 → lines_to all n ≡ hex_lines all
+pub no_line_left : (all : List ℕ) (n : ℕ) → length (drop (32 * n) all) ≡ 0 → n ≤ div_ceil (length all) 32
+    → lines_to all n ≡ hex_lines all
 unfolding hex_lines
 no_line_left all n none most =
     let same : n ≡ div_ceil (length all) 32 = omega (arith, none, most, length-drop (32 * n) all) in
     ap (lines_to all) same
 
 -- what `{:04x}` writes
-pub four_digits : (digits : List ℕ) → padded_integral (format_spec 32 0 4 4 (2 ^ 64 - 1)) false [] digits ≡ replicate (4 - length digits) 48 ++ digits
+pub four_digits : (digits : List ℕ) → padded_integral (format_spec 32 0 4 4 (2 ^ 64 - 1)) false [] digits
+    ≡ replicate (4 - length digits) 48 ++ digits
 four_digits digits = padded_with_zeros digits
 
 -- the line of a name that a reply holds
@@ -58,19 +65,25 @@ abbrev pub held_line : Option (Vec ℕ) → List ℕ
 held_line name = line (name_text (option_map (λ copy. copy.items) name))
 
 -- one line more
-pub name_line_more : (names : List (Option (Vec ℕ))) (i : ℕ) (d : Option (Vec ℕ)) (so_far out : List ℕ) (shown : Option (Bor (List ℕ))) → i < length names → so_far ≡ flat_map held_line (take i names)
-    → option_map (λ text. text.now) shown ≡ option_map (λ copy. copy.items) (get_or names i d) → out ≡ so_far ++ line (name_text (option_map (λ text. text.now) shown)) → out ≡ flat_map held_line (take (i + 1) names)
+pub name_line_more : (names : List (Option (Vec ℕ))) (i : ℕ) (d : Option (Vec ℕ)) (so_far out : List ℕ)
+    (shown : Option (Bor (List ℕ))) → i < length names → so_far ≡ flat_map held_line (take i names)
+    → option_map (λ text. text.now) shown ≡ option_map (λ copy. copy.items) (get_or names i d) → out ≡ so_far
+    ++ line (name_text (option_map (λ text. text.now) shown)) → out ≡ flat_map held_line (take (i + 1) names)
 name_line_more names i d so_far out shown within is same more =
     more
     ∙ ap (λ (front : List ℕ). front ++ line (name_text (option_map (λ text. text.now) shown))) is
     ∙ ap (λ (name : Option (List ℕ)). flat_map held_line (take i names) ++ line (name_text name)) same
-    ∙ ap (λ (last : List ℕ). flat_map held_line (take i names) ++ last) (sym (append-nil (held_line (get_or names i d))))
+    ∙ ap (λ (last : List ℕ). flat_map held_line (take i names) ++ last)
+    (sym (append-nil (held_line (get_or names i d))))
     ∙ sym (flat_map-append held_line (take i names) (get_or names i d ∷ []))
     ∙ ap (flat_map held_line) (sym (take_more names i d within))
 
 -- and the lines of all names
-pub name_lines_whole : (names : List (Option (Vec ℕ))) (i : ℕ) (out : List ℕ) → length names ≤ i → out ≡ flat_map held_line (take i names) → out ≡ name_lines (map (λ name. option_map (λ copy. copy.items) name) names)
+pub name_lines_whole : (names : List (Option (Vec ℕ))) (i : ℕ) (out : List ℕ) → length names ≤ i
+    → out ≡ flat_map held_line (take i names)
+    → out ≡ name_lines (map (λ name. option_map (λ copy. copy.items) name) names)
 unfolding name_lines
 name_lines_whole names i out past is =
     is ∙ ap (flat_map held_line) (take_all i names past)
-    ∙ sym (flat_map-map (λ (name : Option (List ℕ)). line (name_text name)) (λ (name : Option (Vec ℕ)). option_map (λ copy. copy.items) name) names)
+    ∙ sym (flat_map-map (λ (name : Option (List ℕ)). line (name_text name))
+    (λ (name : Option (Vec ℕ)). option_map (λ copy. copy.items) name) names)

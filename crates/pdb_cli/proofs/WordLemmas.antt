@@ -1,5 +1,6 @@
 -- Digits, one after another.
-use Rattle.std.proofs.Common.{◌≡◌, ℕ, ◌+◌, ◌*◌, ◌<◌, ◌≤◌, Bool, cond, ◌&&◌, ltb, leb, true, false, List, [], ◌∷◌, length, get_or, take, refl, sym, ap, ◌∙◌, arith, Some, None}
+use Rattle.std.proofs.Common.{◌≡◌, ℕ, ◌+◌, ◌*◌, ◌<◌, ◌≤◌, Bool, cond, ◌&&◌, ltb, leb, true, false, List, [], ◌∷◌}
+use Rattle.std.proofs.Common.{length, get_or, take, refl, sym, ap, ◌∙◌, arith, Some, None}
 use Rattle.std.specs.Char.{digit_value}
 use Rattle.std.specs.Str.Parse.{digits_value}
 use Rattle.std.proofs.lemmas.Bool.{lt-ltb, le-ltb, le-leb, lt-leb}
@@ -15,13 +16,17 @@ pub record HasRead (base : ℕ) (digits : List ℕ) (i value : ℕ) : Type 0 whe
   pub value_is : value ≡ digits_value base (take i digits)
   pub all : are_digits base (take i digits) ≡ true
 
-pub read_more : (base : ℕ) (digits : List ℕ) (i value : ℕ) → i < length digits → HasRead base digits i value → digit_value (get_or digits i 0) < base
+pub read_more : (base : ℕ) (digits : List ℕ) (i value : ℕ) → i < length digits → HasRead base digits i value
+    → digit_value (get_or digits i 0) < base
     → HasRead base digits (i + 1) (value * base + digit_value (get_or digits i 0))
 read_more base digits i value within read digit =
     let here : ltb (digit_value (get_or digits i 0)) base ≡ true = lt-ltb _ _ digit in
     record {
-      value_is = ap (λ (v : ℕ). v * base + digit_value (get_or digits i 0)) read.value_is ∙ sym (digits_value_more base digits i within);
-      all = ap (are_digits base) (take_more digits i 0 within) ∙ list_all-append (λ c. ltb (digit_value c) base) (take i digits) (get_or digits i 0 ∷ []) ∙ rw (read.all, here) refl;
+      value_is = ap (λ (v : ℕ). v * base + digit_value (get_or digits i 0)) read.value_is
+          ∙ sym (digits_value_more base digits i within);
+      all = ap (are_digits base) (take_more digits i 0 within)
+          ∙ list_all-append (λ c. ltb (digit_value c) base) (take i digits) (get_or digits i 0 ∷ [])
+          ∙ rw (read.all, here) refl;
     }
 
 after_and : (b : Bool) (x : ℕ) → cond (b && false) (Some x) None ≡ None
@@ -37,25 +42,31 @@ not_all : (base most : ℕ) (digits : List ℕ) → are_digits base digits ≡ f
 unfolding spelled
 not_all base most digits none = rw none (after_and (ltb 0 (length digits) && leb (length digits) most) _)
 
-not_small : (base most : ℕ) (digits : List ℕ) → leb (digits_value base digits) 0xffffffff ≡ false → spelled base most digits ≡ None
+not_small : (base most : ℕ) (digits : List ℕ) → leb (digits_value base digits) 0xffffffff ≡ false
+    → spelled base most digits ≡ None
 unfolding spelled
-not_small base most digits none = rw none (after_and2 (ltb 0 (length digits) && leb (length digits) most) (are_digits base digits) _)
+not_small base most digits none = rw none
+    (after_and2 (ltb 0 (length digits) && leb (length digits) most) (are_digits base digits) _)
 
 -- a byte that is no digit spells no number
-pub no_digit : (base most : ℕ) (digits : List ℕ) (i : ℕ) → i < length digits → base ≤ digit_value (get_or digits i 0) → spelled base most digits ≡ None
+pub no_digit : (base most : ℕ) (digits : List ℕ) (i : ℕ) → i < length digits → base ≤ digit_value (get_or digits i 0)
+    → spelled base most digits ≡ None
 no_digit base most digits i within above =
     let here : ltb (digit_value (get_or digits i 0)) base ≡ false = le-ltb _ _ above in
-    let none : are_digits base digits ≡ false = and_fails_at (are_digits base) (λ c. ltb (digit_value c) base) refl (λ _ _. refl) digits i 0 within here in
+    let none : are_digits base digits ≡ false =
+    and_fails_at (are_digits base) (λ c. ltb (digit_value c) base) refl (λ _ _. refl) digits i 0 within here in
     not_all base most digits none
 
 -- nor do digits whose number is too large already
-pub too_large : (base most : ℕ) (digits : List ℕ) (i : ℕ) → 1 ≤ base → 0xffffffff < digits_value base (take i digits) → spelled base most digits ≡ None
+pub too_large : (base most : ℕ) (digits : List ℕ) (i : ℕ) → 1 ≤ base → 0xffffffff < digits_value base (take i digits)
+    → spelled base most digits ≡ None
 too_large base most digits i positive large =
     let le = digits_value-take-le base digits i positive in
     not_small base most digits (lt-leb (digits_value base digits) 0xffffffff (omega arith))
 
 -- digits that were all read, and whose number fits, spell it
-pub is_number : (base most : ℕ) (digits : List ℕ) (i value : ℕ) → 0 < length digits → length digits ≤ most → length digits ≤ i → HasRead base digits i value → value ≤ 0xffffffff → spelled base most digits ≡ Some value
+pub is_number : (base most : ℕ) (digits : List ℕ) (i value : ℕ) → 0 < length digits → length digits ≤ most
+    → length digits ≤ i → HasRead base digits i value → value ≤ 0xffffffff → spelled base most digits ≡ Some value
 unfolding spelled
 is_number base most digits i value some few whole read fits =
     let end = take_all i digits whole in

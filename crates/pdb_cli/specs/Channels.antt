@@ -1,5 +1,6 @@
 -- What the program reads from its channels, what it writes to each, and how it ends.
-use Rattle.std.specs.Prelude.{◌≡◌, ◌≢◌, ◌⊎◌, true, List, map, drop, ℕ, Option, Result, Ok, Err, IfSome, ⊤, String, string_bytes}
+use Rattle.std.specs.Prelude.{◌≡◌, ◌≢◌, ◌⊎◌, true, List, map, drop, ℕ, Option, Result, Ok, Err, IfSome, ⊤, String}
+use Rattle.std.specs.Prelude.{string_bytes}
 use Rattle.std.specs.Global.{Global}
 use Rattle.std.specs.declared.vec.IntoIter.{IntoIter}
 use Rattle.std.specs.Vec.Iter.{into_iter_items}
@@ -72,7 +73,11 @@ pub record IsTold (fault : Error) (err err' : OutputState) (status : ℕ) : Type
 -- What the program did: it showed what was asked, each part on its output; or it reported why there was
 -- nothing to show, and wrote no output; or it reported that standard output failed, which received a
 -- prefix of what was to be shown.
-pub data IsServed (call : Result Arguments io.Error) (had : Option (List ℕ)) (out out' err err' : OutputState) (status : ℕ) : Type 0 where
-  shown : (outcome : Outcome) → IsShownOfCall call had outcome → IsWritten outcome out out' err err' status → IsServed call had out out' err err' status
-  refused : (fault : Error) → IsFault fault → out' ≡ out → IsTold fault err err' status → IsServed call had out out' err err' status
-  cut : (outcome : Outcome) (fault : Error) → IsShownOfCall call had outcome → IsCut outcome out out' fault → IsTold fault err err' status → IsServed call had out out' err err' status
+pub data IsServed (call : Result Arguments io.Error) (had : Option (List ℕ)) (out out' err err' : OutputState)
+    (status : ℕ) : Type 0 where
+  shown : (outcome : Outcome) → IsShownOfCall call had outcome → IsWritten outcome out out' err err' status
+      → IsServed call had out out' err err' status
+  refused : (fault : Error) → IsFault fault → out' ≡ out → IsTold fault err err' status
+      → IsServed call had out out' err err' status
+  cut : (outcome : Outcome) (fault : Error) → IsShownOfCall call had outcome → IsCut outcome out out' fault
+      → IsTold fault err err' status → IsServed call had out out' err err' status

@@ -38,7 +38,8 @@ name_text None = codes "-"
 -- the line of a record: its index, its kind in at least four digits, and its name, with spaces between
 -- them
 unfoldable pub record_line : ℕ → ℕ → Option (List ℕ) → List ℕ
-record_line index kind name = line (hexadecimal index ++ codes " " ++ hexadecimal_of_four kind ++ codes " " ++ name_text name)
+record_line index kind name = line (hexadecimal index ++ codes " " ++ hexadecimal_of_four kind ++ codes " "
+    ++ name_text name)
 
 -- a line for each name
 unfoldable pub name_lines : List (Option (List ℕ)) → List ℕ

@@ -1,5 +1,6 @@
 -- The words that the program takes.
-use Rattle.std.specs.Prelude.{ℕ, Bool, ◌&&◌, nat_eq, nat_lt, nat_le, if◌then◌else◌, List, [], ◌∷◌, length, drop, codes, Option, Some, None, option_and_then}
+use Rattle.std.specs.Prelude.{ℕ, Bool, ◌&&◌, nat_eq, nat_lt, nat_le, if◌then◌else◌, List, [], ◌∷◌, length, drop, codes}
+use Rattle.std.specs.Prelude.{Option, Some, None, option_and_then}
 use Rattle.std.specs.Option.{option_map}
 use Rattle.std.specs.List.{starts_with, list_all}
 use Rattle.std.specs.Cmp.Lexicographic.{pointwise}
@@ -15,7 +16,8 @@ are_digits base digits = list_all (λ digit. nat_lt (digit_value digit) base) di
 -- the number of one to `most` digits, if it fits 32 bits
 unfoldable pub spelled : ℕ → ℕ → List ℕ → Option ℕ
 spelled base most digits =
-    if (nat_lt 0 (length digits) && nat_le (length digits) most) && (are_digits base digits && nat_le (digits_value base digits) 0xffffffff)
+    if (nat_lt 0 (length digits) && nat_le (length digits) most)
+    && (are_digits base digits && nat_le (digits_value base digits) 0xffffffff)
     then Some (digits_value base digits) else None
 
 -- the number that a word of 1 to 10 decimal digits, or of `0x` and 1 to 8 hexadecimal digits of either
@@ -35,7 +37,8 @@ stream_asked words = option_map (λ two. queries.Stream two.0 (Some two.1)) (two
 
 -- `S A B`: the number of a table's stream, and the ends of a range
 unfoldable pub ranges_asked : List (List ℕ) → Option Query
-ranges_asked (stream ∷ ends) = option_and_then (λ s. option_map (λ two. queries.Ranges s two.0 two.1) (two_numbers ends)) (number_of stream)
+ranges_asked (stream ∷ ends) = option_and_then
+    (λ s. option_map (λ two. queries.Ranges s two.0 two.1) (two_numbers ends)) (number_of stream)
 ranges_asked [] = None
 
 -- whether two words are the same

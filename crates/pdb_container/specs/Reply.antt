@@ -128,10 +128,13 @@ pub record AreMoved (table : List OmapValue) (asked : Range ℕ) (ranges : List 
 -- refused, or is another fault of the source, which is possible only if `failed` holds.
 abbrev pub IsReply : Type 0 → Reply → Answer ReplyValue → Type 0
 IsReply failed (replies.Bytes stream) meant = meant ≡ Ok (bytes stream.items)
-IsReply failed (replies.Record index kind text) meant = meant ≡ Ok (item_record index kind (option_map (λ copy. copy.items) text))
-IsReply failed (replies.Fields names) meant = meant ≡ Ok (fields (map (λ name. option_map (λ copy. copy.items) name) names.items))
+IsReply failed (replies.Record index kind text) meant =
+    meant ≡ Ok (item_record index kind (option_map (λ copy. copy.items) text))
+IsReply failed (replies.Fields names) meant =
+    meant ≡ Ok (fields (map (λ name. option_map (λ copy. copy.items) name) names.items))
 IsReply failed (replies.Name text) meant = meant ≡ Ok (name text.items)
-IsReply failed (replies.Ranges ranges) meant = (table : List OmapValue) × (asked : Range ℕ) × (meant ≡ Ok (moved table asked)) × AreMoved table asked ranges.items
+IsReply failed (replies.Ranges ranges) meant = (table : List OmapValue) × (asked : Range ℕ)
+    × (meant ≡ Ok (moved table asked)) × AreMoved table asked ranges.items
 IsReply failed (replies.Refused e) meant = RefusesUnless failed e meant
 
 -- A call that takes memory and reads no source returns the reply that is meant, or fails with the refusal
@@ -149,10 +152,12 @@ RepliesUnless failed (Err e) meant = RefusesUnless failed e meant
 -- one reply to each query, in order
 abbrev pub AreReplies : Type 0 → List ℕ → Head → List Query → List Reply → Type 0
 AreReplies failed file head [] [] = ⊤
-AreReplies failed file head (query ∷ queries) (reply ∷ replies) = IsReply failed reply (reply_of file head query) × AreReplies failed file head queries replies
+AreReplies failed file head (query ∷ queries) (reply ∷ replies) = IsReply failed reply (reply_of file head query)
+    × AreReplies failed file head queries replies
 AreReplies failed file head _ _ = ⊥
 
 -- A run returns the replies of the file, or fails as opening the file does.
 abbrev pub IsRun : Type 0 → List ℕ → List Query → Result (Vec Reply) Error → Type 0
-IsRun failed file queries (Ok replies) = (head : Head) × (opened file ≡ Ok head) × AreReplies failed file head queries replies.items
+IsRun failed file queries (Ok replies) = (head : Head) × (opened file ≡ Ok head)
+    × AreReplies failed file head queries replies.items
 IsRun failed file queries (Err e) = RefusesUnless failed e (opened file)

@@ -1,5 +1,6 @@
 -- What the uses give of a file's bytes.
-use Rattle.std.specs.Prelude.{◌≡◌, ℕ, ◌+◌, ◌<◌, Bool, false, if◌then◌else◌, List, [], ◌∷◌, length, Option, Some, None, IfSome, Ok, Err}
+use Rattle.std.specs.Prelude.{◌≡◌, ℕ, ◌+◌, ◌<◌, Bool, false, if◌then◌else◌, List, [], ◌∷◌, length, Option, Some, None}
+use Rattle.std.specs.Prelude.{IfSome, Ok, Err}
 use Rattle.std.specs.List.{filter, filter_map, range_with_len}
 use Rattle.std.specs.Option.{option_map, option_map_or}
 use Rattle.std.specs.Str.{bytes_eq}
@@ -38,7 +39,8 @@ sized number (Err refusal) = None
 
 -- the streams among the first so many numbers, each with its size
 unfoldable pub sizes_of : ℕ → List ℕ → Head → List (ℕ × ℕ)
-sizes_of count file head = filter_map (λ number. sized number (stream_of file head number None)) (range_with_len 0 count)
+sizes_of count file head = filter_map (λ number. sized number (stream_of file head number None))
+    (range_with_len 0 count)
 
 -- ---- types
 
@@ -51,7 +53,8 @@ has_name name (Err refusal) = false
 abbrev pub indexes_named : List ℕ → ℕ → List (List ℕ) → List ℕ
 indexes_named name index [] = []
 indexes_named name index (item ∷ items) =
-    if has_name name (type_of index item) then index ∷ indexes_named name (index + 1) items else indexes_named name (index + 1) items
+    if has_name name (type_of index item) then index
+    ∷ indexes_named name (index + 1) items else indexes_named name (index + 1) items
 
 -- the indexes of all types of this name that a table has
 abbrev pub types_in : List ℕ → Table → List ℕ
@@ -111,7 +114,8 @@ pub record AreSorted (map : AddressMapValue) : Type 0 where
 
 -- the place in the original image from which an address comes, and where the map moves it
 abbrev pub there_and_back : AddressMapValue → ℕ → Option (SectionPlace × Option ℕ)
-there_and_back map address = option_map (λ place. (place, internal_offset_to_rva map place)) (rva_to_internal_offset map address)
+there_and_back map address = option_map (λ place. (place, internal_offset_to_rva map place))
+    (rva_to_internal_offset map address)
 
 -- whether the code of a frame is at an address
 abbrev pub is_at : ℕ → FrameData → Bool

@@ -1,5 +1,6 @@
 -- Parts that lie one behind the other.
-use Rattle.std.proofs.Common.{◌≡◌, ℕ, ◌+◌, ◌≤◌, inl, inr, List, [], ◌∷◌, ◌++◌, length, take, drop, sum, fold, refl, sym, ap, ◌∙◌, arith, Ok}
+use Rattle.std.proofs.Common.{◌≡◌, ℕ, ◌+◌, ◌≤◌, inl, inr, List, [], ◌∷◌, ◌++◌, length, take, drop, sum, fold, refl, sym}
+use Rattle.std.proofs.Common.{ap, ◌∙◌, arith, Ok}
 use Rattle.std.proofs.Math.Seq.{drop-append_seam, take-append_seam}
 use Rattle.std.proofs.lemmas.Bool.{cases_lt}
 use Rattle.std.proofs.lemmas.List.{append_assoc, length-append, length-drop, length-take-le, take-append-drop}
@@ -10,11 +11,13 @@ use Rattle.pdb_base.proofs.lemmas.Reading.{front_whole, front_cut}
 use Rattle.pdb_file.specs.Laws.{IsCut, LieInOrder}
 
 -- a part that was taken lies there
-pub front_found : (size : ℕ) (bytes : List ℕ) (x : List ℕ × List ℕ) → front_at size bytes ≡ Ok x → IsCut size bytes x.0 x.1
+pub front_found : (size : ℕ) (bytes : List ℕ) (x : List ℕ × List ℕ) → front_at size bytes ≡ Ok x
+    → IsCut size bytes x.0 x.1
 front_found size bytes x e = elim (cases_lt (length bytes) size) [
   | inl short ↦ absurd (ok_is_no_err x unexpected_eof (sym e ∙ front_cut size bytes short))
   | inr long ↦
-      let is : (take size bytes, drop size bytes) ≡ x = ok_is (take size bytes, drop size bytes) x (sym (front_whole size bytes long) ∙ e) in
+      let is : (take size bytes, drop size bytes) ≡ x =
+      ok_is (take size bytes, drop size bytes) x (sym (front_whole size bytes long) ∙ e) in
       record {
         len = sym (ap (λ (p : List ℕ × List ℕ). length p.0) is) ∙ length-take-le size bytes long;
         is = sym (ap (λ (p : List ℕ × List ℕ). p.0 ++ p.1) is) ∙ take-append-drop size bytes;
@@ -22,7 +25,8 @@ front_found size bytes x e = elim (cases_lt (length bytes) size) [
 ]
 
 -- a part that lies there is taken
-pub front_only : (size : ℕ) (bytes part rest : List ℕ) → IsCut size bytes part rest → front_at size bytes ≡ Ok (part, rest)
+pub front_only : (size : ℕ) (bytes part rest : List ℕ) → IsCut size bytes part rest
+    → front_at size bytes ≡ Ok (part, rest)
 front_only size bytes part rest cut =
     ap (λ (n : ℕ). front_at n bytes) (sym cut.len)
     ∙ ap (λ (b : List ℕ). front_at (length part) b) (sym cut.is)
@@ -32,10 +36,12 @@ front_only size bytes part rest cut =
 
 sum_from : (start : ℕ) (sizes : List ℕ) → fold ◌+◌ start sizes ≡ start + sum sizes
 sum_from start [] = omega arith
-sum_from start (size ∷ sizes) = let here = sum_from (start + size) sizes in let there = sum_from (0 + size) sizes in omega (arith, here, there)
+sum_from start (size ∷ sizes) = let here = sum_from (start + size) sizes in let there = sum_from (0 + size) sizes in
+    omega (arith, here, there)
 
 -- parts in order are one part of all their bytes
-pub joined : (sizes bytes rest : List ℕ) → LieInOrder sizes bytes rest → (before : List ℕ) × IsCut (sum sizes) bytes before rest
+pub joined : (sizes bytes rest : List ℕ) → LieInOrder sizes bytes rest → (before : List ℕ)
+    × IsCut (sum sizes) bytes before rest
 joined [] bytes rest lie = ([], record { len = refl; is = sym lie })
 joined (size ∷ sizes) bytes rest lie =
     let more = joined sizes lie.1 rest lie.3 in
@@ -58,9 +64,11 @@ parted (size ∷ sizes) bytes before rest cut =
       drop size before ++ rest,
       record {
         len = length-take-le size before long;
-        is = sym (append_assoc (take size before) (drop size before) rest) ∙ ap (λ (b : List ℕ). b ++ rest) (take-append-drop size before) ∙ cut.is;
+        is = sym (append_assoc (take size before) (drop size before) rest)
+            ∙ ap (λ (b : List ℕ). b ++ rest) (take-append-drop size before) ∙ cut.is;
       },
-      parted sizes (drop size before ++ rest) (drop size before) rest (record { len = omega (arith, length-drop size before, cut.len); is = refl }),
+      parted sizes (drop size before ++ rest) (drop size before) rest
+          (record { len = omega (arith, length-drop size before, cut.len); is = refl }),
     )
 
 -- how long bytes are that have a part

@@ -1,5 +1,6 @@
 -- Which header and which debug header a stream holds.
-use Rattle.std.proofs.Common.{◌≡◌, ℕ, ◌+◌, ◌<◌, ◌≤◌, ◌==◌, nat_le, inl, inr, true, false, Bool, List, ◌++◌, length, take, drop, sum, refl, sym, ap, ◌∙◌, arith, eq-eqb, Ok, Err, codes}
+use Rattle.std.proofs.Common.{◌≡◌, ℕ, ◌+◌, ◌<◌, ◌≤◌, ◌==◌, nat_le, inl, inr, true, false, Bool, List, ◌++◌, length}
+use Rattle.std.proofs.Common.{take, drop, sum, refl, sym, ap, ◌∙◌, arith, eq-eqb, Ok, Err, codes}
 use Rattle.std.proofs.lemmas.Bool.{cases_lt, ne_eqb}
 use Rattle.std.proofs.lemmas.Bool.Decides.{nat_tests}
 use Rattle.pdb_base.specs.Refusal.{Refusal, unexpected_eof, unimplemented_feature}
@@ -19,7 +20,8 @@ ancient = unimplemented_feature (codes "ancient DBI header")
 
 -- a stream of four bytes at least, by its first field
 by_first : (stream : List ℕ) → 4 ≤ length stream →
-    dbi_header_of stream ≡ (required (u32_in 0 stream == signature) ancient >>= λ signed. required (nat_le header_size (length stream)) unexpected_eof >>= λ whole. Ok (dbi_header stream))
+    dbi_header_of stream ≡ (required (u32_in 0 stream == signature) ancient
+    >>= λ signed. required (nat_le header_size (length stream)) unexpected_eof >>= λ whole. Ok (dbi_header stream))
 unfolding dbi_header_of
 by_first stream long = rw (number_whole 4 stream long) refl
 
@@ -40,7 +42,8 @@ header_found : (stream : List ℕ) (header : DBIHeader) → dbi_header_of stream
 header_found stream header e = elim (cases_lt (length stream) 4) [
   | inl short ↦ absurd (ok_is_no_err header unexpected_eof (sym e ∙ header_short stream short))
   | inr long ↦
-      let signed = bind_ok (required (u32_in 0 stream == signature) ancient) _ header (sym (by_first stream long) ∙ e) in
+      let signed = bind_ok (required (u32_in 0 stream == signature) ancient) _ header
+      (sym (by_first stream long) ∙ e) in
       let whole = bind_ok (required (nat_le header_size (length stream)) unexpected_eof) _ header signed.2 in
       let is = ok_is (dbi_header stream) header whole.2 in
       let test = required_holds (u32_in 0 stream == signature) ancient signed.0 signed.1 in
@@ -55,7 +58,8 @@ header_found stream header e = elim (cases_lt (length stream) 4) [
 
 header_only : (stream : List ℕ) (header : DBIHeader) → HoldsHeader stream header → dbi_header_of stream ≡ Ok header
 header_only stream header holds =
-    let first : u32_in 0 stream ≡ signature = first_field stream ∙ ap (λ (h : DBIHeader). h.signature) holds.fields ∙ holds.signed in
+    let first : u32_in 0 stream ≡ signature = first_field stream ∙ ap (λ (h : DBIHeader). h.signature) holds.fields
+    ∙ holds.signed in
     let test : (u32_in 0 stream == signature) ≡ true = eq-eqb (u32_in 0 stream) signature first in
     let fits : nat_le header_size (length stream) ≡ true = grind (arith, nat_tests, holds.whole) in
     by_first stream (omega (arith, holds.whole)) ∙ rw (test, fits) (ap (λ (h : DBIHeader). ok h) holds.fields)
@@ -88,9 +92,14 @@ debug_found stream list e =
       header = header.0;
       begins = header_found stream header.0 header.1;
       behind = before.0.1;
-      before = parted (sizes_before header.0) stream before.0.0 before.0.1 (front_found (sum (sizes_before header.0)) stream before.0 before.1);
+      before = parted (sizes_before header.0) stream before.0.0 before.0.1
+          (front_found (sum (sizes_before header.0)) stream before.0 before.1);
       rest = taken.0.1;
-      taken = record { len = ap length (sym is) ∙ part.len; is = ap (λ (l : List ℕ). l ++ taken.0.1) (sym is) ∙ part.is };
+      taken = record {
+        len = ap length (sym is) ∙ part.len;
+        is = ap (λ (l : List ℕ). l ++ taken.0.1) (sym is)
+            ∙ part.is;
+      };
     }
 
 debug_only : (stream list : List ℕ) → HoldsDebugHeader stream list → debug_header_behind stream ≡ Ok list
@@ -107,12 +116,15 @@ debug_refused : (stream : List ℕ) (e : Refusal) → dbi_header_of stream ≡ E
 unfolding debug_header_behind
 debug_refused stream e refused = rw refused refl
 
-debug_cut : (stream : List ℕ) (header : DBIHeader) → HoldsHeader stream header → length stream < sum (sizes_before header) + header.debug_header_size → debug_header_behind stream ≡ Err unexpected_eof
+debug_cut : (stream : List ℕ) (header : DBIHeader) → HoldsHeader stream header
+    → length stream < sum (sizes_before header) + header.debug_header_size
+    → debug_header_behind stream ≡ Err unexpected_eof
 unfolding debug_header_behind
 debug_cut stream header holds short = elim (cases_lt (length stream) (sum (sizes_before header))) [
   | inl early ↦ rw (header_only stream header holds, front_cut (sum (sizes_before header)) stream early) refl
   | inr late ↦
-      let before : IsCut (sum (sizes_before header)) stream (take (sum (sizes_before header)) stream) (drop (sum (sizes_before header)) stream) = cut_at (sum (sizes_before header)) stream late in
+      let before : IsCut (sum (sizes_before header)) stream (take (sum (sizes_before header)) stream)
+      (drop (sum (sizes_before header)) stream) = cut_at (sum (sizes_before header)) stream late in
       let len = cut_length _ stream _ _ before in
       rw (
         header_only stream header holds,
@@ -122,4 +134,10 @@ debug_cut stream header holds short = elim (cases_lt (length stream) (sum (sizes
 ]
 
 pub finds_debug_header : (stream : List ℕ) → FindsDebugHeader stream
-finds_debug_header stream = record { found = debug_found stream; only = debug_only stream; refused = debug_refused stream; cut = debug_cut stream }
+finds_debug_header stream = record {
+  found = debug_found stream;
+  only = debug_only stream;
+  refused =
+      debug_refused stream;
+  cut = debug_cut stream;
+}

@@ -1,5 +1,6 @@
 -- What is refused only since the bytes end too soon.
-use Rattle.std.proofs.Common.{◌≡◌, ℕ, Bool, true, false, ◌*◌, ◌/◌, List, [], ◌∷◌, length, take, drop, map, refl, sym, ap, ◌∙◌, inl, inr, Ok, Err, Result}
+use Rattle.std.proofs.Common.{◌≡◌, ℕ, Bool, true, false, ◌*◌, ◌/◌, List, [], ◌∷◌, length, take, drop, map, refl, sym}
+use Rattle.std.proofs.Common.{ap, ◌∙◌, inl, inr, Ok, Err, Result}
 use Rattle.std.proofs.lemmas.Bool.{cases_lt}
 use Rattle.std.specs.List.{range_with_len}
 use Rattle.pdb_base.specs.Answer.{Answer, ◌>>=◌, collected, required}
@@ -20,7 +21,8 @@ use Rattle.pdb_file.specs.Laws.{EndsTooSoon}
 pub ok_ends : {A : Type 0} (x : A) → EndsTooSoon (Ok x)
 ok_ends x e h = absurd (ok_is_no_err x e h)
 
-pub then_ends : {A B : Type 0} (r : Answer A) (f : A → Answer B) → EndsTooSoon r → ((x : A) → EndsTooSoon (f x)) → EndsTooSoon (r >>= f)
+pub then_ends : {A B : Type 0} (r : Answer A) (f : A → Answer B) → EndsTooSoon r → ((x : A) → EndsTooSoon (f x))
+    → EndsTooSoon (r >>= f)
 then_ends (Ok x) f here behind e h = behind x e h
 then_ends {A} {B} (Err d) f here behind e h = sym (err_is {A = B} d e h) ∙ here d refl
 
@@ -33,7 +35,8 @@ front_ends count bytes e h = elim (cases_lt (length bytes) count) [
 pub number_ends : (width : ℕ) (bytes : List ℕ) → EndsTooSoon (number_at width bytes)
 number_ends width bytes e h = elim (cases_lt (length bytes) width) [
   | inl short ↦ sym (err_is {A = ℕ × List ℕ} unexpected_eof e (sym (number_cut width bytes short) ∙ h))
-  | inr long ↦ absurd (ok_is_no_err (little_number width (take width bytes), drop width bytes) e (sym (number_whole width bytes long) ∙ h))
+  | inr long ↦ absurd (ok_is_no_err (little_number width (take width bytes), drop width bytes) e
+      (sym (number_whole width bytes long) ∙ h))
 ]
 
 pub required_ends : (test : Bool) → EndsTooSoon (required test unexpected_eof)
@@ -44,11 +47,13 @@ name_ends : (names : List ℕ) (offset : ℕ) → EndsTooSoon (name_of names off
 name_ends names offset e h = ((finds_name names offset).missing e h).0
 
 -- answers none of which is refused otherwise
-collected_ends : {A : Type 0} (f : ℕ → Answer A) (places : List ℕ) → ((place : ℕ) → EndsTooSoon (f place)) → EndsTooSoon (collected (map f places))
+collected_ends : {A : Type 0} (f : ℕ → Answer A) (places : List ℕ) → ((place : ℕ) → EndsTooSoon (f place))
+    → EndsTooSoon (collected (map f places))
 collected_ends f [] each e h = absurd cc
 collected_ends f (place ∷ places) each e h =
     then_ends (f place) (λ x. collected (map f places) >>= λ xs. Ok (x ∷ xs)) (each place)
-    (λ x. then_ends (collected (map f places)) (λ xs. Ok (x ∷ xs)) (collected_ends f places each) (λ xs. ok_ends (x ∷ xs))) e h
+    (λ x. then_ends (collected (map f places)) (λ xs. Ok (x ∷ xs)) (collected_ends f places each)
+    (λ xs. ok_ends (x ∷ xs))) e h
 
 -- ---- stream 1
 
@@ -70,9 +75,11 @@ entries_end bytes =
 pub map_ends : (information : PDBInformation) → EndsTooSoon (map_of information)
 unfolding map_of
 map_ends information =
-    then_ends (front_at information.names_offset information.stream) _ (front_ends information.names_offset information.stream) (λ before.
+    then_ends (front_at information.names_offset information.stream) _
+    (front_ends information.names_offset information.stream) (λ before.
     then_ends (front_at information.names_size before.1) _ (front_ends information.names_size before.1) (λ names.
-    then_ends (entries_at names.1) _ (entries_end names.1) (λ entries. ok_ends (record { names = names.0; entries = entries }))))
+    then_ends (entries_at names.1) _ (entries_end names.1)
+    (λ entries. ok_ends (record { names = names.0; entries = entries }))))
 
 named_ends : (table : Map) (place : ℕ) → EndsTooSoon (named_at table place)
 unfolding named_at
@@ -92,7 +99,8 @@ unfolding information_of
 information_ends stream = then_ends (required _ unexpected_eof) _ (required_ends _) (λ whole. ok_ends _)
 
 -- no want of memory comes before the names are there
-pub no_want_before : (information : PDBInformation) (e : Error) → e ≡ OutOfMemory → map_of information ≡ Err (refusal_of e) → ⊥
+pub no_want_before : (information : PDBInformation) (e : Error) → e ≡ OutOfMemory
+    → map_of information ≡ Err (refusal_of e) → ⊥
 no_want_before information e want refused =
     let end = map_ends information (refusal_of e) refused in
     let is = ap refusal_of want in

@@ -1,5 +1,6 @@
 -- Which streams stream 1 names.
-use Rattle.std.proofs.Common.{◌≡◌, ℕ, zero, suc, ◌+◌, ◌*◌, ◌/◌, min, List, [], ◌∷◌, ◌++◌, length, map, refl, sym, ap, subst, ◌∙◌, arith, Option, Some, Ok}
+use Rattle.std.proofs.Common.{◌≡◌, ℕ, zero, suc, ◌+◌, ◌*◌, ◌/◌, min, List, [], ◌∷◌, ◌++◌, length, map, refl, sym, ap}
+use Rattle.std.proofs.Common.{subst, ◌∙◌, arith, Option, Some, Ok}
 use Rattle.std.specs.List.{range_with_len, slice_get}
 use Rattle.std.proofs.lemmas.Option.{slice_get_past}
 use Rattle.pdb_base.specs.Index.{no_stream}
@@ -32,7 +33,8 @@ set_found bytes rest e =
       record {
         front = head.front ++ words.0.0;
         spelled = record { count = count.0.0; head = head.front; counted = head.spelled; size = part.len; is = refl };
-        is = append_assoc head.front words.0.0 rest ∙ ap (λ (r : List ℕ). head.front ++ (words.0.0 ++ r)) (sym is) ∙ ap (λ (b : List ℕ). head.front ++ b) part.is ∙ head.is;
+        is = append_assoc head.front words.0.0 rest ∙ ap (λ (r : List ℕ). head.front ++ (words.0.0 ++ r)) (sym is)
+            ∙ ap (λ (b : List ℕ). head.front ++ b) part.is ∙ head.is;
       },
     )
 
@@ -45,7 +47,10 @@ set_only bytes words rest begins =
       spelled = set.counted;
       is = sym (append_assoc set.head words rest) ∙ ap (λ (f : List ℕ). f ++ rest) set.is ∙ begins.is;
     } in
-    rw ((numbers 4).only bytes set.count (words ++ rest) head, front_only (4 * set.count) (words ++ rest) words rest (record { len = set.size; is = refl })) refl
+    rw (
+      (numbers 4).only bytes set.count (words ++ rest) head,
+      front_only (4 * set.count) (words ++ rest) words rest (record { len = set.size; is = refl }),
+    ) refl
 
 -- ---- the table
 
@@ -69,7 +74,8 @@ map_found information table e =
       behind = before.0.1;
       header = front_found information.names_offset information.stream before.0 before.1;
       behind_names = names.0.1;
-      names = subst (λ (t : Map). IsCut information.names_size before.0.1 t.names names.0.1) is (front_found information.names_size before.0.1 names.0 names.1);
+      names = subst (λ (t : Map). IsCut information.names_size before.0.1 t.names names.0.1) is
+          (front_found information.names_size before.0.1 names.0 names.1);
       number = count.0.0;
       behind_count = count.0.1;
       count = (numbers 4).found names.0.1 count.0.0 count.0.1 count.1;
@@ -83,15 +89,18 @@ map_found information table e =
       behind_deleted = deleted.0;
       deleted = other.1;
       rest = entries.0.1;
-      entries = subst (λ (l : List ℕ). IsCut (8 * count.0.0) deleted.0 l entries.0.1) (same ∙ ap (λ (t : Map). t.entries) is) (front_found (8 * count.0.0) deleted.0 entries.0 entries.1);
+      entries = subst (λ (l : List ℕ). IsCut (8 * count.0.0) deleted.0 l entries.0.1)
+          (same ∙ ap (λ (t : Map). t.entries) is) (front_found (8 * count.0.0) deleted.0 entries.0 entries.1);
     }
 
-entries_only : (bytes entries behind_count behind_capacity bits behind_present other behind_deleted rest : List ℕ) (number most : ℕ)
+entries_only : (bytes entries behind_count behind_capacity bits behind_present other behind_deleted rest : List ℕ)
+    (number most : ℕ)
     → Begins (SpellsNumber 4) bytes number behind_count → Begins (SpellsNumber 4) behind_count most behind_capacity
     → Begins SpellsSet behind_capacity bits behind_present → Begins SpellsSet behind_present other behind_deleted
     → IsCut (8 * number) behind_deleted entries rest → entries_at bytes ≡ Ok entries
 unfolding entries_at
-entries_only bytes entries behind_count behind_capacity bits behind_present other behind_deleted rest number most count capacity present deleted cut =
+entries_only bytes entries behind_count behind_capacity bits behind_present other behind_deleted rest number most count
+    capacity present deleted cut =
     rw (
       (numbers 4).only bytes number behind_count count,
       (numbers 4).only behind_count most behind_capacity capacity,
@@ -103,7 +112,8 @@ entries_only bytes entries behind_count behind_capacity bits behind_present othe
 map_only : (information : PDBInformation) (table : Map) → HoldsMap information table → map_of information ≡ Ok table
 unfolding map_of
 map_only information table holds =
-    let entries = entries_only holds.behind_names table.entries holds.behind_count holds.behind_capacity holds.bits holds.behind_present holds.other_bits holds.behind_deleted holds.rest holds.number holds.most
+    let entries = entries_only holds.behind_names table.entries holds.behind_count holds.behind_capacity holds.bits
+    holds.behind_present holds.other_bits holds.behind_deleted holds.rest holds.number holds.most
     holds.count holds.capacity holds.present holds.deleted holds.entries in
     rw (
       front_only information.names_offset information.stream holds.before holds.behind holds.header,
@@ -124,7 +134,8 @@ entry_found table k one e =
 entry_only : (table : Map) (k : ℕ) (one : Named) → IsNamed table k one → named_at table k ≡ Ok one
 unfolding named_at
 entry_only table k one is =
-    rw ((finds_name table.names (u32_in (8 * k) table.entries)).only one.name is.name) (ap (λ (s : ℕ). ok (record { name = one.name; stream = s })) (sym is.stream))
+    rw ((finds_name table.names (u32_in (8 * k) table.entries)).only one.name is.name)
+    (ap (λ (s : ℕ). ok (record { name = one.name; stream = s })) (sym is.stream))
 
 abbrev some : {A : Type 0} → A → Option A
 some x = Some x
@@ -138,7 +149,8 @@ nothing_there {A} k x is = let none = slice_get_past {X = A} [] k (omega arith) 
 heads : {A : Type 0} {a b : A} {others rest : List A} → a ∷ others ≡ b ∷ rest → (a ≡ b) × (others ≡ rest)
 heads e = (cc, cc)
 
-each_step : {A : Type 0} (f : ℕ → Answer A) (from : ℕ) (x : A) (xs : List A) → f from ≡ Ok x → ((k : ℕ) (y : A) → slice_get xs k ≡ Some y → f (from + 1 + k) ≡ Ok y)
+each_step : {A : Type 0} (f : ℕ → Answer A) (from : ℕ) (x : A) (xs : List A) → f from ≡ Ok x
+    → ((k : ℕ) (y : A) → slice_get xs k ≡ Some y → f (from + 1 + k) ≡ Ok y)
     → (k : ℕ) (y : A) → slice_get (x ∷ xs) k ≡ Some y → f (from + k) ≡ Ok y
 each_step {A} f from x xs first more zero y is =
     let start : from + 0 ≡ from = omega arith in
@@ -148,7 +160,8 @@ each_step f from x xs first more (suc k) y is =
     ap f place ∙ more k y is
 
 -- answers for each place of a range are values just where each is
-each_found : {A : Type 0} (f : ℕ → Answer A) (from count : ℕ) (xs : List A) → map f (range_with_len from count) ≡ map ok xs
+each_found : {A : Type 0} (f : ℕ → Answer A) (from count : ℕ) (xs : List A)
+    → map f (range_with_len from count) ≡ map ok xs
     → (length xs ≡ count) × ((k : ℕ) (x : A) → slice_get xs k ≡ Some x → f (from + k) ≡ Ok x)
 each_found f from zero [] e = (refl, λ k x is. absurd (nothing_there k x is))
 each_found f from zero (x ∷ xs) e = absurd cc
@@ -168,20 +181,29 @@ each_only f from (suc count) [] len each = absurd cc
 each_only {A} f from (suc count) (x ∷ xs) len each =
     let start : from + 0 ≡ from = omega arith in
     let first : f from ≡ ok x = ap f (sym start) ∙ each 0 x refl in
-    let rest = each_only f (from + 1) count xs (omega (arith, len)) (λ k y is. let place : from + suc k ≡ from + 1 + k = omega arith in ap f (sym place) ∙ each (suc k) y is) in
-    ap (λ (a : Answer A). a ∷ map f (range_with_len (from + 1) count)) first ∙ ap (λ (r : List (Answer A)). ok x ∷ r) rest
+    let rest = each_only f (from + 1) count xs (omega (arith, len))
+    (λ k y is. let place : from + suc k ≡ from + 1 + k = omega arith in ap f (sym place) ∙ each (suc k) y is) in
+    ap (λ (a : Answer A). a ∷ map f (range_with_len (from + 1) count)) first
+    ∙ ap (λ (r : List (Answer A)). ok x ∷ r) rest
 
 all_found : (table : Map) (named : List Named) → named_in table ≡ Ok named → AreNamed table named
 unfolding named_in
 all_found table named e =
-    let each = each_found (named_at table) 0 (length table.entries / 8) named ((collects_all (map (named_at table) (range_with_len 0 (length table.entries / 8)))).0 named e) in
-    record { count = each.0; each = λ k one is. let place : 0 + k ≡ k = omega arith in entry_found table k one (ap (named_at table) (sym place) ∙ each.1 k one is) }
+    let each = each_found (named_at table) 0 (length table.entries / 8) named
+    ((collects_all (map (named_at table) (range_with_len 0 (length table.entries / 8)))).0 named e) in
+    record {
+      count = each.0;
+      each = λ k one is. let place : 0 + k ≡ k = omega arith in
+          entry_found table k one (ap (named_at table) (sym place) ∙ each.1 k one is);
+    }
 
 all_only : (table : Map) (named : List Named) → AreNamed table named → named_in table ≡ Ok named
 unfolding named_in
 all_only table named are =
     (collects_all (map (named_at table) (range_with_len 0 (length table.entries / 8)))).1 named
-    (each_only (named_at table) 0 (length table.entries / 8) named are.count (λ k one is. let place : 0 + k ≡ k = omega arith in ap (named_at table) place ∙ entry_only table k one (are.each k one is)))
+    (each_only (named_at table) 0 (length table.entries / 8) named are.count
+    (λ k one is. let place : 0 + k ≡ k = omega arith in ap (named_at table) place
+    ∙ entry_only table k one (are.each k one is)))
 
 pub finds_named : (information : PDBInformation) → FindsNamed information
 finds_named information = record {

@@ -1,5 +1,6 @@
 -- Which roles a list gives.
-use Rattle.std.proofs.Common.{◌≡◌, ◌≢◌, ℕ, ◌+◌, ◌*◌, ◌%◌, ◌<◌, ◌≤◌, ◌⊎◌, nat_le, inl, inr, true, false, Bool, List, length, drop, refl, sym, ap, subst, ◌∙◌, arith, Ok}
+use Rattle.std.proofs.Common.{◌≡◌, ◌≢◌, ℕ, ◌+◌, ◌*◌, ◌%◌, ◌<◌, ◌≤◌, ◌⊎◌, nat_le, inl, inr, true, false, Bool, List}
+use Rattle.std.proofs.Common.{length, drop, refl, sym, ap, subst, ◌∙◌, arith, Ok}
 use Rattle.std.proofs.lemmas.Bool.{cases_lt}
 use Rattle.std.proofs.lemmas.Bool.Decides.{nat_tests}
 use Rattle.std.proofs.lemmas.List.{length-drop, length-append}
@@ -19,7 +20,8 @@ use Rattle.pdb_file.specs.Laws.{IsListed, AreListed, FindsRoles}
 -- ---- one place
 
 -- the number that stands there, if it is whole
-there : (list : List ℕ) (place : ℕ) → 2 * place + 2 ≤ length list → listed place list ≡ record { 0 = u16_in (2 * place) list }
+there : (list : List ℕ) (place : ℕ) → 2 * place + 2 ≤ length list
+    → listed place list ≡ record { 0 = u16_in (2 * place) list }
 there list place long =
     let test : nat_le (2 * place + 2) (length list) ≡ true = grind (arith, nat_tests) in
     rw test refl
@@ -30,12 +32,14 @@ past list place short =
     rw test refl
 
 -- of a list without half a number
-place_found : (list : List ℕ) (place : ℕ) → (22 ≤ length list) ⊎ (length list % 2 ≡ 0) → place < 11 → IsListed list place (listed place list)
+place_found : (list : List ℕ) (place : ℕ) → (22 ≤ length list) ⊎ (length list % 2 ≡ 0) → place < 11
+    → IsListed list place (listed place list)
 place_found list place whole within = elim (cases_lt (length list) (2 * place + 2)) [
   | inr long ↦
       let behind = numbers 2 in
       let read = number_whole 2 (drop (2 * place) list) (omega (arith, length-drop (2 * place) list)) in
-      let begins = behind.found (drop (2 * place) list) (u16_in (2 * place) list) (drop 2 (drop (2 * place) list)) read in
+      let begins = behind.found (drop (2 * place) list) (u16_in (2 * place) list)
+      (drop 2 (drop (2 * place) list)) read in
       subst (IsListed list place) (sym (there list place long)) (inl (drop 2 (drop (2 * place) list), begins))
   | inl short ↦
       let even : length list ≤ 2 * place = elim whole [
@@ -49,9 +53,16 @@ index_is : (a b : StreamIndex) → a.0 ≡ b.0 → a ≡ b
 index_is a b same = ap (λ (n : ℕ). record { 0 = n }) same
 
 -- a number that stands there has both its bytes
-begins_long : (list : List ℕ) (place : ℕ) (index : StreamIndex) (rest : List ℕ) → Begins (SpellsNumber 2) (drop (2 * place) list) index.0 rest → length list < 2 * place + 2 → ⊥
+begins_long : (list : List ℕ) (place : ℕ) (index : StreamIndex) (rest : List ℕ)
+    → Begins (SpellsNumber 2) (drop (2 * place) list) index.0 rest → length list < 2 * place + 2 → ⊥
 begins_long list place index rest begins short =
-    omega (arith, begins.spelled.len, ap length begins.is, length-append begins.front rest, length-drop (2 * place) list)
+    omega (
+      arith,
+      begins.spelled.len,
+      ap length begins.is,
+      length-append begins.front rest,
+      length-drop (2 * place) list,
+    )
 
 place_only : (list : List ℕ) (place : ℕ) (index : StreamIndex) → IsListed list place index → listed place list ≡ index
 place_only list place index (inl begins) =
@@ -60,7 +71,8 @@ place_only list place index (inl begins) =
       | inl short ↦ absurd (begins_long list place index begins.0 begins.1 short)
       | inr long ↦
           let whole = number_whole 2 (drop (2 * place) list) (omega (arith, length-drop (2 * place) list)) in
-          there list place long ∙ index_is _ index (ap (λ (p : ℕ × List ℕ). p.0) (ok_is (u16_in (2 * place) list, drop 2 (drop (2 * place) list)) (index.0, begins.0) (sym whole ∙ read)))
+          there list place long ∙ index_is _ index (ap (λ (p : ℕ × List ℕ). p.0)
+          (ok_is (u16_in (2 * place) list, drop 2 (drop (2 * place) list)) (index.0, begins.0) (sym whole ∙ read)))
     ]
 place_only list place index (inr behind) =
     past list place (omega (arith, behind.0)) ∙ index_is _ index (sym behind.1)
@@ -136,7 +148,8 @@ whole_or_not : (test : Bool) → (test ≡ true) ⊎ (test ≡ false)
 whole_or_not true = inl refl
 whole_or_not false = inr refl
 
-by_test : (list : List ℕ) (test : Bool) → is_whole list ≡ test → extra_streams list ≡ (required test unexpected_eof >>= λ whole. Ok (roles_in list))
+by_test : (list : List ℕ) (test : Bool) → is_whole list ≡ test
+    → extra_streams list ≡ (required test unexpected_eof >>= λ whole. Ok (roles_in list))
 unfolding extra_streams
 by_test list test is = rw is refl
 

@@ -15,7 +15,8 @@ use Rattle.pdb_file.specs.declared.debug_header.DBIExtraStreams.{DBIExtraStreams
 -- the section map, file info, the type server map, names for edit and continue
 abbrev pub sizes_before : DBIHeader → List ℕ
 sizes_before header =
-    header_size ∷ header.module_list_size ∷ header.section_contribution_size ∷ header.section_map_size ∷ header.file_info_size ∷ header.type_server_map_size ∷ header.ec_substream_size ∷ []
+    header_size ∷ header.module_list_size ∷ header.section_contribution_size ∷ header.section_map_size
+    ∷ header.file_info_size ∷ header.type_server_map_size ∷ header.ec_substream_size ∷ []
 
 -- the debug header of a stream that begins with a header
 unfoldable pub debug_header_behind : List ℕ → Answer (List ℕ)

@@ -78,17 +78,31 @@ omap_numbered file head number = stream_numbered file head number >>= answer_if_
 
 -- An image with the sections `sections`, which was made from one with the sections `original`: OMAP from
 -- source leads from the original image to this one, and OMAP to source leads back.
-unfoldable pub rearranged : List ℕ → Head → DBIExtraStreams → List ImageSectionHeader → List ImageSectionHeader → Answer AddressMapValue
+unfoldable pub rearranged : List ℕ → Head → DBIExtraStreams → List ImageSectionHeader → List ImageSectionHeader
+    → Answer AddressMapValue
 rearranged file head roles sections original = do
   to_source ← omap_numbered file head (stream_number roles.omap_to_src.0)
   from_source ← omap_numbered file head (stream_number roles.omap_from_src.0)
-  Ok (record { original_sections = original; transformed_sections = Some sections; transformed_to_original = to_source; original_to_transformed = from_source })
+  Ok (record {
+    original_sections = original;
+    transformed_sections = Some sections;
+    transformed_to_original =
+        to_source;
+    original_to_transformed = from_source;
+  })
 
 -- an image with these sections, which was rearranged if there are original sections
-abbrev pub arranged : List ℕ → Head → DBIExtraStreams → List ImageSectionHeader → Option (List ImageSectionHeader) → Answer AddressMapValue
+abbrev pub arranged : List ℕ → Head → DBIExtraStreams → List ImageSectionHeader → Option (List ImageSectionHeader)
+    → Answer AddressMapValue
 arranged file head roles sections (Some original) = rearranged file head roles sections original
 arranged file head roles sections None =
-    Ok (record { original_sections = sections; transformed_sections = None; transformed_to_original = None; original_to_transformed = None })
+    Ok (record {
+      original_sections = sections;
+      transformed_sections = None;
+      transformed_to_original =
+          None;
+      original_to_transformed = None;
+    })
 
 -- the address map of a file, made from its section headers, the original ones and both OMAP tables
 unfoldable pub file_address_map : List ℕ → Head → Answer AddressMapValue

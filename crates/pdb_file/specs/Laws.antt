@@ -1,5 +1,6 @@
 -- The definitions, stated in other words.
-use Rattle.std.specs.Prelude.{◌≡◌, ◌≢◌, ◌⊎◌, ℕ, ◌+◌, ◌*◌, ◌/◌, ◌%◌, ◌<◌, ◌≤◌, min, List, [], ◌∷◌, ◌++◌, length, drop, sum, slice_get, Some, Ok, Err, codes}
+use Rattle.std.specs.Prelude.{◌≡◌, ◌≢◌, ◌⊎◌, ℕ, ◌+◌, ◌*◌, ◌/◌, ◌%◌, ◌<◌, ◌≤◌, min, List, [], ◌∷◌, ◌++◌, length, drop}
+use Rattle.std.specs.Prelude.{sum, slice_get, Some, Ok, Err, codes}
 use Rattle.pdb_base.specs.Refusal.{Refusal, unexpected_eof, unimplemented_feature}
 use Rattle.pdb_base.specs.Answer.{Answer}
 use Rattle.pdb_base.specs.Index.{no_stream}
@@ -33,8 +34,10 @@ pub record FindsHeader (stream : List ℕ) : Type 0 where
   pub found : (header : DBIHeader) → dbi_header_of stream ≡ Ok header → HoldsHeader stream header
   pub only : (header : DBIHeader) → HoldsHeader stream header → dbi_header_of stream ≡ Ok header
   pub short : length stream < 4 → dbi_header_of stream ≡ Err unexpected_eof
-  pub unsigned : 4 ≤ length stream → u32_in 0 stream ≢ signature → dbi_header_of stream ≡ Err (unimplemented_feature (codes "ancient DBI header"))
-  pub cut : 4 ≤ length stream → u32_in 0 stream ≡ signature → length stream < header_size → dbi_header_of stream ≡ Err unexpected_eof
+  pub unsigned : 4 ≤ length stream → u32_in 0 stream ≢ signature
+      → dbi_header_of stream ≡ Err (unimplemented_feature (codes "ancient DBI header"))
+  pub cut : 4 ≤ length stream → u32_in 0 stream ≡ signature → length stream < header_size
+      → dbi_header_of stream ≡ Err unexpected_eof
 
 -- ---- its debug header
 
@@ -46,7 +49,8 @@ pub record IsCut (size : ℕ) (bytes part rest : List ℕ) : Type 0 where
 -- The bytes are parts of these sizes, one after another, followed by the rest.
 abbrev pub LieInOrder : List ℕ → List ℕ → List ℕ → Type 0
 LieInOrder [] bytes rest = bytes ≡ rest
-LieInOrder (size ∷ sizes) bytes rest = (part : List ℕ) × (behind : List ℕ) × IsCut size bytes part behind × LieInOrder sizes behind rest
+LieInOrder (size ∷ sizes) bytes rest = (part : List ℕ) × (behind : List ℕ) × IsCut size bytes part behind
+    × LieInOrder sizes behind rest
 
 -- The stream begins with a header, and `list` is the debug header after all the parts before it.
 pub record HoldsDebugHeader (stream list : List ℕ) : Type 0 where
@@ -63,7 +67,9 @@ pub record FindsDebugHeader (stream : List ℕ) : Type 0 where
   pub found : (list : List ℕ) → debug_header_behind stream ≡ Ok list → HoldsDebugHeader stream list
   pub only : (list : List ℕ) → HoldsDebugHeader stream list → debug_header_behind stream ≡ Ok list
   pub refused : (e : Refusal) → dbi_header_of stream ≡ Err e → debug_header_behind stream ≡ Err e
-  pub cut : (header : DBIHeader) → HoldsHeader stream header → length stream < sum (sizes_before header) + header.debug_header_size → debug_header_behind stream ≡ Err unexpected_eof
+  pub cut : (header : DBIHeader) → HoldsHeader stream header
+      → length stream < sum (sizes_before header) + header.debug_header_size
+      → debug_header_behind stream ≡ Err unexpected_eof
 
 -- ---- roles
 
@@ -94,7 +100,8 @@ pub record FindsRoles (list : List ℕ) : Type 0 where
   pub found : (roles : DBIExtraStreams) → extra_streams list ≡ Ok roles → AreListed list roles
   pub only : (roles : DBIExtraStreams) → AreListed list roles → extra_streams list ≡ Ok roles
   pub halved : length list < 22 → length list % 2 ≡ 1 → extra_streams list ≡ Err unexpected_eof
-  pub refused : (e : Refusal) → extra_streams list ≡ Err e → (e ≡ unexpected_eof) × (length list < 22) × (length list % 2 ≡ 1)
+  pub refused : (e : Refusal) → extra_streams list ≡ Err e → (e ≡ unexpected_eof) × (length list < 22)
+      × (length list % 2 ≡ 1)
 
 -- ---- names
 

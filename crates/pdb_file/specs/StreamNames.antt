@@ -1,7 +1,8 @@
 -- The named streams, which stream 1 lists after its header: the names, and a table that leads from the offset
 -- of a name to a stream. The table is stored as a hash table of the PDB format: a u32 count, a u32 capacity,
 -- two sets of bits, each as a u32 number of words and the words, and the entries.
-use Rattle.std.specs.Prelude.{ℕ, ◌+◌, ◌*◌, ◌/◌, ◌==◌, if◌then◌else◌, min, List, length, map, find, Option, Some, None, Ok, Err}
+use Rattle.std.specs.Prelude.{ℕ, ◌+◌, ◌*◌, ◌/◌, ◌==◌, if◌then◌else◌, min, List, length, map, find, Option, Some, None}
+use Rattle.std.specs.Prelude.{Ok, Err}
 use Rattle.std.specs.List.{range_with_len}
 use Rattle.std.specs.Str.{bytes_eq}
 use Rattle.pdb_base.specs.Refusal.{stream_name_not_found}

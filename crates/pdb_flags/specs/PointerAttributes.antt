@@ -4,7 +4,8 @@ use Rattle.std.specs.Prelude.{ℕ, Bool, ◌==◌, ◌||◌, ◌&&◌, nat_le, i
 use Rattle.pdb_base.specs.Bits.{bits}
 use Rattle.pdb_base.specs.Bits.{is_bit_set}
 use Rattle.pdb_flags.specs.declared.pointer_kind.PointerKind.TheVariants.{Near32, Far32, Ptr64}
-use Rattle.pdb_flags.specs.declared.pointer_mode.PointerMode.TheVariants.{LValueReference, Member, MemberFunction, RValueReference}
+use Rattle.pdb_flags.specs.declared.pointer_mode.PointerMode.TheVariants.{LValueReference, Member, MemberFunction}
+use Rattle.pdb_flags.specs.declared.pointer_mode.PointerMode.TheVariants.{RValueReference}
 use Rattle.pdb_flags.specs.PointerNumbers.{kind_number, mode_number}
 
 -- the number of the pointer's kind, 5 bits
@@ -19,7 +20,7 @@ mode_in word = bits word 5 3
 abbrev pub is_flat_32 : ℕ → Bool
 is_flat_32 word = is_bit_set word 8
 
--- whether what the pointer points to may change by itself
+-- whether the pointer is volatile
 abbrev pub is_volatile : ℕ → Bool
 is_volatile word = is_bit_set word 9
 
@@ -61,7 +62,8 @@ pointer_word word = if is_pointer_word word then Some word else None
 
 -- the size in bytes of a pointer of this kind if its word states none
 abbrev pub usual_size : ℕ → ℕ
-usual_size kind = if kind == kind_number Near32 || kind == kind_number Far32 then 4 else if kind == kind_number Ptr64 then 8 else 0
+usual_size kind = if kind == kind_number Near32 || kind == kind_number Far32 then 4 else if kind == kind_number
+    Ptr64 then 8 else 0
 
 -- the size of the pointer in bytes
 abbrev pub pointer_size : ℕ → ℕ

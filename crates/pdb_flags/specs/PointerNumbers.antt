@@ -1,9 +1,12 @@
 -- The numbers of the kinds and modes of pointers.
 use Rattle.std.specs.Prelude.{ℕ}
 use Rattle.pdb_flags.specs.declared.pointer_kind.PointerKind.{PointerKind}
-use Rattle.pdb_flags.specs.declared.pointer_kind.PointerKind.TheVariants.{Near16, Far16, Huge16, BaseSeg, BaseVal, BaseSegVal, BaseAddr, BaseSegAddr, BaseType, BaseSelf, Near32, Far32, Ptr64}
+use Rattle.pdb_flags.specs.declared.pointer_kind.PointerKind.TheVariants.{Near16, Far16, Huge16, BaseSeg, BaseVal}
+use Rattle.pdb_flags.specs.declared.pointer_kind.PointerKind.TheVariants.{BaseSegVal, BaseAddr, BaseSegAddr, BaseType}
+use Rattle.pdb_flags.specs.declared.pointer_kind.PointerKind.TheVariants.{BaseSelf, Near32, Far32, Ptr64}
 use Rattle.pdb_flags.specs.declared.pointer_mode.PointerMode.{PointerMode}
-use Rattle.pdb_flags.specs.declared.pointer_mode.PointerMode.TheVariants.{Pointer, LValueReference, Member, MemberFunction, RValueReference}
+use Rattle.pdb_flags.specs.declared.pointer_mode.PointerMode.TheVariants.{Pointer, LValueReference, Member}
+use Rattle.pdb_flags.specs.declared.pointer_mode.PointerMode.TheVariants.{MemberFunction, RValueReference}
 
 -- the number of a kind of pointer, as in `CV_ptrtype_e` of Microsoft's cvinfo.h
 abbrev pub kind_number : PointerKind → ℕ

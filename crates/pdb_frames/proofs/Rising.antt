@@ -40,7 +40,8 @@ rising-drop zero xs up = up
 rising-drop (suc k) [] up = tt
 rising-drop (suc k) (x ∷ xs) up = rising-drop k xs (rising-tail x xs up)
 
-increases : (bound : ℕ) (xs : List ℕ) → Above bound xs → (k : ℕ) → k < length xs → slice_index (bound ∷ xs) k < slice_index xs k
+increases : (bound : ℕ) (xs : List ℕ) → Above bound xs → (k : ℕ) → k < length xs
+    → slice_index (bound ∷ xs) k < slice_index xs k
 increases bound [] up k within = absurd (omega (arith, within))
 increases bound (x ∷ xs) up zero within = up.0
 increases bound (x ∷ xs) up (suc k) within = increases x xs up.1 k (omega (arith, within))

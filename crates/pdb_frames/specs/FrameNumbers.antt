@@ -14,7 +14,8 @@ kind_number Unknown = 0xff
 
 -- the kind for a number of two bits
 abbrev pub frame_type_of : ℕ → FrameType
-frame_type_of number = if number == 0 then FPO else (if number == 1 then Trap else (if number == 2 then TSS else Standard))
+frame_type_of number = if number == 0 then FPO else
+    (if number == 1 then Trap else (if number == 2 then TSS else Standard))
 
 -- how a kind is printed
 abbrev pub kind_text : FrameType → List ℕ

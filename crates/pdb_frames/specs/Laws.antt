@@ -1,5 +1,6 @@
 -- The definitions, stated in other words.
-use Rattle.std.specs.Prelude.{◌≡◌, ◌↔◌, ℕ, ◌+◌, ◌<◌, ◌≤◌, Bool, IsTrue, List, [], ◌∷◌, length, map, Option, Some, None, Result, Ok, count_by}
+use Rattle.std.specs.Prelude.{◌≡◌, ◌↔◌, ℕ, ◌+◌, ◌<◌, ◌≤◌, Bool, IsTrue, List, [], ◌∷◌, length, map, Option, Some, None}
+use Rattle.std.specs.Prelude.{Result, Ok, count_by}
 use Rattle.std.specs.declared.cmp.Ordering.{Ordering}
 use Rattle.std.specs.Ordering.{nat_cmp}
 use Rattle.std.specs.List.Sorted.{IsNonDecreasingBy, IsStrictlyIncreasing}
@@ -15,7 +16,8 @@ use Rattle.pdb_frames.specs.declared.new_frame_data.NewFrameData.{NewFrameData}
 
 -- Code covers the addresses from its start to before its end, wherever the end is.
 abbrev pub CoversToItsEnd : Span → ℕ → Type 0
-CoversToItsEnd span address = IsTrue (covers span address) ↔ ((span.start ≤ address) × (address < span.start + span.size))
+CoversToItsEnd span address = IsTrue (covers span address) ↔
+    ((span.start ≤ address) × (address < span.start + span.size))
 
 -- `by_start` gives the same frames, of which as many pass any test as before,
 -- and their starts don't decrease.
@@ -33,17 +35,22 @@ pub record IsMerged (frames : Frames) : Type 0 where
 -- The frames are those of all new records, in the order of the records, and of some old ones, in theirs.
 pub data IsWoven : List OldFrameData → List NewFrameData → List FrameData → Type 0 where
   end : IsWoven [] [] []
-  takes_new : {frame : NewFrameData} {old : List OldFrameData} {new : List NewFrameData} {frames : List FrameData} → IsWoven old new frames → IsWoven old (frame ∷ new) (of_new frame ∷ frames)
-  takes_old : {frame : OldFrameData} {old : List OldFrameData} {new : List NewFrameData} {frames : List FrameData} → IsWoven old new frames → IsWoven (frame ∷ old) new (of_old frame ∷ frames)
-  drops_old : {frame : OldFrameData} {old : List OldFrameData} {new : List NewFrameData} {frames : List FrameData} → IsWoven old new frames → IsWoven (frame ∷ old) new frames
+  takes_new : {frame : NewFrameData} {old : List OldFrameData} {new : List NewFrameData} {frames : List FrameData}
+      → IsWoven old new frames → IsWoven old (frame ∷ new) (of_new frame ∷ frames)
+  takes_old : {frame : OldFrameData} {old : List OldFrameData} {new : List NewFrameData} {frames : List FrameData}
+      → IsWoven old new frames → IsWoven (frame ∷ old) new (of_old frame ∷ frames)
+  drops_old : {frame : OldFrameData} {old : List OldFrameData} {new : List NewFrameData} {frames : List FrameData}
+      → IsWoven old new frames → IsWoven (frame ∷ old) new frames
 
 -- None is yielded only if nothing is left, and then nothing is left after it either. A step
 -- that yields a frame leaves fewer.
-pub record EndsForGood {E : Type 0} (left : List FrameData) (result : Result (Option FrameData) E) (others : List FrameData) : Type 0 where
+pub record EndsForGood {E : Type 0} (left : List FrameData) (result : Result (Option FrameData) E)
+    (others : List FrameData) : Type 0 where
   pub ends : result ≡ Ok None → (left ≡ []) × (others ≡ [])
   pub shorter : (frame : FrameData) → result ≡ Ok (Some frame) → length others < length left
 
 -- Kinds compare as their numbers do, and are equal if and only if they are the same kind.
-pub record ComparesByNumber (eq : FrameType → FrameType → Bool) (compared : FrameType → FrameType → Ordering) : Type 0 where
+pub record ComparesByNumber (eq : FrameType → FrameType → Bool)
+    (compared : FrameType → FrameType → Ordering) : Type 0 where
   pub equal : (a b : FrameType) → IsTrue (eq a b) ↔ (a ≡ b)
   pub order : (a b : FrameType) → compared a b ≡ nat_cmp (kind_number a) (kind_number b)

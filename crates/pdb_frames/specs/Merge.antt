@@ -9,7 +9,8 @@ use Rattle.pdb_frames.specs.declared.new_frame_data.NewFrameData.{NewFrameData}
 -- the frames with one more, which is put before the first frame that doesn't start below it
 abbrev pub put : FrameData → List FrameData → List FrameData
 put frame [] = frame ∷ []
-put frame (first ∷ others) = if nat_le frame.code_start first.code_start then frame ∷ first ∷ others else first ∷ put frame others
+put frame (first ∷ others) = if nat_le frame.code_start first.code_start then frame ∷ first ∷ others else first
+    ∷ put frame others
 
 -- the frames ordered by their starts
 abbrev pub by_start : List FrameData → List FrameData
@@ -35,7 +36,8 @@ abbrev pub with_old : OldFrameData → (List NewFrameData → List FrameData) �
 with_old frame others [] = of_old frame ∷ others []
 with_old frame others (first ∷ new) =
     if nat_lt first.code_start frame.code_start then of_new first ∷ with_old frame others new
-    else (if first.code_start == frame.code_start then of_new first ∷ others new else of_old frame ∷ others (first ∷ new))
+    else (if first.code_start == frame.code_start then of_new first ∷ others new else of_old frame
+    ∷ others (first ∷ new))
 
 -- The merge of both lists by comparing their heads again and again: the one that starts lower comes next. Of
 -- two that start at the same address the new one comes next, and the old one is dropped.

@@ -1,5 +1,6 @@
 -- The addresses that code covers, and the rest of a list of records from an address on.
-use Rattle.std.specs.Prelude.{◌≡◌, ℕ, drop, map, slice_index, ◌-◌, Bool, ◌==◌, ◌&&◌, ◌||◌, nat_le, nat_lt, if◌then◌else◌, List, [], ◌∷◌, Option, Some, None, unwrap_or, option_and_then}
+use Rattle.std.specs.Prelude.{◌≡◌, ℕ, drop, map, slice_index, ◌-◌, Bool, ◌==◌, ◌&&◌, ◌||◌, nat_le, nat_lt}
+use Rattle.std.specs.Prelude.{if◌then◌else◌, List, [], ◌∷◌, Option, Some, None, unwrap_or, option_and_then}
 use Rattle.std.specs.Option.{option_or}
 
 -- the address at which code begins, and its size in bytes
@@ -42,7 +43,8 @@ if_first test (x ∷ xs) = if test x then Some (x ∷ xs) else None
 unfoldable pub from_address : {A : Type 0} → (A → Span) → ℕ → List A → List A
 from_address {A} span address records =
     let at = from_first (λ (x : A). (span x).start == address) records in
-    let below = option_and_then (if_first (λ (x : A). covers (span x) address)) (from_last (λ (x : A). nat_lt (span x).start address) records) in
+    let below = option_and_then (if_first (λ (x : A). covers (span x) address))
+    (from_last (λ (x : A). nat_lt (span x).start address) records) in
     let above = from_first (λ (x : A). nat_lt address (span x).start) records in
     unwrap_or (option_or at (option_or below above)) []
 

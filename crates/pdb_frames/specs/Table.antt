@@ -1,5 +1,6 @@
 -- A table of frames: what its two streams hold, and what frames it yields.
-use Rattle.std.specs.Prelude.{◌≡◌, ℕ, ◌%◌, ◌==◌, List, [], length, map, drop, codes, Option, unwrap_or, Result, Ok, slice_get}
+use Rattle.std.specs.Prelude.{◌≡◌, ℕ, ◌%◌, ◌==◌, List, [], length, map, drop, codes, Option, unwrap_or, Result, Ok}
+use Rattle.std.specs.Prelude.{slice_get}
 use Rattle.std.specs.List.Sorted.{IsStrictlyIncreasing}
 use Rattle.pdb_base.specs.Refusal.{invalid_stream_length}
 use Rattle.pdb_base.specs.Answer.{Answer, ◌>>=◌, required}
@@ -36,7 +37,8 @@ merge_from address frames = merge (from_address old_span address frames.old) (fr
 
 -- The frames of both streams, in each from some record on, merged by comparing their heads.
 abbrev pub BeginsSomewhere : Frames → List FrameData → Type 0
-BeginsSomewhere frames result = (passed_old passed_new : ℕ) × (result ≡ by_heads (drop passed_old frames.old) (drop passed_new frames.new))
+BeginsSomewhere frames result = (passed_old passed_new : ℕ)
+    × (result ≡ by_heads (drop passed_old frames.old) (drop passed_new frames.new))
 
 -- A step never fails. It yields the first of the items that are left, or None at
 -- the end, and leaves the others.

@@ -20,7 +20,8 @@ methods_in value = None
 abbrev pub methods_of : ℕ → List ℕ → Answer (Option (List Row))
 methods_of index bytes = type_of index bytes >>= λ value. Ok (methods_in value)
 
--- how many bytes an array takes in each dimension, if the type is an array
+-- the size of an array in bytes up to each dimension, the innermost first, each including those before it, if the type
+-- is an array
 abbrev pub dimensions_in : TypeValue → Option (List ℕ)
 dimensions_in (values.array v) = Some v.dimensions
 dimensions_in value = None

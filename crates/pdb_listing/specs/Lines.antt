@@ -76,7 +76,8 @@ listed_lines form table None = Ok []
 
 -- one line for each member of a type: for each method of a list of methods, or for each field
 abbrev pub member_lines : Form → Table → ℕ → TypeValue → Answer (List ℕ)
-member_lines form table index (values.method_list methods) = Ok (flat_map (λ method. row_text form (listed_method_fields method)) methods)
+member_lines form table index (values.method_list methods) =
+    Ok (flat_map (λ method. row_text form (listed_method_fields method)) methods)
 member_lines form table index value = listed_lines form table (list_of_fields index value)
 
 -- the type of an index in full, and the lines of its members

@@ -30,17 +30,22 @@ Pushes (Err fault) old new meant = (meant ≡ Err (refusal_of fault)) ⊎ (fault
 --            that are left
 --   lacking  memory was refused after the lines of some first items were written
 --   cut      the output failed, and a prefix of the lines was written
-pub data IsWalked (line : ℕ → List ℕ → List ℕ) (table : Table) (out out' : OutputState) : Result (Unit {0}) Error → Type 0 where
+pub data IsWalked (line : ℕ → List ℕ → List ℕ) (table : Table) (out out' : OutputState) : Result (Unit {0}) Error
+    → Type 0 where
   whole : walk_rest table ≡ [] → Gets out out' (all_lines line table) → IsWalked line table out out' (Ok tt)
   stopped : (fault : Error) → walk_rest table ≢ [] → fault_of (walk_rest table) ≡ refusal_of fault
       → Gets out out' (all_lines line table) → IsWalked line table out out' (Err fault)
   lacking : (count : ℕ) → Gets out out' (lines_of line table count) → IsWalked line table out out' (Err OutOfMemory)
-  cut : (fault : Error) → IsFailed out' fault → IsPrefix (all_lines line table) out.contents out'.contents → IsWalked line table out out' (Err fault)
+  cut : (fault : Error) → IsFailed out' fault → IsPrefix (all_lines line table) out.contents out'.contents
+      → IsWalked line table out out' (Err fault)
 
 -- The table that a stream holds was listed; or the stream is refused as a table, and nothing was written.
-pub data IsListed (line : ℕ → List ℕ → List ℕ) (stream : List ℕ) (out out' : OutputState) (result : Result (Unit {0}) Error) : Type 0 where
-  walked : (table : Table) → table_of stream ≡ Ok table → IsWalked line table out out' result → IsListed line stream out out' result
-  refused : (fault : Error) → result ≡ Err fault → table_of stream ≡ Err (refusal_of fault) → out' ≡ out → IsListed line stream out out' result
+pub data IsListed (line : ℕ → List ℕ → List ℕ) (stream : List ℕ) (out out' : OutputState)
+    (result : Result (Unit {0}) Error) : Type 0 where
+  walked : (table : Table) → table_of stream ≡ Ok table → IsWalked line table out out' result
+      → IsListed line stream out out' result
+  refused : (fault : Error) → result ≡ Err fault → table_of stream ≡ Err (refusal_of fault) → out' ≡ out
+      → IsListed line stream out out' result
 
 -- the lines of members; none if the members are refused
 abbrev pub members_text : Answer (List ℕ) → List ℕ
@@ -54,11 +59,16 @@ members_text (Err fault) = []
 --   unread_shown   memory was refused, and nothing was written
 --   lacking_shown  memory was refused after the record was written
 --   cut_shown      the output failed, and a prefix of the record and its members was written
-pub data IsShown (meant : Answer (List ℕ × Answer (List ℕ))) (out out' : OutputState) : Result (Unit {0}) Error → Type 0 where
-  whole_shown : (text members : List ℕ) → meant ≡ Ok (text, Ok members) → Gets out out' (text ++ members) → IsShown meant out out' (Ok tt)
-  stopped_shown : (text : List ℕ) (fault : Error) → meant ≡ Ok (text, Err (refusal_of fault)) → Gets out out' text → IsShown meant out out' (Err fault)
+pub data IsShown (meant : Answer (List ℕ × Answer (List ℕ))) (out out' : OutputState) : Result (Unit {0}) Error
+    → Type 0 where
+  whole_shown : (text members : List ℕ) → meant ≡ Ok (text, Ok members) → Gets out out' (text ++ members)
+      → IsShown meant out out' (Ok tt)
+  stopped_shown : (text : List ℕ) (fault : Error) → meant ≡ Ok (text, Err (refusal_of fault)) → Gets out out' text
+      → IsShown meant out out' (Err fault)
   refused_shown : (fault : Error) → meant ≡ Err (refusal_of fault) → out' ≡ out → IsShown meant out out' (Err fault)
   unread_shown : out' ≡ out → IsShown meant out out' (Err OutOfMemory)
-  lacking_shown : (text : List ℕ) (members : Answer (List ℕ)) → meant ≡ Ok (text, members) → Gets out out' text → IsShown meant out out' (Err OutOfMemory)
-  cut_shown : (text : List ℕ) (members : Answer (List ℕ)) (fault : Error) → meant ≡ Ok (text, members) → IsFailed out' fault
+  lacking_shown : (text : List ℕ) (members : Answer (List ℕ)) → meant ≡ Ok (text, members) → Gets out out' text
+      → IsShown meant out out' (Err OutOfMemory)
+  cut_shown : (text : List ℕ) (members : Answer (List ℕ)) (fault : Error) → meant ≡ Ok (text, members)
+      → IsFailed out' fault
       → IsPrefix (text ++ members_text members) out.contents out'.contents → IsShown meant out out' (Err fault)

@@ -10,7 +10,8 @@ use Rattle.pdb_space.specs.Conversions.{AddressMapValue}
 use Rattle.pdb_mapping.specs.Mapped.{IsMapped, lacking, refused}
 
 -- the map is refused, or memory is
-pub map_refused : (form : Form) (meant : Answer AddressMapValue) (address : ℕ) (old : OutputState) (e : Error) → (meant ≡ Err (refusal_of e)) ⊎ (e ≡ OutOfMemory)
+pub map_refused : (form : Form) (meant : Answer AddressMapValue) (address : ℕ) (old : OutputState) (e : Error)
+    → (meant ≡ Err (refusal_of e)) ⊎ (e ≡ OutOfMemory)
     → IsMapped form meant address old old (Err e)
 map_refused form meant address old e (inl is) = refused e refl is refl
 map_refused form meant address old e (inr want) = lacking (ap (λ (fault : Error). Err fault) want) refl

@@ -14,11 +14,18 @@ given_map file head streams = do
   transformed ← sections_numbered file head streams.transformed
   to_original ← omap_numbered file head streams.to_original
   to_transformed ← omap_numbered file head streams.to_transformed
-  Ok (record { original_sections = unwrap_or sections []; transformed_sections = transformed; transformed_to_original = to_original; original_to_transformed = to_transformed })
+  Ok (record {
+    original_sections = unwrap_or sections [];
+    transformed_sections = transformed;
+    transformed_to_original =
+        to_original;
+    original_to_transformed = to_transformed;
+  })
 
 -- whether no stream is given
 abbrev pub gives_none : MapStreams → Bool
-gives_none streams = is_none streams.sections && is_none streams.transformed && is_none streams.to_original && is_none streams.to_transformed
+gives_none streams = is_none streams.sections && is_none streams.transformed && is_none streams.to_original
+    && is_none streams.to_transformed
 
 -- the address map made from given streams, or the file's own if none is given
 unfoldable pub map_in : List ℕ → Head → MapStreams → Answer AddressMapValue

@@ -44,7 +44,8 @@ crossed_text form from to_address to_place address place =
 unfoldable pub loaded_text : Form → OfLoaded → List ℕ
 loaded_text form made =
     row_text form (place_shown (codes "rva") (codes "section_offset") made.section_offset)
-    ++ crossed_text form (codes "rva") (codes "internal_rva") (codes "internal_offset") made.internal_rva made.internal_offset
+    ++ crossed_text form (codes "rva") (codes "internal_rva")
+    (codes "internal_offset") made.internal_rva made.internal_offset
 
 -- the lines for an address in the original image
 unfoldable pub internal_text : Form → OfInternal → List ℕ
@@ -65,7 +66,10 @@ pub record AreLinesOf (form : Form) (map : AddressMapValue) (address : ℕ) (lin
 --   mapped   the lines for the address were written, or cut short because the output failed or memory was refused
 --   refused  the map is refused, and nothing was written
 --   lacking  memory was refused for the map, and nothing was written
-pub data IsMapped (form : Form) (meant : Answer AddressMapValue) (address : ℕ) (old new : OutputState) (result : Result (Unit {0}) Error) : Type 0 where
-  mapped : (map : AddressMapValue) (lines : List ℕ) → meant ≡ Ok map → AreLinesOf form map address lines → Writes lines old new result → IsMapped form meant address old new result
-  refused : (fault : Error) → result ≡ Err fault → meant ≡ Err (refusal_of fault) → new ≡ old → IsMapped form meant address old new result
+pub data IsMapped (form : Form) (meant : Answer AddressMapValue) (address : ℕ) (old new : OutputState)
+    (result : Result (Unit {0}) Error) : Type 0 where
+  mapped : (map : AddressMapValue) (lines : List ℕ) → meant ≡ Ok map → AreLinesOf form map address lines
+      → Writes lines old new result → IsMapped form meant address old new result
+  refused : (fault : Error) → result ≡ Err fault → meant ≡ Err (refusal_of fault) → new ≡ old
+      → IsMapped form meant address old new result
   lacking : result ≡ Err OutOfMemory → new ≡ old → IsMapped form meant address old new result

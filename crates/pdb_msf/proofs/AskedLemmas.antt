@@ -11,17 +11,22 @@ pub asks_nothing : (asked : ℕ) → asked < 2 ^ 64 → asked ≡ raised_by 0 as
 asks_nothing asked fits = omega arith
 
 -- a call that stops after a first part has asked for no more than this part
-pub asks_stopped : (X : Type 0) (old new part rest : ℕ) (e : Error) → old < 2 ^ 64 → new ≡ raised_by part old → Asks old new (part + rest) (let r : Result X Error = Err e in r)
+pub asks_stopped : (X : Type 0) (old new part rest : ℕ) (e : Error) → old < 2 ^ 64 → new ≡ raised_by part old
+    → Asks old new (part + rest) (let r : Result X Error = Err e in r)
 asks_stopped X old new part rest e fits asked = (omega arith, omega arith)
 
 -- one that is refused within the rest has asked for no more than both
-pub asks_refused : (X : Type 0) (old middle new part rest : ℕ) (e : Error) → old < 2 ^ 64 → middle ≡ raised_by part old → (middle ≤ new) × (new ≤ middle + rest) → Asks old new (part + rest) (let r : Result X Error = Err e in r)
-asks_refused X old middle new part rest e fits first second = let low = second.0 in let high = second.1 in (omega arith, omega arith)
+pub asks_refused : (X : Type 0) (old middle new part rest : ℕ) (e : Error) → old < 2 ^ 64 → middle ≡ raised_by part old
+    → (middle ≤ new) × (new ≤ middle + rest) → Asks old new (part + rest) (let r : Result X Error = Err e in r)
+asks_refused X old middle new part rest e fits first second = let low = second.0 in let high = second.1 in
+    (omega arith, omega arith)
 
 -- of a stream that the directory describes its size is wanted, cut to the limit
-pub wanted_is : (old file : List ℕ) (before head : Head) (n : ℕ) (limit : Option ℕ) (directory : List ℕ) (entry : Entry) → file ≡ old → head ≡ before
+pub wanted_is : (old file : List ℕ) (before head : Head) (n : ℕ) (limit : Option ℕ) (directory : List ℕ) (entry : Entry)
+    → file ≡ old → head ≡ before
     → directory_of file head ≡ Ok directory → entry_of head.geometry n limit directory ≡ Ok entry
     → wanted (described old before n limit) ≡ entry.size
 wanted_is old file before head n limit directory entry same_file same_head read is =
     let here : wanted (described file head n limit) ≡ entry.size = rw (read, is) refl in
-    ap (λ (f : List ℕ). wanted (described f before n limit)) (sym same_file) ∙ ap (λ (h : Head). wanted (described file h n limit)) (sym same_head) ∙ here
+    ap (λ (f : List ℕ). wanted (described f before n limit)) (sym same_file)
+    ∙ ap (λ (h : Head). wanted (described file h n limit)) (sym same_head) ∙ here

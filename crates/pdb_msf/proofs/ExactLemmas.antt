@@ -10,27 +10,33 @@ use Rattle.pdb_msf.specs.Exactly.{RefusesExactly}
 use Rattle.pdb_msf.specs.Pages.{page_number, page_numbers}
 
 -- where a value is meant, nothing has to be refused
-pub exactly_ok : {X A : Type 0} (result : Result X Error) (meant : Answer A) (x : A) → meant ≡ Ok x → RefusesExactly result meant
+pub exactly_ok : {X A : Type 0} (result : Result X Error) (meant : Answer A) (x : A) → meant ≡ Ok x
+    → RefusesExactly result meant
 exactly_ok result meant x is = rw is tt
 
-pub exactly_err : (X : Type 0) {A : Type 0} (e : Error) (meant : Answer A) → meant ≡ Err (refusal_of e) → RefusesExactly (let r : Result X Error = Err e in r) meant
+pub exactly_err : (X : Type 0) {A : Type 0} (e : Error) (meant : Answer A) → meant ≡ Err (refusal_of e)
+    → RefusesExactly (let r : Result X Error = Err e in r) meant
 exactly_err X e meant is = rw is refl
 
 -- what was answered refused nothing before, whatever the whole call then answers
-pub exactly_passed : {X Y A : Type 0} (part : X) (result : Result Y Error) (meant : Answer A) → RefusesExactly (let r : Result X Error = Ok part in r) meant → RefusesExactly result meant
+pub exactly_passed : {X Y A : Type 0} (part : X) (result : Result Y Error) (meant : Answer A)
+    → RefusesExactly (let r : Result X Error = Ok part in r) meant → RefusesExactly result meant
 exactly_passed part result (Ok x) exact = tt
 exactly_passed part result (Err e) exact = absurd exact
 
 -- the refusal of a first step is that of all
-pub exactly_then : {X A B : Type 0} (result : Result X Error) (first : Answer A) (x : A) (more : A → Answer B) → first ≡ Ok x → RefusesExactly result (more x) → RefusesExactly result (first >>= more)
+pub exactly_then : {X A B : Type 0} (result : Result X Error) (first : Answer A) (x : A) (more : A → Answer B)
+    → first ≡ Ok x → RefusesExactly result (more x) → RefusesExactly result (first >>= more)
 exactly_then result first x more is exact = rw is exact
 
-first_of_all : {A : Type 0} (f : ℕ → Answer A) (i : ℕ) (xs : List A) → 0 < i → collected (map f (range_with_len 0 i)) ≡ Ok xs → (x : A) × (f 0 ≡ Ok x)
+first_of_all : {A : Type 0} (f : ℕ → Answer A) (i : ℕ) (xs : List A) → 0 < i
+    → collected (map f (range_with_len 0 i)) ≡ Ok xs → (x : A) × (f 0 ≡ Ok x)
 first_of_all f zero xs some all = absurd (omega arith)
 first_of_all f (suc i) xs some all = let b = bind_ok (f 0) _ xs all in (b.0, b.1)
 
 -- where the first number is there and good, nothing has to be refused before memory is asked for
-pub first_there : {X : Type 0} (pages_used count i : ℕ) (words numbers : List ℕ) (result : Result X Error) → collected (map (page_number pages_used words) (range_with_len 0 i)) ≡ Ok numbers → min 1 count ≤ i
+pub first_there : {X : Type 0} (pages_used count i : ℕ) (words numbers : List ℕ) (result : Result X Error)
+    → collected (map (page_number pages_used words) (range_with_len 0 i)) ≡ Ok numbers → min 1 count ≤ i
     → RefusesExactly result (page_numbers pages_used (min 1 count) words)
 unfolding page_numbers
 first_there pages_used count i words numbers result all enough = elim (cases_lt 0 count) [
@@ -43,7 +49,9 @@ first_there pages_used count i words numbers result all enough = elim (cases_lt 
       rw (one_is, here.1) tt
 ]
 
-pub first_refused : (X : Type 0) (pages_used count i : ℕ) (words numbers : List ℕ) (e : Error) → i < count → collected (map (page_number pages_used words) (range_with_len 0 i)) ≡ Ok numbers → page_number pages_used words i ≡ Err (refusal_of e)
+pub first_refused : (X : Type 0) (pages_used count i : ℕ) (words numbers : List ℕ) (e : Error) → i < count
+    → collected (map (page_number pages_used words) (range_with_len 0 i)) ≡ Ok numbers
+    → page_number pages_used words i ≡ Err (refusal_of e)
     → RefusesExactly (let r : Result X Error = Err e in r) (page_numbers pages_used (min 1 count) words)
 unfolding page_numbers
 first_refused X pages_used count zero words numbers e within all here =

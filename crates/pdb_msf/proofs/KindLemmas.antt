@@ -1,5 +1,6 @@
 -- What no definition of this crate refuses with: an error of the source, but for its end.
-use Rattle.std.proofs.Common.{◌≡◌, ℕ, Bool, true, false, ltb, leb, eqb, ◌&&◌, List, length, drop, ap, inl, inr, subst, Option, Some, None, Ok, Err}
+use Rattle.std.proofs.Common.{◌≡◌, ℕ, Bool, true, false, ltb, leb, eqb, ◌&&◌, List, length, drop, ap, inl, inr, subst}
+use Rattle.std.proofs.Common.{Option, Some, None, Ok, Err}
 use Rattle.std.proofs.lemmas.Bool.{cases_Bool}
 use Rattle.std.specs.List.{slice_get}
 use Rattle.std.specs.Prelude.{not}
@@ -21,11 +22,18 @@ plain_ok : {A : Type 0} (x : A) → Plain (let r : Answer A = Ok x in r)
 plain_ok x = record { tells = λ state e is. absurd cc }
 
 plain_err : {A : Type 0} (r : Refusal) → ((state : State) → TellsKind state r) → Plain (let a : Answer A = Err r in a)
-plain_err {A} r told = record { tells = λ state e is. let same : r ≡ e = cc in subst (TellsKind state) same (told state) }
+plain_err {A} r told = record {
+  tells = λ state e is. let same : r ≡ e = cc in
+      subst (TellsKind state) same (told state);
+}
 
-plain_then : {A B : Type 0} (first : Answer A) (more : A → Answer B) → Plain first → ((x : A) → Plain (more x)) → Plain (first >>= more)
+plain_then : {A B : Type 0} (first : Answer A) (more : A → Answer B) → Plain first → ((x : A) → Plain (more x))
+    → Plain (first >>= more)
 plain_then (Ok x) more one two = two x
-plain_then (Err r) more one two = record { tells = λ state e is. one.tells state e (let same : r ≡ e = cc in ap (λ (d : Refusal). Err d) same) }
+plain_then (Err r) more one two = record {
+  tells =
+      λ state e is. one.tells state e (let same : r ≡ e = cc in ap (λ (d : Refusal). Err d) same);
+}
 
 plain_required : (b : Bool) (r : Refusal) → ((state : State) → TellsKind state r) → Plain (required b r)
 plain_required true r told = plain_ok tt
@@ -45,7 +53,8 @@ plain_numbers : (pages_used count : ℕ) (words : List ℕ) → Plain (page_numb
 plain_numbers pages_used count words = record {
   tells = λ state e is.
       let first = first_fault pages_used count words e is in
-      (plain_then (present (slice_get words first.place)) (judged pages_used) (plain_present (slice_get words first.place)) (plain_judged pages_used)).tells state e first.here;
+      (plain_then (present (slice_get words first.place)) (judged pages_used)
+      (plain_present (slice_get words first.place)) (plain_judged pages_used)).tells state e first.here;
 }
 
 plain_place : (page_size n : ℕ) (d : List ℕ) → Plain (place_in page_size n d)
@@ -55,7 +64,8 @@ plain_place page_size n d =
     plain_then _ _ (plain_required _ (stream_not_found n) (λ state. tt)) (λ known.
     plain_then _ _ (plain_present (slice_get (sizes_of d) n)) (λ size.
     plain_then _ _ (plain_required (not (eqb size absent)) (stream_not_found n) (λ state. tt)) (λ there.
-    plain_then _ _ (plain_required (leb (start_of page_size count d n) (length d)) unexpected_eof (λ state. tt)) (λ reached.
+    plain_then _ _ (plain_required (leb (start_of page_size count d n) (length d)) unexpected_eof (λ state. tt))
+    (λ reached.
     let place : StreamPlace = record { size = size; start = start_of page_size count d n } in plain_ok place)))))
 
 plain_entry : (g : Geometry) (n : ℕ) (limit : Option ℕ) (d : List ℕ) → Plain (entry_of g n limit d)
@@ -66,14 +76,18 @@ plain_entry g n limit d =
     let entry : Entry = record { size = limited place.size limit; pages = numbers } in plain_ok entry))
 
 -- so a call that reads no source passes no error of one on
-tells_answers : {X A : Type 0} (state : State) (view : X → A) (e : Error) (meant : Answer A) → Plain meant → Answers view (Err e) meant → TellsKind state (refusal_of e)
+tells_answers : {X A : Type 0} (state : State) (view : X → A) (e : Error) (meant : Answer A) → Plain meant
+    → Answers view (Err e) meant → TellsKind state (refusal_of e)
 tells_answers state view e meant plain (inl is) = plain.tells state (refusal_of e) is
 tells_answers state view e meant plain (inr want) = rw want tt
 
-pub tells_numbers : {X : Type 0} (state : State) (view : X → List ℕ) (e : Error) (pages_used count : ℕ) (words : List ℕ) → Answers view (Err e) (page_numbers pages_used count words) → TellsKind state (refusal_of e)
-tells_numbers state view e pages_used count words answered = tells_answers state view e (page_numbers pages_used count words) (plain_numbers pages_used count words) answered
+pub tells_numbers : {X : Type 0} (state : State) (view : X → List ℕ) (e : Error) (pages_used count : ℕ) (words : List ℕ)
+    → Answers view (Err e) (page_numbers pages_used count words) → TellsKind state (refusal_of e)
+tells_numbers state view e pages_used count words answered =
+    tells_answers state view e (page_numbers pages_used count words) (plain_numbers pages_used count words) answered
 
-pub tells_entry : {X : Type 0} (state : State) (view : X → Entry) (e : Error) (g : Geometry) (n : ℕ) (limit : Option ℕ) (d : List ℕ)
+pub tells_entry : {X : Type 0} (state : State) (view : X → Entry) (e : Error) (g : Geometry) (n : ℕ) (limit : Option ℕ)
+    (d : List ℕ)
     → Answers view (Err e) (entry_of g n limit d) → TellsKind state (refusal_of e)
 tells_entry state view e g n limit d answered =
     tells_answers state view e (entry_of g n limit d) (plain_entry g n limit d) answered

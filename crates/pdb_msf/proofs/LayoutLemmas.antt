@@ -14,12 +14,15 @@ use Rattle.pdb_msf.proofs.WordLemmas.{no_word}
 
 -- ---- the count of streams
 
-pub counted : (d slice : List ℕ) (start : Place) (x : ℕ × List ℕ) → slice ≡ d → start ≡ record { slice = slice; pos = 0 } → number_at 4 (left start) ≡ Ok x → stream_count_in d ≡ Ok x.0
+pub counted : (d slice : List ℕ) (start : Place) (x : ℕ × List ℕ) → slice ≡ d
+    → start ≡ record { slice = slice; pos = 0 } → number_at 4 (left start) ≡ Ok x → stream_count_in d ≡ Ok x.0
 counted d slice start x whole begins read = ap present (count_read d slice start x whole begins read).is
 
-pub uncounted : (d slice : List ℕ) (start : Place) (e : Refusal) → slice ≡ d → start ≡ record { slice = slice; pos = 0 } → number_at 4 (left start) ≡ Err e → stream_count_in d ≡ Err e
+pub uncounted : (d slice : List ℕ) (start : Place) (e : Refusal) → slice ≡ d → start ≡ record { slice = slice; pos = 0 }
+    → number_at 4 (left start) ≡ Err e → stream_count_in d ≡ Err e
 uncounted d slice start e whole begins missing =
-    let none = no_word (words d) 0 (left start) e (ap (λ (p : Place). words (left p)) begins ∙ ap words whole) missing in
+    let none = no_word (words d) 0 (left start) e
+    (ap (λ (p : Place). words (left p)) begins ∙ ap words whole) missing in
     rw none.1 (ap present none.0)
 
 -- ---- a layout over the bytes of its file
@@ -38,12 +41,14 @@ layout_read file layout is =
     let said : head.0 ≡ layout.head = ap (λ (p : LayoutValue). p.head) same in
     record {
       head = head.1 ∙ ap (λ (h : Head). Ok h) said;
-      directory = ap (λ (h : Head). directory_of file h) (sym said) ∙ directory.1 ∙ ap (λ (d : List ℕ). Ok d) (ap (λ (p : LayoutValue). p.directory) same);
+      directory = ap (λ (h : Head). directory_of file h) (sym said) ∙ directory.1
+          ∙ ap (λ (d : List ℕ). Ok d) (ap (λ (p : LayoutValue). p.directory) same);
     }
 
 pub head_read : (file : List ℕ) (layout : LayoutValue) → layout_of file ≡ Ok layout → opened file ≡ Ok layout.head
 head_read file layout is = (layout_read file layout is).head
 
-pub same_stream : (file : List ℕ) (layout : LayoutValue) (n : ℕ) (limit : Option ℕ) → layout_of file ≡ Ok layout → stream_by layout file n limit ≡ stream_of file layout.head n limit
+pub same_stream : (file : List ℕ) (layout : LayoutValue) (n : ℕ) (limit : Option ℕ) → layout_of file ≡ Ok layout
+    → stream_by layout file n limit ≡ stream_of file layout.head n limit
 unfolding stream_of stream_by
 same_stream file layout n limit is = rw (layout_read file layout is).directory refl

@@ -1,12 +1,16 @@
 -- The positions of whole pages, by the index of each byte.
-use Rattle.std.proofs.Common.{◌≡◌, ℕ, ◌+◌, ◌*◌, ◌/◌, ◌%◌, ◌<◌, ◌≤◌, List, [], ◌∷◌, ◌++◌, length, get_or, take, map, sym, ap, ◌∙◌, arith, slice_index, length-append, ◌^◌, inl, inr, Result, Ok, Err, Some, None, Bool, cond, ltb, subst}
+use Rattle.std.proofs.Common.{◌≡◌, ℕ, ◌+◌, ◌*◌, ◌/◌, ◌%◌, ◌<◌, ◌≤◌, List, [], ◌∷◌, ◌++◌, length, get_or, take, map, sym}
+use Rattle.std.proofs.Common.{ap, ◌∙◌, arith, slice_index, length-append, ◌^◌, inl, inr, Result, Ok, Err, Some, None}
+use Rattle.std.proofs.Common.{Bool, cond, ltb, subst}
 use Rattle.std.specs.List.{flat_map, list_all, range_with_len}
 use Rattle.std.proofs.Math.Nat.{mod-lt}
 use Rattle.std.proofs.lemmas.Bool.{cases_Bool, cases_lt}
 use Rattle.std.proofs.lemmas.Nat.{div-add-mod', div_below, mul-le}
 use Rattle.std.proofs.lemmas.Grind.{flat_map-append, div_ceil_times}
-use Rattle.std.proofs.lemmas.List.{append-nil, get_or-take, length-take, take_more, length-take-le, ext_get_or, length-map}
-use Rattle.std.proofs.lemmas.List.FromFn.{length-range_with_len, get_or-map-range_with_len, get_or-range_with_len, length-map-range_with_len}
+use Rattle.std.proofs.lemmas.List.{append-nil, get_or-take, length-take, take_more, length-take-le, ext_get_or}
+use Rattle.std.proofs.lemmas.List.{length-map}
+use Rattle.std.proofs.lemmas.List.FromFn.{length-range_with_len, get_or-map-range_with_len, get_or-range_with_len}
+use Rattle.std.proofs.lemmas.List.FromFn.{length-map-range_with_len}
 use Rattle.std.proofs.lemmas.List.Concat.{get_or-flat_map}
 use Rattle.std.specs.Prelude.{IsTrue, IfOk}
 use Rattle.pdb_base.specs.declared.error.Error.{Error}
@@ -23,7 +27,8 @@ use Rattle.pdb_base.proofs.lemmas.Collected.{ok_is}
 abbrev pub all_positions : ℕ → List ℕ → List ℕ
 all_positions page_size numbers = flat_map (page_positions page_size) numbers
 
-pub length-all_positions : (page_size : ℕ) (numbers : List ℕ) → length (all_positions page_size numbers) ≡ length numbers * page_size
+pub length-all_positions : (page_size : ℕ) (numbers : List ℕ)
+    → length (all_positions page_size numbers) ≡ length numbers * page_size
 length-all_positions page_size [] = omega arith
 length-all_positions page_size (number ∷ numbers) =
     let rest = length-all_positions page_size numbers in
@@ -31,20 +36,26 @@ length-all_positions page_size (number ∷ numbers) =
     ∙ omega (arith, rest, length-range_with_len (number * page_size) page_size)
 
 -- one page more
-pub all_positions_more : (page_size : ℕ) (numbers : List ℕ) (i : ℕ) (d : ℕ) → i < length numbers → all_positions page_size (take (i + 1) numbers) ≡ all_positions page_size (take i numbers) ++ page_positions page_size (get_or numbers i d)
+pub all_positions_more : (page_size : ℕ) (numbers : List ℕ) (i : ℕ) (d : ℕ) → i < length numbers
+    → all_positions page_size (take (i + 1) numbers) ≡ all_positions page_size (take i numbers)
+    ++ page_positions page_size (get_or numbers i d)
 all_positions_more page_size numbers i d within =
     ap (all_positions page_size) (take_more numbers i d within)
     ∙ flat_map-append (page_positions page_size) (take i numbers) (get_or numbers i d ∷ [])
-    ∙ ap (λ (r : List ℕ). all_positions page_size (take i numbers) ++ r) (append-nil (page_positions page_size (get_or numbers i d)))
+    ∙ ap (λ (r : List ℕ). all_positions page_size (take i numbers) ++ r)
+    (append-nil (page_positions page_size (get_or numbers i d)))
 
 -- byte i lies in page i / page_size, at i % page_size
-position_by_index : (page_size : ℕ) (numbers : List ℕ) (i : ℕ) → 0 < page_size → i < length numbers * page_size → get_or (all_positions page_size numbers) i 0 ≡ position_of page_size numbers i
+position_by_index : (page_size : ℕ) (numbers : List ℕ) (i : ℕ) → 0 < page_size → i < length numbers * page_size
+    → get_or (all_positions page_size numbers) i 0 ≡ position_of page_size numbers i
 position_by_index page_size numbers i positive within =
     let page : i / page_size < length numbers = div_below i page_size (length numbers) positive within in
     let byte : i % page_size < page_size = mod-lt i positive in
     let before : length (all_positions page_size (take (i / page_size) numbers)) ≡ i / page_size * page_size =
-    length-all_positions page_size (take (i / page_size) numbers) ∙ ap (λ (n : ℕ). n * page_size) (length-take-le (i / page_size) numbers (omega arith)) in
-    let at : length (all_positions page_size (take (i / page_size) numbers)) + i % page_size ≡ i = ap (λ (n : ℕ). n + i % page_size) before ∙ div-add-mod' i page_size in
+    length-all_positions page_size (take (i / page_size) numbers)
+    ∙ ap (λ (n : ℕ). n * page_size) (length-take-le (i / page_size) numbers (omega arith)) in
+    let at : length (all_positions page_size (take (i / page_size) numbers)) + i % page_size ≡ i =
+    ap (λ (n : ℕ). n + i % page_size) before ∙ div-add-mod' i page_size in
     let in_page : i % page_size < length (page_positions page_size (get_or numbers (i / page_size) 0)) =
     omega (arith, length-range_with_len (get_or numbers (i / page_size) 0 * page_size) page_size) in
     ap (λ (n : ℕ). get_or (all_positions page_size numbers) n 0) (sym at)
@@ -52,10 +63,13 @@ position_by_index page_size numbers i positive within =
     ∙ get_or-range_with_len (get_or numbers (i / page_size) 0 * page_size) page_size (i % page_size) 0 byte
 
 -- the first positions of pages are those of their bytes in order
-pub positions_by_index : (page_size : ℕ) (numbers : List ℕ) (size : ℕ) → 0 < page_size → size ≤ length numbers * page_size → take size (all_positions page_size numbers) ≡ map (position_of page_size numbers) (range_with_len 0 size)
+pub positions_by_index : (page_size : ℕ) (numbers : List ℕ) (size : ℕ) → 0 < page_size
+    → size ≤ length numbers * page_size → take size (all_positions page_size numbers)
+    ≡ map (position_of page_size numbers) (range_with_len 0 size)
 positions_by_index page_size numbers size positive within =
     let all = length-all_positions page_size numbers in
-    let long : length (take size (all_positions page_size numbers)) ≡ size = length-take size (all_positions page_size numbers) ∙ omega arith in
+    let long : length (take size (all_positions page_size numbers)) ≡ size =
+    length-take size (all_positions page_size numbers) ∙ omega arith in
     ext_get_or 0 _ _ (long ∙ sym (length-map-range_with_len (position_of page_size numbers) 0 size))
     (λ i lt. let inside : i < size = omega arith in
     get_or-take size (all_positions page_size numbers) i 0 inside
@@ -77,7 +91,8 @@ pub pages_few : (page_size bytes : ℕ) → 256 ≤ page_size → bytes < 2 ^ 32
 pages_few page_size bytes large small =
     let tight = pages_tight page_size bytes (omega arith) in
     elim (cases_lt (2 ^ 24) (pages page_size bytes)) [
-      | inl many ↦ absurd (let product : (2 ^ 24 + 1) * page_size ≤ pages page_size bytes * page_size = mul-le (2 ^ 24 + 1) page_size (pages page_size bytes) page_size (omega arith) (omega arith) in omega arith)
+      | inl many ↦ absurd (let product : (2 ^ 24 + 1) * page_size ≤ pages page_size bytes * page_size =
+          mul-le (2 ^ 24 + 1) page_size (pages page_size bytes) page_size (omega arith) (omega arith) in omega arith)
       | inr few ↦ few
     ]
 
@@ -92,7 +107,8 @@ stream_held page_size size count read large whole cut =
     rw whole (omega (arith, reach, cut))
 
 -- and are few
-pub stream_few : (page_size size count : ℕ) → 256 ≤ page_size → count ≡ pages page_size size → size < absent → count ≤ 2 ^ 40
+pub stream_few : (page_size size count : ℕ) → 256 ≤ page_size → count ≡ pages page_size size → size < absent
+    → count ≤ 2 ^ 40
 stream_few page_size size count large whole there =
     let few = pages_few page_size size large (omega (arith, there)) in
     omega (arith, whole, few)
@@ -102,8 +118,10 @@ pub pages_le : (page_size bytes : ℕ) → 0 < page_size → pages page_size byt
 pages_le page_size bytes positive =
     let tight = pages_tight page_size bytes positive in
     elim (cases_lt bytes (pages page_size bytes)) [
-      | inl many ↦ absurd (let product : (bytes + 1) * page_size ≤ pages page_size bytes * page_size = mul-le (bytes + 1) page_size (pages page_size bytes) page_size (omega arith) (omega arith) in
-          let some : bytes * 1 ≤ bytes * page_size = mul-le bytes 1 bytes page_size (omega arith) (omega arith) in omega arith)
+      | inl many ↦ absurd (let product : (bytes + 1) * page_size ≤ pages page_size bytes * page_size =
+          mul-le (bytes + 1) page_size (pages page_size bytes) page_size (omega arith) (omega arith) in
+          let some : bytes * 1 ≤ bytes * page_size = mul-le bytes 1 bytes page_size (omega arith) (omega arith) in
+          omega arith)
       | inr few ↦ few
     ]
 
@@ -111,11 +129,14 @@ pages_le page_size bytes positive =
 pub length_found : (file at bytes : List ℕ) → found (bytes_at file at) ≡ Ok bytes → length bytes ≡ length at
 unfolding bytes_at
 length_found file at bytes e = elim (cases_Bool (list_all (λ place. ltb place (length file)) at)) [
-  | inl all ↦ let shown : found (Some (map (slice_index file) at)) ≡ Ok bytes = subst (λ (b : Bool). found (cond b (Some (map (slice_index file) at)) None) ≡ Ok bytes) all e in
+  | inl all ↦ let shown : found (Some (map (slice_index file) at)) ≡ Ok bytes =
+      subst (λ (b : Bool). found (cond b (Some (map (slice_index file) at)) None) ≡ Ok bytes) all e in
       sym (ap length (ok_is (map (slice_index file) at) bytes shown)) ∙ length-map at (slice_index file)
-  | inr none ↦ absurd (let shown : found None ≡ Ok bytes = subst (λ (b : Bool). found (cond b (Some (map (slice_index file) at)) None) ≡ Ok bytes) none e in cc)
+  | inr none ↦ absurd (let shown : found None ≡ Ok bytes =
+      subst (λ (b : Bool). found (cond b (Some (map (slice_index file) at)) None) ≡ Ok bytes) none e in cc)
 ]
 
-pub length_viewed : (failed : Type 0) (file at : List ℕ) (size : ℕ) (result : Result (List ℕ) Error) → length at ≡ size → AnswersUnless failed (λ v. v) result (found (bytes_at file at)) → IfOk result (λ v. length v ≡ size)
+pub length_viewed : (failed : Type 0) (file at : List ℕ) (size : ℕ) (result : Result (List ℕ) Error) → length at ≡ size
+    → AnswersUnless failed (λ v. v) result (found (bytes_at file at)) → IfOk result (λ v. length v ≡ size)
 length_viewed failed file at size (Ok bytes) sized answered = length_found file at bytes answered ∙ sized
 length_viewed failed file at size (Err e) sized answered = tt

@@ -1,5 +1,7 @@
 -- The bytes of a stream, and that they are the same whatever was asked before.
-use Rattle.std.proofs.Common.{◌≡◌, ℕ, zero, suc, ◌+◌, ◌*◌, ◌<◌, ◌≤◌, Bool, true, false, ltb, leb, eqb, List, [], ◌∷◌, length, get_or, drop, take, map, refl, sym, ap, ◌∙◌, arith, inl, inr, subst, Option, Some, Result, Ok, Err}
+use Rattle.std.proofs.Common.{◌≡◌, ℕ, zero, suc, ◌+◌, ◌*◌, ◌<◌, ◌≤◌, Bool, true, false, ltb, leb, eqb, List, [], ◌∷◌}
+use Rattle.std.proofs.Common.{length, get_or, drop, take, map, refl, sym, ap, ◌∙◌, arith, inl, inr, subst, Option, Some}
+use Rattle.std.proofs.Common.{Result, Ok, Err}
 use Rattle.std.specs.Prelude.{not}
 use Rattle.std.specs.List.{range_with_len, slice_get}
 use Rattle.std.proofs.lemmas.Bool.{ltb-true, leb-true, lt-ltb, le-leb, eq-eqb}
@@ -24,7 +26,8 @@ use Rattle.pdb_msf.proofs.LawLemmas.{are_good, found_there, scatters, word_there
 
 sizes_follow : (n : ℕ) (all : List ℕ) → slice_get (drop 1 all) n ≡ slice_get all (1 + n)
 sizes_follow n [] = refl
-sizes_follow n (word ∷ all) = let next : 1 + n ≡ suc n = omega arith in ap (λ (i : ℕ). slice_get (word ∷ all) i) (sym next)
+sizes_follow n (word ∷ all) = let next : 1 + n ≡ suc n = omega arith in
+    ap (λ (i : ℕ). slice_get (word ∷ all) i) (sym next)
 
 passed : (b : Bool) (e : Refusal) (x : Unit {0}) → required b e ≡ Ok x → b ≡ true
 passed true e x is = refl
@@ -44,7 +47,8 @@ record Stands (page_size n : ℕ) (d : List ℕ) (place : StreamPlace) : Type 0 
   pub is : place.start ≡ start_of page_size count d n
   pub reached : place.start ≤ length d
 
-stands_where : (page_size n : ℕ) (d : List ℕ) (place : StreamPlace) → place_in page_size n d ≡ Ok place → Stands page_size n d place
+stands_where : (page_size n : ℕ) (d : List ℕ) (place : StreamPlace) → place_in page_size n d ≡ Ok place
+    → Stands page_size n d place
 unfolding place_in
 stands_where page_size n d place e =
     let counted = bind_ok (present (slice_get (words d) 0)) _ place e in
@@ -71,10 +75,12 @@ stands_where page_size n d place e =
 
 -- ---- page numbers that are good are read
 
-good_word : (pages_used : ℕ) (words : List ℕ) (i number : ℕ) → slice_get words i ≡ Some number → 0 < number → number ≤ pages_used → page_number pages_used words i ≡ Ok number
+good_word : (pages_used : ℕ) (words : List ℕ) (i number : ℕ) → slice_get words i ≡ Some number → 0 < number
+    → number ≤ pages_used → page_number pages_used words i ≡ Ok number
 good_word pages_used words i number is some few = rw (is, lt-ltb 0 number some, le-leb number pages_used few) refl
 
-up_to : (f : ℕ → Answer ℕ) (numbers : List ℕ) (count : ℕ) → ((i : ℕ) → i < count → f i ≡ Ok (get_or numbers i 0)) → (k : ℕ) → k ≤ length numbers → k ≤ count → collected (map f (range_with_len 0 k)) ≡ Ok (take k numbers)
+up_to : (f : ℕ → Answer ℕ) (numbers : List ℕ) (count : ℕ) → ((i : ℕ) → i < count → f i ≡ Ok (get_or numbers i 0))
+    → (k : ℕ) → k ≤ length numbers → k ≤ count → collected (map f (range_with_len 0 k)) ≡ Ok (take k numbers)
 up_to f numbers count one zero long few = refl
 up_to f numbers count one (suc k) long few =
     let next : k + 1 ≡ suc k = omega arith in
@@ -83,7 +89,8 @@ up_to f numbers count one (suc k) long few =
     ∙ collected_more f k (take k numbers) (get_or numbers k 0) before (one k (omega arith))
     ∙ ap (λ (ns : List ℕ). Ok ns) (sym (take_more numbers k 0 (omega arith)) ∙ ap (λ (n : ℕ). take n numbers) next)
 
-read_good : (pages_used count : ℕ) (words numbers : List ℕ) → AreGood pages_used count words numbers → page_numbers pages_used count words ≡ Ok numbers
+read_good : (pages_used count : ℕ) (words numbers : List ℕ) → AreGood pages_used count words numbers
+    → page_numbers pages_used count words ≡ Ok numbers
 unfolding page_numbers
 read_good pages_used count words numbers good =
     let one : (i : ℕ) → i < count → page_number pages_used words i ≡ Ok (get_or numbers i 0) =
@@ -95,7 +102,8 @@ read_good pages_used count words numbers good =
 
 -- ---- the directory
 
-is_directory : (file : List ℕ) (head : Head) (directory : List ℕ) → directory_of file head ≡ Ok directory → IsDirectory file head directory
+is_directory : (file : List ℕ) (head : Head) (directory : List ℕ) → directory_of file head ≡ Ok directory
+    → IsDirectory file head directory
 unfolding directory_of
 is_directory file head directory e =
     let g = head.geometry in
@@ -103,13 +111,15 @@ is_directory file head directory e =
     let numbers = bind_ok (page_numbers g.pages_used (directory_pages g) (words location.0)) _ directory location.2 in
     record {
       location = location.0;
-      located = (scatters file g.page_size head.location (4 * directory_pages g)).found location.0 (found_there _ location.0 location.1);
+      located = (scatters file g.page_size head.location (4 * directory_pages g)).found location.0
+          (found_there _ location.0 location.1);
       numbers = numbers.0;
       good = are_good g.pages_used (directory_pages g) (words location.0) numbers.0 numbers.1;
       read = (scatters file g.page_size numbers.0 g.directory_size).found directory (found_there _ directory numbers.2);
     }
 
-only_directory : (file : List ℕ) (head : Head) (directory : List ℕ) → IsDirectory file head directory → directory_of file head ≡ Ok directory
+only_directory : (file : List ℕ) (head : Head) (directory : List ℕ) → IsDirectory file head directory
+    → directory_of file head ≡ Ok directory
 unfolding directory_of
 only_directory file head directory is =
     let g = head.geometry in
@@ -120,14 +130,16 @@ only_directory file head directory is =
 
 -- ---- streams
 
-pub is_stream : (file : List ℕ) (head : Head) (n : ℕ) (limit : Option ℕ) (bytes : List ℕ) → stream_of file head n limit ≡ Ok bytes → IsStream file head n limit bytes
+pub is_stream : (file : List ℕ) (head : Head) (n : ℕ) (limit : Option ℕ) (bytes : List ℕ)
+    → stream_of file head n limit ≡ Ok bytes → IsStream file head n limit bytes
 unfolding stream_of entry_of
 is_stream file head n limit bytes e =
     let g = head.geometry in
     let directory = bind_ok (directory_of file head) _ bytes e in
     let entry = bind_ok (entry_of g n limit directory.0) _ bytes directory.2 in
     let place = bind_ok (place_in g.page_size n directory.0) _ entry.0 entry.1 in
-    let numbers = bind_ok (page_numbers g.pages_used (pages g.page_size place.0.size) (words (drop place.0.start directory.0))) _ entry.0 place.2 in
+    let numbers = bind_ok (page_numbers g.pages_used (pages g.page_size place.0.size)
+    (words (drop place.0.start directory.0))) _ entry.0 place.2 in
     let meant : Entry = record { size = limited place.0.size limit; pages = numbers.0 } in
     let same : meant ≡ entry.0 = ok_is meant entry.0 numbers.2 in
     let at = stands_where g.page_size n directory.0 place.0 place.1 in
@@ -146,20 +158,29 @@ is_stream file head n limit bytes e =
       place = at.is;
       reached = at.reached;
       numbers = numbers.0;
-      good = are_good g.pages_used (pages g.page_size place.0.size) (words (drop place.0.start directory.0)) numbers.0 numbers.1;
+      good = are_good g.pages_used (pages g.page_size place.0.size)
+          (words (drop place.0.start directory.0)) numbers.0 numbers.1;
       lies = (scatters file g.page_size numbers.0 (limited place.0.size limit)).found bytes (found_there _ bytes lies);
     }
 
-pub only_stream : (file : List ℕ) (head : Head) (n : ℕ) (limit : Option ℕ) (bytes : List ℕ) → IsStream file head n limit bytes → stream_of file head n limit ≡ Ok bytes
+pub only_stream : (file : List ℕ) (head : Head) (n : ℕ) (limit : Option ℕ) (bytes : List ℕ)
+    → IsStream file head n limit bytes → stream_of file head n limit ≡ Ok bytes
 unfolding stream_of
 only_stream file head n limit bytes is =
     let g = head.geometry in
     let d = is.directory in
     let read = only_directory file head d is.has in
-    let sized : HasSize n d is.count is.size = record { counted = record { has = record { is = is.counted }; known = is.known }; is = sizes_follow n (words d) ∙ is.sized } in
-    let stood = stands g.page_size n d is.count is.size sized is.there (subst (λ (k : ℕ). k ≤ length d) is.place is.reached) in
+    let sized : HasSize n d is.count is.size =
+    record {
+      counted = record { has = record { is = is.counted }; known = is.known };
+      is = sizes_follow n (words d)
+          ∙ is.sized;
+    } in
+    let stood = stands g.page_size n d is.count is.size sized is.there
+    (subst (λ (k : ℕ). k ≤ length d) is.place is.reached) in
     let place : StreamPlace = record { size = is.size; start = is.start } in
-    let here : place_in g.page_size n d ≡ Ok place = stood ∙ ap (λ (k : ℕ). Ok (let p : StreamPlace = record { size = is.size; start = k } in p)) (sym is.place) in
+    let here : place_in g.page_size n d ≡ Ok place = stood
+    ∙ ap (λ (k : ℕ). Ok (let p : StreamPlace = record { size = is.size; start = k } in p)) (sym is.place) in
     let good = read_good g.pages_used (pages g.page_size is.size) (words (drop is.start d)) is.numbers is.good in
     let entry = entry_found g n limit d place is.numbers here good in
     let lies = (scatters file g.page_size is.numbers (limited is.size limit)).only bytes is.lies in
@@ -171,21 +192,31 @@ pub later_here : (moment : Moment) → IsLater moment moment
 later_here moment = record { source = kept_here moment.state; head = refl }
 
 pub later_then : (before middle after : Moment) → IsLater before middle → IsLater middle after → IsLater before after
-later_then before middle after first second = record { source = kept_then _ _ _ first.source second.source; head = second.head ∙ first.head }
+later_then before middle after first second =
+    record { source = kept_then _ _ _ first.source second.source; head = second.head ∙ first.head }
 
-one_answer : (failed later : Type 0) (once again : Result (List ℕ) Error) (meant : Answer (List ℕ)) → AnswersUnless failed (λ stream. stream) once meant → AnswersUnless later (λ stream. stream) again meant → AgreeUnless failed later once again
+one_answer : (failed later : Type 0) (once again : Result (List ℕ) Error) (meant : Answer (List ℕ))
+    → AnswersUnless failed (λ stream. stream) once meant → AnswersUnless later (λ stream. stream) again meant
+    → AgreeUnless failed later once again
 one_answer failed later (Ok bytes) (Ok again) meant first second = ok_is again bytes (sym second ∙ first)
-one_answer failed later (Ok bytes) (Err e) meant first (inl refused) = absurd (ok_is_no_err bytes (refusal_of e) (sym first ∙ refused))
+one_answer failed later (Ok bytes) (Err e) meant first (inl refused) =
+    absurd (ok_is_no_err bytes (refusal_of e) (sym first ∙ refused))
 one_answer failed later (Ok bytes) (Err e) meant first (inr outside) = outside
-one_answer failed later (Err d) (Ok again) meant (inl refused) second = absurd (ok_is_no_err again (refusal_of d) (sym second ∙ refused))
+one_answer failed later (Err d) (Ok again) meant (inl refused) second =
+    absurd (ok_is_no_err again (refusal_of d) (sym second ∙ refused))
 one_answer failed later (Err d) (Ok again) meant (inr outside) second = outside
-one_answer failed later (Err d) (Err e) meant (inl refused) (inl again) = inl (err_is {A = List ℕ} (refusal_of e) (refusal_of d) (sym again ∙ refused))
+one_answer failed later (Err d) (Err e) meant (inl refused) (inl again) =
+    inl (err_is {A = List ℕ} (refusal_of e) (refusal_of d) (sym again ∙ refused))
 one_answer failed later (Err d) (Err e) meant (inl refused) (inr outside) = inr (inr outside)
 one_answer failed later (Err d) (Err e) meant (inr outside) second = inr (inl outside)
 
-pub alike : (before after : Moment) (n : ℕ) (limit : Option ℕ) → IsLater before after → AnswersAlike before after n limit
+pub alike : (before after : Moment) (n : ℕ) (limit : Option ℕ) → IsLater before after
+    → AnswersAlike before after n limit
 alike before after n limit later once_left again_left once again first second =
     let same : stream_of after.state.bytes after.head n limit ≡ stream_of before.state.bytes before.head n limit =
-    ap (λ (bytes : List ℕ). stream_of bytes after.head n limit) later.source.bytes ∙ ap (λ (head : Head). stream_of before.state.bytes head n limit) later.head in
-    one_answer (HasFailed before.state once_left) (HasFailed after.state again_left) once again (stream_of before.state.bytes before.head n limit) first
-    (subst (λ (meant : Answer (List ℕ)). AnswersUnless (HasFailed after.state again_left) (λ stream. stream) again meant) same second)
+    ap (λ (bytes : List ℕ). stream_of bytes after.head n limit) later.source.bytes
+    ∙ ap (λ (head : Head). stream_of before.state.bytes head n limit) later.head in
+    one_answer (HasFailed before.state once_left) (HasFailed after.state again_left) once again
+    (stream_of before.state.bytes before.head n limit) first
+    (subst (λ (meant : Answer (List ℕ)). AnswersUnless (HasFailed after.state again_left)
+    (λ stream. stream) again meant) same second)

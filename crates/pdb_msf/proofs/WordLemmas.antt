@@ -1,5 +1,6 @@
 -- Reading numbers from bytes, and the words that bytes spell.
-use Rattle.std.proofs.Common.{◌≡◌, ℕ, zero, suc, ◌+◌, ◌*◌, ◌<◌, ◌≤◌, List, [], ◌∷◌, length, take, drop, refl, sym, ap, ◌∙◌, arith, Some, None, Ok, Err, inl, inr}
+use Rattle.std.proofs.Common.{◌≡◌, ℕ, zero, suc, ◌+◌, ◌*◌, ◌<◌, ◌≤◌, List, [], ◌∷◌, length, take, drop, refl, sym, ap}
+use Rattle.std.proofs.Common.{◌∙◌, arith, Some, None, Ok, Err, inl, inr}
 use Rattle.std.proofs.lemmas.Bool.{cases_lt}
 use Rattle.std.specs.List.{slice_get, sum_by}
 use Rattle.std.proofs.lemmas.List.{drop-drop}
@@ -14,7 +15,8 @@ use Rattle.pdb_msf.specs.Pages.{words}
 
 -- ---- one word
 
-word_whole : (a b c d : ℕ) (rest : List ℕ) → number_at 4 (a ∷ b ∷ c ∷ d ∷ rest) ≡ Ok (little_number 4 (a ∷ b ∷ c ∷ d ∷ []), rest)
+word_whole : (a b c d : ℕ) (rest : List ℕ)
+    → number_at 4 (a ∷ b ∷ c ∷ d ∷ rest) ≡ Ok (little_number 4 (a ∷ b ∷ c ∷ d ∷ []), rest)
 word_whole a b c d rest = number_whole 4 (a ∷ b ∷ c ∷ d ∷ rest) (omega arith)
 
 -- a number of four bytes that stands at the front is the first word, and the others follow
@@ -25,16 +27,19 @@ word_read (a ∷ []) x e = absurd cc
 word_read (a ∷ b ∷ []) x e = absurd cc
 word_read (a ∷ b ∷ c ∷ []) x e = absurd cc
 word_read (a ∷ b ∷ c ∷ d ∷ rest) x e =
-    ap (λ (p : ℕ × List ℕ). p.0 ∷ words p.1) (ok_is (little_number 4 (a ∷ b ∷ c ∷ d ∷ []), rest) x (sym (word_whole a b c d rest) ∙ e))
+    ap (λ (p : ℕ × List ℕ). p.0 ∷ words p.1) (ok_is (little_number 4 (a ∷ b ∷ c ∷ d ∷ []), rest) x
+    (sym (word_whole a b c d rest) ∙ e))
 
 -- where none stands there are no words
-pub word_missing : (bytes : List ℕ) (e : Refusal) → number_at 4 bytes ≡ Err e → (words bytes ≡ []) × (e ≡ unexpected_eof)
+pub word_missing : (bytes : List ℕ) (e : Refusal) → number_at 4 bytes ≡ Err e → (words bytes ≡ [])
+    × (e ≡ unexpected_eof)
 unfolding number_at front_at
 word_missing [] e h = (refl, cc)
 word_missing (a ∷ []) e h = (refl, cc)
 word_missing (a ∷ b ∷ []) e h = (refl, cc)
 word_missing (a ∷ b ∷ c ∷ []) e h = (refl, cc)
-word_missing (a ∷ b ∷ c ∷ d ∷ rest) e h = absurd (ok_is_no_err (little_number 4 (a ∷ b ∷ c ∷ d ∷ []), rest) e (sym (word_whole a b c d rest) ∙ h))
+word_missing (a ∷ b ∷ c ∷ d ∷ rest) e h =
+    absurd (ok_is_no_err (little_number 4 (a ∷ b ∷ c ∷ d ∷ []), rest) e (sym (word_whole a b c d rest) ∙ h))
 
 -- ---- many words
 
@@ -59,7 +64,8 @@ words-drop (suc count) bytes =
     ∙ ap (λ (n : ℕ). drop n (words bytes)) one
 
 -- bytes have as many words as they have whole fours
-pub length-words : (bytes : List ℕ) → (4 * length (words bytes) ≤ length bytes) × (length bytes < 4 * length (words bytes) + 4)
+pub length-words : (bytes : List ℕ) → (4 * length (words bytes) ≤ length bytes)
+    × (length bytes < 4 * length (words bytes) + 4)
 length-words [] = (omega arith, omega arith)
 length-words (a ∷ []) = (omega arith, omega arith)
 length-words (a ∷ b ∷ []) = (omega arith, omega arith)
@@ -67,20 +73,31 @@ length-words (a ∷ b ∷ c ∷ []) = (omega arith, omega arith)
 length-words (a ∷ b ∷ c ∷ d ∷ rest) = let more = length-words rest in (omega (arith, more.0), omega (arith, more.1))
 
 -- so many words are skipped just where there are so many
-pub words_skipped : (count : ℕ) (bytes : List ℕ) (x : List ℕ × List ℕ) → front_at (4 * count) bytes ≡ Ok x → (count ≤ length (words bytes)) × (words x.1 ≡ drop count (words bytes))
+pub words_skipped : (count : ℕ) (bytes : List ℕ) (x : List ℕ × List ℕ) → front_at (4 * count) bytes ≡ Ok x
+    → (count ≤ length (words bytes)) × (words x.1 ≡ drop count (words bytes))
 words_skipped count bytes x e =
     let bounds = length-words bytes in
     elim (cases_lt (length bytes) (4 * count)) [
       | inl short ↦ absurd (ok_is_no_err x unexpected_eof (sym e ∙ front_cut (4 * count) bytes short))
-      | inr long ↦ (omega (arith, bounds.0, bounds.1), sym (ap (λ (p : List ℕ × List ℕ). words p.1) (ok_is (take (4 * count) bytes, drop (4 * count) bytes) x (sym (front_whole (4 * count) bytes long) ∙ e))) ∙ words-drop count bytes)
+      | inr long ↦ (
+        omega (arith, bounds.0, bounds.1),
+        sym (ap (λ (p : List ℕ × List ℕ). words p.1)
+            (ok_is (take (4 * count) bytes, drop (4 * count) bytes) x (sym (front_whole (4 * count) bytes long) ∙ e)))
+            ∙ words-drop count bytes,
+      )
     ]
 
-pub words_short : (count : ℕ) (bytes : List ℕ) (e : Refusal) → front_at (4 * count) bytes ≡ Err e → (length (words bytes) < count) × (e ≡ unexpected_eof)
+pub words_short : (count : ℕ) (bytes : List ℕ) (e : Refusal) → front_at (4 * count) bytes ≡ Err e
+    → (length (words bytes) < count) × (e ≡ unexpected_eof)
 words_short count bytes e h =
     let bounds = length-words bytes in
     elim (cases_lt (length bytes) (4 * count)) [
-      | inl short ↦ (omega (arith, bounds.0, bounds.1), err_is e unexpected_eof (sym h ∙ front_cut (4 * count) bytes short))
-      | inr long ↦ absurd (ok_is_no_err (take (4 * count) bytes, drop (4 * count) bytes) e (sym (front_whole (4 * count) bytes long) ∙ h))
+      | inl short ↦ (
+        omega (arith, bounds.0, bounds.1),
+        err_is e unexpected_eof (sym h ∙ front_cut (4 * count) bytes short),
+      )
+      | inr long ↦ absurd (ok_is_no_err (take (4 * count) bytes, drop (4 * count) bytes) e
+          (sym (front_whole (4 * count) bytes long) ∙ h))
     ]
 
 -- ---- in turn
@@ -91,12 +108,14 @@ slice_get-drop (suc i) [] = refl
 slice_get-drop (suc i) (x ∷ xs) = slice_get-drop i xs
 
 -- the word in place i of all is the next one after i words
-pub next_word : (all : List ℕ) (i : ℕ) (bytes : List ℕ) (x : ℕ × List ℕ) → words bytes ≡ drop i all → number_at 4 bytes ≡ Ok x → (slice_get all i ≡ Some x.0) × (words x.1 ≡ drop (i + 1) all)
+pub next_word : (all : List ℕ) (i : ℕ) (bytes : List ℕ) (x : ℕ × List ℕ) → words bytes ≡ drop i all
+    → number_at 4 bytes ≡ Ok x → (slice_get all i ≡ Some x.0) × (words x.1 ≡ drop (i + 1) all)
 next_word all i bytes x here e =
     let is : x.0 ∷ words x.1 ≡ drop i all = sym (word_read bytes x e) ∙ here in
     (sym (slice_get-drop i all) ∙ ap (λ (ws : List ℕ). slice_get ws 0) (sym is), ap (drop 1) is ∙ drop-drop 1 i all)
 
-pub no_word : (all : List ℕ) (i : ℕ) (bytes : List ℕ) (e : Refusal) → words bytes ≡ drop i all → number_at 4 bytes ≡ Err e → (slice_get all i ≡ None) × (e ≡ unexpected_eof)
+pub no_word : (all : List ℕ) (i : ℕ) (bytes : List ℕ) (e : Refusal) → words bytes ≡ drop i all
+    → number_at 4 bytes ≡ Err e → (slice_get all i ≡ None) × (e ≡ unexpected_eof)
 no_word all i bytes e here h =
     let missing = word_missing bytes e h in
     (sym (slice_get-drop i all) ∙ ap (λ (ws : List ℕ). slice_get ws 0) (sym here ∙ missing.0), missing.1)
@@ -110,6 +129,8 @@ word_past (word ∷ all) zero is = absurd cc
 word_past (word ∷ all) (suc i) is = let rest = word_past all i is in omega arith
 
 -- a sum over one word more
-pub total_more : (f : ℕ → ℕ) (all : List ℕ) (i word : ℕ) → slice_get all i ≡ Some word → sum_by f (take (i + 1) all) ≡ sum_by f (take i all) + f word
+pub total_more : (f : ℕ → ℕ) (all : List ℕ) (i word : ℕ) → slice_get all i ≡ Some word
+    → sum_by f (take (i + 1) all) ≡ sum_by f (take i all) + f word
 total_more f all i word is =
-    sum_by_more f all i 0 (slice_get_within all i word is) ∙ ap (λ (w : ℕ). sum_by f (take i all) + f w) (get_or_from_slice_get all i word 0 is)
+    sum_by_more f all i 0 (slice_get_within all i word is)
+    ∙ ap (λ (w : ℕ). sum_by f (take i all) + f w) (get_or_from_slice_get all i word 0 is)

@@ -1,6 +1,7 @@
 -- The directory of a file: a u32 count of streams, a u32 size for each, and then the page numbers of the
 -- first stream, of the second and so on, as many for each as its size takes.
-use Rattle.std.specs.Prelude.{◌≡◌, ℕ, ◌+◌, ◌*◌, ◌^◌, ◌<◌, ◌≤◌, not, nat_lt, nat_le, ◌==◌, if◌then◌else◌, List, length, map, take, drop, min, slice_get, slice_index, vec_capacity, Option, Some, None, Ok}
+use Rattle.std.specs.Prelude.{◌≡◌, ℕ, ◌+◌, ◌*◌, ◌^◌, ◌<◌, ◌≤◌, not, nat_lt, nat_le, ◌==◌, if◌then◌else◌, List, length}
+use Rattle.std.specs.Prelude.{map, take, drop, min, slice_get, slice_index, vec_capacity, Option, Some, None, Ok}
 use Rattle.std.specs.List.{sum_by, range_with_len}
 use Rattle.pdb_base.specs.Refusal.{unexpected_eof, stream_not_found}
 use Rattle.pdb_base.specs.Answer.{Answer, ◌>>=◌, required}
@@ -91,7 +92,8 @@ count_of directory = slice_index (words directory) 0
 -- the offsets at which page numbers begin, one for each stream whose size is in the directory
 abbrev pub starts_of : ℕ → List ℕ → List ℕ
 starts_of page_size directory =
-    map (start_of page_size (count_of directory) directory) (range_with_len 0 (min (count_of directory) (length (sizes_of directory))))
+    map (start_of page_size (count_of directory) directory)
+    (range_with_len 0 (min (count_of directory) (length (sizes_of directory))))
 
 -- A directory that is kept in memory has the offsets of its streams, in a vector with capacity for at most
 -- one offset per four bytes of the directory.

@@ -29,7 +29,8 @@ pub record IsFresh {S : Type 0} (file : Opened S) : Type 0 where
 -- failed. The bytes and the header stay the same.
 pub record ReadsFile {S X A : Type 0} (state : S → State) (old new : Opened S) (view : X → A) (result : Result X Error)
     (meant : List ℕ → Head → Answer A) : Type 0 where
-  pub answer : AnswersUnless (HasFailed (state old.source) (state new.source)) view result (meant (state old.source).bytes old.head)
+  pub answer : AnswersUnless (HasFailed (state old.source) (state new.source)) view result
+      (meant (state old.source).bytes old.head)
   pub source : IsKept (state old.source) (state new.source)
   pub head : new.head ≡ old.head
 

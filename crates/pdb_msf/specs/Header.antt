@@ -1,7 +1,8 @@
 -- The header of a file in the MSF 7.00 format (the layout of `BIGMSF_HDR` in Microsoft's msf.cpp): 32 bytes
 -- of magic, then five u32, which are page size, free page map, pages used, directory size and a reserved
 -- field, and from byte 52 on the list of the pages that hold the directory's page numbers.
-use Rattle.std.specs.Prelude.{◌≡◌, ℕ, ◌*◌, Bool, IsTrue, ◌&&◌, not, nat_eq, nat_lt, nat_le, if◌then◌else◌, List, [], ◌∷◌, ◌++◌, length, take, Ok, Err, codes}
+use Rattle.std.specs.Prelude.{◌≡◌, ℕ, ◌*◌, Bool, IsTrue, ◌&&◌, not, nat_eq, nat_lt, nat_le, if◌then◌else◌, List, []}
+use Rattle.std.specs.Prelude.{◌∷◌, ◌++◌, length, take, Ok, Err, codes}
 use Rattle.std.specs.List.{starts_with}
 use Rattle.std.specs.Int.{is_power_of_two}
 use Rattle.pdb_base.specs.Refusal.{unexpected_eof, unimplemented_feature, unrecognized_file_format, invalid_page_size}

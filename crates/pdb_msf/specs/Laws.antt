@@ -1,6 +1,7 @@
 -- The definitions of pages, headers and streams, stated in other words.
 use Rattle.pdb_base.specs.Reading.{word_at}
-use Rattle.std.specs.Prelude.{◌≡◌, ◌≢◌, ◌⊎◌, ℕ, ◌+◌, ◌*◌, ◌<◌, ◌≤◌, List, length, take, drop, slice_index, slice_get, Option, Some, None, Result, Ok, Err}
+use Rattle.std.specs.Prelude.{◌≡◌, ◌≢◌, ◌⊎◌, ℕ, ◌+◌, ◌*◌, ◌<◌, ◌≤◌, List, length, take, drop, slice_index, slice_get}
+use Rattle.std.specs.Prelude.{Option, Some, None, Result, Ok, Err}
 use Rattle.std.specs.List.{sum_by}
 use Rattle.pdb_base.specs.declared.error.Error.{Error}
 use Rattle.pdb_base.specs.declared.error.Error.TheVariants.{OutOfMemory}
@@ -25,20 +26,28 @@ pub record IsScattered (file : List ℕ) (page_size : ℕ) (numbers : List ℕ) 
 -- `scatter` gives the bytes that lie scattered over these pages. It gives None only if one of
 -- them is past the end of the file.
 pub record Scatters (file : List ℕ) (page_size : ℕ) (numbers : List ℕ) (size : ℕ) : Type 0 where
-  pub found : (bytes : List ℕ) → scatter file page_size numbers size ≡ Some bytes → IsScattered file page_size numbers size bytes
-  pub only : (bytes : List ℕ) → IsScattered file page_size numbers size bytes → scatter file page_size numbers size ≡ Some bytes
-  pub missing : scatter file page_size numbers size ≡ None → (i : ℕ) × (i < size) × (length file ≤ position_of page_size numbers i)
+  pub found : (bytes : List ℕ) → scatter file page_size numbers size ≡ Some bytes
+      → IsScattered file page_size numbers size bytes
+  pub only : (bytes : List ℕ) → IsScattered file page_size numbers size bytes
+      → scatter file page_size numbers size ≡ Some bytes
+  pub missing : scatter file page_size numbers size ≡ None → (i : ℕ) × (i < size)
+      × (length file ≤ position_of page_size numbers i)
 
 -- If there are 52 bytes or more, the fields of a header stand at fixed offsets, and
 -- the list of pages follows them.
 abbrev pub StandAtOffsets : List ℕ → Type 0
 StandAtOffsets view =
-    52 ≤ length view → fields_of view ≡ Ok (record { page_size = word_at 32 view; pages_used = word_at 40 view; directory_size = word_at 44 view }, drop 52 view)
+    52 ≤ length view → fields_of view ≡ Ok (
+      record
+          { page_size = word_at 32 view; pages_used = word_at 40 view; directory_size = word_at 44 view },
+      drop 52 view,
+    )
 
 -- The page numbers are the first `count` words, each from 1 to the number of pages used.
 pub record AreGood (pages_used count : ℕ) (words numbers : List ℕ) : Type 0 where
   pub len : length numbers ≡ count
-  pub each : (i number : ℕ) → slice_get numbers i ≡ Some number → (slice_get words i ≡ Some number) × (0 < number) × (number ≤ pages_used)
+  pub each : (i number : ℕ) → slice_get numbers i ≡ Some number → (slice_get words i ≡ Some number) × (0 < number)
+      × (number ≤ pages_used)
 
 -- The refusal of page numbers is that of the first word that is missing or isn't a valid page number.
 pub record FirstFault (pages_used count : ℕ) (words : List ℕ) (fault : Refusal) : Type 0 where
@@ -50,7 +59,8 @@ pub record FirstFault (pages_used count : ℕ) (words : List ℕ) (fault : Refus
 
 -- If a stream can be read without a limit, it can be read with one, which gives the front of the same bytes.
 abbrev pub CutsOnly : List ℕ → Head → ℕ → ℕ → Type 0
-CutsOnly file head n limit = (bytes : List ℕ) → stream_of file head n None ≡ Ok bytes → stream_of file head n (Some limit) ≡ Ok (take limit bytes)
+CutsOnly file head n limit = (bytes : List ℕ) → stream_of file head n None ≡ Ok bytes
+    → stream_of file head n (Some limit) ≡ Ok (take limit bytes)
 
 -- The directory of a file: its page numbers, four bytes each, are in the pages that the header lists, and its
 -- bytes lie scattered over the pages of these numbers.
@@ -78,7 +88,8 @@ pub record IsStream (file : List ℕ) (head : Head) (n : ℕ) (limit : Option �
   pub place : start ≡ 4 + 4 * count + 4 * sum_by (pages_taken head.geometry.page_size) (take n (sizes_of directory))
   pub reached : start ≤ length directory
   pub numbers : List ℕ
-  pub good : AreGood head.geometry.pages_used (pages head.geometry.page_size size) (words (drop start directory)) numbers
+  pub good : AreGood head.geometry.pages_used (pages head.geometry.page_size size)
+      (words (drop start directory)) numbers
   pub lies : IsScattered file head.geometry.page_size numbers (limited size limit) bytes
 
 -- A file at one moment: the state of its source, and what its header says.
@@ -102,12 +113,15 @@ abbrev pub AgreeUnless : Type 0 → Type 0 → Result (List ℕ) Error → Resul
 AgreeUnless failed later (Ok bytes) (Ok again) = again ≡ bytes
 AgreeUnless failed later (Ok bytes) (Err e) = ComesFromOutside later e
 AgreeUnless failed later (Err d) (Ok again) = ComesFromOutside failed d
-AgreeUnless failed later (Err d) (Err e) = (refusal_of e ≡ refusal_of d) ⊎ (ComesFromOutside failed d ⊎ ComesFromOutside later e)
+AgreeUnless failed later (Err d) (Err e) = (refusal_of e ≡ refusal_of d)
+    ⊎ (ComesFromOutside failed d ⊎ ComesFromOutside later e)
 
 -- A stream that is read twice, at one moment of a file and at a later one, gives the same answer, as
 -- `AgreeUnless` says. The two calls leave the source in the states `once_left` and `again_left`.
 abbrev pub AnswersAlike : Moment → Moment → ℕ → Option ℕ → Type 0
 AnswersAlike before after n limit = (once_left again_left : State) (once again : Result (List ℕ) Error)
-    → AnswersUnless (HasFailed before.state once_left) (λ stream. stream) once (stream_of before.state.bytes before.head n limit)
-    → AnswersUnless (HasFailed after.state again_left) (λ stream. stream) again (stream_of after.state.bytes after.head n limit)
+    → AnswersUnless (HasFailed before.state once_left) (λ stream. stream) once
+    (stream_of before.state.bytes before.head n limit)
+    → AnswersUnless (HasFailed after.state again_left) (λ stream. stream) again
+    (stream_of after.state.bytes after.head n limit)
     → AgreeUnless (HasFailed before.state once_left) (HasFailed after.state again_left) once again

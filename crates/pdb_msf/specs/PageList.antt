@@ -20,7 +20,8 @@ page_positions page_size page = slice_positions (page_slice page_size page)
 -- two slices, or one if the second begins exactly at the end of the first
 unfoldable pub joined : SourceSlice → SourceSlice → List SourceSlice
 joined slice next =
-    if slice.offset + slice.size == next.offset then record slice { size = slice.size + next.size } ∷ [] else slice ∷ next ∷ []
+    if slice.offset + slice.size == next.offset then record slice { size = slice.size + next.size } ∷ [] else slice
+    ∷ next ∷ []
 
 -- the slices with one more after them, joined to the last one if it begins exactly at the end of that
 unfoldable pub with_slice : List SourceSlice → SourceSlice → List SourceSlice
@@ -36,4 +37,5 @@ slices_of page_size pages = fold (λ slices page. with_slice slices (page_slice 
 unfoldable pub first_of : ℕ → List SourceSlice → List SourceSlice
 first_of n [] = []
 first_of n (slice ∷ slices) =
-    if nat_le slice.size n then slice ∷ first_of (n - slice.size) slices else (if n == 0 then [] else record slice { size = n } ∷ [])
+    if nat_le slice.size n then slice ∷ first_of (n - slice.size) slices else
+    (if n == 0 then [] else record slice { size = n } ∷ [])

@@ -1,6 +1,7 @@
 -- A file is cut into pages of one size, which are named by their numbers. What it holds, such as a
 -- stream, lies scattered over pages.
-use Rattle.std.specs.Prelude.{ℕ, ◌+◌, ◌*◌, ◌/◌, ◌%◌, ◌&&◌, nat_lt, nat_le, if◌then◌else◌, List, [], ◌∷◌, map, slice_index, slice_get, Option, Some, None, Ok, Err}
+use Rattle.std.specs.Prelude.{ℕ, ◌+◌, ◌*◌, ◌/◌, ◌%◌, ◌&&◌, nat_lt, nat_le, if◌then◌else◌, List, [], ◌∷◌, map}
+use Rattle.std.specs.Prelude.{slice_index, slice_get, Option, Some, None, Ok, Err}
 use Rattle.std.specs.Int.{div_ceil}
 use Rattle.std.specs.List.{range_with_len}
 use Rattle.pdb_base.specs.Endian.{little_number}
@@ -28,7 +29,8 @@ words _ = []
 
 -- the page number, if it is valid: neither 0 nor above the number of pages used; any other is refused
 abbrev pub judged : ℕ → ℕ → Answer ℕ
-judged pages_used number = if nat_lt 0 number && nat_le number pages_used then Ok number else Err (page_reference_out_of_range number)
+judged pages_used number = if nat_lt 0 number
+    && nat_le number pages_used then Ok number else Err (page_reference_out_of_range number)
 
 -- a word of a list, which is refused with `unexpected_eof` if the list has no such word
 abbrev pub present : Option ℕ → Answer ℕ

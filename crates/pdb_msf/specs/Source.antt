@@ -1,5 +1,6 @@
 -- What a source of bytes stands for, and what views of it show.
-use Rattle.std.specs.Prelude.{◌≡◌, ◌≢◌, ◌⊎◌, ℕ, ◌<◌, ◌≤◌, Bool, true, IsTrue, nat_lt, if◌then◌else◌, List, length, map, slice_index, Option, Some, None, Result, Ok, Err, IfErr}
+use Rattle.std.specs.Prelude.{◌≡◌, ◌≢◌, ◌⊎◌, ℕ, ◌<◌, ◌≤◌, Bool, true, IsTrue, nat_lt, if◌then◌else◌, List, length, map}
+use Rattle.std.specs.Prelude.{slice_index, Option, Some, None, Result, Ok, Err, IfErr}
 use Rattle.std.specs.List.{flat_map, list_all, range_with_len}
 use Rattle.std.specs.declared.io.Error.{Error}
 use Rattle.std.specs.declared.io.ErrorKind.{ErrorKind}
@@ -71,7 +72,8 @@ KeepsKind state result = IfErr result (λ e. TellsKind state (refusal_of e))
 abbrev pub Shows : {V : Type 0} → Type 0 → (V → List ℕ) → Result V Error → Option (List ℕ) → Type 0
 Shows failed bytes (Ok view) meant = meant ≡ Some (bytes view)
 Shows failed bytes (Err e) meant =
-    ((error_kind e ≡ UnexpectedEof) × (meant ≡ None)) ⊎ ((error_kind e ≡ OutOfMemory) ⊎ (IsOther (error_kind e) × failed))
+    ((error_kind e ≡ UnexpectedEof) × (meant ≡ None))
+    ⊎ ((error_kind e ≡ OutOfMemory) ⊎ (IsOther (error_kind e) × failed))
 
 -- the bytes that were found, or else the refusal that the file ends too soon
 abbrev pub found : Option (List ℕ) → Answer (List ℕ)

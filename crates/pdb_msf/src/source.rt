@@ -134,7 +134,18 @@ impl Source for Vec<u8> {
 impl<'b> Source for &'b [u8] {
     ghost state = { λ file. in_memory file.now };
 
-    fn view(&mut self, alloc: Global, slices: &[SourceSlice]) -> Result<ReadView, io::Error> {
+    /// Returns a copy of the bytes that the slices name.
+    ///
+    /// # Errors
+    /// Fails as the `view` of a `Vec<u8>` does.
+    fn view(&mut self, alloc: Global, slices: &[SourceSlice]) -> Result<ReadView, io::Error>
+        ensures view { Shows (HasFailed (in_memory self.old.now) (in_memory self.new.now)) (λ v. v) result
+            (bytes_at self.old.now (positions slices.now)) }
+        ensures kind { IfErr result (λ e. IsLastFault (in_memory self.new.now) (error_kind e)) }
+        ensures kept { IsKept (in_memory self.old.now) (in_memory self.new.now) }
+        ensures exact { bytes_at self.old.now (positions slices.now) ≡ None →
+            IsErrAnd result (λ e. error_kind e ≡ ErrorKind.UnexpectedEof) }
+    {
         view_of(*self, alloc, slices)
     }
 }

@@ -1,5 +1,6 @@
 -- One step of dimensions: what a loop keeps while it reads.
-use Rattle.std.proofs.Common.{◌≡◌, ◌≢◌, inl, inr, ℕ, zero, suc, ◌+◌, ◌<◌, ◌≤◌, List, [], ◌∷◌, ◌++◌, length, take, drop, refl, sym, ap, ◌∙◌, arith, length-append, Bool, true, false, ltb, Ok, Err}
+use Rattle.std.proofs.Common.{◌≡◌, ◌≢◌, inl, inr, ℕ, zero, suc, ◌+◌, ◌<◌, ◌≤◌, List, [], ◌∷◌, ◌++◌, length, take, drop}
+use Rattle.std.proofs.Common.{refl, sym, ap, ◌∙◌, arith, length-append, Bool, true, false, ltb, Ok, Err}
 use Rattle.std.proofs.lemmas.Bool.{cases_lt, le-ltb, lt-ltb, false≢true}
 use Rattle.std.proofs.lemmas.List.{take-append-drop, length-take-le}
 use Rattle.pdb_base.specs.Endian.{little_number}
@@ -24,12 +25,16 @@ byte_read byte rest =
 pub no_byte_read : number_at 1 [] ≡ Err unexpected_eof
 no_byte_read = number_cut 1 [] (omega arith)
 
-pub step_more : (before : List ℕ) (bytes : List ℕ) (n : ℕ) (mid : List ℕ) → dimension_at bytes ≡ Ok (n, mid) → GoesOn mid → behind before (dimensions_at bytes) ≡ behind (before ++ n ∷ []) (dimensions_at mid)
+pub step_more : (before : List ℕ) (bytes : List ℕ) (n : ℕ) (mid : List ℕ) → dimension_at bytes ≡ Ok (n, mid)
+    → GoesOn mid → behind before (dimensions_at bytes) ≡ behind (before ++ n ∷ []) (dimensions_at mid)
 step_more before bytes n mid is goes =
     let here : IsDimension bytes n mid = dimension_agrees.found bytes n mid is in
-    let step : dimensions_at bytes ≡ (dimensions_at mid >>= λ ns. ok (n ∷ ns.0, ns.1)) = elim (answer_cases (dimensions_at mid)) [
+    let step : dimensions_at bytes ≡ (dimensions_at mid >>= λ ns. ok (n ∷ ns.0, ns.1)) =
+    elim (answer_cases (dimensions_at mid)) [
       | inl there ↦
-          dimensions_agree.only bytes (n ∷ there.0.0) there.0.1 (one_more bytes n mid there.0.0 there.0.1 here goes (dimensions_agree.found mid there.0.0 there.0.1 there.1))
+          dimensions_agree.only bytes (n ∷ there.0.0) there.0.1
+          (one_more bytes n mid there.0.0 there.0.1 here goes
+          (dimensions_agree.found mid there.0.0 there.0.1 there.1))
           ∙ sym (bind_at (dimensions_at mid) (λ ns. ok (n ∷ ns.0, ns.1)) there.0 there.1)
       | inr refused ↦
           let fails = dimensions_agree.failed mid refused.0 refused.1 in
@@ -38,20 +43,27 @@ step_more before bytes n mid is goes =
     ] in
     ap (λ (r : Answer (List ℕ × List ℕ)). behind before r) step ∙ behind_more before n (dimensions_at mid)
 
-pub step_last : (before : List ℕ) (bytes : List ℕ) (n : ℕ) (rest : List ℕ) → dimension_at bytes ≡ Ok (n, 0 ∷ rest) → behind before (dimensions_at bytes) ≡ Ok (before ++ n ∷ [], rest)
+pub step_last : (before : List ℕ) (bytes : List ℕ) (n : ℕ) (rest : List ℕ) → dimension_at bytes ≡ Ok (n, 0 ∷ rest)
+    → behind before (dimensions_at bytes) ≡ Ok (before ++ n ∷ [], rest)
 step_last before bytes n rest is =
-    bind_at (dimensions_at bytes) (λ ns. ok (before ++ ns.0, ns.1)) (n ∷ [], rest) (dimensions_agree.only bytes (n ∷ []) rest (dimension_agrees.found bytes n (0 ∷ rest) is))
+    bind_at (dimensions_at bytes) (λ ns. ok (before ++ ns.0, ns.1)) (n ∷ [], rest)
+    (dimensions_agree.only bytes (n ∷ []) rest (dimension_agrees.found bytes n (0 ∷ rest) is))
 
-pub step_cut : (before : List ℕ) (bytes : List ℕ) (n : ℕ) → dimension_at bytes ≡ Ok (n, []) → behind before (dimensions_at bytes) ≡ Err unexpected_eof
+pub step_cut : (before : List ℕ) (bytes : List ℕ) (n : ℕ) → dimension_at bytes ≡ Ok (n, [])
+    → behind before (dimensions_at bytes) ≡ Err unexpected_eof
 step_cut before bytes n is =
     bind_no (dimensions_at bytes) (λ ns. ok (before ++ ns.0, ns.1)) unexpected_eof
-    (dimensions_agree.fails bytes unexpected_eof (n ∷ [], ([], dimension_agrees.found bytes n [] is, inl (refl, refl, refl))))
+    (dimensions_agree.fails bytes unexpected_eof
+    (n ∷ [], ([], dimension_agrees.found bytes n [] is, inl (refl, refl, refl))))
 
-pub step_refused : (before : List ℕ) (bytes : List ℕ) (e : Refusal) → dimension_at bytes ≡ Err e → behind before (dimensions_at bytes) ≡ Err e
+pub step_refused : (before : List ℕ) (bytes : List ℕ) (e : Refusal) → dimension_at bytes ≡ Err e
+    → behind before (dimensions_at bytes) ≡ Err e
 step_refused before bytes e is =
-    bind_no (dimensions_at bytes) (λ ns. ok (before ++ ns.0, ns.1)) e (dimensions_agree.fails bytes e ([], dimension_agrees.failed bytes e is))
+    bind_no (dimensions_at bytes) (λ ns. ok (before ++ ns.0, ns.1)) e
+    (dimensions_agree.fails bytes e ([], dimension_agrees.failed bytes e is))
 
-pub dimension_shorter : (bytes : List ℕ) (n : ℕ) (rest : List ℕ) → dimension_at bytes ≡ Ok (n, rest) → length rest < length bytes
+pub dimension_shorter : (bytes : List ℕ) (n : ℕ) (rest : List ℕ) → dimension_at bytes ≡ Ok (n, rest)
+    → length rest < length bytes
 dimension_shorter bytes n rest is = num_takes bytes n rest (dimension_agrees.found bytes n rest is).0
 
 -- ---- the first byte
@@ -87,10 +99,12 @@ end_no [] seen is other = absurd (ok_is_no_err seen unexpected_eof (sym is ∙ p
 end_no (zero ∷ rest) seen is other = absurd (other (sym (peek_is 0 rest seen is)))
 end_no (suc byte ∷ rest) seen is other = refl
 
-pub end_yes : (bytes : List ℕ) (seen n : ℕ) (rest : List ℕ) → peeked 1 bytes ≡ Ok seen → seen ≡ 0 → number_at 1 bytes ≡ Ok (n, rest) → end_at bytes ≡ Ok (true, rest)
+pub end_yes : (bytes : List ℕ) (seen n : ℕ) (rest : List ℕ) → peeked 1 bytes ≡ Ok seen → seen ≡ 0
+    → number_at 1 bytes ≡ Ok (n, rest) → end_at bytes ≡ Ok (true, rest)
 end_yes [] seen n rest is nul read = absurd (ok_is_no_err seen unexpected_eof (sym is ∙ peek_none))
 end_yes (zero ∷ more) seen n rest is nul read =
-    ap (λ (r : List ℕ). ok (true, r)) (ap (λ (p : ℕ × List ℕ). p.1) (ok_is (0, more) (n, rest) (sym (byte_read 0 more) ∙ read)))
+    ap (λ (r : List ℕ). ok (true, r)) (ap (λ (p : ℕ × List ℕ). p.1)
+    (ok_is (0, more) (n, rest) (sym (byte_read 0 more) ∙ read)))
 end_yes (suc byte ∷ more) seen n rest is nul read = absurd (omega (arith, peek_is (suc byte) more seen is, nul))
 
 -- what the end, or none, says of the bytes
@@ -102,60 +116,80 @@ end_fails (suc byte ∷ rest) e is = absurd (ok_is_no_err (false, suc byte ∷ r
 pub end_found : (bytes rest : List ℕ) → end_at bytes ≡ Ok (true, rest) → bytes ≡ 0 ∷ rest
 end_found [] rest is = absurd (ok_is_no_err (true, rest) unexpected_eof (sym is))
 end_found (zero ∷ more) rest is = ap (λ (p : Bool × List ℕ). 0 ∷ p.1) (ok_is (true, more) (true, rest) is)
-end_found (suc byte ∷ more) rest is = absurd (false≢true (ap (λ (p : Bool × List ℕ). p.0) (ok_is (false, suc byte ∷ more) (true, rest) is)))
+end_found (suc byte ∷ more) rest is = absurd
+    (false≢true (ap (λ (p : Bool × List ℕ). p.0) (ok_is (false, suc byte ∷ more) (true, rest) is)))
 
 pub end_missed : (bytes rest : List ℕ) → end_at bytes ≡ Ok (false, rest) → GoesOn bytes × (bytes ≡ rest)
 end_missed [] rest is = absurd (ok_is_no_err (false, rest) unexpected_eof (sym is))
-end_missed (zero ∷ more) rest is = absurd (false≢true (sym (ap (λ (p : Bool × List ℕ). p.0) (ok_is (true, more) (false, rest) is))))
-end_missed (suc byte ∷ more) rest is = (λ nul. absurd (omega (arith, nul)), ap (λ (p : Bool × List ℕ). p.1) (ok_is (false, suc byte ∷ more) (false, rest) is))
+end_missed (zero ∷ more) rest is = absurd
+    (false≢true (sym (ap (λ (p : Bool × List ℕ). p.0) (ok_is (true, more) (false, rest) is))))
+end_missed (suc byte ∷ more) rest is = (
+  λ nul. absurd (omega (arith, nul)),
+  ap (λ (p : Bool × List ℕ). p.1) (ok_is (false, suc byte ∷ more) (false, rest) is),
+)
 
 -- ---- the loop over dimensions, by what it calls
 
-pub loop_ends : (before bytes : List ℕ) (n : ℕ) (mid rest : List ℕ) → dimension_at bytes ≡ Ok (n, mid) → end_at mid ≡ Ok (true, rest) → behind before (dimensions_at bytes) ≡ Ok (before ++ n ∷ [], rest)
-loop_ends before bytes n mid rest is ends = step_last before bytes n rest (is ∙ ap (λ (m : List ℕ). ok (n, m)) (end_found mid rest ends))
+pub loop_ends : (before bytes : List ℕ) (n : ℕ) (mid rest : List ℕ) → dimension_at bytes ≡ Ok (n, mid)
+    → end_at mid ≡ Ok (true, rest) → behind before (dimensions_at bytes) ≡ Ok (before ++ n ∷ [], rest)
+loop_ends before bytes n mid rest is ends =
+    step_last before bytes n rest (is ∙ ap (λ (m : List ℕ). ok (n, m)) (end_found mid rest ends))
 
-pub loop_fails : (before bytes : List ℕ) (n : ℕ) (mid : List ℕ) (e : Refusal) → dimension_at bytes ≡ Ok (n, mid) → end_at mid ≡ Err e → behind before (dimensions_at bytes) ≡ Err e
+pub loop_fails : (before bytes : List ℕ) (n : ℕ) (mid : List ℕ) (e : Refusal) → dimension_at bytes ≡ Ok (n, mid)
+    → end_at mid ≡ Err e → behind before (dimensions_at bytes) ≡ Err e
 loop_fails before bytes n mid e is fails =
     let ends = end_fails mid e fails in
     step_cut before bytes n (is ∙ ap (λ (m : List ℕ). ok (n, m)) ends.0) ∙ ap (λ (d : Refusal). err d) (sym ends.1)
 
-pub loop_goes : (before bytes : List ℕ) (n : ℕ) (mid rest : List ℕ) → dimension_at bytes ≡ Ok (n, mid) → end_at mid ≡ Ok (false, rest) → behind before (dimensions_at bytes) ≡ behind (before ++ n ∷ []) (dimensions_at rest)
+pub loop_goes : (before bytes : List ℕ) (n : ℕ) (mid rest : List ℕ) → dimension_at bytes ≡ Ok (n, mid)
+    → end_at mid ≡ Ok (false, rest) → behind before (dimensions_at bytes)
+    ≡ behind (before ++ n ∷ []) (dimensions_at rest)
 loop_goes before bytes n mid rest is goes =
     let more = end_missed mid rest goes in
     step_more before bytes n mid is more.0 ∙ ap (λ (m : List ℕ). behind (before ++ n ∷ []) (dimensions_at m)) more.1
 
-pub loop_shorter : (bytes : List ℕ) (n : ℕ) (mid rest : List ℕ) → dimension_at bytes ≡ Ok (n, mid) → end_at mid ≡ Ok (false, rest) → length rest < length bytes
-loop_shorter bytes n mid rest is goes = omega (arith, dimension_shorter bytes n mid is, ap length (end_missed mid rest goes).1)
+pub loop_shorter : (bytes : List ℕ) (n : ℕ) (mid rest : List ℕ) → dimension_at bytes ≡ Ok (n, mid)
+    → end_at mid ≡ Ok (false, rest) → length rest < length bytes
+loop_shorter bytes n mid rest is goes = omega
+    (arith, dimension_shorter bytes n mid is, ap length (end_missed mid rest goes).1)
 
 -- ---- padding, by what the code calls
 
-front_parts : (count : ℕ) (bytes pad rest : List ℕ) → front_at count bytes ≡ Ok (pad, rest) → (length pad ≡ count) × (pad ++ rest ≡ bytes)
+front_parts : (count : ℕ) (bytes pad rest : List ℕ) → front_at count bytes ≡ Ok (pad, rest) → (length pad ≡ count)
+    × (pad ++ rest ≡ bytes)
 unfolding front_at
 front_parts count bytes pad rest is = elim (cases_lt (length bytes) count) [
-  | inl short ↦ let test : ltb (length bytes) count ≡ true = lt-ltb (length bytes) count short in absurd (ok_is_no_err (pad, rest) unexpected_eof (sym (rw test at is)))
+  | inl short ↦ let test : ltb (length bytes) count ≡ true = lt-ltb (length bytes) count short in
+      absurd (ok_is_no_err (pad, rest) unexpected_eof (sym (rw test at is)))
   | inr long ↦
       let test : ltb (length bytes) count ≡ false = le-ltb (length bytes) count long in
-      let same : (take count bytes, drop count bytes) ≡ (pad, rest) = ok_is (take count bytes, drop count bytes) (pad, rest) (rw test at is) in (
+      let same : (take count bytes, drop count bytes) ≡ (pad, rest) =
+      ok_is (take count bytes, drop count bytes) (pad, rest) (rw test at is) in (
         sym (ap (λ (p : List ℕ × List ℕ). length p.0) same) ∙ length-take-le count bytes long,
         sym (ap (λ (p : List ℕ × List ℕ). p.0 ++ p.1) same) ∙ take-append-drop count bytes,
       )
 ]
 
-front_missing : (count : ℕ) (bytes : List ℕ) (e : Refusal) → front_at count bytes ≡ Err e → (length bytes < count) × (e ≡ unexpected_eof)
+front_missing : (count : ℕ) (bytes : List ℕ) (e : Refusal) → front_at count bytes ≡ Err e → (length bytes < count)
+    × (e ≡ unexpected_eof)
 unfolding front_at
 front_missing count bytes e is = elim (cases_lt (length bytes) count) [
-  | inl short ↦ let test : ltb (length bytes) count ≡ true = lt-ltb (length bytes) count short in (short, sym (err_is {A = List ℕ × List ℕ} unexpected_eof e (rw test at is)))
-  | inr long ↦ let test : ltb (length bytes) count ≡ false = le-ltb (length bytes) count long in absurd (ok_is_no_err (take count bytes, drop count bytes) e (rw test at is))
+  | inl short ↦ let test : ltb (length bytes) count ≡ true = lt-ltb (length bytes) count short in
+      (short, sym (err_is {A = List ℕ × List ℕ} unexpected_eof e (rw test at is)))
+  | inr long ↦ let test : ltb (length bytes) count ≡ false = le-ltb (length bytes) count long in
+      absurd (ok_is_no_err (take count bytes, drop count bytes) e (rw test at is))
 ]
 
 -- a front with one byte more than stand behind the first of a pad is a pad
-pad_of : (byte : ℕ) (more pad rest : List ℕ) → least_pad ≤ byte → length pad ≡ behind_pad byte + 1 → pad ++ rest ≡ byte ∷ more → BeginsPad (byte ∷ more) pad rest
+pad_of : (byte : ℕ) (more pad rest : List ℕ) → least_pad ≤ byte → length pad ≡ behind_pad byte + 1 → pad ++ rest ≡ byte
+    ∷ more → BeginsPad (byte ∷ more) pad rest
 pad_of byte more [] rest large len is = absurd (omega (arith, len))
 pad_of byte more (first ∷ pad) rest large len is =
     let same : first ≡ byte = cc in
     ((omega (arith, same, large), omega (arith, len, ap behind_pad same)), is)
 
-pub padding_none : (bytes : List ℕ) (seen : ℕ) → peeked 1 bytes ≡ Ok seen → seen < least_pad → padding_at bytes ≡ Ok (tt, bytes)
+pub padding_none : (bytes : List ℕ) (seen : ℕ) → peeked 1 bytes ≡ Ok seen → seen < least_pad
+    → padding_at bytes ≡ Ok (tt, bytes)
 unfolding padding_at
 padding_none [] seen is small = refl
 padding_none (byte ∷ more) seen is small = none_at (byte ∷ more) (omega (arith, peek_is byte more seen is, small))
@@ -165,19 +199,24 @@ unfolding padding_at
 padding_ends [] is = refl
 padding_ends (byte ∷ more) is = absurd cc
 
-pub padding_cut : (bytes : List ℕ) (seen : ℕ) (e : Refusal) → peeked 1 bytes ≡ Ok seen → least_pad ≤ seen → front_at (behind_pad seen + 1) bytes ≡ Err e → padding_at bytes ≡ Err e
+pub padding_cut : (bytes : List ℕ) (seen : ℕ) (e : Refusal) → peeked 1 bytes ≡ Ok seen → least_pad ≤ seen
+    → front_at (behind_pad seen + 1) bytes ≡ Err e → padding_at bytes ≡ Err e
 unfolding padding_at
 padding_cut [] seen e is large cut = absurd (ok_is_no_err seen unexpected_eof (sym is ∙ peek_none))
 padding_cut (byte ∷ more) seen e is large cut =
     let same = peek_is byte more seen is in
     let short = front_missing (behind_pad seen + 1) (byte ∷ more) e cut in
-    cut_at (byte ∷ more) (omega (arith, same, large), omega (arith, short.0, ap behind_pad same)) ∙ ap (λ (d : Refusal). err d) (sym short.1)
+    cut_at (byte ∷ more) (omega (arith, same, large), omega (arith, short.0, ap behind_pad same))
+    ∙ ap (λ (d : Refusal). err d) (sym short.1)
 
-pub padding_step : (bytes : List ℕ) (seen : ℕ) (pad rest : List ℕ) → peeked 1 bytes ≡ Ok seen → least_pad ≤ seen → front_at (behind_pad seen + 1) bytes ≡ Ok (pad, rest) → (padding_at bytes ≡ padding_at rest) × (length rest < length bytes)
+pub padding_step : (bytes : List ℕ) (seen : ℕ) (pad rest : List ℕ) → peeked 1 bytes ≡ Ok seen → least_pad ≤ seen
+    → front_at (behind_pad seen + 1) bytes ≡ Ok (pad, rest) → (padding_at bytes ≡ padding_at rest)
+    × (length rest < length bytes)
 unfolding padding_at
 padding_step [] seen pad rest is large front = absurd (ok_is_no_err seen unexpected_eof (sym is ∙ peek_none))
 padding_step (byte ∷ more) seen pad rest is large front =
     let same = peek_is byte more seen is in
     let parts = front_parts (behind_pad seen + 1) (byte ∷ more) pad rest front in
-    let begins = pad_of byte more pad rest (omega (arith, same, large)) (omega (arith, parts.0, ap behind_pad same)) parts.1 in
+    let begins = pad_of byte more pad rest (omega (arith, same, large))
+    (omega (arith, parts.0, ap behind_pad same)) parts.1 in
     (pad_at (byte ∷ more) pad rest begins, omega (arith, parts.0, length-append pad rest, ap length parts.1))

@@ -31,13 +31,19 @@ pub cause_is : {X : Type 0} (cause other : Error) → refused {X = X} cause ≡ 
 cause_is cause other is = cc
 
 -- what one method takes is gone
-pub method_shorter : (bytes : List ℕ) (x : MethodListEntry) (rest : List ℕ) → row listed_method_row bytes ≡ Ok (x, rest) → length rest < length bytes
+pub method_shorter : (bytes : List ℕ) (x : MethodListEntry) (rest : List ℕ) → row listed_method_row bytes ≡ Ok (x, rest)
+    → length rest < length bytes
 method_shorter bytes x rest is = method_takes bytes x rest (methods_agree.found bytes x rest is)
 
 -- nothing is left
-pub methods_end : (before : List MethodListEntry) (bytes : List ℕ) → bytes ≡ [] → behind before (to_end (row listed_method_row) bytes) ≡ Ok (before, bytes)
-methods_end before bytes none = ap (λ (b : List ℕ). behind before (to_end (row listed_method_row) b)) none ∙ to_end_ends (row listed_method_row) before ∙ ap (λ (b : List ℕ). ok (before, b)) (sym none)
+pub methods_end : (before : List MethodListEntry) (bytes : List ℕ) → bytes ≡ []
+    → behind before (to_end (row listed_method_row) bytes) ≡ Ok (before, bytes)
+methods_end before bytes none = ap (λ (b : List ℕ). behind before (to_end (row listed_method_row) b)) none
+    ∙ to_end_ends (row listed_method_row) before ∙ ap (λ (b : List ℕ). ok (before, b)) (sym none)
 
-pub methods_step : (before : List MethodListEntry) (bytes : List ℕ) (x : MethodListEntry) (rest : List ℕ) → row listed_method_row bytes ≡ Ok (x, rest)
-    → behind before (to_end (row listed_method_row) bytes) ≡ behind (before ++ x ∷ []) (to_end (row listed_method_row) rest)
-methods_step = to_end_step (row listed_method_row) (Assigns listed_method_row) (Stops listed_method_row) methods_agree method_takes
+pub methods_step : (before : List MethodListEntry) (bytes : List ℕ) (x : MethodListEntry) (rest : List ℕ)
+    → row listed_method_row bytes ≡ Ok (x, rest)
+    → behind before (to_end (row listed_method_row) bytes)
+    ≡ behind (before ++ x ∷ []) (to_end (row listed_method_row) rest)
+methods_step = to_end_step (row listed_method_row) (Assigns listed_method_row)
+    (Stops listed_method_row) methods_agree method_takes

@@ -10,7 +10,8 @@ use Rattle.pdb_records.proofs.ShapeLaws.{shapes}
 pub reads : {A : Type 0} (r : Row A) → Agrees (read r) (Assigns r) (Stops r)
 reads (gives a) = given a
 reads (field shape next) =
-    chained (read_shape shape) (Begins (Spells shape)) (Refuses shape) (λ v. read (next v)) (λ v. Assigns (next v)) (λ v. Stops (next v)) (shapes shape) (λ v. reads (next v))
+    chained (read_shape shape) (Begins (Spells shape)) (Refuses shape) (λ v. read (next v)) (λ v. Assigns (next v))
+    (λ v. Stops (next v)) (shapes shape) (λ v. reads (next v))
 
 pub rows : {A : Type 0} (r : Row A) → Agrees (row r) (Assigns r) (Stops r)
 unfolding row

@@ -10,13 +10,16 @@ abbrev pub TakesTwo : {A : Type 0} → (List ℕ → A → List ℕ → Type 0) 
 TakesTwo {A} Is = (bytes : List ℕ) (x : A) (rest : List ℕ) → Is bytes x rest → 2 + length rest ≤ length bytes
 
 -- what stands behind a front is shorter by the front
-pub begins_length : {A : Type 0} (Spells : A → List ℕ → Type 0) (bytes : List ℕ) (x : A) (rest : List ℕ) (begins : Begins Spells bytes x rest) → length bytes ≡ length begins.front + length rest
+pub begins_length : {A : Type 0} (Spells : A → List ℕ → Type 0) (bytes : List ℕ) (x : A) (rest : List ℕ)
+    (begins : Begins Spells bytes x rest) → length bytes ≡ length begins.front + length rest
 begins_length Spells bytes x rest begins = omega (arith, length-append begins.front rest, ap length begins.is)
 
 -- a row leaves no more than there was
-pub row_leaves : {A : Type 0} (r : Row A) (bytes : List ℕ) (x : A) (rest : List ℕ) → Assigns r bytes x rest → length rest ≤ length bytes
+pub row_leaves : {A : Type 0} (r : Row A) (bytes : List ℕ) (x : A) (rest : List ℕ) → Assigns r bytes x rest
+    → length rest ≤ length bytes
 row_leaves (gives a) bytes x rest is = omega (arith, ap length is.1)
-row_leaves (field shape next) bytes x rest is = omega (arith, begins_length (Spells shape) bytes is.0 is.1 is.2, row_leaves (next is.0) is.1 x rest is.3)
+row_leaves (field shape next) bytes x rest is =
+    omega (arith, begins_length (Spells shape) bytes is.0 is.1 is.2, row_leaves (next is.0) is.1 x rest is.3)
 
 -- a row that begins with a number of two bytes takes them
 pub word_long : {A : Type 0} (next : ℕ → Row A) → TakesTwo (Assigns (field u16 next))

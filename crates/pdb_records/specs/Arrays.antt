@@ -10,7 +10,13 @@ use Rattle.pdb_values.specs.Array.{ArrayValue}
 
 -- the array with this head and these dimensions
 abbrev pub array_of : ArrayHead → List ℕ → ArrayValue
-array_of head dimensions = record { element_type = head.element_type; indexing_type = head.indexing_type; stride = head.stride; dimensions = dimensions }
+array_of head dimensions = record {
+  element_type = head.element_type;
+  indexing_type = head.indexing_type;
+  stride =
+      head.stride;
+  dimensions = dimensions;
+}
 
 -- succeeds if no bytes are left, and else fails with `unexpected_eof`
 abbrev pub ended : List ℕ → Answer (Unit {0} × List ℕ)

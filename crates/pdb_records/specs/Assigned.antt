@@ -7,7 +7,8 @@ use Rattle.pdb_base.specs.Refusal.{Refusal, refusal_of}
 -- The call returns a value that `view` maps to one that the grammar assigns to the bytes, whatever is
 -- left behind it; or it fails with a refusal that the grammar gives; or it fails because memory was
 -- refused.
-abbrev pub SaysAssigned : {X Y : Type 0} → (X → Y) → (Y → List ℕ → Type 0) → (Refusal → Type 0) → Result X Error → Type 0
+abbrev pub SaysAssigned : {X Y : Type 0} → (X → Y) → (Y → List ℕ → Type 0) → (Refusal → Type 0) → Result X Error
+    → Type 0
 SaysAssigned view Is No (Ok x) = (rest : List ℕ) × Is (view x) rest
 SaysAssigned view Is No (Err e) = No (refusal_of e) ⊎ (e ≡ OutOfMemory)
 

@@ -1,6 +1,7 @@
 -- The dimensions of an array are numbers of variable width. No number after the first begins with a zero
 -- byte, and a zero byte stands behind the last.
-use Rattle.std.specs.Prelude.{◌≡◌, ◌≢◌, ◌⊎◌, ℕ, zero, suc, ◌<◌, ◌≤◌, Bool, true, false, List, [], ◌∷◌, length, nat_le, if◌then◌else◌, codes, Ok, Err}
+use Rattle.std.specs.Prelude.{◌≡◌, ◌≢◌, ◌⊎◌, ℕ, zero, suc, ◌<◌, ◌≤◌, Bool, true, false, List, [], ◌∷◌, length, nat_le}
+use Rattle.std.specs.Prelude.{if◌then◌else◌, codes, Ok, Err}
 use Rattle.pdb_base.specs.Refusal.{Refusal, unexpected_eof, unimplemented_feature}
 use Rattle.pdb_base.specs.Answer.{Answer, ◌>>=◌}
 use Rattle.pdb_base.specs.Numeric.{num_at}
@@ -35,13 +36,15 @@ GoesOn (byte ∷ bytes) = byte ≢ 0
 abbrev pub AreDimensions : List ℕ → List ℕ → List ℕ → Type 0
 AreDimensions bytes [] rest = ⊥
 AreDimensions bytes (n ∷ []) rest = IsDimension bytes n (0 ∷ rest)
-AreDimensions bytes (n ∷ m ∷ ns) rest = (mid : List ℕ) × IsDimension bytes n mid × GoesOn mid × AreDimensions mid (m ∷ ns) rest
+AreDimensions bytes (n ∷ m ∷ ns) rest = (mid : List ℕ) × IsDimension bytes n mid × GoesOn mid
+    × AreDimensions mid (m ∷ ns) rest
 
 -- Behind these dimensions, the bytes begin with no dimension that can be read, or they end.
 abbrev pub NoDimensionBehind : List ℕ → List ℕ → Refusal → Type 0
 NoDimensionBehind [] bytes refusal = NoDimension bytes refusal
 NoDimensionBehind (n ∷ ns) bytes refusal =
-    (mid : List ℕ) × IsDimension bytes n mid × (((mid ≡ []) × (ns ≡ []) × (refusal ≡ unexpected_eof)) ⊎ (GoesOn mid × NoDimensionBehind ns mid refusal))
+    (mid : List ℕ) × IsDimension bytes n mid ×
+    (((mid ≡ []) × (ns ≡ []) × (refusal ≡ unexpected_eof)) ⊎ (GoesOn mid × NoDimensionBehind ns mid refusal))
 
 -- the dimensions are refused with their first fault
 abbrev pub NoDimensions : List ℕ → Refusal → Type 0

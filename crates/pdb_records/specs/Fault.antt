@@ -1,6 +1,7 @@
 -- Why bytes that begin with no value of a shape are refused.
 use Rattle.std.specs.Prelude.{◌≡◌, ◌⊎◌, ℕ, zero, suc, false, List}
-use Rattle.pdb_base.specs.Refusal.{Refusal, unexpected_eof, unexpected_numeric_prefix, unimplemented_type_kind, unimplemented_feature}
+use Rattle.pdb_base.specs.Refusal.{Refusal, unexpected_eof, unexpected_numeric_prefix, unimplemented_type_kind}
+use Rattle.pdb_base.specs.Refusal.{unimplemented_feature}
 use Rattle.pdb_base.specs.Numeric.{numeric_leaves, unsigned_leaves}
 use Rattle.pdb_base.specs.Spelling.{SpellsNumber, Begins}
 use Rattle.pdb_base.specs.Laws.{BeginsBadly}
@@ -23,7 +24,8 @@ BeginsNone {A} Spells bytes = (value : A) (rest : List ℕ) → ¬ Begins Spells
 -- If the bytes begin with a whole number that is bad, they are refused for that number; if they don't,
 -- they end too soon.
 abbrev pub Judged : (ℕ → Type 0) → (ℕ → Refusal) → Refusal → Type 0
-Judged IsBad why refusal = ((n : ℕ) × IsBad n × (refusal ≡ why n)) ⊎ (((n : ℕ) → ¬ IsBad n) × (refusal ≡ unexpected_eof))
+Judged IsBad why refusal = ((n : ℕ) × IsBad n × (refusal ≡ why n))
+    ⊎ (((n : ℕ) → ¬ IsBad n) × (refusal ≡ unexpected_eof))
 
 -- the bytes begin with a whole word that isn't a valid word of pointer attributes
 pub record BeginsBadPointer (bytes : List ℕ) (word : ℕ) : Type 0 where
@@ -41,9 +43,12 @@ FirstOf {A} Spells Fault (suc count) bytes refusal =
 -- The refusal of bytes that begin with no value of a shape. A number is refused with its prefix, a
 -- pointer with the leaf of pointers, and any other shape because the bytes end too soon.
 abbrev pub Fault : Shape → List ℕ → Refusal → Type 0
-Fault num bytes refusal = Judged (BeginsBadly unsigned_leaves bytes) (λ prefix. unexpected_numeric_prefix prefix) refusal
-Fault variant bytes refusal = Judged (BeginsBadly numeric_leaves bytes) (λ prefix. unexpected_numeric_prefix prefix) refusal
-Fault pointer_word bytes refusal = Judged (BeginsBadPointer bytes) (λ word. unimplemented_type_kind pointer_leaf) refusal
+Fault num bytes refusal = Judged (BeginsBadly unsigned_leaves bytes)
+    (λ prefix. unexpected_numeric_prefix prefix) refusal
+Fault variant bytes refusal = Judged (BeginsBadly numeric_leaves bytes)
+    (λ prefix. unexpected_numeric_prefix prefix) refusal
+Fault pointer_word bytes refusal = Judged (BeginsBadPointer bytes)
+    (λ word. unimplemented_type_kind pointer_leaf) refusal
 Fault (when test shape) bytes refusal = Fault shape bytes refusal
 Fault (times count shape) bytes refusal = FirstOf (Spells shape) (Fault shape) count bytes refusal
 Fault other bytes refusal = refusal ≡ unexpected_eof

@@ -26,17 +26,21 @@ use Rattle.pdb_records.specs.Fields.{Entry, field, continues, field_list_of, con
 
 -- dimensions, then padding, and then the end of the bytes
 abbrev pub AreLastDimensions : List ℕ → List ℕ → List ℕ → Type 0
-AreLastDimensions bytes ns rest = (mid : List ℕ) × (end : List ℕ) × AreDimensions bytes ns mid × IsPadded mid tt end × (end ≡ []) × (rest ≡ [])
+AreLastDimensions bytes ns rest = (mid : List ℕ) × (end : List ℕ) × AreDimensions bytes ns mid × IsPadded mid tt end
+    × (end ≡ []) × (rest ≡ [])
 
 -- the dimensions are refused, or the padding behind them, or the bytes that are left behind that
 abbrev pub NoLastDimensions : List ℕ → Refusal → Type 0
 NoLastDimensions bytes refusal =
     NoDimensions bytes refusal
-    ⊎ ((ns : List ℕ) × (mid : List ℕ) × AreDimensions bytes ns mid × (IsPaddedShort mid refusal ⊎ ((end : List ℕ) × IsPadded mid tt end × (end ≢ []) × (refusal ≡ unexpected_eof))))
+    ⊎ ((ns : List ℕ) × (mid : List ℕ) × AreDimensions bytes ns mid
+    × (IsPaddedShort mid refusal ⊎ ((end : List ℕ) × IsPadded mid tt end × (end ≢ [])
+    × (refusal ≡ unexpected_eof))))
 
 -- an array
 abbrev pub IsArray : Bool → List ℕ → ArrayValue → List ℕ → Type 0
-IsArray strided bytes array rest = (head : _) × (mid : List ℕ) × Assigns (array_row strided) bytes head mid × ((ns : List ℕ) × AreLastDimensions mid ns rest × (array_of head ns ≡ array))
+IsArray strided bytes array rest = (head : _) × (mid : List ℕ) × Assigns (array_row strided) bytes head mid
+    × ((ns : List ℕ) × AreLastDimensions mid ns rest × (array_of head ns ≡ array))
 
 -- an array is refused for a fault in its row, or in its dimensions
 abbrev pub NoArray : Bool → List ℕ → Refusal → Type 0
@@ -48,10 +52,14 @@ NoArray strided bytes refusal =
 
 -- the contents of a record whose leaf has this number
 abbrev pub IsData : ℕ → Leaf → List ℕ → TypeValue → List ℕ → Type 0
-IsData number (Plain leaf) bytes value rest = (plain : PlainValue) × Assigns (row_of number leaf) bytes plain rest × (values.plain plain ≡ value)
-IsData number ArgumentList bytes value rest = (list : List TypeIndex) × Assigns arguments_row bytes list rest × (values.argument_list list ≡ value)
-IsData number MethodList bytes value rest = (list : _) × Fills (Assigns listed_method_row) bytes list rest × (values.method_list list ≡ value)
-IsData number (Array strided) bytes value rest = (array : ArrayValue) × IsArray strided bytes array rest × (values.array array ≡ value)
+IsData number (Plain leaf) bytes value rest = (plain : PlainValue) × Assigns (row_of number leaf) bytes plain rest
+    × (values.plain plain ≡ value)
+IsData number ArgumentList bytes value rest = (list : List TypeIndex) × Assigns arguments_row bytes list rest
+    × (values.argument_list list ≡ value)
+IsData number MethodList bytes value rest = (list : _) × Fills (Assigns listed_method_row) bytes list rest
+    × (values.method_list list ≡ value)
+IsData number (Array strided) bytes value rest = (array : ArrayValue) × IsArray strided bytes array rest
+    × (values.array array ≡ value)
 
 -- why those contents are refused
 abbrev pub NoData : ℕ → Leaf → List ℕ → Refusal → Type 0
@@ -72,7 +80,8 @@ NoBehind number = NoKnown number (NoData number) (leaf_of number)
 
 -- what stands behind the leaf of an entry: the index of the continuation, or a field
 abbrev pub IsEntryOf : Bool → ℕ → List ℕ → Entry → List ℕ → Type 0
-IsEntryOf true number bytes entry rest = (index : TypeIndex) × Assigns continuation_row bytes index rest × (continues index ≡ entry)
+IsEntryOf true number bytes entry rest = (index : TypeIndex) × Assigns continuation_row bytes index rest
+    × (continues index ≡ entry)
 IsEntryOf false number bytes entry rest = (value : TypeValue) × IsBehind number bytes value rest × (field value ≡ entry)
 
 -- why what stands behind the leaf of an entry is refused
@@ -84,7 +93,8 @@ NoEntryOf false number bytes refusal = NoBehind number bytes refusal
 abbrev pub IsEntry : List ℕ → Entry → List ℕ → Type 0
 IsEntry bytes entry rest =
     (number : ℕ) × (mid : List ℕ) × Begins (Spells u16) bytes number mid
-    × ((behind : Entry) × (end : List ℕ) × IsEntryOf (number == continuation_leaf) number mid behind end × ((nothing : Unit {0}) × IsPadded end nothing rest × (behind ≡ entry)))
+    × ((behind : Entry) × (end : List ℕ) × IsEntryOf (number == continuation_leaf) number mid behind end
+    × ((nothing : Unit {0}) × IsPadded end nothing rest × (behind ≡ entry)))
 
 -- an entry is refused for a fault in its leaf, in what stands behind it, or in the padding
 abbrev pub NoEntry : List ℕ → Refusal → Type 0
@@ -92,13 +102,15 @@ NoEntry bytes refusal =
     Refuses u16 bytes refusal
     ⊎ ((number : ℕ) × (mid : List ℕ) × Begins (Spells u16) bytes number mid
     × (NoEntryOf (number == continuation_leaf) number mid refusal
-    ⊎ ((behind : Entry) × (end : List ℕ) × IsEntryOf (number == continuation_leaf) number mid behind end × IsPaddedShort end refusal)))
+    ⊎ ((behind : Entry) × (end : List ℕ) × IsEntryOf (number == continuation_leaf) number mid behind end
+    × IsPaddedShort end refusal)))
 
 -- ---- whole records
 
 -- what stands behind the leaf of a record: entries up to the end of the bytes, or another record
 abbrev pub IsRecordOf : Bool → ℕ → List ℕ → TypeValue → List ℕ → Type 0
-IsRecordOf true number bytes value rest = (entries : List Entry) × Fills IsEntry bytes entries rest × (field_list_of entries ≡ value)
+IsRecordOf true number bytes value rest = (entries : List Entry) × Fills IsEntry bytes entries rest
+    × (field_list_of entries ≡ value)
 IsRecordOf false number bytes value rest = IsBehind number bytes value rest
 
 -- why what stands behind the leaf of a record is refused
@@ -108,10 +120,12 @@ NoRecordOf false number bytes refusal = NoBehind number bytes refusal
 
 -- a type record: its leaf, and what stands behind it
 abbrev pub IsRecord : List ℕ → TypeValue → List ℕ → Type 0
-IsRecord bytes value rest = (number : ℕ) × (mid : List ℕ) × Begins (Spells u16) bytes number mid × IsRecordOf (number == field_list_leaf) number mid value rest
+IsRecord bytes value rest = (number : ℕ) × (mid : List ℕ) × Begins (Spells u16) bytes number mid
+    × IsRecordOf (number == field_list_leaf) number mid value rest
 
 -- a type record is refused for a fault in its leaf, or in what stands behind it
 abbrev pub NoRecord : List ℕ → Refusal → Type 0
 NoRecord bytes refusal =
     Refuses u16 bytes refusal
-    ⊎ ((number : ℕ) × (mid : List ℕ) × Begins (Spells u16) bytes number mid × NoRecordOf (number == field_list_leaf) number mid refusal)
+    ⊎ ((number : ℕ) × (mid : List ℕ) × Begins (Spells u16) bytes number mid
+    × NoRecordOf (number == field_list_leaf) number mid refusal)

@@ -17,11 +17,13 @@ use Rattle.pdb_values.specs.IdValue as values
 use Rattle.pdb_records.specs.declared.id_leaf.IdLeaf.{IdLeaf}
 use Rattle.pdb_records.specs.declared.id_leaf.IdLeaf.TheVariants.{Plain, BuildInfo, StringList}
 use Rattle.pdb_records.specs.declared.parse.id_plain.PlainIdLeaf.{PlainIdLeaf}
-use Rattle.pdb_records.specs.declared.parse.id_plain.PlainIdLeaf.TheVariants.{Function, MemberFunction, String, Source, RemoteSource}
+use Rattle.pdb_records.specs.declared.parse.id_plain.PlainIdLeaf.TheVariants.{Function, MemberFunction, String, Source}
+use Rattle.pdb_records.specs.declared.parse.id_plain.PlainIdLeaf.TheVariants.{RemoteSource}
 use Rattle.pdb_records.specs.declared.parse.counted.CountWidth.TheVariants.{Bits16, Bits32}
 use Rattle.pdb_records.specs.Counted.{counted_at}
 use Rattle.pdb_records.specs.Known.{IsKnown, NoKnown, known_at}
-use Rattle.pdb_records.specs.IdRows.{function_id_row, member_function_id_row, build_info_row, string_list_row, string_id_row, source_row, remote_source_row}
+use Rattle.pdb_records.specs.IdRows.{function_id_row, member_function_id_row, build_info_row, string_list_row}
+use Rattle.pdb_records.specs.IdRows.{string_id_row, source_row, remote_source_row}
 
 -- the leaves of id records without a list
 abbrev pub plain_id_leaves : List (ℕ × PlainIdLeaf)
@@ -60,9 +62,12 @@ id_row_of number RemoteSource = remote_source_row
 
 -- the contents of an id record whose leaf has this number
 abbrev pub IsIdData : ℕ → IdLeaf → List ℕ → IdValue → List ℕ → Type 0
-IsIdData number (Plain leaf) bytes value rest = (plain : PlainIdValue) × Assigns (id_row_of number leaf) bytes plain rest × (values.plain plain ≡ value)
-IsIdData number BuildInfo bytes value rest = (list : List IdIndex) × Assigns build_info_row bytes list rest × (values.build_info list ≡ value)
-IsIdData number StringList bytes value rest = (list : List TypeIndex) × Assigns string_list_row bytes list rest × (values.string_list list ≡ value)
+IsIdData number (Plain leaf) bytes value rest = (plain : PlainIdValue)
+    × Assigns (id_row_of number leaf) bytes plain rest × (values.plain plain ≡ value)
+IsIdData number BuildInfo bytes value rest = (list : List IdIndex) × Assigns build_info_row bytes list rest
+    × (values.build_info list ≡ value)
+IsIdData number StringList bytes value rest = (list : List TypeIndex) × Assigns string_list_row bytes list rest
+    × (values.string_list list ≡ value)
 
 -- why those contents are refused
 abbrev pub NoIdData : ℕ → IdLeaf → List ℕ → Refusal → Type 0
@@ -80,7 +85,8 @@ NoBehindId number = NoKnown number (NoIdData number) (id_leaf_of number)
 
 -- an id record: its leaf, and what stands behind it
 abbrev pub IsId : List ℕ → IdValue → List ℕ → Type 0
-IsId bytes value rest = (number : ℕ) × (mid : List ℕ) × Begins (Spells u16) bytes number mid × IsBehindId number mid value rest
+IsId bytes value rest = (number : ℕ) × (mid : List ℕ) × Begins (Spells u16) bytes number mid
+    × IsBehindId number mid value rest
 
 -- an id record is refused for a fault in its leaf, or in what stands behind it
 abbrev pub NoId : List ℕ → Refusal → Type 0

@@ -7,9 +7,16 @@ use Rattle.pdb_values.specs.declared.class.ClassKind.TheVariants as kinds
 use Rattle.pdb_records.specs.declared.leaf.Leaf.{Leaf}
 use Rattle.pdb_records.specs.declared.leaf.Leaf.TheVariants.{Plain, ArgumentList, MethodList, Array}
 use Rattle.pdb_records.specs.declared.parse.plain.PlainLeaf.{PlainLeaf}
-use Rattle.pdb_records.specs.declared.parse.plain.PlainLeaf.TheVariants.{Class, WideStruct, Member, Nested, MemberFunction, OverloadedMethod, Method, BaseClass, TablePointer, StaticMember, Pointer, Procedure, Modifier, Enumeration, Enumerate, Union, Bitfield, VirtualBaseClass, TableShape}
+use Rattle.pdb_records.specs.declared.parse.plain.PlainLeaf.TheVariants.{Class, WideStruct, Member, Nested}
+use Rattle.pdb_records.specs.declared.parse.plain.PlainLeaf.TheVariants.{MemberFunction, OverloadedMethod, Method}
+use Rattle.pdb_records.specs.declared.parse.plain.PlainLeaf.TheVariants.{BaseClass, TablePointer, StaticMember, Pointer}
+use Rattle.pdb_records.specs.declared.parse.plain.PlainLeaf.TheVariants.{Procedure, Modifier, Enumeration, Enumerate}
+use Rattle.pdb_records.specs.declared.parse.plain.PlainLeaf.TheVariants.{Union, Bitfield, VirtualBaseClass, TableShape}
 use Rattle.pdb_values.specs.TypeValue.{PlainValue}
-use Rattle.pdb_records.specs.Rows.{class_row, wide_class_row, member_row, nested_row, member_function_row, overloaded_method_row, method_row, base_row, table_pointer_row, static_member_row, pointer_row, procedure_row, modifier_row, enumeration_row, enumerate_row, union_row, bitfield_row, virtual_base_row, table_shape_row}
+use Rattle.pdb_records.specs.Rows.{class_row, wide_class_row, member_row, nested_row, member_function_row}
+use Rattle.pdb_records.specs.Rows.{overloaded_method_row, method_row, base_row, table_pointer_row, static_member_row}
+use Rattle.pdb_records.specs.Rows.{pointer_row, procedure_row, modifier_row, enumeration_row, enumerate_row, union_row}
+use Rattle.pdb_records.specs.Rows.{bitfield_row, virtual_base_row, table_shape_row}
 
 -- the leaves of records without a list
 abbrev pub plain_leaves : List (ℕ × PlainLeaf)

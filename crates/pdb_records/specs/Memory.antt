@@ -35,7 +35,8 @@ HoldsDimension bytes = (n : ℕ) × (rest : List ℕ) × IsDimension bytes n res
 
 -- the bytes begin with the row of an array, and then a dimension
 abbrev pub HoldsArray : Bool → List ℕ → Type 0
-HoldsArray strided bytes = (head : ArrayHead) × (mid : List ℕ) × Assigns (array_row strided) bytes head mid × HoldsDimension mid
+HoldsArray strided bytes = (head : ArrayHead) × (mid : List ℕ) × Assigns (array_row strided) bytes head mid
+    × HoldsDimension mid
 
 -- the bytes behind a leaf hold an item of the record's list; most leaves have no list
 abbrev pub HoldsItem : Leaf → List ℕ → Type 0
@@ -55,7 +56,8 @@ HoldsItemBehind number = HoldsItemOf (leaf_of number)
 
 -- a leaf, followed by an item of the record's list
 abbrev pub RecordHoldsItem : List ℕ → Type 0
-RecordHoldsItem bytes = (number : ℕ) × (mid : List ℕ) × Begins (Spells u16) bytes number mid × HoldsItemBehind number mid
+RecordHoldsItem bytes = (number : ℕ) × (mid : List ℕ) × Begins (Spells u16) bytes number mid
+    × HoldsItemBehind number mid
 
 -- the bytes begin with an entry of a field list that is a field
 abbrev pub BeginsField : List ℕ → Type 0
@@ -68,7 +70,8 @@ IsContinuation bytes index rest = IsEntry bytes (continues index) rest
 -- The entries of a field list begin, maybe after some that only name a continuation, with a field, or
 -- with the leaf of a record and an item of that record's list.
 abbrev pub HoldsField : List ℕ → Type 0
-HoldsField bytes = (indexes : List TypeIndex) × (mid : List ℕ) × Sequence IsContinuation bytes indexes mid × (BeginsField mid ⊎ RecordHoldsItem mid)
+HoldsField bytes = (indexes : List TypeIndex) × (mid : List ℕ) × Sequence IsContinuation bytes indexes mid
+    × (BeginsField mid ⊎ RecordHoldsItem mid)
 
 -- the same for what stands behind a leaf: the entries of a field list, or another record
 abbrev pub NeedsMemoryOf : Bool → ℕ → List ℕ → Type 0
@@ -77,7 +80,8 @@ NeedsMemoryOf false number bytes = HoldsItemBehind number bytes
 
 -- A type record that holds an item of a list. Any other is read, or refused, without asking for memory.
 abbrev pub NeedsMemory : List ℕ → Type 0
-NeedsMemory bytes = (number : ℕ) × (mid : List ℕ) × Begins (Spells u16) bytes number mid × NeedsMemoryOf (number == field_list_leaf) number mid
+NeedsMemory bytes = (number : ℕ) × (mid : List ℕ) × Begins (Spells u16) bytes number mid
+    × NeedsMemoryOf (number == field_list_leaf) number mid
 
 -- ---- counts that claim too much
 
@@ -88,4 +92,5 @@ argument_list_leaf = 0x1201
 -- an argument list whose count claims more than the bytes behind it hold, as a whole record or as the
 -- first entry of a field list
 abbrev pub IsFalseCount : List ℕ → Type 0
-IsFalseCount bytes = ClaimsMore argument_list_leaf 4 bytes ⊎ ((mid : List ℕ) × Begins (Spells u16) bytes field_list_leaf mid × ClaimsMore argument_list_leaf 4 mid)
+IsFalseCount bytes = ClaimsMore argument_list_leaf 4 bytes
+    ⊎ ((mid : List ℕ) × Begins (Spells u16) bytes field_list_leaf mid × ClaimsMore argument_list_leaf 4 mid)

@@ -1,6 +1,7 @@
 -- Padding between records: LF_PAD0 to LF_PAD15 of Microsoft's cvinfo.h. A byte of 0xf0 or above begins a
 -- pad, and its low four bits are the number of bytes in the pad; 0xf0 is a pad of a single byte.
-use Rattle.std.specs.Prelude.{◌≡◌, ℕ, zero, suc, ◌-◌, ◌%◌, ◌<◌, ◌≤◌, List, [], ◌∷◌, ◌++◌, length, nat_le, if◌then◌else◌, Ok, Err}
+use Rattle.std.specs.Prelude.{◌≡◌, ℕ, zero, suc, ◌-◌, ◌%◌, ◌<◌, ◌≤◌, List, [], ◌∷◌, ◌++◌, length, nat_le, if◌then◌else◌}
+use Rattle.std.specs.Prelude.{Ok, Err}
 use Rattle.pdb_base.specs.Refusal.{Refusal, unexpected_eof}
 use Rattle.pdb_base.specs.Answer.{Answer}
 use Rattle.pdb_records.specs.ToEnd.{Sequence}
@@ -38,12 +39,14 @@ IsPadded bytes nothing rest = (pads : List (List ℕ)) × Sequence BeginsPad byt
 
 -- Padding that ends within a pad is refused, since the bytes end too soon.
 abbrev pub IsPaddedShort : List ℕ → Refusal → Type 0
-IsPaddedShort bytes refusal = (pads : List (List ℕ)) × (mid : List ℕ) × Sequence BeginsPad bytes pads mid × IsCutPad mid × (refusal ≡ unexpected_eof)
+IsPaddedShort bytes refusal = (pads : List (List ℕ)) × (mid : List ℕ) × Sequence BeginsPad bytes pads mid × IsCutPad mid
+    × (refusal ≡ unexpected_eof)
 
 -- the bytes behind padding, if the given number of bytes are still left of a pad
 abbrev pub padding_behind : ℕ → List ℕ → Answer (Unit {0} × List ℕ)
 padding_behind zero [] = Ok (tt, [])
-padding_behind zero (byte ∷ bytes) = if nat_le least_pad byte then padding_behind (behind_pad byte) bytes else Ok (tt, byte ∷ bytes)
+padding_behind zero (byte ∷ bytes) = if nat_le least_pad byte then padding_behind (behind_pad byte) bytes else Ok
+    (tt, byte ∷ bytes)
 padding_behind (suc more) [] = Err unexpected_eof
 padding_behind (suc more) (byte ∷ bytes) = padding_behind more bytes
 

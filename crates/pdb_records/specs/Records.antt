@@ -23,7 +23,8 @@ plain_at r bytes = row r bytes >>= λ value. Ok (values.plain value.0, value.1)
 abbrev pub data_at : ℕ → Leaf → List ℕ → Answer (TypeValue × List ℕ)
 data_at number (Plain leaf) bytes = plain_at (row_of number leaf) bytes
 data_at number ArgumentList bytes = counted_at Bits32 as_type bytes >>= λ list. Ok (values.argument_list list.0, list.1)
-data_at number MethodList bytes = to_end (row listed_method_row) bytes >>= λ list. Ok (values.method_list list.0, list.1)
+data_at number MethodList bytes = to_end (row listed_method_row) bytes
+    >>= λ list. Ok (values.method_list list.0, list.1)
 data_at number (Array strided) bytes = array_at strided bytes >>= λ array. Ok (values.array array.0, array.1)
 
 -- reads a list of arguments, for the bytes that are left behind it

@@ -15,7 +15,8 @@ pub data Row (A : Type 0) : Type 0 where
 -- The bytes begin with a value of each shape of the row, in order, followed by `rest`.
 abbrev pub Assigns : {A : Type 0} → Row A → List ℕ → A → List ℕ → Type 0
 Assigns {A} (gives a) bytes value rest = (a ≡ value) × (bytes ≡ rest)
-Assigns {A} (field shape next) bytes value rest = (v : Value shape) × (mid : List ℕ) × Begins (Spells shape) bytes v mid × Assigns (next v) mid value rest
+Assigns {A} (field shape next) bytes value rest = (v : Value shape) × (mid : List ℕ) × Begins (Spells shape) bytes v mid
+    × Assigns (next v) mid value rest
 
 -- The bytes begin with values of the row's first shapes, but with none of the next, and this is the
 -- refusal of that.

@@ -1,6 +1,7 @@
 -- The shapes of the fields in a record, and the bytes that spell their values. The shapes are those of
 -- the records in Microsoft's cvinfo.h.
-use Rattle.std.specs.Prelude.{◌≡◌, ℕ, Bool, true, false, ◌==◌, ◌||◌, nat_lt, if◌then◌else◌, List, [], length, Option, Some, None, Ok, Err, IsTrue}
+use Rattle.std.specs.Prelude.{◌≡◌, ℕ, Bool, true, false, ◌==◌, ◌||◌, nat_lt, if◌then◌else◌, List, [], length, Option}
+use Rattle.std.specs.Prelude.{Some, None, Ok, Err, IsTrue}
 use Rattle.pdb_base.specs.declared.index.IdIndex.{IdIndex}
 use Rattle.pdb_base.specs.declared.index.TypeIndex.{TypeIndex}
 use Rattle.pdb_base.specs.declared.variant.Variant.{Variant}
@@ -88,7 +89,8 @@ SpellsWhen Spells false (Some value) front = ⊥
 SpellsWhen Spells false None front = front ≡ []
 
 -- `count` values, one after another
-pub record SpellsTimes {A : Type 0} (Spells : A → List ℕ → Type 0) (count : ℕ) (values : List A) (front : List ℕ) : Type 0 where
+pub record SpellsTimes {A : Type 0} (Spells : A → List ℕ → Type 0) (count : ℕ) (values : List A)
+    (front : List ℕ) : Type 0 where
   pub len : length values ≡ count
   pub each : SpellsEach Spells values front
 
@@ -121,7 +123,8 @@ index_at said bytes = number_at 4 bytes >>= λ n. Ok (said n.0, n.1)
 -- reads the attributes of a pointer; a word without a kind and a mode is refused with the leaf of
 -- pointers
 abbrev pub pointer_word_at : List ℕ → Answer (ℕ × List ℕ)
-pointer_word_at bytes = number_at 4 bytes >>= λ n. if is_pointer_word n.0 then Ok n else Err (unimplemented_type_kind pointer_leaf)
+pointer_word_at bytes = number_at 4 bytes
+    >>= λ n. if is_pointer_word n.0 then Ok n else Err (unimplemented_type_kind pointer_leaf)
 
 -- reads a text that ends with a NUL, or one that has its length before it
 abbrev pub text_by : Bool → List ℕ → Answer (List ℕ × List ℕ)

@@ -13,8 +13,10 @@ abbrev pub Fills : {A : Type 0} → (List ℕ → A → List ℕ → Type 0) →
 Fills {A} Is bytes xs rest = Sequence Is bytes xs rest × (rest ≡ [])
 
 -- Behind some values, the bytes go on, but begin with no further value, and this is the refusal of that.
-abbrev pub FailsBehind : {A : Type 0} → (List ℕ → A → List ℕ → Type 0) → (List ℕ → Refusal → Type 0) → List ℕ → Refusal → Type 0
-FailsBehind {A} Is Fails bytes refusal = (xs : List A) × (mid : List ℕ) × Sequence Is bytes xs mid × (mid ≢ []) × Fails mid refusal
+abbrev pub FailsBehind : {A : Type 0} → (List ℕ → A → List ℕ → Type 0) → (List ℕ → Refusal → Type 0) → List ℕ → Refusal
+    → Type 0
+FailsBehind {A} Is Fails bytes refusal = (xs : List A) × (mid : List ℕ) × Sequence Is bytes xs mid × (mid ≢ [])
+    × Fails mid refusal
 
 -- each value takes at least one byte
 abbrev pub TakesBytes : {A : Type 0} → (List ℕ → A → List ℕ → Type 0) → Type 0
@@ -24,7 +26,8 @@ TakesBytes {A} Is = (bytes : List ℕ) (x : A) (rest : List ℕ) → Is bytes x 
 abbrev pub read_upto : {A : Type 0} → (List ℕ → Answer (A × List ℕ)) → ℕ → List ℕ → Answer (List A × List ℕ)
 read_upto {A} read most [] = Ok ([], [])
 read_upto {A} read zero (byte ∷ bytes) = Ok ([], byte ∷ bytes)
-read_upto {A} read (suc most) (byte ∷ bytes) = read (byte ∷ bytes) >>= λ x. read_upto read most x.1 >>= λ xs. Ok (x.0 ∷ xs.0, xs.1)
+read_upto {A} read (suc most) (byte ∷ bytes) = read (byte ∷ bytes) >>= λ x. read_upto read most x.1
+    >>= λ xs. Ok (x.0 ∷ xs.0, xs.1)
 
 -- reads values up to the end of the bytes; each value must take at least one byte
 unfoldable pub to_end : {A : Type 0} → (List ℕ → Answer (A × List ℕ)) → List ℕ → Answer (List A × List ℕ)

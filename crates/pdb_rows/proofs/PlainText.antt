@@ -19,7 +19,8 @@ first_is_ascii b bs small =
 ascii_first : (b : ℕ) (bs : List ℕ) → b < 128 → lossy_chars (b ∷ bs) ≡ b ∷ lossy_chars bs
 ascii_first b bs small =
     lossy_chars-step (b ∷ bs) (omega arith)
-    ∙ ap (λ (piece : Decoded). or_replacement piece.char ∷ lossy_chars (drop piece.size (b ∷ bs))) (first_is_ascii b bs small)
+    ∙ ap (λ (piece : Decoded). or_replacement piece.char ∷ lossy_chars (drop piece.size (b ∷ bs)))
+    (first_is_ascii b bs small)
 
 plain_is_ascii : (b : ℕ) → is_plain b ≡ true → b < 128
 plain_is_ascii b plain = grind (arith, nat_tests)
@@ -30,7 +31,8 @@ plain_is_unescaped Json b plain = grind (arith, nat_tests)
 
 plain_char : (form : Form) (b : ℕ) → is_plain b ≡ true → shown_char form b ≡ b ∷ []
 unfolding shown_char
-plain_char form b plain = cond-false (is_escaped form b) _ _ (plain_is_unescaped form b plain) ∙ encode_ascii b (plain_is_ascii b plain)
+plain_char form b plain = cond-false (is_escaped form b) _ _ (plain_is_unescaped form b plain)
+    ∙ encode_ascii b (plain_is_ascii b plain)
 
 pub plain_text : (form : Form) (bs : List ℕ) → list_all is_plain bs ≡ true → shown_text form bs ≡ bs
 unfolding shown_text

@@ -8,4 +8,5 @@ use Rattle.pdb_values.proofs.lemmas.Fields.{listed}
 
 -- a list of fields says as many as it has
 pub fields_counted : (fields : List TypeData) → length (values_in (fields_value fields)) ≡ length fields
-fields_counted fields = let mapped : length (map type_value fields) ≡ length fields = simp length-map in ap length (listed (map type_value fields)) ∙ mapped
+fields_counted fields = let mapped : length (map type_value fields) ≡ length fields = simp length-map in
+    ap length (listed (map type_value fields)) ∙ mapped

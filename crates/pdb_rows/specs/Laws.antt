@@ -16,16 +16,19 @@ pub record IsLine (text : List ℕ) : Type 0 where
 
 -- the letter of a short escape: one of `"\/bfnrt`
 abbrev pub is_short : ℕ → Bool
-is_short letter = letter == 0x22 || letter == 0x5c || letter == 0x2f || letter == 0x62 || letter == 0x66 || letter == 0x6e || letter == 0x72 || letter == 0x74
+is_short letter = letter == 0x22 || letter == 0x5c || letter == 0x2f || letter == 0x62 || letter == 0x66 || letter ==
+    0x6e || letter == 0x72 || letter == 0x74
 
 -- a hexadecimal digit
 abbrev pub is_hexadecimal : ℕ → Bool
-is_hexadecimal byte = nat_le 0x30 byte && nat_le byte 0x39 || nat_le 0x41 byte && nat_le byte 0x46 || nat_le 0x61 byte && nat_le byte 0x66
+is_hexadecimal byte = nat_le 0x30 byte && nat_le byte 0x39 || nat_le 0x41 byte && nat_le byte 0x46 || nat_le 0x61 byte
+    && nat_le byte 0x66
 
 -- an escape (RFC 8259, section 7): a backslash and a letter, or a backslash, `u` and four hexadecimal digits
 pub data IsEscape : List ℕ → Type 0 where
   short : (letter : ℕ) → IsTrue (is_short letter) → IsEscape (backslash ∷ letter ∷ [])
-  long : (a b c d : ℕ) → IsTrue (is_hexadecimal a) → IsTrue (is_hexadecimal b) → IsTrue (is_hexadecimal c) → IsTrue (is_hexadecimal d) → IsEscape (backslash ∷ 0x75 ∷ a ∷ b ∷ c ∷ d ∷ [])
+  long : (a b c d : ℕ) → IsTrue (is_hexadecimal a) → IsTrue (is_hexadecimal b) → IsTrue (is_hexadecimal c)
+      → IsTrue (is_hexadecimal d) → IsEscape (backslash ∷ 0x75 ∷ a ∷ b ∷ c ∷ d ∷ [])
 
 -- a byte that stands for itself in a string: no control character, no quote and no backslash
 abbrev pub is_unescaped : ℕ → Bool

@@ -60,7 +60,8 @@ is_shown form field = is_shown_value form field.1
 
 -- whether a line of text shows a field of this name without the name
 unfoldable pub is_leading : List ℕ → Bool
-is_leading name = bytes_eq name (codes "index") || bytes_eq name (codes "number") || bytes_eq name (codes "kind") || bytes_eq name (codes "name")
+is_leading name = bytes_eq name (codes "index") || bytes_eq name (codes "number") || bytes_eq name
+    (codes "kind") || bytes_eq name (codes "name")
 
 -- what stands before a field's value on a line
 abbrev pub front_text : Form → List ℕ → List ℕ

@@ -30,7 +30,8 @@ use Rattle.pdb_values.specs.declared.pointer.PointerType.{PointerType}
 use Rattle.pdb_values.specs.declared.primitive.PrimitiveType.{PrimitiveType}
 use Rattle.pdb_rows.specs.Fields.{type_index, optional_type, optional_number, optional_text, nonzero, headed}
 use Rattle.pdb_rows.specs.Row.{ShownValue, ShownRow, number, signed, flag, text, words, numbers, indexes}
-use Rattle.pdb_rows.specs.Words.{access_word, field_words, function_words, indirection_word, kind_word, mode_word, modifier_words, pointer_words, primitive_word, property_words}
+use Rattle.pdb_rows.specs.Words.{access_word, field_words, function_words, indirection_word, kind_word, mode_word}
+use Rattle.pdb_rows.specs.Words.{modifier_words, pointer_words, primitive_word, property_words}
 
 -- a type without a record
 unfoldable pub primitive_fields : PrimitiveType → ShownRow

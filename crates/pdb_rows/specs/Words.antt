@@ -38,7 +38,8 @@ property_words word = chosen (
 
 -- who may access a member, if its word says so: `CV_access_e` of Microsoft's cvinfo.h
 unfoldable pub access_word : ℕ → Option (List ℕ)
-access_word word = lookup (λ row. row == members.access word) ((1, codes "private") ∷ (2, codes "protected") ∷ (3, codes "public") ∷ [])
+access_word word = lookup (λ row. row == members.access word)
+    ((1, codes "private") ∷ (2, codes "protected") ∷ (3, codes "public") ∷ [])
 
 -- the names of the attributes that a member has
 unfoldable pub field_words : ℕ → List (List ℕ)

@@ -1,5 +1,6 @@
 -- What the search for an address has found, in the words of tables and ranges.
-use Rattle.std.proofs.Common.{◌≡◌, ℕ, zero, suc, ◌-◌, ◌/◌, ◌<◌, ◌≤◌, true, false, leb, List, [], ◌∷◌, length, get_or, drop, drop-cons, refl, sym, ap, subst, ◌∙◌, arith, Some, None, Option}
+use Rattle.std.proofs.Common.{◌≡◌, ℕ, zero, suc, ◌-◌, ◌/◌, ◌<◌, ◌≤◌, true, false, leb, List, [], ◌∷◌, length, get_or}
+use Rattle.std.proofs.Common.{drop, drop-cons, refl, sym, ap, subst, ◌∙◌, arith, Some, None, Option}
 use Rattle.std.specs.declared.ops.Range.{Range}
 use Rattle.std.specs.List.{filter, last_or, Contains, All, cons_option}
 use Rattle.std.proofs.lemmas.Bool.{le-leb, lt-leb}
@@ -8,9 +9,11 @@ use Rattle.std.proofs.lemmas.List.Elements.{Contains-get_or}
 use Rattle.std.proofs.lemmas.List.Sorted.{IsNonDecreasingBy-drop}
 use Rattle.pdb_base.specs.Halving.{Rises, IsFound}
 use Rattle.pdb_base.proofs.lemmas.Records.{spelled_length}
-use Rattle.pdb_space.specs.Omap.{OmapValue, IsSortedBySource, last_at_or_below, mapping_of, mappings_of, shift, source_at, target_at}
+use Rattle.pdb_space.specs.Omap.{OmapValue, IsSortedBySource, last_at_or_below, mapping_of, mappings_of, shift}
+use Rattle.pdb_space.specs.Omap.{source_at, target_at}
 use Rattle.pdb_space.specs.Ranges.{part, next_source, parts, parts_until, end_to_end, pointwise, IsNotEmpty}
-use Rattle.pdb_space.proofs.RangeLemmas.{part-none, parts_until_sorted, parts_until_few, parts_until_not_empty, parts_are_pointwise, length-cons_option, part-not_empty, All-cons_option}
+use Rattle.pdb_space.proofs.RangeLemmas.{part-none, parts_until_sorted, parts_until_few, parts_until_not_empty}
+use Rattle.pdb_space.proofs.RangeLemmas.{parts_are_pointwise, length-cons_option, part-not_empty, All-cons_option}
 
 nowhere : OmapValue
 nowhere = record { source = 0; target = 0 }
@@ -25,22 +28,29 @@ rising table sorted i j up within =
     rw (first, later) (sorted i j nowhere up within)
 
 -- what was found among the records that bytes hold, in the words of the table
-pub found_in : (bytes : List ℕ) (table : List OmapValue) (address place last : ℕ) → mappings_of bytes ≡ table → IsFound (source_at (mappings_of bytes)) (length bytes / 8) address place last → IsFound (source_at table) (length table) address place last
+pub found_in : (bytes : List ℕ) (table : List OmapValue) (address place last : ℕ) → mappings_of bytes ≡ table
+    → IsFound (source_at (mappings_of bytes)) (length bytes / 8) address place last
+    → IsFound (source_at table) (length table) address place last
 found_in bytes table address place last is found =
     let number : length bytes / 8 ≡ length (mappings_of bytes) = sym (spelled_length 8 mapping_of bytes) in
-    subst (λ (t : List OmapValue). IsFound (source_at t) (length t) address place last) is (subst (λ (n : ℕ). IsFound (source_at (mappings_of bytes)) n address place last) number found)
+    subst (λ (t : List OmapValue). IsFound (source_at t) (length t) address place last) is
+    (subst (λ (n : ℕ). IsFound (source_at (mappings_of bytes)) n address place last) number found)
 
 -- ---- the last record at or below the address
 
 -- records above it change nothing
-last-none : (table : List OmapValue) (found : Option OmapValue) (address : ℕ) → ((k : ℕ) → k < length table → address < source_at table k) → last_or found (filter (λ m. leb m.source address) table) ≡ found
+last-none : (table : List OmapValue) (found : Option OmapValue) (address : ℕ)
+    → ((k : ℕ) → k < length table → address < source_at table k)
+    → last_or found (filter (λ m. leb m.source address) table) ≡ found
 last-none [] found address above = refl
 last-none (mapping ∷ table) found address above =
     let test : leb mapping.source address ≡ false = lt-leb mapping.source address (above 0 (omega arith)) in
     rw test (last-none table found address (λ k within. above (suc k) (omega (arith, within))))
 
 -- of records at or below it, with others above it behind them, the last one counts
-last-some : (k : ℕ) (table : List OmapValue) (found : Option OmapValue) (address : ℕ) → k < length table → ((j : ℕ) → j ≤ k → source_at table j ≤ address) → ((j : ℕ) → k < j → j < length table → address < source_at table j)
+last-some : (k : ℕ) (table : List OmapValue) (found : Option OmapValue) (address : ℕ) → k < length table
+    → ((j : ℕ) → j ≤ k → source_at table j ≤ address)
+    → ((j : ℕ) → k < j → j < length table → address < source_at table j)
     → last_or found (filter (λ m. leb m.source address) table) ≡ Some (get_or table k nowhere)
 last-some k [] found address within below above = absurd (omega (arith, within))
 last-some zero (mapping ∷ table) found address within below above =
@@ -48,20 +58,27 @@ last-some zero (mapping ∷ table) found address within below above =
     rw test (last-none table (Some mapping) address (λ j behind. above (suc j) (omega arith) (omega (arith, behind))))
 last-some (suc k) (mapping ∷ table) found address within below above =
     let test : leb mapping.source address ≡ true = le-leb mapping.source address (below 0 (omega arith)) in
-    rw test (last-some k table (Some mapping) address (omega (arith, within)) (λ j before. below (suc j) (omega (arith, before))) (λ j behind inside. above (suc j) (omega (arith, behind)) (omega (arith, inside))))
+    rw test (last-some k table (Some mapping) address (omega (arith, within))
+    (λ j before. below (suc j) (omega (arith, before)))
+    (λ j behind inside. above (suc j) (omega (arith, behind)) (omega (arith, inside))))
 
 -- the record that stands before the place found
-entry : (table : List OmapValue) (k last : ℕ) → k < length table → source_at table k ≡ last → get_or table k nowhere ≡ mapping_with last (target_at table k)
+entry : (table : List OmapValue) (k last : ℕ) → k < length table → source_at table k ≡ last
+    → get_or table k nowhere ≡ mapping_with last (target_at table k)
 entry table k last within is =
     let source = sym (get_or-map (λ (m : OmapValue). m.source) table k nowhere 0 within) ∙ is in
     let target = sym (get_or-map (λ (m : OmapValue). m.target) table k nowhere 0 within) in
     ap (λ (s : ℕ). mapping_with s (get_or table k nowhere).target) source ∙ ap (λ (t : ℕ). mapping_with last t) target
 
-pub none_found : (table : List OmapValue) (address place last : ℕ) → IsFound (source_at table) (length table) address place last → place ≡ 0 → IsSortedBySource table → None ≡ last_at_or_below table address
+pub none_found : (table : List OmapValue) (address place last : ℕ)
+    → IsFound (source_at table) (length table) address place last → place ≡ 0 → IsSortedBySource table
+    → None ≡ last_at_or_below table address
 none_found table address place last found none sorted =
     sym (last-none table None address (λ k within. found.above (rising table sorted) k (omega (arith, none)) within))
 
-pub last_found : (table : List OmapValue) (address place last : ℕ) → IsFound (source_at table) (length table) address place last → 0 < place → IsSortedBySource table → Some (mapping_with last (target_at table (place - 1))) ≡ last_at_or_below table address
+pub last_found : (table : List OmapValue) (address place last : ℕ)
+    → IsFound (source_at table) (length table) address place last → 0 < place → IsSortedBySource table
+    → Some (mapping_with last (target_at table (place - 1))) ≡ last_at_or_below table address
 last_found table address place last found some sorted =
     let within : place - 1 < length table = omega (arith, some, found.within) in
     sym (
@@ -70,29 +87,43 @@ last_found table address place last found some sorted =
     (λ j behind inside. found.above (rising table sorted) j (omega (arith, behind)) inside)
     ∙ ap (λ (m : OmapValue). Some m) (entry table (place - 1) last within (found.before some).0))
 
-pub some_found : (table : List OmapValue) (address place last : ℕ) → IsFound (source_at table) (length table) address place last → 0 < place → Contains table (mapping_with last (target_at table (place - 1))) × (last ≤ address)
+pub some_found : (table : List OmapValue) (address place last : ℕ)
+    → IsFound (source_at table) (length table) address place last → 0 < place
+    → Contains table (mapping_with last (target_at table (place - 1))) × (last ≤ address)
 some_found table address place last found some =
     let within : place - 1 < length table = omega (arith, some, found.within) in
-    let known = found.before some in
-    (subst (λ (m : OmapValue). Contains table m) (entry table (place - 1) last within known.0) (Contains-get_or table (place - 1) nowhere within), known.1)
+    let known = found.before some in (
+      subst (λ (m : OmapValue). Contains table m) (entry table (place - 1) last within known.0)
+          (Contains-get_or table (place - 1) nowhere within),
+      known.1,
+    )
 
 -- ---- ranges begin at the record before the place found
 
 -- records whose addresses end at or before the range have no part of it
-parts-drop : (passed : ℕ) (table : List OmapValue) (asked : Range ℕ) → ((k : ℕ) → k < passed → (suc k < length table) × (source_at table (suc k) ≤ asked.start)) → parts (drop passed table) asked ≡ parts table asked
+parts-drop : (passed : ℕ) (table : List OmapValue) (asked : Range ℕ)
+    → ((k : ℕ) → k < passed → (suc k < length table) × (source_at table (suc k) ≤ asked.start))
+    → parts (drop passed table) asked ≡ parts table asked
 parts-drop zero table asked ended = refl
 parts-drop (suc passed) [] asked ended = refl
 parts-drop (suc passed) (mapping ∷ []) asked ended = absurd (omega (arith, (ended 0 (omega arith)).0))
 parts-drop (suc passed) (mapping ∷ next ∷ table) asked ended =
     let none = part-none mapping next.source asked.start asked.end (omega (arith, (ended 0 (omega arith)).1)) in
-    rw none (parts-drop passed (next ∷ table) asked (λ k before. (omega (arith, (ended (suc k) (omega (arith, before))).0), (ended (suc k) (omega (arith, before))).1)))
+    rw none (parts-drop passed (next ∷ table) asked
+    (λ k before. (
+      omega (arith, (ended (suc k) (omega (arith, before))).0),
+      (ended (suc k) (omega (arith, before))).1,
+    )))
 
 -- the parts from the record before the place found on
 abbrev pub parts_from : List OmapValue → Range ℕ → ℕ → ℕ → List (Range ℕ)
 parts_from table asked place last =
-    cons_option (part (mapping_with last (target_at table (place - 1))) (next_source (drop place table) asked.end) asked) (parts_until (drop place table) asked)
+    cons_option (part (mapping_with last (target_at table (place - 1)))
+    (next_source (drop place table) asked.end) asked) (parts_until (drop place table) asked)
 
-pub found_parts : (table : List OmapValue) (asked : Range ℕ) (place last : ℕ) → IsFound (source_at table) (length table) asked.start place last → 0 < place → IsSortedBySource table → parts_from table asked place last ≡ parts table asked
+pub found_parts : (table : List OmapValue) (asked : Range ℕ) (place last : ℕ)
+    → IsFound (source_at table) (length table) asked.start place last → 0 < place → IsSortedBySource table
+    → parts_from table asked place last ≡ parts table asked
 found_parts table asked place last found some sorted =
     let within : place - 1 < length table = omega (arith, some, found.within) in
     let one : suc (place - 1) ≡ place = omega (arith, some) in
@@ -101,21 +132,33 @@ found_parts table asked place last found some sorted =
     drop-cons table (place - 1) nowhere within
     ∙ ap (λ (n : ℕ). get_or table (place - 1) nowhere ∷ drop n table) one
     ∙ ap (λ (m : OmapValue). m ∷ drop place table) record_is in
-    let rest = parts_until_sorted (drop place table) asked (IsNonDecreasingBy-drop (λ m. m.source) place table sorted) in
-    ap (λ (ranges : List (Range ℕ)). cons_option (part (mapping_with last (target_at table (place - 1))) (next_source (drop place table) asked.end) asked) ranges) rest
+    let rest = parts_until_sorted (drop place table) asked
+    (IsNonDecreasingBy-drop (λ m. m.source) place table sorted) in
+    ap (λ (ranges : List (Range ℕ)). cons_option
+    (part (mapping_with last (target_at table (place - 1))) (next_source (drop place table) asked.end) asked)
+    ranges) rest
     ∙ ap (λ (records : List OmapValue). parts records asked) (sym split)
-    ∙ parts-drop (place - 1) table asked (λ k before. (omega (arith, before, found.within), found.below (rising table sorted) (suc k) (omega (arith, before))))
+    ∙ parts-drop (place - 1) table asked (λ k before.
+    (omega (arith, before, found.within), found.below (rising table sorted) (suc k) (omega (arith, before))))
 
-pub found_laid : (table : List OmapValue) (asked : Range ℕ) (place last : ℕ) → IsFound (source_at table) (length table) asked.start place last → 0 < place → IsSortedBySource table → end_to_end (parts_from table asked place last) ≡ pointwise (shift table) asked
-found_laid table asked place last found some sorted = ap end_to_end (found_parts table asked place last found some sorted) ∙ parts_are_pointwise table asked sorted
+pub found_laid : (table : List OmapValue) (asked : Range ℕ) (place last : ℕ)
+    → IsFound (source_at table) (length table) asked.start place last → 0 < place → IsSortedBySource table
+    → end_to_end (parts_from table asked place last) ≡ pointwise (shift table) asked
+found_laid table asked place last found some sorted =
+    ap end_to_end (found_parts table asked place last found some sorted) ∙ parts_are_pointwise table asked sorted
 
-pub found_few : (table : List OmapValue) (asked : Range ℕ) (place last : ℕ) → IsFound (source_at table) (length table) asked.start place last → 0 < place → length (parts_from table asked place last) ≤ length table
+pub found_few : (table : List OmapValue) (asked : Range ℕ) (place last : ℕ)
+    → IsFound (source_at table) (length table) asked.start place last → 0 < place
+    → length (parts_from table asked place last) ≤ length table
 found_few table asked place last found some =
-    let one = length-cons_option (part (mapping_with last (target_at table (place - 1))) (next_source (drop place table) asked.end) asked) (parts_until (drop place table) asked) in
+    let one = length-cons_option (part (mapping_with last (target_at table (place - 1)))
+    (next_source (drop place table) asked.end) asked) (parts_until (drop place table) asked) in
     omega (arith, one, parts_until_few (drop place table) asked, length-drop place table, some, found.within)
 
-pub found_not_empty : (table : List OmapValue) (asked : Range ℕ) (place last : ℕ) → All IsNotEmpty (parts_from table asked place last)
+pub found_not_empty : (table : List OmapValue) (asked : Range ℕ) (place last : ℕ)
+    → All IsNotEmpty (parts_from table asked place last)
 found_not_empty table asked place last =
-    All-cons_option (part (mapping_with last (target_at table (place - 1))) (next_source (drop place table) asked.end) asked) (parts_until (drop place table) asked)
+    All-cons_option (part (mapping_with last (target_at table (place - 1)))
+    (next_source (drop place table) asked.end) asked) (parts_until (drop place table) asked)
     (part-not_empty (mapping_with last (target_at table (place - 1))) (next_source (drop place table) asked.end) asked)
     (parts_until_not_empty (drop place table) asked)

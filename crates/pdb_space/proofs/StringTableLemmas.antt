@@ -1,5 +1,6 @@
 -- Where the parts of a string table stand, and how a stream that holds none is refused.
-use Rattle.std.proofs.Common.{◌≡◌, ℕ, ◌+◌, ◌<◌, ◌≤◌, ◌==◌, ◌⊎◌, inl, inr, Bool, true, false, List, length, take, drop, refl, sym, ap, ◌∙◌, arith, eq-eqb, Ok, Err, codes}
+use Rattle.std.proofs.Common.{◌≡◌, ℕ, ◌+◌, ◌<◌, ◌≤◌, ◌==◌, ◌⊎◌, inl, inr, Bool, true, false, List, length, take, drop}
+use Rattle.std.proofs.Common.{refl, sym, ap, ◌∙◌, arith, eq-eqb, Ok, Err, codes}
 use Rattle.std.proofs.lemmas.Bool.{cases_lt, ne_eqb}
 use Rattle.std.proofs.lemmas.Bool.Decides.{nat_tests}
 use Rattle.std.proofs.lemmas.List.{length-drop, length-take-le, drop-drop}
@@ -14,21 +15,34 @@ use Rattle.pdb_space.specs.StringTableLaws.{HoldsNames, FindsNames, RefusesByFir
 
 -- ---- the header
 
-word_there : (stream : List ℕ) (offset after : ℕ) → offset + 4 ≡ after → after ≤ length stream → number_at 4 (drop offset stream) ≡ Ok (word_at offset stream, drop after stream)
+word_there : (stream : List ℕ) (offset after : ℕ) → offset + 4 ≡ after → after ≤ length stream
+    → number_at 4 (drop offset stream) ≡ Ok (word_at offset stream, drop after stream)
 word_there stream offset after is long =
-    number_whole 4 (drop offset stream) (omega (arith, length-drop offset stream)) ∙ ap (λ (n : List ℕ). ok (word_at offset stream, n)) (drop-drop 4 offset stream ∙ ap (λ (n : ℕ). drop n stream) is)
+    number_whole 4 (drop offset stream) (omega (arith, length-drop offset stream))
+    ∙ ap (λ (n : List ℕ). ok (word_at offset stream, n))
+    (drop-drop 4 offset stream ∙ ap (λ (n : ℕ). drop n stream) is)
 
-word_cut : (stream : List ℕ) (offset : ℕ) → length stream < offset + 4 → number_at 4 (drop offset stream) ≡ Err unexpected_eof
+word_cut : (stream : List ℕ) (offset : ℕ) → length stream < offset + 4
+    → number_at 4 (drop offset stream) ≡ Err unexpected_eof
 word_cut stream offset short = number_cut 4 (drop offset stream) (omega (arith, length-drop offset stream))
 
 -- the header at the front of a stream
 abbrev header_of : List ℕ → Header
-header_of stream = record { signature = word_at 0 stream; hash_version = word_at 4 stream; names_size = word_at 8 stream }
+header_of stream = record {
+  signature = word_at 0 stream;
+  hash_version = word_at 4 stream;
+  names_size =
+      word_at 8 stream;
+}
 
 header_there : (stream : List ℕ) → 12 ≤ length stream → header_at stream ≡ Ok (header_of stream, drop 12 stream)
 unfolding header_at
 header_there stream long =
-    rw (word_there stream 0 4 refl (omega arith), word_there stream 4 8 refl (omega arith), word_there stream 8 12 refl (omega arith)) refl
+    rw (
+      word_there stream 0 4 refl (omega arith),
+      word_there stream 4 8 refl (omega arith),
+      word_there stream 8 12 refl (omega arith),
+    ) refl
 
 header_cut : (stream : List ℕ) → length stream < 12 → header_at stream ≡ Err unexpected_eof
 unfolding header_at
@@ -36,7 +50,11 @@ header_cut stream short = elim (cases_lt (length stream) 4) [
   | inl first ↦ rw (word_cut stream 0 (omega arith)) refl
   | inr one ↦ elim (cases_lt (length stream) 8) [
     | inl second ↦ rw (word_there stream 0 4 refl (omega arith), word_cut stream 4 (omega arith)) refl
-    | inr two ↦ rw (word_there stream 0 4 refl (omega arith), word_there stream 4 8 refl (omega arith), word_cut stream 8 (omega arith)) refl
+    | inr two ↦ rw (
+      word_there stream 0 4 refl (omega arith),
+      word_there stream 4 8 refl (omega arith),
+      word_cut stream 8 (omega arith),
+    ) refl
   ]
 ]
 
@@ -77,20 +95,28 @@ pub names_held : (stream names : List ℕ) → names_of stream ≡ Ok names → 
 names_held stream names e = elim (cases_lt (length stream) 12) [
   | inl cut ↦ absurd (ok_is_no_err names unexpected_eof (sym e ∙ short stream cut))
   | inr long ↦
-      let signed = bind_ok (required (word_at 0 stream == signature) unsigned) _ names (sym (by_places stream long) ∙ e) in
+      let signed = bind_ok (required (word_at 0 stream == signature) unsigned) _ names
+      (sym (by_places stream long) ∙ e) in
       let front = bind_ok (front_at (word_at 8 stream) (drop 12 stream)) _ names signed.2 in
       let known = bind_ok (required (is_known_version (word_at 4 stream)) unknown) _ names front.2 in
       let is : front.0.0 ≡ names = ok_is front.0.0 names known.2 in
       elim (cases_lt (length (drop 12 stream)) (word_at 8 stream)) [
-        | inl cut ↦ absurd (ok_is_no_err front.0 unexpected_eof (sym front.1 ∙ front_cut (word_at 8 stream) (drop 12 stream) cut))
+        | inl cut ↦ absurd (ok_is_no_err front.0 unexpected_eof
+            (sym front.1 ∙ front_cut (word_at 8 stream) (drop 12 stream) cut))
         | inr fits ↦
             let taken : take (word_at 8 stream) (drop 12 stream) ≡ names =
-            ap (λ (p : List ℕ × List ℕ). p.0) (ok_is (take (word_at 8 stream) (drop 12 stream), drop (word_at 8 stream) (drop 12 stream)) front.0 (sym (front_whole (word_at 8 stream) (drop 12 stream) fits) ∙ front.1)) ∙ is in
-            let size : word_at 8 stream ≡ length names = sym (length-take-le (word_at 8 stream) (drop 12 stream) fits) ∙ ap length taken in
+            ap (λ (p : List ℕ × List ℕ). p.0) (ok_is (
+              take (word_at 8 stream) (drop 12 stream),
+              drop (word_at 8 stream) (drop 12 stream),
+            ) front.0
+            (sym (front_whole (word_at 8 stream) (drop 12 stream) fits) ∙ front.1)) ∙ is in
+            let size : word_at 8 stream ≡ length names = sym (length-take-le (word_at 8 stream) (drop 12 stream) fits)
+            ∙ ap length taken in
             let test = required_holds (word_at 0 stream == signature) unsigned signed.0 signed.1 in
             record {
               signed = grind (arith, nat_tests, test);
-              version = known_cases (word_at 4 stream) (required_holds (is_known_version (word_at 4 stream)) unknown known.0 known.1);
+              version = known_cases (word_at 4 stream) (required_holds
+                  (is_known_version (word_at 4 stream)) unknown known.0 known.1);
               size = size;
               fits = omega (arith, size, fits, length-drop 12 stream);
               behind = ap (λ (n : ℕ). take n (drop 12 stream)) (sym size) ∙ taken;
@@ -103,7 +129,8 @@ names_read : (stream names : List ℕ) → HoldsNames stream names → names_of 
 names_read stream names held =
     let signed : (word_at 0 stream == signature) ≡ true = eq-eqb (word_at 0 stream) signature held.signed in
     let known = known_of (word_at 4 stream) held.version in
-    let front = front_whole (word_at 8 stream) (drop 12 stream) (omega (arith, held.size, held.fits, length-drop 12 stream)) in
+    let front = front_whole (word_at 8 stream) (drop 12 stream)
+    (omega (arith, held.size, held.fits, length-drop 12 stream)) in
     by_places stream (omega (arith, held.fits))
     ∙ rw (signed, front, known) (ap (λ (n : ℕ). ok (take n (drop 12 stream))) held.size ∙ ap ok held.behind)
 

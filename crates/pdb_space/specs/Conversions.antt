@@ -81,7 +81,8 @@ section_offset_to_internal_rva map place = do
 -- as given, whatever sections there are.
 unfoldable pub section_offset_to_internal_offset : AddressMapValue → SectionPlace → Option SectionPlace
 section_offset_to_internal_offset map place =
-    if is_none map.transformed_sections then Some place else section_offset_to_internal_rva map place >>= internal_rva_to_internal_offset map
+    if is_none map.transformed_sections then Some place else section_offset_to_internal_rva map place
+    >>= internal_rva_to_internal_offset map
 
 -- ---- conversions of an internal place
 
@@ -99,13 +100,15 @@ internal_offset_to_rva map place = do
 -- as given, whatever sections there are.
 unfoldable pub internal_offset_to_section_offset : AddressMapValue → SectionPlace → Option SectionPlace
 internal_offset_to_section_offset map place =
-    if is_none map.transformed_sections then Some place else internal_offset_to_rva map place >>= rva_to_section_offset map
+    if is_none map.transformed_sections then Some place else internal_offset_to_rva map place
+    >>= rva_to_section_offset map
 
 -- ---- conversions with a table that isn't sorted
 
 -- The conversion starts from an address; some record of the table with a source at or below it moves it, and
 -- the result is what is made of the address to which it is moved.
-pub record ComesSomehow {A : Type 0} (start : Option ℕ) (made : ℕ → Option A) (table : List OmapValue) (result : A) : Type 0 where
+pub record ComesSomehow {A : Type 0} (start : Option ℕ) (made : ℕ → Option A) (table : List OmapValue)
+    (result : A) : Type 0 where
   pub address : ℕ
   pub starts : start ≡ Some address
   pub goes_to : ℕ
@@ -115,6 +118,7 @@ pub record ComesSomehow {A : Type 0} (start : Option ℕ) (made : ℕ → Option
 -- The result of a conversion that uses a table. If there is no table, or if the sources of the table don't
 -- decrease, it is the one that is meant. With any table it is None, or a result that some record of the
 -- table gives, as `somehow` says.
-pub record IsByTable {A : Type 0} (table : Option (List OmapValue)) (meant : Option A) (somehow : List OmapValue → A → Type 0) (result : Option A) : Type 0 where
+pub record IsByTable {A : Type 0} (table : Option (List OmapValue)) (meant : Option A)
+    (somehow : List OmapValue → A → Type 0) (result : Option A) : Type 0 where
   pub exact : IfSome table IsSortedBySource → result ≡ meant
   pub bound : IfSome table (λ records. IfSome result (somehow records))

@@ -55,7 +55,8 @@ OrdersBySource compared = (a b : OmapValue) → MatchOrdering (compared a b) (Co
 -- With each item that an iterator yields, it has fewer left. After it has yielded None, it yields only None.
 pub record EndsForGood {S A : Type 0} (next_gives : S → Option A → S → Type 0) (left : S → ℕ) : Type 0 where
   pub fewer : (before after : S) (item : A) → next_gives before (Some item) after → left after < left before
-  pub ended : (before after later : S) (answer : Option A) → next_gives before None after → next_gives after answer later → answer ≡ None
+  pub ended : (before after later : S) (answer : Option A) → next_gives before None after
+      → next_gives after answer later → answer ≡ None
 
 -- If no table leads to the other image, an address has the same number there.
 pub record KeepsNumbers (map : AddressMapValue) (address : ℕ) : Type 0 where
@@ -69,9 +70,11 @@ pub record IsFirstToReach (sections : List ImageSectionHeader) (address : ℕ) (
   pub index : ℕ
   pub section : ImageSectionHeader
   pub at_index : slice_get sections index ≡ Some section
-  pub begun : (k : ℕ) (other : ImageSectionHeader) → k ≤ index → slice_get sections k ≡ Some other → other.virtual_address ≤ address
+  pub begun : (k : ℕ) (other : ImageSectionHeader) → k ≤ index → slice_get sections k ≡ Some other
+      → other.virtual_address ≤ address
   pub reached : address - section.virtual_address < section.size_of_raw_data
-  pub first : (k : ℕ) (other : ImageSectionHeader) → k < index → slice_get sections k ≡ Some other → other.size_of_raw_data ≤ address - other.virtual_address
+  pub first : (k : ℕ) (other : ImageSectionHeader) → k < index → slice_get sections k ≡ Some other
+      → other.size_of_raw_data ≤ address - other.virtual_address
   pub numbered : place.section ≡ index + 1
   pub fits : index + 1 ≤ 0xffff
   pub distance : place.offset ≡ address - section.virtual_address

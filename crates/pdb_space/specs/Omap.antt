@@ -1,6 +1,7 @@
 -- OMAP tables, which say where addresses go if a tool rearranges an image. A record says where the addresses
 -- go from its source up to the source of the next record.
-use Rattle.std.specs.Prelude.{◌≡◌, ℕ, ◌+◌, ◌-◌, ◌%◌, ◌≤◌, ◌==◌, nat_le, if◌then◌else◌, List, length, map, filter, drop, slice_index, codes, Contains, Option, Some, None, option_and_then, Ok}
+use Rattle.std.specs.Prelude.{◌≡◌, ℕ, ◌+◌, ◌-◌, ◌%◌, ◌≤◌, ◌==◌, nat_le, if◌then◌else◌, List, length, map, filter, drop}
+use Rattle.std.specs.Prelude.{slice_index, codes, Contains, Option, Some, None, option_and_then, Ok}
 use Rattle.std.specs.List.{last_or}
 use Rattle.std.specs.List.Sorted.{IsNonDecreasingBy}
 use Rattle.pdb_base.specs.Endian.{little_number}

@@ -1,5 +1,6 @@
 -- Ranges of addresses, and where they are moved, both address by address and in parts.
-use Rattle.std.specs.Prelude.{ℕ, ◌+◌, ◌-◌, ◌<◌, ◌==◌, nat_lt, nat_le, if◌then◌else◌, min, max, List, [], ◌∷◌, filter, filter_map, flat_map, Option, Some, None}
+use Rattle.std.specs.Prelude.{ℕ, ◌+◌, ◌-◌, ◌<◌, ◌==◌, nat_lt, nat_le, if◌then◌else◌, min, max, List, [], ◌∷◌, filter}
+use Rattle.std.specs.Prelude.{filter_map, flat_map, Option, Some, None}
 use Rattle.std.specs.declared.ops.Range.{Range}
 use Rattle.std.specs.List.{range_with_len, cons_option}
 use Rattle.pdb_space.specs.Sum.{largest}
@@ -28,7 +29,12 @@ unfoldable pub part : OmapValue → ℕ → Range ℕ → Option (Range ℕ)
 part mapping next asked =
     let low = max mapping.source asked.start in
     let high = min next asked.end in
-    if mapping.target == 0 then None else unless_empty (record { start = mapping.target + (low - mapping.source); end = min (mapping.target + (high - mapping.source)) largest })
+    if mapping.target == 0 then None else unless_empty
+    (record {
+      start = mapping.target + (low - mapping.source);
+      end =
+          min (mapping.target + (high - mapping.source)) largest;
+    })
 
 -- the end of a record's addresses: the source of the next record, or `end` for the last record
 abbrev pub next_source : List OmapValue → ℕ → ℕ
@@ -44,7 +50,8 @@ parts (mapping ∷ table) asked = cons_option (part mapping (next_source table a
 abbrev pub parts_until : List OmapValue → Range ℕ → List (Range ℕ)
 parts_until [] asked = []
 parts_until (mapping ∷ table) asked =
-    if nat_le asked.end mapping.source then [] else cons_option (part mapping (next_source table asked.end) asked) (parts_until table asked)
+    if nat_le asked.end mapping.source then [] else cons_option (part mapping (next_source table asked.end) asked)
+    (parts_until table asked)
 
 -- The range isn't empty.
 abbrev pub IsNotEmpty : Range ℕ → Type 0

@@ -1,5 +1,6 @@
 -- Where addresses lie in the sections of an image. Sections are numbered from 1.
-use Rattle.std.specs.Prelude.{ℕ, ◌+◌, ◌-◌, ◌==◌, Bool, nat_lt, nat_le, if◌then◌else◌, List, find, take_while, slice_get, Option, Some, None}
+use Rattle.std.specs.Prelude.{ℕ, ◌+◌, ◌-◌, ◌==◌, Bool, nat_lt, nat_le, if◌then◌else◌, List, find, take_while, slice_get}
+use Rattle.std.specs.Prelude.{Option, Some, None}
 use Rattle.std.specs.List.{enumerate_from}
 use Rattle.pdb_space.specs.declared.section_header.ImageSectionHeader.{ImageSectionHeader}
 use Rattle.pdb_space.specs.Sum.{fitting}
@@ -17,13 +18,15 @@ reaches address section = nat_lt (address - section.virtual_address) section.siz
 -- the place of an address in a section of this number, which must fit in 16 bits
 abbrev pub place_in : ℕ → ℕ × ImageSectionHeader → Option SectionPlace
 place_in address section =
-    if nat_le section.0 0xffff then Some (record { section = section.0; offset = address - section.1.virtual_address }) else None
+    if nat_le section.0 0xffff then Some (record
+    { section = section.0; offset = address - section.1.virtual_address }) else None
 
 -- The place of an address in sections that are numbered from `first` on: it is in the first section that
 -- reaches the address, unless that section or one before it begins above the address.
 unfoldable pub section_from : ℕ → List ImageSectionHeader → ℕ → Option SectionPlace
 section_from first sections address = do
-  section ← find (λ numbered. reaches address numbered.1) (enumerate_from first (take_while (begins_by address) sections))
+  section ← find (λ numbered. reaches address numbered.1)
+      (enumerate_from first (take_while (begins_by address) sections))
   place_in address section
 
 -- the place of an address among all sections

@@ -30,7 +30,8 @@ names_of stream = do
   header ← header_at stream
   signed ← required (header.0.signature == signature) (unimplemented_feature (codes "invalid string table signature"))
   names ← front_at header.0.names_size header.1
-  known ← required (is_known_version header.0.hash_version) (unimplemented_feature (codes "unknown string table hash version"))
+  known ← required (is_known_version header.0.hash_version)
+      (unimplemented_feature (codes "unknown string table hash version"))
   Ok names.0
 
 -- the name at an offset: the bytes from there up to the first NUL among the names

@@ -1,6 +1,7 @@
 -- The definitions of `StringTable`, stated in other words.
 use Rattle.pdb_base.specs.Reading.{word_at}
-use Rattle.std.specs.Prelude.{◌≡◌, ◌≢◌, ◌⊎◌, ℕ, ◌+◌, ◌<◌, ◌≤◌, List, ◌∷◌, ◌++◌, length, take, drop, slice_get, Some, Ok, Err, codes}
+use Rattle.std.specs.Prelude.{◌≡◌, ◌≢◌, ◌⊎◌, ℕ, ◌+◌, ◌<◌, ◌≤◌, List, ◌∷◌, ◌++◌, length, take, drop, slice_get, Some, Ok}
+use Rattle.std.specs.Prelude.{Err, codes}
 use Rattle.std.specs.List.{AllByRecursion}
 use Rattle.pdb_base.specs.Refusal.{Refusal, unexpected_eof, unimplemented_feature}
 use Rattle.pdb_space.specs.StringTable.{signature, name_of, names_of}
@@ -23,9 +24,12 @@ pub record FindsNames (stream : List ℕ) : Type 0 where
 -- it has another signature, the names don't fit in it, or the version is not known.
 pub record RefusesByFirstFault (stream : List ℕ) : Type 0 where
   pub short : length stream < 12 → names_of stream ≡ Err unexpected_eof
-  pub unsigned : 12 ≤ length stream → word_at 0 stream ≢ signature → names_of stream ≡ Err (unimplemented_feature (codes "invalid string table signature"))
-  pub cut : 12 ≤ length stream → word_at 0 stream ≡ signature → length stream < 12 + word_at 8 stream → names_of stream ≡ Err unexpected_eof
-  pub unknown : 12 + word_at 8 stream ≤ length stream → word_at 0 stream ≡ signature → word_at 4 stream ≢ 1 → word_at 4 stream ≢ 2 → names_of stream ≡ Err (unimplemented_feature (codes "unknown string table hash version"))
+  pub unsigned : 12 ≤ length stream → word_at 0 stream ≢ signature
+      → names_of stream ≡ Err (unimplemented_feature (codes "invalid string table signature"))
+  pub cut : 12 ≤ length stream → word_at 0 stream ≡ signature → length stream < 12 + word_at 8 stream
+      → names_of stream ≡ Err unexpected_eof
+  pub unknown : 12 + word_at 8 stream ≤ length stream → word_at 0 stream ≡ signature → word_at 4 stream ≢ 1
+      → word_at 4 stream ≢ 2 → names_of stream ≡ Err (unimplemented_feature (codes "unknown string table hash version"))
 
 -- The name at an offset: the names consist of as many bytes as the offset says, the name, its NUL and the
 -- rest, and no byte of the name is NUL.

@@ -22,10 +22,14 @@ made_end line end n over =
     rw none refl
 
 -- the lines of all streams are those from 0 on
-pub lines_from_first : (form : Form) (known : Known) (file : List ℕ) (head : Head) → stream_lines form known file head ≡ made_from (stream_line form known file head) 0xffff 0
+pub lines_from_first : (form : Form) (known : Known) (file : List ℕ) (head : Head)
+    → stream_lines form known file head ≡ made_from (stream_line form known file head) 0xffff 0
 unfolding stream_lines made_from
 lines_from_first form known file head = refl
 
 -- the line of a stream, as a file says it that was asked before
-pub same_line : (form : Form) (known : Known) (n : ℕ) {now file : List ℕ} {head' head : Head} → now ≡ file → head' ≡ head → stream_line form known now head' n ≡ stream_line form known file head n
-same_line form known n {file = file} {head' = head'} bytes same = ap (λ (f : List ℕ). stream_line form known f head' n) bytes ∙ ap (λ (h : Head). stream_line form known file h n) same
+pub same_line : (form : Form) (known : Known) (n : ℕ) {now file : List ℕ} {head' head : Head} → now ≡ file
+    → head' ≡ head → stream_line form known now head' n ≡ stream_line form known file head n
+same_line form known n {file = file} {head' = head'} bytes same =
+    ap (λ (f : List ℕ). stream_line form known f head' n) bytes
+    ∙ ap (λ (h : Head). stream_line form known file h n) same

@@ -71,7 +71,8 @@ number_or_refused None = Err stream_name_not_found
 
 -- the number of the stream that the debug header gives a role
 unfoldable pub role_number : List ℕ → Head → ListedRole → Answer ℕ
-role_number file head role = file_roles file head >>= λ streams. number_or_refused (stream_number (index_of streams role).0)
+role_number file head role = file_roles file head
+    >>= λ streams. number_or_refused (stream_number (index_of streams role).0)
 
 -- the number of the stream that has a role or else a name
 abbrev pub role_or_name : List ℕ → Head → List ℕ → Option ListedRole → Answer ℕ

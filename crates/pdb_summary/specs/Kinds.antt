@@ -1,5 +1,6 @@
 -- What a summary shows of a table: how many records of each kind it has.
-use Rattle.std.specs.Prelude.{ℕ, zero, suc, ◌+◌, ◌==◌, ◌&&◌, not, Bool, true, false, if◌then◌else◌, List, [], ◌∷◌, ◌++◌, length, map, filter, codes, count_by, Option, None, Some, Ok, Err}
+use Rattle.std.specs.Prelude.{ℕ, zero, suc, ◌+◌, ◌==◌, ◌&&◌, not, Bool, true, false, if◌then◌else◌, List, [], ◌∷◌, ◌++◌}
+use Rattle.std.specs.Prelude.{length, map, filter, codes, count_by, Option, None, Some, Ok, Err}
 use Rattle.std.specs.List.{flat_map, range_with_len}
 use Rattle.pdb_base.specs.Answer.{Answer, ◌>>=◌}
 use Rattle.pdb_base.specs.Refusal.{Refusal}
@@ -77,7 +78,8 @@ table_shown n records continued least end =
 
 -- the row of a kind of record in a table, with how many there are
 abbrev pub kind_shown : ℕ → KindCount → ShownRow
-kind_shown n kind = (codes "table", number n) ∷ (codes "kind", rows.kind kind.leaf) ∷ (codes "count", number kind.count) ∷ []
+kind_shown n kind = (codes "table", number n) ∷ (codes "kind", rows.kind kind.leaf) ∷ (codes "count", number kind.count)
+    ∷ []
 
 -- the lines of kinds
 abbrev pub kind_lines : Form → ℕ → List KindCount → List ℕ
@@ -96,7 +98,8 @@ stop_line form n (Some fault) = refused_line form (parts.Table n) fault
 -- the lines of a table, of its kinds, and of the fault at which its walk stops
 unfoldable pub table_lines : Form → ℕ → Table → List ℕ
 table_lines form n table =
-    row_text form (table_shown n (length (walk table)) (continued_of table) table.header.minimum_index table.header.maximum_index)
+    row_text form (table_shown n (length (walk table))
+    (continued_of table) table.header.minimum_index table.header.maximum_index)
     ++ (kind_lines form n (kinds_of (walk table)) ++ stop_line form n (stop_of (walk_rest table)))
 
 -- the lines of the table in a stream, or the line of its refusal

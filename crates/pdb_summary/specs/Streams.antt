@@ -1,5 +1,6 @@
 -- What a summary shows of each stream.
-use Rattle.std.specs.Prelude.{ℕ, ◌==◌, Bool, false, if◌then◌else◌, List, [], ◌∷◌, length, codes, Option, Some, None, Ok, Err}
+use Rattle.std.specs.Prelude.{ℕ, ◌==◌, Bool, false, if◌then◌else◌, List, [], ◌∷◌, length, codes, Option, Some, None, Ok}
+use Rattle.std.specs.Prelude.{Err}
 use Rattle.std.specs.Option.{option_map, option_map_or}
 use Rattle.std.specs.List.{find, flat_map, range_with_len}
 use Rattle.pdb_base.specs.Answer.{Answer}
@@ -58,7 +59,8 @@ pages_held page_size size = if page_size == 0 then absent else number (pages pag
 -- the row of a stream: its number, its size in bytes, how many pages hold it, its role and its name
 abbrev pub stream_shown : ℕ → ℕ → ℕ → Option (List ℕ) → Option (List ℕ) → ShownRow
 stream_shown page_size n size role name =
-    (codes "stream", number n) ∷ (codes "bytes", number size) ∷ (codes "pages", pages_held page_size size) ∷ (codes "role", optional_text role) ∷ (codes "name", optional_text name) ∷ []
+    (codes "stream", number n) ∷ (codes "bytes", number size) ∷ (codes "pages", pages_held page_size size)
+    ∷ (codes "role", optional_text role) ∷ (codes "name", optional_text name) ∷ []
 
 -- What is known of a file's streams apart from their bytes: the size of a page, their roles and their names.
 pub record Known : Type 0 where
@@ -68,7 +70,8 @@ pub record Known : Type 0 where
 
 -- the line of a stream with this number and this size
 abbrev pub size_line : Form → Known → ℕ → ℕ → List ℕ
-size_line form known n size = row_text form (stream_shown known.page_size n size (role_of known.roles n) (name_of known.names n))
+size_line form known n size = row_text form
+    (stream_shown known.page_size n size (role_of known.roles n) (name_of known.names n))
 
 -- the line of the stream with this number; nothing, if there is no such stream
 abbrev pub said_of : Form → Known → ℕ → Answer (List ℕ) → List ℕ

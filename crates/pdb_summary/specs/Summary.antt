@@ -30,7 +30,8 @@ pages_of file = do
 
 -- the row of a file: the size of its pages, how many pages it uses, and its size in bytes
 abbrev pub pages_shown : ℕ × ℕ → ℕ → ShownRow
-pages_shown pages size = (codes "page_size", number pages.0) ∷ (codes "pages", number pages.1) ∷ (codes "bytes", number size) ∷ []
+pages_shown pages size = (codes "page_size", number pages.0) ∷ (codes "pages", number pages.1)
+    ∷ (codes "bytes", number size) ∷ []
 
 -- the value that was read for a part, or the given empty one if the part is refused
 abbrev pub said_or : {A : Type 0} → A → Answer A → A
@@ -72,12 +73,14 @@ names_of file head = file_information file head >>= stream_names_of
 -- the lines of the streams of a file, behind the line of the refusal of their names, if these are refused
 abbrev pub named_part : Form → ℕ → DBIExtraStreams → List ℕ → Head → Answer (List Named) → List ℕ
 named_part form page_size roles file head names =
-    told form parts.Names names ++ stream_lines form (record { page_size = page_size; roles = roles; names = said_or [] names }) file head
+    told form parts.Names names ++ stream_lines form
+    (record { page_size = page_size; roles = roles; names = said_or [] names }) file head
 
 -- the lines of the streams of a file, behind the lines of the refusals of their roles and names
 unfoldable pub streams_part : Form → List ℕ → Head → List ℕ
 streams_part form file head =
-    told form parts.Roles (file_roles file head) ++ named_part form (page_size_of file) (said_or no_roles (file_roles file head)) file head (names_of file head)
+    told form parts.Roles (file_roles file head)
+    ++ named_part form (page_size_of file) (said_or no_roles (file_roles file head)) file head (names_of file head)
 
 -- the lines of the tables of types and of ids
 unfoldable pub tables_part : Form → List ℕ → Head → List ℕ

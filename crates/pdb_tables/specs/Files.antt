@@ -27,7 +27,8 @@ stream_listing listing None = whole []
 
 -- the section headers of a file
 unfoldable pub file_sections : Form → List ℕ → Head → Option ℕ → Listing
-file_sections form file head given = listed_of (stream_listing (sections_listing form)) (section_number file head given >>= stream_numbered file head)
+file_sections form file head given = listed_of (stream_listing (sections_listing form))
+    (section_number file head given >>= stream_numbered file head)
 
 -- the row before a table: the table's role, and the number of its stream
 abbrev pub role_shown : List ℕ → ℕ → ShownRow
@@ -47,7 +48,8 @@ role_omap form file head role None = whole []
 -- then those that move addresses the other way.
 unfoldable pub both_omaps : Form → List ℕ → Head → DBIExtraStreams → Listing
 both_omaps form file head roles =
-    followed_by (role_omap form file head (codes "omap_to_src") (stream_number roles.omap_to_src.0)) (role_omap form file head (codes "omap_from_src") (stream_number roles.omap_from_src.0))
+    followed_by (role_omap form file head (codes "omap_to_src") (stream_number roles.omap_to_src.0))
+    (role_omap form file head (codes "omap_from_src") (stream_number roles.omap_from_src.0))
 
 -- the OMAP records of a file: of the stream that is given, or else of the streams with both roles
 unfoldable pub file_omap : Form → List ℕ → Head → Option ℕ → Listing
@@ -61,7 +63,8 @@ names_in file head None = file_string_table file head
 
 -- the names of a file
 unfoldable pub file_names : Form → List ℕ → Head → Option ℕ → Listing
-file_names form file head given = listed_of (λ names. whole (name_lines form (all_names names))) (names_in file head given)
+file_names form file head given = listed_of (λ names. whole (name_lines form (all_names names)))
+    (names_in file head given)
 
 -- the frames of a file, whose streams are found by role
 unfoldable pub file_frames : Form → List ℕ → Head → Listing
@@ -70,4 +73,5 @@ file_frames form file head = listed_of (frames_listing form) (file_frame_table f
 -- the frames of two streams, each of which may be absent
 unfoldable pub frames_in : Form → List ℕ → Head → Option ℕ → Option ℕ → Listing
 frames_in form file head old new =
-    listed_of (frames_listing form) (stream_numbered file head old >>= λ o. stream_numbered file head new >>= λ n. frame_table_of o n)
+    listed_of (frames_listing form) (stream_numbered file head old >>= λ o. stream_numbered file head new
+    >>= λ n. frame_table_of o n)

@@ -43,4 +43,5 @@ followed_by first next = record {
 -- or memory was refused, and the output received a prefix of the lines.
 abbrev pub IsListed : Listing → OutputState → OutputState → Result (Unit {0}) Error → Type 0
 IsListed listing old new (Ok done) = (listing.end ≡ Ok tt) × Gets old new listing.lines
-IsListed listing old new (Err e) = ((listing.end ≡ Err (refusal_of e)) × Gets old new listing.lines) ⊎ IsCutShort listing.lines old new e
+IsListed listing old new (Err e) = ((listing.end ≡ Err (refusal_of e)) × Gets old new listing.lines)
+    ⊎ IsCutShort listing.lines old new e

@@ -1,5 +1,6 @@
 -- What is listed of the tables of a program database: one line for each record.
-use Rattle.std.specs.Prelude.{ℕ, zero, suc, ◌+◌, ◌%◌, ◌^◌, ◌==◌, ◌&&◌, nat_lt, nat_le, if◌then◌else◌, Bool, true, List, [], ◌∷◌, ◌++◌, length, codes, Option, Some, None}
+use Rattle.std.specs.Prelude.{ℕ, zero, suc, ◌+◌, ◌%◌, ◌^◌, ◌==◌, ◌&&◌, nat_lt, nat_le, if◌then◌else◌, Bool, true, List}
+use Rattle.std.specs.Prelude.{[], ◌∷◌, ◌++◌, length, codes, Option, Some, None}
 use Rattle.std.specs.Option.{option_map_or}
 use Rattle.std.specs.Result.{result_ok}
 use Rattle.std.specs.List.{flat_map}
@@ -71,7 +72,8 @@ next_place place size = if nat_lt (place + size + 1) (2 ^ 32) then Some (place +
 unfoldable pub names_from : ℕ → List ℕ → ℕ → List (ℕ × List ℕ)
 names_from zero names place = []
 names_from (suc most) names place =
-    option_map_or (λ name. (place, name) ∷ option_map_or (λ next. names_from most names next) (next_place place (length name)) []) (result_ok (name_of names place)) []
+    option_map_or (λ name. (place, name) ∷ option_map_or (λ next. names_from most names next)
+    (next_place place (length name)) []) (result_ok (name_of names place)) []
 
 -- all names of a string table; there are no more than there are offsets of 32 bits
 unfoldable pub all_names : List ℕ → List (ℕ × List ℕ)

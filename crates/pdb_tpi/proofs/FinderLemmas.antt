@@ -1,5 +1,6 @@
 -- What a finder knows, and what a look-up answers.
-use Rattle.std.proofs.Common.{◌≡◌, ℕ, ◌+◌, ◌-◌, ◌*◌, ◌/◌, ◌%◌, ◌≤◌, ◌<◌, ◌&&◌, Bool, true, false, leb, ltb, cond, List, [], ◌∷◌, ◌++◌, length, map, take, get_or, min, refl, sym, ap, subst, ◌∙◌, arith, inl, inr}
+use Rattle.std.proofs.Common.{◌≡◌, ℕ, ◌+◌, ◌-◌, ◌*◌, ◌/◌, ◌%◌, ◌≤◌, ◌<◌, ◌&&◌, Bool, true, false, leb, ltb, cond, List}
+use Rattle.std.proofs.Common.{[], ◌∷◌, ◌++◌, length, map, take, get_or, min, refl, sym, ap, subst, ◌∙◌, arith, inl, inr}
 use Rattle.std.proofs.lemmas.Bool.{cases_lt, le-ltb, lt-ltb}
 use Rattle.std.proofs.lemmas.Bool.Decides.{nat_tests}
 use Rattle.std.proofs.lemmas.List.{get_or_push, get_or_append_left, length_push}
@@ -10,7 +11,8 @@ use Rattle.pdb_base.proofs.lemmas.Count.{few_calls}
 use Rattle.pdb_tpi.specs.Table.{Table, IsTable, count_of}
 use Rattle.pdb_tpi.specs.Steps.{WalkPosition, walk, walk_rest, nth_item}
 use Rattle.pdb_tpi.specs.Place.{IsPlace, ArePlaces}
-use Rattle.pdb_tpi.specs.Finder.{first_of, block_of, has_index, known_after, known_of, item_of, find_of, reads_between, reads_of, most_blocks}
+use Rattle.pdb_tpi.specs.Finder.{first_of, block_of, has_index, known_after, known_of, item_of, find_of, reads_between}
+use Rattle.pdb_tpi.specs.Finder.{reads_of, most_blocks}
 use Rattle.pdb_tpi.proofs.TableLemmas.{place_first}
 
 -- ---- the positions that are kept
@@ -37,7 +39,8 @@ some_blocks table some =
     omega arith
 
 -- there is a place for one more block while iterators stand before its first item
-pub room_for : (table : Table) (known index position : ℕ) → IsPlace table index position → index ≡ first_of table known → index < table.header.maximum_index → known < most_blocks table
+pub room_for : (table : Table) (known index position : ℕ) → IsPlace table index position → index ≡ first_of table known
+    → index < table.header.maximum_index → known < most_blocks table
 unfolding most_blocks
 room_for table known index position place is below =
     let count = count_of table in
@@ -49,8 +52,10 @@ room_for table known index position place is below =
     let held : known < 1 + bytes / 32 = omega arith in
     omega (arith, blocks, held)
 
-pub places_push : (table : Table) (positions : List ℕ) (capacity index position : ℕ) → ArePlaces table positions capacity → IsPlace table index position
-    → index ≡ first_of table (length positions) → index < table.header.maximum_index → ArePlaces table (positions ++ position ∷ []) capacity
+pub places_push : (table : Table) (positions : List ℕ) (capacity index position : ℕ)
+    → ArePlaces table positions capacity → IsPlace table index position
+    → index ≡ first_of table (length positions) → index < table.header.maximum_index
+    → ArePlaces table (positions ++ position ∷ []) capacity
 places_push table positions capacity index position places place is below =
     let more = length_push positions position in
     record {
@@ -58,7 +63,8 @@ places_push table positions capacity index position places place is below =
         | inl before ↦ rw (get_or_append_left positions (position ∷ []) 0 block before) (places.each block before)
         | inr last ↦
             let here : length positions ≡ block = omega (arith, more, few, last) in
-            rw (get_or_push positions position 0 block here) (let P : ℕ → Type 0 = λ i. IsPlace table i position in subst P (is ∙ ap (first_of table) here) place)
+            rw (get_or_push positions position 0 block here)
+            (let P : ℕ → Type 0 = λ i. IsPlace table i position in subst P (is ∙ ap (first_of table) here) place)
       ];
       below = λ block few. elim (cases_lt block (length positions)) [
         | inl before ↦ places.below block before
@@ -68,9 +74,11 @@ places_push table positions capacity index position places place is below =
       reserved = places.reserved;
     }
 
-pub places_first : (table : Table) (capacity : ℕ) → IsTable table → 0 < count_of table → most_blocks table ≤ capacity → ArePlaces table (table.header.header_size ∷ []) capacity
+pub places_first : (table : Table) (capacity : ℕ) → IsTable table → 0 < count_of table → most_blocks table ≤ capacity
+    → ArePlaces table (table.header.header_size ∷ []) capacity
 places_first table capacity sound some room =
-    places_push table [] capacity table.header.minimum_index table.header.header_size (places_none table capacity room) (place_first table sound) (omega arith) (omega arith)
+    places_push table [] capacity table.header.minimum_index table.header.header_size (places_none table capacity room)
+    (place_first table sound) (omega arith) (omega arith)
 
 -- one more block is known where the item before its first one ends
 pub block_learned : (table : Table) (positions : List ℕ) (capacity block end : ℕ) → ArePlaces table positions capacity
@@ -128,13 +136,15 @@ few_stopped false done steps le = omega arith
 few_between : (table : Table) (from to : ℕ) → from ≤ to → reads_between table from to ≤ to - from + 1
 unfolding reads_between
 few_between table from to le = elim (cases_lt to (length (walk table))) [
-  | inl within ↦ let here : ltb to (length (walk table)) ≡ true = lt-ltb to (length (walk table)) within in rw here (omega arith)
+  | inl within ↦ let here : ltb to (length (walk table)) ≡ true = lt-ltb to (length (walk table)) within in
+      rw here (omega arith)
   | inr stops ↦
       let here : ltb to (length (walk table)) ≡ false = le-ltb to (length (walk table)) stops in
       rw here (few_stopped (leb 2 (length (walk_rest table))) (length (walk table) - from) (to - from) (omega arith))
 ]
 
-few_reads_by : (table : Table) (known i : ℕ) (test : Bool) → cond test (reads_between table (8 * block_of table i) (i - table.header.minimum_index)) 0 ≤ 8
+few_reads_by : (table : Table) (known i : ℕ) (test : Bool)
+    → cond test (reads_between table (8 * block_of table i) (i - table.header.minimum_index)) 0 ≤ 8
 few_reads_by table known i false = omega arith
 few_reads_by table known i true =
     let place = i - table.header.minimum_index in
@@ -168,9 +178,12 @@ unfolding known_of
 known_start table known = refl
 
 pub known_next : (table : Table) (known : ℕ) (shown : List WalkPosition) (i : ℕ) (d : WalkPosition) → i < length shown
-    → known_of table known (map (λ (s : WalkPosition). s.index) (take (i + 1) shown)) ≡ known_after table (known_of table known (map (λ (s : WalkPosition). s.index) (take i shown))) ((get_or shown i d).index)
+    → known_of table known (map (λ (s : WalkPosition). s.index) (take (i + 1) shown))
+    ≡ known_after table (known_of table known (map (λ (s : WalkPosition). s.index) (take i shown)))
+    ((get_or shown i d).index)
 unfolding known_of
 known_next table known shown i d within =
     fold-map (known_after table) (λ (s : WalkPosition). s.index) known (take (i + 1) shown)
     ∙ fold_more (λ (k : ℕ) (s : WalkPosition). known_after table k s.index) known shown i d within
-    ∙ ap (λ (k : ℕ). known_after table k ((get_or shown i d).index)) (sym (fold-map (known_after table) (λ (s : WalkPosition). s.index) known (take i shown)))
+    ∙ ap (λ (k : ℕ). known_after table k ((get_or shown i d).index))
+    (sym (fold-map (known_after table) (λ (s : WalkPosition). s.index) known (take i shown)))

@@ -1,5 +1,6 @@
 -- The item at the front of bytes: what is known where it is there.
-use Rattle.std.proofs.Common.{◌≡◌, ℕ, ◌+◌, ◌≤◌, ◌<◌, inl, inr, Bool, true, false, leb, List, [], length, take, drop, refl, sym, ap, ◌∙◌, arith, Ok, Err}
+use Rattle.std.proofs.Common.{◌≡◌, ℕ, ◌+◌, ◌≤◌, ◌<◌, inl, inr, Bool, true, false, leb, List, [], length, take, drop}
+use Rattle.std.proofs.Common.{refl, sym, ap, ◌∙◌, arith, Ok, Err}
 use Rattle.std.proofs.lemmas.Bool.{cases_lt}
 use Rattle.std.proofs.lemmas.Bool.Decides.{nat_tests}
 use Rattle.std.proofs.lemmas.List.{length-take-le, length-drop}
@@ -14,7 +15,8 @@ use Rattle.pdb_tpi.specs.Walk.{first_item}
 -- ---- the parts of a read
 
 -- a front that was read is as long as was asked
-front_is : (count : ℕ) (bytes : List ℕ) (x : List ℕ × List ℕ) → front_at count bytes ≡ Ok x → (count ≤ length bytes) × (x ≡ (take count bytes, drop count bytes))
+front_is : (count : ℕ) (bytes : List ℕ) (x : List ℕ × List ℕ) → front_at count bytes ≡ Ok x → (count ≤ length bytes)
+    × (x ≡ (take count bytes, drop count bytes))
 front_is count bytes x e = elim (cases_lt (length bytes) count) [
   | inl short ↦ absurd (ok_is_no_err x unexpected_eof (sym e ∙ front_cut count bytes short))
   | inr long ↦ (long, ok_is x (take count bytes, drop count bytes) (sym e ∙ front_whole count bytes long))
@@ -40,11 +42,14 @@ front_item bytes item e = elim (cases_lt (length bytes) 2) [
   | inr long ↦
       let word = little_number 2 (take 2 bytes) in
       let behind = drop 2 bytes in
-      let read : first_item bytes ≡ (required (leb 2 word) type_too_short >>= λ kind. front_at word behind >>= λ front. Ok front.0) = rw (number_whole 2 bytes long) refl in
-      let kind = bind_ok (required (leb 2 word) type_too_short) (λ _. front_at word behind >>= λ front. Ok front.0) item (sym read ∙ e) in
+      let read : first_item bytes ≡ (required (leb 2 word) type_too_short >>= λ kind. front_at word behind
+      >>= λ front. Ok front.0) = rw (number_whole 2 bytes long) refl in
+      let kind = bind_ok (required (leb 2 word) type_too_short) (λ _. front_at word behind >>= λ front. Ok front.0) item
+      (sym read ∙ e) in
       let front = bind_ok (front_at word behind) (λ f. Ok f.0) item kind.2 in
       let whole = front_is word behind front.0 front.1 in
-      let is : take word behind ≡ item = sym (ap (λ (x : List ℕ × List ℕ). x.0) whole.1) ∙ ok_is front.0.0 item front.2 in
+      let is : take word behind ≡ item = sym (ap (λ (x : List ℕ × List ℕ). x.0) whole.1)
+      ∙ ok_is front.0.0 item front.2 in
       let len : length item ≡ word = sym (ap (λ (x : List ℕ). length x) is) ∙ length-take-le word behind whole.0 in
       let test : leb 2 word ≡ true = required_is (leb 2 word) type_too_short kind.0 kind.1 in
       record {
@@ -61,7 +66,8 @@ item_front bytes item front =
     let long : 2 ≤ length bytes = let w = front.within in omega arith in
     let kind : leb 2 (length item) ≡ true = let k = front.kind in grind (arith, nat_tests) in
     let behind : length item ≤ length (drop 2 bytes) = let w = front.within in omega (arith, length-drop 2 bytes) in
-    rw (number_whole 2 bytes long, front.word, kind, front_whole (length item) (drop 2 bytes) behind) (ap (λ (x : List ℕ). ok x) (sym front.is))
+    rw (number_whole 2 bytes long, front.word, kind, front_whole (length item) (drop 2 bytes) behind)
+    (ap (λ (x : List ℕ). ok x) (sym front.is))
 
 -- no item is at the front of no bytes
 pub empty_front : first_item [] ≡ Err unexpected_eof
@@ -74,14 +80,16 @@ pub short_front : (bytes : List ℕ) → length bytes < 2 → first_item bytes �
 unfolding first_item
 short_front bytes short = rw (number_cut 2 bytes short) refl
 
-pub unkind_front : (bytes : List ℕ) → 2 ≤ length bytes → little_number 2 (take 2 bytes) < 2 → first_item bytes ≡ Err type_too_short
+pub unkind_front : (bytes : List ℕ) → 2 ≤ length bytes → little_number 2 (take 2 bytes) < 2
+    → first_item bytes ≡ Err type_too_short
 unfolding first_item
 unkind_front bytes long few =
     let word = little_number 2 (take 2 bytes) in
     let kind : leb 2 word ≡ false = grind (arith, nat_tests) in
     rw (number_whole 2 bytes long, kind) refl
 
-pub cut_front : (bytes : List ℕ) → 2 ≤ little_number 2 (take 2 bytes) → 2 ≤ length bytes → length bytes < 2 + little_number 2 (take 2 bytes) → first_item bytes ≡ Err unexpected_eof
+pub cut_front : (bytes : List ℕ) → 2 ≤ little_number 2 (take 2 bytes) → 2 ≤ length bytes
+    → length bytes < 2 + little_number 2 (take 2 bytes) → first_item bytes ≡ Err unexpected_eof
 unfolding first_item
 cut_front bytes some long cut =
     let word = little_number 2 (take 2 bytes) in

@@ -15,8 +15,10 @@ data Takes {A : Type 0} (count : ℕ) (bytes : List ℕ) (read : Answer (A × Li
   whole : (x : A) (rest : List ℕ) → read ≡ Ok (x, rest) → length rest + count ≡ length bytes → Takes count bytes read
 
 -- one read after another
-takes_then : {A B : Type 0} (count more : ℕ) (bytes : List ℕ) (first : Answer (A × List ℕ)) (second : A × List ℕ → Answer (B × List ℕ))
-    → Takes count bytes first → ((x : A) (rest : List ℕ) → Takes more rest (second (x, rest))) → Takes (count + more) bytes (first >>= second)
+takes_then : {A B : Type 0} (count more : ℕ) (bytes : List ℕ) (first : Answer (A × List ℕ))
+    (second : A × List ℕ → Answer (B × List ℕ))
+    → Takes count bytes first → ((x : A) (rest : List ℕ) → Takes more rest (second (x, rest)))
+    → Takes (count + more) bytes (first >>= second)
 takes_then count more bytes first second (cut short is) more_of = cut (omega arith) (rw is refl)
 takes_then count more bytes first second (whole x rest is left) more_of = elim (more_of x rest) [
   | cut short refused ↦ cut (omega arith) (rw is refused)
@@ -34,13 +36,15 @@ takes_number width bytes = elim (cases_lt (length bytes) width) [
 
 takes_signed : (bytes : List ℕ) → Takes 4 bytes (signed_at w32 4 bytes)
 unfolding signed_at
-takes_signed bytes = takes_then 4 0 bytes (number_at 4 bytes) _ (takes_number 4 bytes) (λ number rest. takes_nothing (cast_signed w32 number) rest)
+takes_signed bytes = takes_then 4 0 bytes (number_at 4 bytes) _ (takes_number 4 bytes)
+    (λ number rest. takes_nothing (cast_signed w32 number) rest)
 
 takes_slice : (bytes : List ℕ) → Takes 8 bytes (slice_of bytes)
 unfolding slice_of
 takes_slice bytes =
     takes_then 4 4 bytes (signed_at w32 4 bytes) _ (takes_signed bytes) (λ offset behind_offset.
-    takes_then 4 0 behind_offset (number_at 4 behind_offset) _ (takes_number 4 behind_offset) (λ size rest. takes_nothing _ rest))
+    takes_then 4 0 behind_offset (number_at 4 behind_offset) _ (takes_number 4 behind_offset)
+    (λ size rest. takes_nothing _ rest))
 
 takes_fields : (bytes : List ℕ) → Takes 56 bytes (header_fields bytes)
 unfolding header_fields
@@ -56,7 +60,8 @@ takes_fields bytes =
     takes_then 4 24 from_28 (number_at 4 from_28) _ (takes_number 4 from_28) (λ hash_bucket_size from_32.
     takes_then 8 16 from_32 (slice_of from_32) _ (takes_slice from_32) (λ hash_values from_40.
     takes_then 8 8 from_40 (slice_of from_40) _ (takes_slice from_40) (λ ti_off from_48.
-    takes_then 8 0 from_48 (slice_of from_48) _ (takes_slice from_48) (λ hash_adj from_56. takes_nothing _ from_56))))))))))))
+    takes_then 8 0 from_48 (slice_of from_48) _ (takes_slice from_48)
+    (λ hash_adj from_56. takes_nothing _ from_56))))))))))))
 
 -- a table whose bytes are fewer than the fields take is refused
 pub too_short : (bytes : List ℕ) → 0 < length bytes → length bytes < 56 → header_of bytes ≡ Err unexpected_eof

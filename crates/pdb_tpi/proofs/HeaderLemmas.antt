@@ -9,20 +9,30 @@ use Rattle.pdb_tpi.specs.declared.header.Slice.{Slice}
 use Rattle.pdb_tpi.specs.Header.{slice_of, header_fields}
 use Rattle.pdb_tpi.specs.Laws.{number_in, StandAtOffsets}
 
-number_is : (width offset : ℕ) (bytes : List ℕ) → offset + width ≤ length bytes → number_at width (drop offset bytes) ≡ Ok (number_in width offset bytes, drop (offset + width) bytes)
+number_is : (width offset : ℕ) (bytes : List ℕ) → offset + width ≤ length bytes
+    → number_at width (drop offset bytes) ≡ Ok (number_in width offset bytes, drop (offset + width) bytes)
 unfolding number_at front_at
 number_is width offset bytes long =
-    let test : ltb (length (drop offset bytes)) width ≡ false = le-ltb (length (drop offset bytes)) width (omega (arith, length-drop offset bytes)) in
+    let test : ltb (length (drop offset bytes)) width ≡ false =
+    le-ltb (length (drop offset bytes)) width (omega (arith, length-drop offset bytes)) in
     rw test (ap (λ (r : List ℕ). ok (number_in width offset bytes, r)) (drop-drop width offset bytes))
 
 slice_is : (offset : ℕ) (bytes : List ℕ) → offset + 8 ≤ length bytes
-    → slice_of (drop offset bytes) ≡ Ok (record { offset = cast_signed w32 (number_in 4 offset bytes); size = number_in 4 (offset + 4) bytes }, drop (offset + 8) bytes)
+    → slice_of (drop offset bytes) ≡ Ok (
+      record
+          { offset = cast_signed w32 (number_in 4 offset bytes); size = number_in 4 (offset + 4) bytes },
+      drop (offset + 8) bytes,
+    )
 unfolding slice_of signed_at
 slice_is offset bytes long =
     let low = number_is 4 offset bytes (omega arith) in
     let high = number_is 4 (offset + 4) bytes (omega arith) in
     let behind : offset + 4 + 4 ≡ offset + 8 = omega arith in
-    let slice : Slice = record { offset = cast_signed w32 (number_in 4 offset bytes); size = number_in 4 (offset + 4) bytes } in
+    let slice : Slice = record {
+      offset = cast_signed w32 (number_in 4 offset bytes);
+      size =
+          number_in 4 (offset + 4) bytes;
+    } in
     rw (low, high) (ap (λ (n : ℕ). ok (slice, drop n bytes)) behind)
 
 pub fields_stand : (bytes : List ℕ) → StandAtOffsets bytes

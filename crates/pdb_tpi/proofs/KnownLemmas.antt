@@ -1,5 +1,6 @@
 -- The blocks that are known are the most that were shown in their order.
-use Rattle.std.proofs.Common.{◌≡◌, ℕ, suc, ◌+◌, ◌-◌, ◌<◌, ◌&&◌, Bool, true, false, ltb, eqb, List, [], ◌∷◌, ◌++◌, map, refl, sym, ap, subst, ◌∙◌, arith, inl, inr}
+use Rattle.std.proofs.Common.{◌≡◌, ℕ, suc, ◌+◌, ◌-◌, ◌<◌, ◌&&◌, Bool, true, false, ltb, eqb, List, [], ◌∷◌, ◌++◌, map}
+use Rattle.std.proofs.Common.{refl, sym, ap, subst, ◌∙◌, arith, inl, inr}
 use Rattle.std.specs.List.{fold, range_with_len}
 use Rattle.std.proofs.lemmas.Bool.{cases_lt, lt-ltb, eq-eqb, false≢true}
 use Rattle.std.proofs.lemmas.Bool.Decides.{nat_tests}
@@ -10,21 +11,29 @@ use Rattle.pdb_tpi.specs.Finder.{first_of, known_after, known_of, StandIn, AreSh
 -- what stands in a list stands in a longer one
 stand_behind : (firsts before shown : List ℕ) → StandIn firsts shown → StandIn firsts (before ++ shown)
 stand_behind [] before shown in_order = tt
-stand_behind (first ∷ firsts) before shown in_order =
-    (before ++ in_order.0, in_order.1, ap (λ (s : List ℕ). before ++ s) in_order.2 ∙ sym (append_assoc before in_order.0 (first ∷ in_order.1)), in_order.3)
+stand_behind (first ∷ firsts) before shown in_order = (
+  before ++ in_order.0,
+  in_order.1,
+  ap (λ (s : List ℕ). before ++ s) in_order.2
+      ∙ sym (append_assoc before in_order.0 (first ∷ in_order.1)),
+  in_order.3,
+)
 
-stand_in_tail : (firsts before behind shown : List ℕ) (i first : ℕ) → StandIn firsts behind → i ∷ shown ≡ before ++ first ∷ behind → StandIn firsts shown
+stand_in_tail : (firsts before behind shown : List ℕ) (i first : ℕ) → StandIn firsts behind → i ∷ shown ≡ before
+    ++ first ∷ behind → StandIn firsts shown
 stand_in_tail firsts [] behind shown i first in_order is = let same : shown ≡ behind = cc in rw same in_order
 stand_in_tail firsts (b ∷ before) behind shown i first in_order is =
     let same : shown ≡ before ++ first ∷ behind = cc in
-    let one : before ++ first ∷ behind ≡ before ++ (first ∷ []) ++ behind = sym (append_assoc before (first ∷ []) behind) in
+    let one : before ++ first ∷ behind ≡ before ++ (first ∷ []) ++ behind =
+    sym (append_assoc before (first ∷ []) behind) in
     rw (same, one) (stand_behind firsts (before ++ first ∷ []) behind in_order)
 
 -- the first indexes of the blocks from one on
 abbrev firsts_from : Table → ℕ → ℕ → List ℕ
 firsts_from table old known = map (first_of table) (range_with_len old (known - old))
 
-firsts_more : (table : Table) (old known : ℕ) → old < known → firsts_from table old known ≡ first_of table old ∷ firsts_from table (old + 1) known
+firsts_more : (table : Table) (old known : ℕ) → old < known → firsts_from table old known ≡ first_of table old
+    ∷ firsts_from table (old + 1) known
 firsts_more table old known more = let count : known - old ≡ suc (known - (old + 1)) = omega arith in rw count refl
 
 none_shown : (table : Table) (old : ℕ) (shown : List ℕ) → AreShown table old shown old
@@ -39,15 +48,21 @@ no_place [] behind first is = cc
 no_place (b ∷ before) behind first is = cc
 
 -- more blocks begin with the first of them
-shown_first : (table : Table) (old known : ℕ) (shown : List ℕ) → AreShown table old shown known → old < known → StandIn (first_of table old ∷ firsts_from table (old + 1) known) shown
-shown_first table old known shown are more = let P : List ℕ → Type 0 = λ fs. StandIn fs shown in subst P (firsts_more table old known more) are.in_order
+shown_first : (table : Table) (old known : ℕ) (shown : List ℕ) → AreShown table old shown known → old < known
+    → StandIn (first_of table old ∷ firsts_from table (old + 1) known) shown
+shown_first table old known shown are more = let P : List ℕ → Type 0 = λ fs. StandIn fs shown in
+    subst P (firsts_more table old known more) are.in_order
 
-shown_with : (table : Table) (old known : ℕ) (shown : List ℕ) → old < known → StandIn (first_of table old ∷ firsts_from table (old + 1) known) shown → StandIn (firsts_from table old known) shown
-shown_with table old known shown more in_order = let P : List ℕ → Type 0 = λ fs. StandIn fs shown in subst P (sym (firsts_more table old known more)) in_order
+shown_with : (table : Table) (old known : ℕ) (shown : List ℕ) → old < known
+    → StandIn (first_of table old ∷ firsts_from table (old + 1) known) shown
+    → StandIn (firsts_from table old known) shown
+shown_with table old known shown more in_order = let P : List ℕ → Type 0 = λ fs. StandIn fs shown in
+    subst P (sym (firsts_more table old known more)) in_order
 
 -- ---- one more iterator
 
-known_here : (table : Table) (old i : ℕ) (shown : List ℕ) (known : ℕ) → i ≡ first_of table old → i < table.header.maximum_index → IsKnown table (old + 1) shown known → IsKnown table old (i ∷ shown) known
+known_here : (table : Table) (old i : ℕ) (shown : List ℕ) (known : ℕ) → i ≡ first_of table old
+    → i < table.header.maximum_index → IsKnown table (old + 1) shown known → IsKnown table old (i ∷ shown) known
 known_here table old i shown known is below ih =
     let more = ih.reached.more in
     record {
@@ -57,7 +72,8 @@ known_here table old i shown known is below ih =
           | inl later ↦ ih.reached.below block (omega (arith, later)) to
           | inr here ↦ omega (arith, is, below, from, here)
         ];
-        in_order = shown_with table old known (i ∷ shown) (omega arith) ([], shown, ap (λ (n : ℕ). n ∷ shown) is, ih.reached.in_order);
+        in_order = shown_with table old known (i ∷ shown) (omega arith)
+            ([], shown, ap (λ (n : ℕ). n ∷ shown) is, ih.reached.in_order);
       };
       most = λ other are. elim (cases_lt old other) [
         | inr few ↦ omega (arith, few)
@@ -66,16 +82,20 @@ known_here table old i shown known is below ih =
             ih.most other (record {
               more = omega (arith, some);
               below = λ block from to. are.below block (omega (arith, from)) to;
-              in_order = stand_in_tail (firsts_from table (old + 1) other) first.0 first.1 shown i (first_of table old) first.3 first.2;
+              in_order = stand_in_tail (firsts_from table (old + 1) other) first.0 first.1 shown i
+                  (first_of table old) first.3 first.2;
             })
       ];
     }
 
-later_place : (firsts before behind shown : List ℕ) (i first : ℕ) → (i ≡ first → ⊥) → StandIn firsts behind → i ∷ shown ≡ before ++ first ∷ behind → StandIn (first ∷ firsts) shown
+later_place : (firsts before behind shown : List ℕ) (i first : ℕ) → (i ≡ first → ⊥) → StandIn firsts behind → i
+    ∷ shown ≡ before ++ first ∷ behind → StandIn (first ∷ firsts) shown
 later_place firsts [] behind shown i first other in_order is = absurd (other cc)
 later_place firsts (b ∷ before) behind shown i first other in_order is = (before, behind, cc, in_order)
 
-known_later : (table : Table) (old i : ℕ) (shown : List ℕ) (known : ℕ) → (i ≡ first_of table old → i < table.header.maximum_index → ⊥) → IsKnown table old shown known → IsKnown table old (i ∷ shown) known
+known_later : (table : Table) (old i : ℕ) (shown : List ℕ) (known : ℕ)
+    → (i ≡ first_of table old → i < table.header.maximum_index → ⊥) → IsKnown table old shown known
+    → IsKnown table old (i ∷ shown) known
 known_later table old i shown known other ih = record {
   reached = record {
     more = ih.reached.more;
@@ -90,7 +110,9 @@ known_later table old i shown known other ih = record {
         ih.most more (record {
           more = are.more;
           below = are.below;
-          in_order = shown_with table old more shown some (later_place (firsts_from table (old + 1) more) first.0 first.1 shown i (first_of table old) (λ is. other is (omega (arith, is, below))) first.3 first.2);
+          in_order = shown_with table old more shown some
+              (later_place (firsts_from table (old + 1) more) first.0 first.1 shown i (first_of table old)
+              (λ is. other is (omega (arith, is, below))) first.3 first.2);
         })
   ];
 }
@@ -102,35 +124,42 @@ known_none table old = record {
   reached = none_shown table old [];
   most = λ other are. elim (cases_lt old other) [
     | inr few ↦ few
-    | inl some ↦ let first = shown_first table old other [] are some in absurd (no_place first.0 first.1 (first_of table old) first.2)
+    | inl some ↦ let first = shown_first table old other [] are some in
+        absurd (no_place first.0 first.1 (first_of table old) first.2)
   ];
 }
 
-not_both : (table : Table) (old i : ℕ) → eqb i (first_of table old) && ltb i table.header.maximum_index ≡ false → i ≡ first_of table old → i < table.header.maximum_index → ⊥
+not_both : (table : Table) (old i : ℕ) → eqb i (first_of table old) && ltb i table.header.maximum_index ≡ false
+    → i ≡ first_of table old → i < table.header.maximum_index → ⊥
 not_both table old i test is below =
     let same : eqb i (first_of table old) ≡ true = eq-eqb i (first_of table old) is in
     let less : ltb i table.header.maximum_index ≡ true = lt-ltb i table.header.maximum_index below in
     false≢true (sym test ∙ rw (same, less) refl)
 
-known_by : (table : Table) (old i : ℕ) (shown : List ℕ) (test : Bool) → eqb i (first_of table old) && ltb i table.header.maximum_index ≡ test
-    → ((from : ℕ) → IsKnown table from shown (fold (known_after table) from shown)) → IsKnown table old (i ∷ shown) (fold (known_after table) (known_after table old i) shown)
+known_by : (table : Table) (old i : ℕ) (shown : List ℕ) (test : Bool) → eqb i (first_of table old)
+    && ltb i table.header.maximum_index ≡ test
+    → ((from : ℕ) → IsKnown table from shown (fold (known_after table) from shown))
+    → IsKnown table old (i ∷ shown) (fold (known_after table) (known_after table old i) shown)
 known_by table old i shown true test ih =
     let is : i ≡ first_of table old = grind (arith, nat_tests) in
     let below : i < table.header.maximum_index = grind (arith, nat_tests) in
     rw test (known_here table old i shown (fold (known_after table) (old + 1) shown) is below (ih (old + 1)))
 known_by table old i shown false test ih =
-    let other : i ≡ first_of table old → i < table.header.maximum_index → ⊥ = λ is below. not_both table old i test is below in
+    let other : i ≡ first_of table old → i < table.header.maximum_index → ⊥ =
+    λ is below. not_both table old i test is below in
     rw test (known_later table old i shown (fold (known_after table) old shown) other (ih old))
 
 known_is : (table : Table) (shown : List ℕ) (old : ℕ) → IsKnown table old shown (fold (known_after table) old shown)
 known_is table [] old = known_none table old
-known_is table (i ∷ shown) old = known_by table old i shown (eqb i (first_of table old) && ltb i table.header.maximum_index) refl (known_is table shown)
+known_is table (i ∷ shown) old = known_by table old i shown
+    (eqb i (first_of table old) && ltb i table.header.maximum_index) refl (known_is table shown)
 
 pub is_known : (table : Table) (known : ℕ) (shown : List ℕ) → IsKnown table known shown (known_of table known shown)
 unfolding known_of
 is_known table known shown = known_is table shown known
 
-pub only_known : (table : Table) (known : ℕ) (shown : List ℕ) (most : ℕ) → IsKnown table known shown most → most ≡ known_of table known shown
+pub only_known : (table : Table) (known : ℕ) (shown : List ℕ) (most : ℕ) → IsKnown table known shown most
+    → most ≡ known_of table known shown
 only_known table known shown most is =
     let all = is_known table known shown in
     let low = all.most most is.reached in

@@ -1,11 +1,13 @@
 -- There is exactly one walk, and what else the definitions say.
-use Rattle.std.proofs.Common.{◌≡◌, ◌≢◌, ℕ, zero, suc, ◌+◌, ◌-◌, ◌*◌, ◌%◌, ◌^◌, ◌≤◌, ◌<◌, true, ltb, List, [], ◌∷◌, ◌++◌, length, take, drop, refl, sym, ap, ◌∙◌, arith, Ok, Err, inl, inr}
+use Rattle.std.proofs.Common.{◌≡◌, ◌≢◌, ℕ, zero, suc, ◌+◌, ◌-◌, ◌*◌, ◌%◌, ◌^◌, ◌≤◌, ◌<◌, true, ltb, List, [], ◌∷◌, ◌++◌}
+use Rattle.std.proofs.Common.{length, take, drop, refl, sym, ap, ◌∙◌, arith, Ok, Err, inl, inr}
 use Rattle.std.specs.Prelude.{IsTrue}
 use Rattle.std.specs.List.{flat_map}
 use Rattle.std.specs.Int.{byte_at}
 use Rattle.std.proofs.Math.Seq.{drop-append_seam, take-append_seam}
 use Rattle.std.proofs.lemmas.Bool.{cases_lt, lt-ltb}
-use Rattle.std.proofs.lemmas.List.{take-append-drop, length-append, length-drop, length-take-le, append_assoc, append-nil, drop-drop}
+use Rattle.std.proofs.lemmas.List.{take-append-drop, length-append, length-drop, length-take-le, append_assoc}
+use Rattle.std.proofs.lemmas.List.{append-nil, drop-drop}
 use Rattle.byteorder.specs.Endian.{little_bytes, little_number}
 use Rattle.byteorder.specs.Numbers.{length-bytes_low_first, little_number-reads_back}
 use Rattle.pdb_base.specs.Refusal.{Refusal, unexpected_eof, type_too_short}
@@ -17,30 +19,43 @@ use Rattle.pdb_tpi.specs.Steps.{room, body, walk, walk_rest}
 use Rattle.pdb_tpi.specs.Finder.{has_index, block_of, reads_of, reads_between}
 use Rattle.pdb_tpi.specs.Laws.{AreBytes, WalksOnce, HasFault, ReadsFew}
 use Rattle.pdb_tpi.proofs.FrontLemmas.{IsPrefix, front_item, item_front, short_front, cut_front, unkind_front}
-use Rattle.pdb_tpi.proofs.WalkLemmas.{items_more, rest_more, items_none, rest_none, items_full, rest_full, fault_is, fault_whole}
+use Rattle.pdb_tpi.proofs.WalkLemmas.{items_more, rest_more, items_none, rest_none, items_full, rest_full, fault_is}
+use Rattle.pdb_tpi.proofs.WalkLemmas.{fault_whole}
 use Rattle.pdb_tpi.proofs.FinderLemmas.{few_reads, within_block}
 
 -- ---- an item behind its length
 
 -- bytes that begin with a length and as many bytes begin with that item
-front_of : (head item more : List ℕ) → length head ≡ 2 → little_number 2 head ≡ length item → 2 ≤ length item → IsPrefix (head ++ item ++ more) item
+front_of : (head item more : List ℕ) → length head ≡ 2 → little_number 2 head ≡ length item → 2 ≤ length item
+    → IsPrefix (head ++ item ++ more) item
 front_of head item more len word kind =
     let all : head ++ item ++ more ≡ head ++ (item ++ more) = append_assoc head item more in
-    let front : take 2 (head ++ (item ++ more)) ≡ head = ap (λ (n : ℕ). take n (head ++ (item ++ more))) (sym len) ∙ take-append_seam head (item ++ more) in
-    let tail : drop 2 (head ++ (item ++ more)) ≡ item ++ more = ap (λ (n : ℕ). drop n (head ++ (item ++ more))) (sym len) ∙ drop-append_seam head (item ++ more) in
+    let front : take 2 (head ++ (item ++ more)) ≡ head = ap (λ (n : ℕ). take n (head ++ (item ++ more))) (sym len)
+    ∙ take-append_seam head (item ++ more) in
+    let tail : drop 2 (head ++ (item ++ more)) ≡ item ++ more =
+    ap (λ (n : ℕ). drop n (head ++ (item ++ more))) (sym len) ∙ drop-append_seam head (item ++ more) in
     record {
       kind = kind;
-      within = omega (arith, ap (λ (l : List ℕ). length l) all, length-append head (item ++ more), length-append item more, len);
+      within = omega (
+        arith,
+        ap (λ (l : List ℕ). length l) all,
+        length-append head (item ++ more),
+        length-append item more,
+        len,
+      );
       word = ap (λ (l : List ℕ). little_number 2 (take 2 l)) all ∙ ap (little_number 2) front ∙ word;
-      is = sym (ap (λ (l : List ℕ). take (length item) (drop 2 l)) all ∙ ap (take (length item)) tail ∙ take-append_seam item more);
+      is = sym (ap (λ (l : List ℕ). take (length item) (drop 2 l)) all ∙ ap (take (length item)) tail
+          ∙ take-append_seam item more);
     }
 
 pub framed_front : (item more : List ℕ) → IsItem item → first_item (framed item ++ more) ≡ Ok item
 framed_front item more is =
     let head = little_bytes 2 (length item) in
     let most = is.most in
-    let word : little_number 2 head ≡ length item = ap (little_number 2) (sym (append-nil head)) ∙ little_number-reads_back 2 (length item) [] (omega arith) in
-    item_front (framed item ++ more) item (front_of head item more (length-bytes_low_first 0 2 (length item)) word is.least)
+    let word : little_number 2 head ≡ length item = ap (little_number 2) (sym (append-nil head))
+    ∙ little_number-reads_back 2 (length item) [] (omega arith) in
+    item_front (framed item ++ more) item (front_of head item more
+    (length-bytes_low_first 0 2 (length item)) word is.least)
 
 -- two bytes are those of the number that they say
 two_bytes : (a b : ℕ) → a < 256 → b < 256 → little_bytes 2 (little_number 2 (a ∷ b ∷ [])) ≡ a ∷ b ∷ []
@@ -73,13 +88,15 @@ bytes_dropped (suc n) [] fits = tt
 bytes_dropped (suc n) (byte ∷ bytes) fits = bytes_dropped n bytes fits.1
 
 -- an item at the front of bytes stands there behind its length
-front_framed : (bytes item : List ℕ) → AreBytes bytes → first_item bytes ≡ Ok item → IsItem item × (framed item ++ behind item bytes ≡ bytes)
+front_framed : (bytes item : List ℕ) → AreBytes bytes → first_item bytes ≡ Ok item → IsItem item
+    × (framed item ++ behind item bytes ≡ bytes)
 front_framed bytes item fits e =
     let front = front_item bytes item e in
     let kind = front.kind in
     let within = front.within in
     let two : length (take 2 bytes) ≡ 2 = length-take-le 2 bytes (omega arith) in
-    let head : little_bytes 2 (length item) ≡ take 2 bytes = ap (little_bytes 2) (sym front.word) ∙ two_of (take 2 bytes) two (bytes_taken 2 bytes fits) in
+    let head : little_bytes 2 (length item) ≡ take 2 bytes = ap (little_bytes 2) (sym front.word)
+    ∙ two_of (take 2 bytes) two (bytes_taken 2 bytes fits) in
     let most : length item < 2 ^ 16 = rw (← front.word) (small_of (take 2 bytes) two (bytes_taken 2 bytes fits)) in
     let tail : behind item bytes ≡ drop (length item) (drop 2 bytes) = sym (drop-drop (length item) 2 bytes) in (
       record { least = kind; most = most },
@@ -92,15 +109,19 @@ front_framed bytes item fits e =
     )
 
 length_framed : (item : List ℕ) → length (framed item) ≡ 2 + length item
-length_framed item = length-append (little_bytes 2 (length item)) item ∙ ap (λ (n : ℕ). n + length item) (length-bytes_low_first 0 2 (length item))
+length_framed item = length-append (little_bytes 2 (length item)) item
+    ∙ ap (λ (n : ℕ). n + length item) (length-bytes_low_first 0 2 (length item))
 
 behind_framed : (item more : List ℕ) → behind item (framed item ++ more) ≡ more
-behind_framed item more = ap (λ (n : ℕ). drop n (framed item ++ more)) (sym (length_framed item)) ∙ drop-append_seam (framed item) more
+behind_framed item more = ap (λ (n : ℕ). drop n (framed item ++ more)) (sym (length_framed item))
+    ∙ drop-append_seam (framed item) more
 
 -- ---- the walk that there is
 
-no_front : (bytes item more : List ℕ) (fault : Refusal) → first_item bytes ≡ Err fault → IsItem item → bytes ≢ framed item ++ more
-no_front bytes item more fault e is same = ok_is_no_err item fault (sym (ap first_item same ∙ framed_front item more is) ∙ e)
+no_front : (bytes item more : List ℕ) (fault : Refusal) → first_item bytes ≡ Err fault → IsItem item
+    → bytes ≢ framed item ++ more
+no_front bytes item more fault e is same =
+    ok_is_no_err item fault (sym (ap first_item same ∙ framed_front item more is) ∙ e)
 
 walk_stops : (limit : ℕ) (bytes : List ℕ) (fault : Refusal) → first_item bytes ≡ Err fault → IsWalk limit bytes [] bytes
 walk_stops limit bytes fault e = record {
@@ -110,22 +131,29 @@ walk_stops limit bytes fault e = record {
   ends = λ less item more is. no_front bytes item more fault e is;
 }
 
-walk_goes_on : (limit : ℕ) (bytes item left : List ℕ) (found : List (List ℕ)) → AreBytes bytes → first_item bytes ≡ Ok item → IsWalk limit (behind item bytes) found left → IsWalk (suc limit) bytes (item ∷ found) left
+walk_goes_on : (limit : ℕ) (bytes item left : List ℕ) (found : List (List ℕ)) → AreBytes bytes
+    → first_item bytes ≡ Ok item → IsWalk limit (behind item bytes) found left
+    → IsWalk (suc limit) bytes (item ∷ found) left
 walk_goes_on limit bytes item left found fits e further =
     let framed_item = front_framed bytes item fits e in
     record {
-      joined = append_assoc (framed item) (flat_map framed found) left ∙ ap (λ (r : List ℕ). framed item ++ r) further.joined ∙ framed_item.1;
+      joined = append_assoc (framed item) (flat_map framed found) left
+          ∙ ap (λ (r : List ℕ). framed item ++ r) further.joined ∙ framed_item.1;
       sized = (framed_item.0, further.sized);
       few = let few = further.few in omega arith;
       ends = λ less. further.ends (omega (arith, less));
     }
 
-walk_by : (limit : ℕ) (bytes : List ℕ) (answer : Answer (List ℕ)) → AreBytes bytes → first_item bytes ≡ answer → ((further : List ℕ) → AreBytes further → IsWalk limit further (items limit further) (rest limit further))
+walk_by : (limit : ℕ) (bytes : List ℕ) (answer : Answer (List ℕ)) → AreBytes bytes → first_item bytes ≡ answer
+    → ((further : List ℕ) → AreBytes further → IsWalk limit further (items limit further) (rest limit further))
     → IsWalk (suc limit) bytes (items (suc limit) bytes) (rest (suc limit) bytes)
 walk_by limit bytes (Ok item) fits e ih =
     rw (items_more limit bytes item e, rest_more limit bytes item e)
-    (walk_goes_on limit bytes item (rest limit (behind item bytes)) (items limit (behind item bytes)) fits e (ih (behind item bytes) (bytes_dropped (2 + length item) bytes fits)))
-walk_by limit bytes (Err fault) fits e ih = rw (items_none (suc limit) bytes fault e, rest_none (suc limit) bytes fault e) (walk_stops (suc limit) bytes fault e)
+    (walk_goes_on limit bytes item (rest limit (behind item bytes)) (items limit (behind item bytes)) fits e
+    (ih (behind item bytes) (bytes_dropped (2 + length item) bytes fits)))
+walk_by limit bytes (Err fault) fits e ih =
+    rw (items_none (suc limit) bytes fault e, rest_none (suc limit) bytes fault e)
+    (walk_stops (suc limit) bytes fault e)
 
 walk_is : (limit : ℕ) (bytes : List ℕ) → AreBytes bytes → IsWalk limit bytes (items limit bytes) (rest limit bytes)
 walk_is zero bytes fits = rw (items_full bytes, rest_full bytes) (record {
@@ -141,15 +169,19 @@ walk_is (suc limit) bytes fits = walk_by limit bytes (first_item bytes) fits ref
 abbrev Same : ℕ → List ℕ → List (List ℕ) → List ℕ → Type 0
 Same limit bytes found left = (found ≡ items limit bytes) × (left ≡ rest limit bytes)
 
-only_by : (limit : ℕ) (bytes : List ℕ) (found : List (List ℕ)) (left : List ℕ) (answer : Answer (List ℕ)) → AreBytes bytes → first_item bytes ≡ answer → IsWalk (suc limit) bytes found left
-    → ((further : List ℕ) (more : List (List ℕ)) → AreBytes further → IsWalk limit further more left → Same limit further more left) → Same (suc limit) bytes found left
+only_by : (limit : ℕ) (bytes : List ℕ) (found : List (List ℕ)) (left : List ℕ) (answer : Answer (List ℕ))
+    → AreBytes bytes → first_item bytes ≡ answer → IsWalk (suc limit) bytes found left
+    → ((further : List ℕ) (more : List (List ℕ)) → AreBytes further → IsWalk limit further more left
+    → Same limit further more left) → Same (suc limit) bytes found left
 only_by limit bytes [] left (Ok item) fits e walk ih =
     let front = front_framed bytes item fits e in
     absurd (walk.ends (omega arith) item (behind item bytes) front.0 (walk.joined ∙ sym front.1))
-only_by limit bytes [] left (Err fault) fits e walk ih = (sym (items_none (suc limit) bytes fault e), walk.joined ∙ sym (rest_none (suc limit) bytes fault e))
+only_by limit bytes [] left (Err fault) fits e walk ih =
+    (sym (items_none (suc limit) bytes fault e), walk.joined ∙ sym (rest_none (suc limit) bytes fault e))
 only_by limit bytes (item ∷ found) left answer fits e walk ih =
     let more = flat_map framed found ++ left in
-    let whole : framed item ++ more ≡ bytes = sym (append_assoc (framed item) (flat_map framed found) left) ∙ walk.joined in
+    let whole : framed item ++ more ≡ bytes = sym (append_assoc (framed item) (flat_map framed found) left)
+    ∙ walk.joined in
     let front : first_item bytes ≡ Ok item = ap first_item (sym whole) ∙ framed_front item more walk.sized.0 in
     let tail : behind item bytes ≡ more = ap (behind item) (sym whole) ∙ behind_framed item more in
     let few = walk.few in
@@ -158,18 +190,26 @@ only_by limit bytes (item ∷ found) left answer fits e walk ih =
       sized = walk.sized.1;
       few = omega arith;
       ends = λ less. walk.ends (omega (arith, less));
-    }) in
-    (ap (λ (f : List (List ℕ)). item ∷ f) further.0 ∙ sym (items_more limit bytes item front), further.1 ∙ sym (rest_more limit bytes item front))
+    }) in (
+      ap (λ (f : List (List ℕ)). item ∷ f) further.0 ∙ sym (items_more limit bytes item front),
+      further.1
+          ∙ sym (rest_more limit bytes item front),
+    )
 
 none_found : (found : List (List ℕ)) → length found ≤ 0 → found ≡ []
 none_found [] few = refl
 none_found (item ∷ found) few = absurd (omega (arith, few))
 
-walk_only : (limit : ℕ) (bytes : List ℕ) (found : List (List ℕ)) (left : List ℕ) → AreBytes bytes → IsWalk limit bytes found left → Same limit bytes found left
+walk_only : (limit : ℕ) (bytes : List ℕ) (found : List (List ℕ)) (left : List ℕ) → AreBytes bytes
+    → IsWalk limit bytes found left → Same limit bytes found left
 walk_only zero bytes found left fits walk =
-    let none = none_found found walk.few in
-    (none ∙ sym (items_full bytes), sym (ap (λ (f : List (List ℕ)). flat_map framed f ++ left) none) ∙ walk.joined ∙ sym (rest_full bytes))
-walk_only (suc limit) bytes found left fits walk = only_by limit bytes found left (first_item bytes) fits refl walk (λ further more. walk_only limit further more left)
+    let none = none_found found walk.few in (
+      none ∙ sym (items_full bytes),
+      sym (ap (λ (f : List (List ℕ)). flat_map framed f ++ left) none) ∙ walk.joined
+          ∙ sym (rest_full bytes),
+    )
+walk_only (suc limit) bytes found left fits walk =
+    only_by limit bytes found left (first_item bytes) fits refl walk (λ further more. walk_only limit further more left)
 
 pub walks_once : (limit : ℕ) (bytes : List ℕ) → AreBytes bytes → WalksOnce limit bytes
 walks_once limit bytes fits = record {
@@ -177,29 +217,36 @@ walks_once limit bytes fits = record {
   only = λ found left walk. walk_only limit bytes found left fits walk;
 }
 
-pub table_walk : (table : Table) → AreBytes table.bytes → IsWalk (room table) (body table) (walk table) (walk_rest table)
+pub table_walk : (table : Table) → AreBytes table.bytes
+    → IsWalk (room table) (body table) (walk table) (walk_rest table)
 unfolding walk walk_rest
 table_walk table fits = walk_is (room table) (body table) (bytes_dropped table.header.header_size table.bytes fits)
 
 -- ---- four bytes an item
 
-four_by : (limit : ℕ) (bytes : List ℕ) (answer : Answer (List ℕ)) → first_item bytes ≡ answer → ((further : List ℕ) → 4 * length (items limit further) + length (rest limit further) ≤ length further)
+four_by : (limit : ℕ) (bytes : List ℕ) (answer : Answer (List ℕ)) → first_item bytes ≡ answer
+    → ((further : List ℕ) → 4 * length (items limit further) + length (rest limit further) ≤ length further)
     → 4 * length (items (suc limit) bytes) + length (rest (suc limit) bytes) ≤ length bytes
 four_by limit bytes (Ok item) e ih =
     let front = front_item bytes item e in
     let kind = front.kind in
     let within = front.within in
-    rw (items_more limit bytes item e, rest_more limit bytes item e) (omega (arith, ih (behind item bytes), length-drop (2 + length item) bytes))
-four_by limit bytes (Err fault) e ih = rw (items_none (suc limit) bytes fault e, rest_none (suc limit) bytes fault e) (omega arith)
+    rw (items_more limit bytes item e, rest_more limit bytes item e)
+    (omega (arith, ih (behind item bytes), length-drop (2 + length item) bytes))
+four_by limit bytes (Err fault) e ih = rw (items_none (suc limit) bytes fault e, rest_none (suc limit) bytes fault e)
+    (omega arith)
 
-pub item_per_four_bytes : (limit : ℕ) (bytes : List ℕ) → 4 * length (items limit bytes) + length (rest limit bytes) ≤ length bytes
+pub item_per_four_bytes : (limit : ℕ) (bytes : List ℕ)
+    → 4 * length (items limit bytes) + length (rest limit bytes) ≤ length bytes
 item_per_four_bytes zero bytes = rw (items_full bytes, rest_full bytes) (omega arith)
 item_per_four_bytes (suc limit) bytes = four_by limit bytes (first_item bytes) refl (item_per_four_bytes limit)
 
 -- ---- faults
 
-cut_fault : (bytes : List ℕ) → 2 ≤ little_number 2 (take 2 bytes) → length bytes < 2 + little_number 2 (take 2 bytes) → first_item bytes ≡ Err unexpected_eof
-cut_fault bytes some cut = elim (cases_lt (length bytes) 2) [ inl short ↦ short_front bytes short | inr long ↦ cut_front bytes some long cut ]
+cut_fault : (bytes : List ℕ) → 2 ≤ little_number 2 (take 2 bytes) → length bytes < 2 + little_number 2 (take 2 bytes)
+    → first_item bytes ≡ Err unexpected_eof
+cut_fault bytes some cut = elim (cases_lt (length bytes) 2)
+    [ inl short ↦ short_front bytes short | inr long ↦ cut_front bytes some long cut ]
 
 pub has_fault : (bytes : List ℕ) → HasFault bytes
 has_fault bytes = record {
@@ -211,7 +258,9 @@ has_fault bytes = record {
 
 -- ---- look-ups
 
-found_reads : (table : Table) (known i : ℕ) → IsTrue (has_index table i) → block_of table i < known → i - table.header.minimum_index < length (walk table) → reads_of table known i ≡ (i - table.header.minimum_index) % 8 + 1
+found_reads : (table : Table) (known i : ℕ) → IsTrue (has_index table i) → block_of table i < known
+    → i - table.header.minimum_index < length (walk table)
+    → reads_of table known i ≡ (i - table.header.minimum_index) % 8 + 1
 unfolding reads_of reads_between
 found_reads table known i counted known_block within =
     let place = i - table.header.minimum_index in

@@ -1,5 +1,6 @@
 -- Where the items of a walk begin.
-use Rattle.std.proofs.Common.{◌≡◌, ℕ, zero, suc, ◌+◌, ◌-◌, ◌≤◌, ◌<◌, List, [], ◌∷◌, length, take, drop, get_or, refl, sym, ap, subst, ◌∙◌, arith, Ok, Err, Option, Some, None, inl, inr, true, false, leb, ltb}
+use Rattle.std.proofs.Common.{◌≡◌, ℕ, zero, suc, ◌+◌, ◌-◌, ◌≤◌, ◌<◌, List, [], ◌∷◌, length, take, drop, get_or, refl}
+use Rattle.std.proofs.Common.{sym, ap, subst, ◌∙◌, arith, Ok, Err, Option, Some, None, inl, inr, true, false, leb, ltb}
 use Rattle.std.specs.List.{slice_get, sum_by}
 use Rattle.std.proofs.lemmas.Bool.{cases_lt, le-ltb, lt-ltb}
 use Rattle.std.proofs.lemmas.Bool.Decides.{nat_tests}
@@ -18,17 +19,26 @@ use Rattle.pdb_tpi.specs.Place.{IsPlace}
 use Rattle.pdb_tpi.specs.Finder.{item_of}
 use Rattle.pdb_tpi.specs.OpenTable.{bytes_at, located, size_of, position_of, record_at, step_located}
 use Rattle.pdb_tpi.proofs.FrontLemmas.{front_item}
-use Rattle.pdb_tpi.proofs.WalkLemmas.{items_more, rest_more, items_none, rest_none, items_full, rest_full, nth_some, nth_none}
+use Rattle.pdb_tpi.proofs.WalkLemmas.{items_more, rest_more, items_none, rest_none, items_full, rest_full, nth_some}
+use Rattle.pdb_tpi.proofs.WalkLemmas.{nth_none}
 use Rattle.pdb_tpi.proofs.StepLemmas.{nth_ok, step_none, step_some}
 
 -- items from the front of bytes on, and what is left behind them, take all of the bytes
-sized_from : (limit : ℕ) (bytes : List ℕ) (answer : Answer (List ℕ)) → first_item bytes ≡ answer → ((further : List ℕ) → sum_by size_of (items limit further) + length (rest limit further) ≡ length further)
+sized_from : (limit : ℕ) (bytes : List ℕ) (answer : Answer (List ℕ)) → first_item bytes ≡ answer
+    → ((further : List ℕ) → sum_by size_of (items limit further) + length (rest limit further) ≡ length further)
     → sum_by size_of (items (suc limit) bytes) + length (rest (suc limit) bytes) ≡ length bytes
 sized_from limit bytes (Ok item) e ih =
     let within = (front_item bytes item e).within in
     rw (items_more limit bytes item e, rest_more limit bytes item e)
-    (omega (arith, sum_by-cons size_of item (items limit (behind item bytes)), ih (behind item bytes), length-drop (2 + length item) bytes, within))
-sized_from limit bytes (Err fault) e ih = rw (items_none (suc limit) bytes fault e, rest_none (suc limit) bytes fault e) (omega arith)
+    (omega (
+      arith,
+      sum_by-cons size_of item (items limit (behind item bytes)),
+      ih (behind item bytes),
+      length-drop (2 + length item) bytes,
+      within,
+    ))
+sized_from limit bytes (Err fault) e ih =
+    rw (items_none (suc limit) bytes fault e, rest_none (suc limit) bytes fault e) (omega arith)
 
 all_sized : (limit : ℕ) (bytes : List ℕ) → sum_by size_of (items limit bytes) + length (rest limit bytes) ≡ length bytes
 all_sized zero bytes = rw (items_full bytes, rest_full bytes) (omega arith)
@@ -39,20 +49,30 @@ unfolding walk walk_rest
 whole_sized table = all_sized (room table) (body table)
 
 -- an iterator stands where the item before which it stands begins
-pub stands_at : (table : Table) (index position : ℕ) → IsPlace table index position → position ≡ position_of table (index - table.header.minimum_index)
+pub stands_at : (table : Table) (index position : ℕ) → IsPlace table index position
+    → position ≡ position_of table (index - table.header.minimum_index)
 unfolding position_of
 stands_at table index position place =
     let n = index - table.header.minimum_index in
     let further : sum_by size_of (drop n (walk table)) + length (walk_rest table) ≡ length (drop position table.bytes) =
     ap (λ (found : List (List ℕ)). sum_by size_of found + length (walk_rest table)) place.goes_on.items
-    ∙ ap (λ (left : List ℕ). sum_by size_of (items (room table - n) (drop position table.bytes)) + length left) place.goes_on.rest
+    ∙ ap (λ (left : List ℕ). sum_by size_of (items (room table - n)
+    (drop position table.bytes)) + length left) place.goes_on.rest
     ∙ all_sized (room table - n) (drop position table.bytes) in
     let far = place.far in
     let within = place.within in
-    omega (arith, whole_sized table, further, sum_by-take-drop size_of (walk table) n, length-drop position table.bytes, length-drop table.header.header_size table.bytes)
+    omega (
+      arith,
+      whole_sized table,
+      further,
+      sum_by-take-drop size_of (walk table) n,
+      length-drop position table.bytes,
+      length-drop table.header.header_size table.bytes,
+    )
 
 -- the next item begins behind an item's length and its record
-record_ends : (table : Table) (n : ℕ) (item : List ℕ) → nth_item table n ≡ Ok item → position_of table (n + 1) ≡ position_of table n + 2 + length item
+record_ends : (table : Table) (n : ℕ) (item : List ℕ) → nth_item table n ≡ Ok item
+    → position_of table (n + 1) ≡ position_of table n + 2 + length item
 unfolding position_of
 record_ends table n item e = elim ((slice_get_cases (walk table) n).1) [
   | inl here ↦
@@ -68,31 +88,42 @@ no_item_there (first ∷ all) item n none is = cc
 
 -- an item begins behind those before it
 item_begins_by : (limit n : ℕ) (bytes item : List ℕ) (answer : Answer (List ℕ)) → first_item bytes ≡ answer
-    → ((m : ℕ) (further : List ℕ) → slice_get (items limit further) m ≡ Some item → first_item (drop (sum_by size_of (take m (items limit further))) further) ≡ Ok item)
-    → slice_get (items (suc limit) bytes) n ≡ Some item → first_item (drop (sum_by size_of (take n (items (suc limit) bytes))) bytes) ≡ Ok item
-item_begins_by limit n bytes item (Err fault) e further is = absurd (no_item_there (items (suc limit) bytes) item n (items_none (suc limit) bytes fault e) is)
+    → ((m : ℕ) (further : List ℕ) → slice_get (items limit further) m ≡ Some item
+    → first_item (drop (sum_by size_of (take m (items limit further))) further) ≡ Ok item)
+    → slice_get (items (suc limit) bytes) n ≡ Some item
+    → first_item (drop (sum_by size_of (take n (items (suc limit) bytes))) bytes) ≡ Ok item
+item_begins_by limit n bytes item (Err fault) e further is =
+    absurd (no_item_there (items (suc limit) bytes) item n (items_none (suc limit) bytes fault e) is)
 item_begins_by limit zero bytes item (Ok first) e further is =
     let same : first ≡ item = cc (rw (items_more limit bytes first e) at is) in
     e ∙ ap (λ (i : List ℕ). ok i) same
 item_begins_by limit (suc n) bytes item (Ok first) e further is =
-    let there : slice_get (items limit (behind first bytes)) n ≡ Some item = rw (items_more limit bytes first e) at is in
+    let there : slice_get (items limit (behind first bytes)) n ≡ Some item =
+    rw (items_more limit bytes first e) at is in
     let rest : ℕ = sum_by size_of (take n (items limit (behind first bytes))) in
-    let size : sum_by size_of (take (suc n) (items (suc limit) bytes)) ≡ size_of first + rest = rw (items_more limit bytes first e) (sum_by-cons size_of first (take n (items limit (behind first bytes)))) in
+    let size : sum_by size_of (take (suc n) (items (suc limit) bytes)) ≡ size_of first + rest =
+    rw (items_more limit bytes first e) (sum_by-cons size_of first (take n (items limit (behind first bytes)))) in
     let begins : first_item (drop rest (drop (size_of first) bytes)) ≡ Ok item = further n (behind first bytes) there in
     ap (λ (s : ℕ). first_item (drop s bytes)) size ∙ ap first_item (sym (drop-drop rest (size_of first) bytes)) ∙ begins
 
-item_begins : (limit n : ℕ) (bytes item : List ℕ) → slice_get (items limit bytes) n ≡ Some item → first_item (drop (sum_by size_of (take n (items limit bytes))) bytes) ≡ Ok item
+item_begins : (limit n : ℕ) (bytes item : List ℕ) → slice_get (items limit bytes) n ≡ Some item
+    → first_item (drop (sum_by size_of (take n (items limit bytes))) bytes) ≡ Ok item
 item_begins zero n bytes item is = absurd (no_item_there (items zero bytes) item n (items_full bytes) is)
-item_begins (suc limit) n bytes item is = item_begins_by limit n bytes item (first_item bytes) refl (λ m further there. item_begins limit m further item there) is
+item_begins (suc limit) n bytes item is =
+    item_begins_by limit n bytes item (first_item bytes) refl
+    (λ m further there. item_begins limit m further item there) is
 
 -- the bytes at the place of a record are the record
-pub record_stands : (table : Table) (n : ℕ) (item : List ℕ) → nth_item table n ≡ Ok item → bytes_at table (record_at table n item) ≡ item
+pub record_stands : (table : Table) (n : ℕ) (item : List ℕ) → nth_item table n ≡ Ok item
+    → bytes_at table (record_at table n item) ≡ item
 unfolding position_of walk
 record_stands table n item e =
     let size : ℕ = sum_by size_of (take n (items (room table) (body table))) in
-    let front = front_item (drop size (body table)) item (item_begins (room table) n (body table) item (nth_ok table n item e)) in
+    let front = front_item (drop size (body table)) item
+    (item_begins (room table) n (body table) item (nth_ok table n item e)) in
     let there : drop (table.header.header_size + size + 2) table.bytes ≡ drop 2 (drop size (body table)) =
-    sym (ap (drop 2) (drop-drop size table.header.header_size table.bytes) ∙ drop-drop 2 (table.header.header_size + size) table.bytes) in
+    sym (ap (drop 2) (drop-drop size table.header.header_size table.bytes)
+    ∙ drop-drop 2 (table.header.header_size + size) table.bytes) in
     ap (take (length item)) there ∙ sym front.is
 
 -- The record of item `n` of the walk stands right before a position.
@@ -150,7 +181,8 @@ primitive table i below = rw (lt-ltb i table.header.minimum_index below) refl
 
 -- What the place of an index says of its item: the item's bytes are there, and a primitive type's are ff ff.
 pub item_located : (table : Table) (i : ℕ) (place : Option RecordPlace) → located table i ≡ Ok place
-    → let bytes = option_map_or (bytes_at table) place (0xff ∷ 0xff ∷ []) in (item_of table i ≡ Ok bytes) × (2 ≤ length bytes)
+    → let bytes = option_map_or (bytes_at table) place (0xff ∷ 0xff ∷ []) in (item_of table i ≡ Ok bytes)
+    × (2 ≤ length bytes)
 item_located table i place e = elim (cases_lt i table.header.minimum_index) [
   | inl below ↦
       let first : ltb i table.header.minimum_index ≡ true = lt-ltb i table.header.minimum_index below in

@@ -1,5 +1,6 @@
 -- What a step gives.
-use Rattle.std.proofs.Common.{◌≡◌, ◌≢◌, inl, inr, ℕ, ◌+◌, ◌-◌, ◌^◌, ◌≤◌, ◌<◌, List, [], ◌∷◌, length, drop, refl, sym, ap, ◌∙◌, arith, Option, eqb, true, false, Ok, Err, Some, None}
+use Rattle.std.proofs.Common.{◌≡◌, ◌≢◌, inl, inr, ℕ, ◌+◌, ◌-◌, ◌^◌, ◌≤◌, ◌<◌, List, [], ◌∷◌, length, drop, refl, sym}
+use Rattle.std.proofs.Common.{ap, ◌∙◌, arith, Option, eqb, true, false, Ok, Err, Some, None}
 use Rattle.std.specs.List.{slice_get}
 use Rattle.std.proofs.lemmas.Bool.{cases_lt, false≢true}
 use Rattle.std.proofs.lemmas.Bool.Decides.{nat_tests}
@@ -10,7 +11,8 @@ use Rattle.pdb_base.specs.Answer.{Answer}
 use Rattle.pdb_base.proofs.lemmas.Collected.{err, ok_is, err_is, ok_is_no_err}
 use Rattle.pdb_tpi.specs.Table.{Table}
 use Rattle.pdb_tpi.specs.Walk.{first_item, fault_of}
-use Rattle.pdb_tpi.specs.Steps.{WalkPosition, walk, walk_rest, nth_item, steps_taken, items_left, stopped, step_of, IsStep}
+use Rattle.pdb_tpi.specs.Steps.{WalkPosition, walk, walk_rest, nth_item, steps_taken, items_left, stopped, step_of}
+use Rattle.pdb_tpi.specs.Steps.{IsStep}
 use Rattle.pdb_tpi.specs.Place.{IsPlace}
 use Rattle.pdb_tpi.proofs.FrontLemmas.{empty_front}
 use Rattle.pdb_tpi.proofs.WalkLemmas.{IsBehind, place_end, place_full, place_next, nth_some, nth_none}
@@ -27,25 +29,31 @@ nth_ok table n item e = elim ((slice_get_cases (walk table) n).1) [
 ]
 
 -- behind the walk is a fault
-pub nth_err : (table : Table) (n : ℕ) (fault : Refusal) → nth_item table n ≡ Err fault → (length (walk table) ≤ n) × (fault_of (walk_rest table) ≡ fault)
+pub nth_err : (table : Table) (n : ℕ) (fault : Refusal) → nth_item table n ≡ Err fault → (length (walk table) ≤ n)
+    × (fault_of (walk_rest table) ≡ fault)
 nth_err table n fault e = elim ((slice_get_cases (walk table) n).1) [
   | inl here ↦ absurd (ok_is_no_err here.0 fault (sym (nth_some table n here.0 here.2) ∙ e))
   | inr past ↦ (past.0, err_is {A = List ℕ} (fault_of (walk_rest table)) fault (sym (nth_none table n past.1) ∙ e))
 ]
 
 -- and the same one further on
-pub nth_further : (table : Table) (n m : ℕ) (fault : Refusal) → nth_item table n ≡ Err fault → n ≤ m → nth_item table m ≡ Err fault
+pub nth_further : (table : Table) (n m : ℕ) (fault : Refusal) → nth_item table n ≡ Err fault → n ≤ m
+    → nth_item table m ≡ Err fault
 nth_further table n m fault e le =
     let is = nth_err table n fault e in
     let past : length (walk table) ≤ m = let h = is.0 in omega arith in
     nth_none table m (slice_get_past (walk table) m past) ∙ ap (λ (f : Refusal). err f) is.1
 
-place_behind_by : (table : Table) (index position : ℕ) (answer : Answer (List ℕ)) → first_item (drop position table.bytes) ≡ answer → IsPlace table index position → length (walk table) ≤ index - table.header.minimum_index → index < 2 ^ 32 → IsBehind table index position
-place_behind_by table index position (Ok item) e place past last = let within = (place_next table index position item place e last).within in absurd (omega arith)
+place_behind_by : (table : Table) (index position : ℕ) (answer : Answer (List ℕ))
+    → first_item (drop position table.bytes) ≡ answer → IsPlace table index position
+    → length (walk table) ≤ index - table.header.minimum_index → index < 2 ^ 32 → IsBehind table index position
+place_behind_by table index position (Ok item) e place past last = let within =
+    (place_next table index position item place e last).within in absurd (omega arith)
 place_behind_by table index position (Err fault) e place past last = place_end table index position fault place e
 
 -- an iterator behind the last item
-pub place_behind : (table : Table) (index position : ℕ) → IsPlace table index position → length (walk table) ≤ index - table.header.minimum_index → IsBehind table index position
+pub place_behind : (table : Table) (index position : ℕ) → IsPlace table index position
+    → length (walk table) ≤ index - table.header.minimum_index → IsBehind table index position
 place_behind table index position place past = elim (cases_lt index (2 ^ 32)) [
   | inl last ↦ place_behind_by table index position (first_item (drop position table.bytes)) refl place past last
   | inr full ↦ place_full table index position place full
@@ -53,7 +61,8 @@ place_behind table index position place past = elim (cases_lt index (2 ^ 32)) [
 
 -- ---- steps
 
-pub step_stops : (stand : WalkPosition) → slice_get (walk stand.table) (steps_taken stand) ≡ None → step_of stand ≡ stopped stand (walk_rest stand.table)
+pub step_stops : (stand : WalkPosition) → slice_get (walk stand.table) (steps_taken stand) ≡ None
+    → step_of stand ≡ stopped stand (walk_rest stand.table)
 unfolding step_of
 step_stops stand e = rw e refl
 
@@ -61,14 +70,17 @@ stopped_fault : (stand : WalkPosition) (rest : List ℕ) → rest ≢ [] → sto
 stopped_fault stand [] some = absurd (some refl)
 stopped_fault stand (byte ∷ rest) some = refl
 
-pub step_ends : (table : Table) (index position : ℕ) → IsPlace table index position → drop position table.bytes ≡ [] → step_of (record { table = table; index = index }) ≡ Ok (None, record { table = table; index = index })
+pub step_ends : (table : Table) (index position : ℕ) → IsPlace table index position → drop position table.bytes ≡ []
+    → step_of (record { table = table; index = index }) ≡ Ok (None, record { table = table; index = index })
 step_ends table index position place none =
     let stand : WalkPosition = record { table = table; index = index } in
     let end = place_end table index position unexpected_eof place (ap first_item none ∙ empty_front) in
     step_stops stand end.none ∙ ap (stopped stand) (end.rest ∙ none)
 
-pub step_faults : (table : Table) (index position : ℕ) (fault : Refusal) → IsPlace table index position → drop position table.bytes ≢ []
-    → nth_item table (index - table.header.minimum_index) ≡ Err fault → step_of (record { table = table; index = index }) ≡ Err fault
+pub step_faults : (table : Table) (index position : ℕ) (fault : Refusal) → IsPlace table index position
+    → drop position table.bytes ≢ []
+    → nth_item table (index - table.header.minimum_index) ≡ Err fault
+    → step_of (record { table = table; index = index }) ≡ Err fault
 step_faults table index position fault place some e =
     let stand : WalkPosition = record { table = table; index = index } in
     let is = nth_err table (index - table.header.minimum_index) fault e in
@@ -76,7 +88,8 @@ step_faults table index position fault place some e =
     step_stops stand end.none ∙ ap (stopped stand) end.rest ∙ stopped_fault stand (drop position table.bytes) some
     ∙ ap (λ (f : Refusal). err f) (ap fault_of (sym end.rest) ∙ is.1)
 
-pub step_gives : (stand : WalkPosition) (item : List ℕ) → nth_item stand.table (steps_taken stand) ≡ Ok item → step_of stand ≡ Ok (Some (stand.index, item), record stand { index = stand.index + 1 })
+pub step_gives : (stand : WalkPosition) (item : List ℕ) → nth_item stand.table (steps_taken stand) ≡ Ok item
+    → step_of stand ≡ Ok (Some (stand.index, item), record stand { index = stand.index + 1 })
 unfolding step_of
 step_gives stand item e = let is = nth_ok stand.table (steps_taken stand) item e in rw is refl
 
@@ -84,7 +97,9 @@ item_is_none : (item : List ℕ) → Some item ≡ None → ⊥
 item_is_none item e = cc
 
 -- behind an item that is there one fewer is left
-pub leaves_fewer : (old new : WalkPosition) (item : List ℕ) → old.table.header.minimum_index ≤ old.index → nth_item old.table (steps_taken old) ≡ Ok item → new ≡ record old { index = old.index + 1 } → items_left new < items_left old
+pub leaves_fewer : (old new : WalkPosition) (item : List ℕ) → old.table.header.minimum_index ≤ old.index
+    → nth_item old.table (steps_taken old) ≡ Ok item → new ≡ record old { index = old.index + 1 }
+    → items_left new < items_left old
 leaves_fewer old new item least e moved = elim ((slice_get_cases (walk old.table) (steps_taken old)).1) [
   | inl here ↦ let within = here.1 in rw moved (omega arith)
   | inr past ↦ absurd (item_is_none item (sym (nth_ok old.table (steps_taken old) item e) ∙ past.1))
@@ -94,7 +109,8 @@ some_is_none : (x : ℕ × List ℕ) → Some x ≡ None → ⊥
 some_is_none x e = cc
 
 -- what a step behind the last item tells
-no_item : (stand : WalkPosition) (rest : List ℕ) (item : ℕ × List ℕ) (new : WalkPosition) → stopped stand rest ≡ Ok (Some item, new) → ⊥
+no_item : (stand : WalkPosition) (rest : List ℕ) (item : ℕ × List ℕ) (new : WalkPosition)
+    → stopped stand rest ≡ Ok (Some item, new) → ⊥
 no_item stand [] item new e =
     let ended : Option (ℕ × List ℕ) × WalkPosition = (None, stand) in
     let given : Option (ℕ × List ℕ) × WalkPosition = (Some item, new) in
@@ -103,12 +119,14 @@ no_item stand (byte ∷ rest) item new e = ok_is_no_err (Some item, new) (fault_
 
 at_end : (stand : WalkPosition) (rest : List ℕ) (new : WalkPosition) → stopped stand rest ≡ Ok (None, new) → rest ≡ []
 at_end stand [] new e = refl
-at_end stand (byte ∷ rest) new e = let none : Option (ℕ × List ℕ) = None in absurd (ok_is_no_err (none, new) (fault_of (byte ∷ rest)) (sym e))
+at_end stand (byte ∷ rest) new e = let none : Option (ℕ × List ℕ) = None in
+    absurd (ok_is_no_err (none, new) (fault_of (byte ∷ rest)) (sym e))
 
 -- no byte is left
 pub none_left : (bytes : List ℕ) → eqb (length bytes) 0 ≡ true → bytes ≡ []
 none_left [] e = refl
-none_left (byte ∷ bytes) e = let none : length (byte ∷ bytes) ≡ 0 = grind (arith, nat_tests) in absurd (omega (arith, none))
+none_left (byte ∷ bytes) e = let none : length (byte ∷ bytes) ≡ 0 = grind (arith, nat_tests) in
+    absurd (omega (arith, none))
 
 pub some_left : (bytes : List ℕ) → eqb (length bytes) 0 ≡ false → bytes ≢ []
 some_left [] e none = absurd (false≢true (sym e))

@@ -1,5 +1,6 @@
 -- A table that was read is sound, and its first item stands behind the header.
-use Rattle.std.proofs.Common.{◌≡◌, ℕ, ◌-◌, ◌^◌, ◌≤◌, ◌<◌, Bool, true, false, leb, List, [], ◌∷◌, length, refl, ap, subst, arith, Ok}
+use Rattle.std.proofs.Common.{◌≡◌, ℕ, ◌-◌, ◌^◌, ◌≤◌, ◌<◌, Bool, true, false, leb, List, [], ◌∷◌, length, refl, ap}
+use Rattle.std.proofs.Common.{subst, arith, Ok}
 use Rattle.std.proofs.lemmas.Bool.Decides.{nat_tests}
 use Rattle.pdb_base.specs.Refusal.{Refusal}
 use Rattle.pdb_base.specs.Answer.{Answer, ◌>>=◌, required}
@@ -18,7 +19,8 @@ pub record IsChecked (header : Header) (len : ℕ) : Type 0 where
   pub within : header.header_size ≤ len
   pub ordered : header.minimum_index ≤ header.maximum_index
 
-then_required : {A : Type 0} (test : Bool) (e : Refusal) (more : Answer A) (x : A) → (required test e >>= λ _. more) ≡ Ok x → (test ≡ true) × (more ≡ Ok x)
+then_required : {A : Type 0} (test : Bool) (e : Refusal) (more : Answer A) (x : A)
+    → (required test e >>= λ _. more) ≡ Ok x → (test ≡ true) × (more ≡ Ok x)
 then_required true e more x h = (refl, h)
 then_required false e more x h = absurd cc
 
@@ -29,7 +31,8 @@ checked_is header len x e =
     let most = then_required (leb header.header_size 1024) _ _ x least.1 in
     let whole = then_required (leb header.header_size len) _ _ x most.1 in
     let typed = then_required (leb 4096 header.minimum_index) _ _ x whole.1 in
-    let ordered : leb header.minimum_index header.maximum_index ≡ true = required_is (leb header.minimum_index header.maximum_index) _ x typed.1 in
+    let ordered : leb header.minimum_index header.maximum_index ≡ true =
+    required_is (leb header.minimum_index header.maximum_index) _ x typed.1 in
     let within : leb header.header_size len ≡ true = whole.0 in
     let above : leb 4096 header.minimum_index ≡ true = typed.0 in
     record {
@@ -41,14 +44,25 @@ checked_is header len x e =
 read_is : (bytes : List ℕ) (header : Header) → read_header_of bytes ≡ Ok header → IsChecked header (length bytes)
 unfolding read_header_of
 read_is bytes header e =
-    let fields = bind_ok (header_fields bytes) (λ fields. checked fields.0 (length bytes) >>= λ _. Ok fields.0) header e in
+    let fields = bind_ok (header_fields bytes)
+    (λ fields. checked fields.0 (length bytes) >>= λ _. Ok fields.0) header e in
     let good = bind_ok (checked fields.0.0 (length bytes)) (λ _. Ok fields.0.0) header fields.2 in
-    subst (λ (h : Header). IsChecked h (length bytes)) (ok_is fields.0.0 header good.2) (checked_is fields.0.0 (length bytes) good.0 good.1)
+    subst (λ (h : Header). IsChecked h (length bytes)) (ok_is fields.0.0 header good.2)
+    (checked_is fields.0.0 (length bytes) good.0 good.1)
 
-pub table_is : (bytes : List ℕ) (header : Header) → header_of bytes ≡ Ok header → header.maximum_index < 2 ^ 32 → length bytes < 0xffffffff → IsTable (record { bytes = bytes; header = header })
+pub table_is : (bytes : List ℕ) (header : Header) → header_of bytes ≡ Ok header → header.maximum_index < 2 ^ 32
+    → length bytes < 0xffffffff → IsTable (record { bytes = bytes; header = header })
 unfolding header_of
 table_is [] header e indexed short =
-    let empty : IsTable (record { bytes = []; header = empty_header }) = record { within = omega arith; ordered = omega arith; typed = λ some. absurd (some refl); indexed = omega arith; short = short } in
+    let empty : IsTable (record { bytes = []; header = empty_header }) =
+    record {
+      within = omega arith;
+      ordered = omega arith;
+      typed = λ some. absurd (some refl);
+      indexed =
+          omega arith;
+      short = short;
+    } in
     subst (λ (h : Header). IsTable (record { bytes = []; header = h })) (ok_is empty_header header e) empty
 table_is (byte ∷ bytes) header e indexed short =
     let is = read_is (byte ∷ bytes) header e in

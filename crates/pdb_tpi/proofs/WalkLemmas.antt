@@ -1,5 +1,6 @@
 -- The walk, one item after another.
-use Rattle.std.proofs.Common.{◌≡◌, ℕ, zero, suc, ◌+◌, ◌-◌, ◌^◌, ◌≤◌, ◌<◌, true, false, ltb, cond, List, [], ◌∷◌, length, drop, refl, ap, ◌∙◌, arith, Ok, Err, Some, None}
+use Rattle.std.proofs.Common.{◌≡◌, ℕ, zero, suc, ◌+◌, ◌-◌, ◌^◌, ◌≤◌, ◌<◌, true, false, ltb, cond, List, [], ◌∷◌, length}
+use Rattle.std.proofs.Common.{drop, refl, ap, ◌∙◌, arith, Ok, Err, Some, None}
 use Rattle.std.specs.List.{slice_get}
 use Rattle.std.proofs.lemmas.Bool.{le-ltb, lt-ltb}
 use Rattle.std.proofs.lemmas.Bool.Decides.{nat_tests}
@@ -16,11 +17,13 @@ use Rattle.pdb_tpi.proofs.FrontLemmas.{front_item}
 
 -- ---- one step of the walk
 
-pub items_more : (limit : ℕ) (bytes item : List ℕ) → first_item bytes ≡ Ok item → items (suc limit) bytes ≡ item ∷ items limit (behind item bytes)
+pub items_more : (limit : ℕ) (bytes item : List ℕ) → first_item bytes ≡ Ok item → items (suc limit) bytes ≡ item
+    ∷ items limit (behind item bytes)
 unfolding items
 items_more limit bytes item e = rw e refl
 
-pub rest_more : (limit : ℕ) (bytes item : List ℕ) → first_item bytes ≡ Ok item → rest (suc limit) bytes ≡ rest limit (behind item bytes)
+pub rest_more : (limit : ℕ) (bytes item : List ℕ) → first_item bytes ≡ Ok item
+    → rest (suc limit) bytes ≡ rest limit (behind item bytes)
 unfolding rest
 rest_more limit bytes item e = rw e refl
 
@@ -44,7 +47,8 @@ rest_full bytes = refl
 
 -- ---- what is left of a list
 
-pub dropped_some : {A : Type 0} (n : ℕ) (xs : List A) (x : A) (ys : List A) → drop n xs ≡ x ∷ ys → (slice_get xs n ≡ Some x) × (n < length xs) × (drop (suc n) xs ≡ ys)
+pub dropped_some : {A : Type 0} (n : ℕ) (xs : List A) (x : A) (ys : List A) → drop n xs ≡ x ∷ ys
+    → (slice_get xs n ≡ Some x) × (n < length xs) × (drop (suc n) xs ≡ ys)
 dropped_some zero [] x ys e = absurd cc
 dropped_some {A} zero (z ∷ zs) x ys e =
     let heads : z ≡ x = cc in
@@ -86,12 +90,15 @@ behind_last table index position place none left =
       rest = place.goes_on.rest ∙ left;
     }
 
-pub place_end : (table : Table) (index position : ℕ) (fault : Refusal) → IsPlace table index position → first_item (drop position table.bytes) ≡ Err fault → IsBehind table index position
+pub place_end : (table : Table) (index position : ℕ) (fault : Refusal) → IsPlace table index position
+    → first_item (drop position table.bytes) ≡ Err fault → IsBehind table index position
 place_end table index position fault place e =
     let left = room table - (index - table.header.minimum_index) in
-    behind_last table index position place (items_none left (drop position table.bytes) fault e) (rest_none left (drop position table.bytes) fault e)
+    behind_last table index position place (items_none left (drop position table.bytes) fault e)
+    (rest_none left (drop position table.bytes) fault e)
 
-pub place_full : (table : Table) (index position : ℕ) → IsPlace table index position → 2 ^ 32 ≤ index → IsBehind table index position
+pub place_full : (table : Table) (index position : ℕ) → IsPlace table index position → 2 ^ 32 ≤ index
+    → IsBehind table index position
 place_full table index position place last =
     let least = place.least in
     let left : room table - (index - table.header.minimum_index) ≡ 0 = omega arith in
@@ -99,7 +106,8 @@ place_full table index position place last =
     (ap (λ (n : ℕ). items n (drop position table.bytes)) left ∙ items_full (drop position table.bytes))
     (ap (λ (n : ℕ). rest n (drop position table.bytes)) left ∙ rest_full (drop position table.bytes))
 
-pub place_next : (table : Table) (index position : ℕ) (item : List ℕ) → IsPlace table index position → first_item (drop position table.bytes) ≡ Ok item → index < 2 ^ 32 → IsNext table index position item
+pub place_next : (table : Table) (index position : ℕ) (item : List ℕ) → IsPlace table index position
+    → first_item (drop position table.bytes) ≡ Ok item → index < 2 ^ 32 → IsNext table index position item
 place_next table index position item place e last =
     let n = index - table.header.minimum_index in
     let bytes = drop position table.bytes in
@@ -109,7 +117,8 @@ place_next table index position item place e last =
     place.goes_on.items ∙ ap (λ (k : ℕ). items k bytes) left ∙ items_more (room table - suc n) bytes item e in
     let step = dropped_some n (walk table) item (items (room table - suc n) (behind item bytes)) here in
     let front = front_item bytes item e in
-    let further : behind item bytes ≡ drop (position + (2 + length item)) table.bytes = drop-drop (2 + length item) position table.bytes in
+    let further : behind item bytes ≡ drop (position + (2 + length item)) table.bytes =
+    drop-drop (2 + length item) position table.bytes in
     let one : index + 1 - table.header.minimum_index ≡ suc n = omega arith in
     record {
       is = step.0;
@@ -118,22 +127,26 @@ place_next table index position item place e last =
         least = omega arith;
         reached = rw one (let h = step.1 in omega arith);
         far = let far = place.far in let kind = front.kind in omega arith;
-        within = let within = front.within in let before = place.within in omega (arith, length-drop position table.bytes);
+        within = let within = front.within in let before = place.within in
+            omega (arith, length-drop position table.bytes);
         short = place.short;
         goes_on = rw one (record {
           items = step.2 ∙ ap (λ (b : List ℕ). items (room table - suc n) b) further;
-          rest = place.goes_on.rest ∙ ap (λ (k : ℕ). rest k bytes) left ∙ rest_more (room table - suc n) bytes item e ∙ ap (λ (b : List ℕ). rest (room table - suc n) b) further;
+          rest = place.goes_on.rest ∙ ap (λ (k : ℕ). rest k bytes) left ∙ rest_more (room table - suc n) bytes item e
+              ∙ ap (λ (b : List ℕ). rest (room table - suc n) b) further;
         });
       };
     }
 
 -- ---- what is read there
 
-pub nth_some : (table : Table) (n : ℕ) (item : List ℕ) → slice_get (walk table) n ≡ Some item → nth_item table n ≡ Ok item
+pub nth_some : (table : Table) (n : ℕ) (item : List ℕ) → slice_get (walk table) n ≡ Some item
+    → nth_item table n ≡ Ok item
 unfolding nth_item
 nth_some table n item e = rw e refl
 
-pub nth_none : (table : Table) (n : ℕ) → slice_get (walk table) n ≡ None → nth_item table n ≡ Err (fault_of (walk_rest table))
+pub nth_none : (table : Table) (n : ℕ) → slice_get (walk table) n ≡ None
+    → nth_item table n ≡ Err (fault_of (walk_rest table))
 unfolding nth_item
 nth_none table n e = rw e refl
 
@@ -148,33 +161,43 @@ fault_whole bytes item e = rw e refl
 abbrev pub counted : List ℕ → ℕ → ℕ
 counted bytes calls = cond (ltb (length bytes) 2) calls (one_more calls)
 
-pub reads_next : (table : Table) (index position calls : ℕ) (item : List ℕ) → IsNext table index position item → first_item (drop position table.bytes) ≡ Ok item
+pub reads_next : (table : Table) (index position calls : ℕ) (item : List ℕ) → IsNext table index position item
+    → first_item (drop position table.bytes) ≡ Ok item
     → counted (drop position table.bytes) calls ≡ reads_one (record { table = table; index = index }) calls
 reads_next table index position calls item next e =
     let within = (front_item (drop position table.bytes) item e).within in
-    let test : ltb (length (drop position table.bytes)) 2 ≡ false = le-ltb (length (drop position table.bytes)) 2 (omega arith) in
-    let here : ltb (index - table.header.minimum_index) (length (walk table)) ≡ true = lt-ltb (index - table.header.minimum_index) (length (walk table)) next.within in
+    let test : ltb (length (drop position table.bytes)) 2 ≡ false =
+    le-ltb (length (drop position table.bytes)) 2 (omega arith) in
+    let here : ltb (index - table.header.minimum_index) (length (walk table)) ≡ true =
+    lt-ltb (index - table.header.minimum_index) (length (walk table)) next.within in
     rw (test, here) refl
 
-pub reads_behind : (table : Table) (index position calls : ℕ) → IsBehind table index position → counted (drop position table.bytes) calls ≡ reads_one (record { table = table; index = index }) calls
+pub reads_behind : (table : Table) (index position calls : ℕ) → IsBehind table index position
+    → counted (drop position table.bytes) calls ≡ reads_one (record { table = table; index = index }) calls
 reads_behind table index position calls is =
     let all = is.all in
-    let here : ltb (index - table.header.minimum_index) (length (walk table)) ≡ false = le-ltb (index - table.header.minimum_index) (length (walk table)) (omega arith) in
+    let here : ltb (index - table.header.minimum_index) (length (walk table)) ≡ false =
+    le-ltb (index - table.header.minimum_index) (length (walk table)) (omega arith) in
     rw (here, is.rest) (let bytes = drop position table.bytes in grind (arith, nat_tests))
 
 -- ---- what a read answers
 
-pub read_next : (table : Table) (index position : ℕ) (item : List ℕ) → IsNext table index position item → nth_item table (index - table.header.minimum_index) ≡ Ok item
+pub read_next : (table : Table) (index position : ℕ) (item : List ℕ) → IsNext table index position item
+    → nth_item table (index - table.header.minimum_index) ≡ Ok item
 read_next table index position item next = nth_some table (index - table.header.minimum_index) item next.is
 
-pub read_fault : (table : Table) (index position : ℕ) (fault : Refusal) → IsPlace table index position → first_item (drop position table.bytes) ≡ Err fault → nth_item table (index - table.header.minimum_index) ≡ Err fault
+pub read_fault : (table : Table) (index position : ℕ) (fault : Refusal) → IsPlace table index position
+    → first_item (drop position table.bytes) ≡ Err fault
+    → nth_item table (index - table.header.minimum_index) ≡ Err fault
 read_fault table index position fault place e =
     let end = place_end table index position fault place e in
     nth_none table (index - table.header.minimum_index) end.none
     ∙ ap (λ (bytes : List ℕ). err (fault_of bytes)) end.rest
     ∙ ap (λ (f : Refusal). err f) (fault_is (drop position table.bytes) fault e)
 
-pub read_full : (table : Table) (index position : ℕ) (item : List ℕ) → IsPlace table index position → first_item (drop position table.bytes) ≡ Ok item → 2 ^ 32 ≤ index → nth_item table (index - table.header.minimum_index) ≡ Err (type_not_found 0xffffffff)
+pub read_full : (table : Table) (index position : ℕ) (item : List ℕ) → IsPlace table index position
+    → first_item (drop position table.bytes) ≡ Ok item → 2 ^ 32 ≤ index
+    → nth_item table (index - table.header.minimum_index) ≡ Err (type_not_found 0xffffffff)
 read_full table index position item place e last =
     let end = place_full table index position place last in
     nth_none table (index - table.header.minimum_index) end.none

@@ -1,5 +1,6 @@
 -- Steps from the first item on give the walk, and then its end.
-use Rattle.std.proofs.Common.{◌≡◌, ◌⊎◌, inl, inr, ℕ, ◌+◌, ◌≤◌, List, [], ◌∷◌, ◌++◌, length, refl, sym, ap, subst, ◌∙◌, arith, Option, Result, Ok, Err, Some, None}
+use Rattle.std.proofs.Common.{◌≡◌, ◌⊎◌, inl, inr, ℕ, ◌+◌, ◌≤◌, List, [], ◌∷◌, ◌++◌, length, refl, sym, ap, subst, ◌∙◌}
+use Rattle.std.proofs.Common.{arith, Option, Result, Ok, Err, Some, None}
 use Rattle.std.proofs.lemmas.Option.{slice_get_past}
 use Rattle.pdb_base.specs.declared.error.Error.{Error}
 use Rattle.pdb_tpi.specs.Table.{Table}
@@ -12,14 +13,16 @@ abbrev pub stand_at : Table → ℕ → WalkPosition
 stand_at table n = record { table = table; index = table.header.minimum_index + n }
 
 -- A step from a place answers what is there, and goes on behind an item, and else stays.
-record IsOneStep {X : Type 0} (seen : X → ℕ × List ℕ) (table : Table) (n : ℕ) (result : Result (Option X) Error) (next : WalkPosition) : Type 0 where
+record IsOneStep {X : Type 0} (seen : X → ℕ × List ℕ) (table : Table) (n : ℕ) (result : Result (Option X) Error)
+    (next : WalkPosition) : Type 0 where
   pub at_place : IsAnswerAt seen table n result
   pub goes_on : (next ≡ stand_at table (n + 1)) ⊎ ((length (walk table) ≤ n) × (next ≡ stand_at table n))
 
 place_there : (table : Table) (n : ℕ) → steps_taken (stand_at table n) ≡ n
 place_there table n = omega arith
 
-one_step : {X : Type 0} (seen : X → ℕ × List ℕ) (table : Table) (n : ℕ) (result : Result (Option X) Error) (next : WalkPosition) → IsStep seen (stand_at table n) result next → IsOneStep seen table n result next
+one_step : {X : Type 0} (seen : X → ℕ × List ℕ) (table : Table) (n : ℕ) (result : Result (Option X) Error)
+    (next : WalkPosition) → IsStep seen (stand_at table n) result next → IsOneStep seen table n result next
 one_step seen table n (Ok (Some x)) next step =
     let old = stand_at table n in
     let given = step_some seen old x next step in
@@ -54,11 +57,16 @@ one_step seen table n (Err e) next step =
     }
 
 -- behind the last item every step answers the same
-still_behind : {X : Type 0} (seen : X → ℕ × List ℕ) (table : Table) (n m : ℕ) (result : Result (Option X) Error) → length (walk table) ≤ n → length (walk table) ≤ m → IsAnswerAt seen table n result → IsAnswerAt seen table m result
-still_behind seen table n m result past further (inl gives) = absurd (let none = slice_get_past (walk table) n past in let some = gives.in_walk in cc)
+still_behind : {X : Type 0} (seen : X → ℕ × List ℕ) (table : Table) (n m : ℕ) (result : Result (Option X) Error)
+    → length (walk table) ≤ n → length (walk table) ≤ m → IsAnswerAt seen table n result
+    → IsAnswerAt seen table m result
+still_behind seen table n m result past further (inl gives) =
+    absurd (let none = slice_get_past (walk table) n past in let some = gives.in_walk in cc)
 still_behind seen table n m result past further (inr behind) = inr (further, behind.1)
 
-steps_from : {X : Type 0} (seen : X → ℕ × List ℕ) (table : Table) (n : ℕ) (before behind : List (Result (Option X) Error)) (result : Result (Option X) Error) → AreSteps seen (stand_at table n) (before ++ result ∷ behind)
+steps_from : {X : Type 0} (seen : X → ℕ × List ℕ) (table : Table) (n : ℕ)
+    (before behind : List (Result (Option X) Error)) (result : Result (Option X) Error)
+    → AreSteps seen (stand_at table n) (before ++ result ∷ behind)
     → IsAnswerAt seen table (n + length before) result
 steps_from seen table n [] behind result steps =
     let here : n + 0 ≡ n = omega arith in
@@ -73,14 +81,17 @@ steps_from seen table n (first ∷ before) behind result steps =
       | inr stays ↦
           let further = subst (λ (s : WalkPosition). AreSteps seen s (before ++ result ∷ behind)) stays.1 steps.2 in
           let past = stays.0 in
-          still_behind seen table (n + length before) (n + length (first ∷ before)) result (omega arith) (omega arith) (steps_from seen table n before behind result further)
+          still_behind seen table (n + length before) (n + length (first ∷ before)) result (omega arith) (omega arith)
+          (steps_from seen table n before behind result further)
     ]
 
 -- Of steps from the first item on, each answers what stands at its number in the walk.
-pub steps_give : {X : Type 0} (seen : X → ℕ × List ℕ) (table : Table) (before behind : List (Result (Option X) Error)) (result : Result (Option X) Error) → AreSteps seen (first_stand table) (before ++ result ∷ behind)
+pub steps_give : {X : Type 0} (seen : X → ℕ × List ℕ) (table : Table) (before behind : List (Result (Option X) Error))
+    (result : Result (Option X) Error) → AreSteps seen (first_stand table) (before ++ result ∷ behind)
     → IsAnswerAt seen table (length before) result
 steps_give seen table before behind result steps =
     let start : table.header.minimum_index ≡ table.header.minimum_index + 0 = omega arith in
-    let first = subst (λ (i : ℕ). AreSteps seen (record { table = table; index = i }) (before ++ result ∷ behind)) start steps in
+    let first = subst (λ (i : ℕ). AreSteps seen (record { table = table; index = i })
+    (before ++ result ∷ behind)) start steps in
     let there : 0 + length before ≡ length before = omega arith in
     rw there at (steps_from seen table 0 before behind result first)

@@ -1,6 +1,7 @@
 -- Field lists (LF_FIELDLIST of Microsoft's cvinfo.h), and the chains that they form: an LF_INDEX in a
 -- list names the list that continues it.
-use Rattle.std.specs.Prelude.{◌≡◌, ◌⊎◌, ℕ, zero, suc, ◌<◌, ◌≤◌, ◌==◌, nat_lt, if◌then◌else◌, List, [], ◌∷◌, ◌++◌, map, codes, Option, Some, None, Ok, Err}
+use Rattle.std.specs.Prelude.{◌≡◌, ◌⊎◌, ℕ, zero, suc, ◌<◌, ◌≤◌, ◌==◌, nat_lt, if◌then◌else◌, List, [], ◌∷◌, ◌++◌, map}
+use Rattle.std.specs.Prelude.{codes, Option, Some, None, Ok, Err}
 use Rattle.std.specs.List.{flat_map}
 use Rattle.pdb_base.specs.declared.index.TypeIndex.{TypeIndex}
 use Rattle.pdb_base.specs.Refusal.{Refusal, unimplemented_type_kind, unimplemented_feature}
@@ -49,7 +50,8 @@ not_below = unimplemented_feature (codes "field list continuation not below its 
 -- next, whose index is below its own, and the last is continued by the list of index `to`.
 abbrev pub Lead : LookUp → ℕ → List Listed → ℕ → Type 0
 Lead look from [] to = from ≡ to
-Lead look from (list ∷ lists) to = (list_of look from ≡ Ok list) × ((next : TypeIndex) × (list.continuation ≡ Some next) × (next.0 < from) × Lead look next.0 lists to)
+Lead look from (list ∷ lists) to = (list_of look from ≡ Ok list)
+    × ((next : TypeIndex) × (list.continuation ≡ Some next) × (next.0 < from) × Lead look next.0 lists to)
 
 -- Lists form the chain of an index: they lead from that index to a last list, which has no continuation.
 pub record IsChain (look : LookUp) (index : ℕ) (lists : List Listed) : Type 0 where
@@ -107,8 +109,10 @@ fields_of look index = along (suc index) look index
 -- What `fields_of` answers, in terms of chains: the joined fields of the only chain, or the refusal with
 -- which it breaks, and never both.
 pub record IsChainAnswer (look : LookUp) (index : ℕ) : Type 0 where
-  pub joined : (lists : List Listed) → IsChain look index lists → fields_of look index ≡ Ok (flat_map (λ list. list.fields) lists)
-  pub chained : (fields : List TypeValue) → fields_of look index ≡ Ok fields → (lists : List Listed) × IsChain look index lists × (fields ≡ flat_map (λ list. list.fields) lists)
+  pub joined : (lists : List Listed) → IsChain look index lists
+      → fields_of look index ≡ Ok (flat_map (λ list. list.fields) lists)
+  pub chained : (fields : List TypeValue) → fields_of look index ≡ Ok fields → (lists : List Listed)
+      × IsChain look index lists × (fields ≡ flat_map (λ list. list.fields) lists)
   pub one : (lists others : List Listed) → IsChain look index lists → IsChain look index others → lists ≡ others
   pub refused : (refusal : Refusal) → Breaks look index refusal → fields_of look index ≡ Err refusal
   pub broken : (refusal : Refusal) → fields_of look index ≡ Err refusal → Breaks look index refusal

@@ -1,5 +1,6 @@
 -- A finder knows where some blocks of eight items begin, and looks up an item by a walk within its block.
-use Rattle.std.specs.Prelude.{◌≡◌, ℕ, ◌+◌, ◌-◌, ◌*◌, ◌/◌, ◌<◌, ◌≤◌, ◌==◌, Bool, ◌&&◌, nat_lt, nat_le, min, if◌then◌else◌, List, [], ◌∷◌, ◌++◌, length, map, Ok, Err}
+use Rattle.std.specs.Prelude.{◌≡◌, ℕ, ◌+◌, ◌-◌, ◌*◌, ◌/◌, ◌<◌, ◌≤◌, ◌==◌, Bool, ◌&&◌, nat_lt, nat_le, min}
+use Rattle.std.specs.Prelude.{if◌then◌else◌, List, [], ◌∷◌, ◌++◌, length, map, Ok, Err}
 use Rattle.std.specs.Int.{div_ceil}
 use Rattle.std.specs.List.{fold, range_with_len}
 use Rattle.pdb_base.specs.Refusal.{type_not_found, type_not_indexed}
@@ -27,7 +28,8 @@ known_when_new table = if count_of table == 0 then 0 else 1
 -- These indexes occur in a list of indexes in this order, next to each other or not.
 abbrev pub StandIn : List ℕ → List ℕ → Type 0
 StandIn [] shown = Unit {0}
-StandIn (first ∷ firsts) shown = (before : List ℕ) × (behind : List ℕ) × (shown ≡ before ++ first ∷ behind) × StandIn firsts behind
+StandIn (first ∷ firsts) shown = (before : List ℕ) × (behind : List ℕ) × (shown ≡ before ++ first ∷ behind)
+    × StandIn firsts behind
 
 -- Blocks become known up to `known`: the first index of each new block is below the maximum, and
 -- iterators at these first indexes were shown in their order.
@@ -45,7 +47,8 @@ pub record IsKnown (table : Table) (old : ℕ) (shown : List ℕ) (known : ℕ) 
 -- The number of blocks that are known after one iterator was shown: one more, if it stands before the
 -- first item of the next block and the index of that item is below the maximum.
 abbrev pub known_after : Table → ℕ → ℕ → ℕ
-known_after table known i = if i == first_of table known && nat_lt i table.header.maximum_index then known + 1 else known
+known_after table known i = if i == first_of table known
+    && nat_lt i table.header.maximum_index then known + 1 else known
 
 -- the same after several iterators, one after another
 unfoldable pub known_of : Table → ℕ → List ℕ → ℕ

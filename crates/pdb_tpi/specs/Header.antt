@@ -73,11 +73,15 @@ header_fields bytes = do
 -- minimum index at least 4096, and its maximum index not below the minimum.
 unfoldable pub checked : Header → ℕ → Answer (Unit {0})
 checked header len = do
-  least ← required (nat_le 56 header.header_size) (invalid_type_information_header (codes "header size is impossibly small"))
-  most ← required (nat_le header.header_size 1024) (invalid_type_information_header (codes "header size is unreasonably large"))
+  least ← required (nat_le 56 header.header_size)
+      (invalid_type_information_header (codes "header size is impossibly small"))
+  most ← required (nat_le header.header_size 1024)
+      (invalid_type_information_header (codes "header size is unreasonably large"))
   whole ← required (nat_le header.header_size len) unexpected_eof
-  typed ← required (nat_le 4096 header.minimum_index) (invalid_type_information_header (codes "minimum type index is < 4096"))
-  required (nat_le header.minimum_index header.maximum_index) (invalid_type_information_header (codes "maximum type index is < minimum type index"))
+  typed ← required (nat_le 4096 header.minimum_index)
+      (invalid_type_information_header (codes "minimum type index is < 4096"))
+  required (nat_le header.minimum_index header.maximum_index)
+      (invalid_type_information_header (codes "maximum type index is < minimum type index"))
 
 -- reads and checks the header at the front of a table's bytes
 unfoldable pub read_header_of : List ℕ → Answer Header

@@ -44,7 +44,8 @@ StandAtOffsets bytes =
 -- For any bytes, there is exactly one walk.
 pub record WalksOnce (limit : ℕ) (bytes : List ℕ) : Type 0 where
   pub is : IsWalk limit bytes (items limit bytes) (rest limit bytes)
-  pub only : (found : List (List ℕ)) (left : List ℕ) → IsWalk limit bytes found left → (found ≡ items limit bytes) × (left ≡ rest limit bytes)
+  pub only : (found : List (List ℕ)) (left : List ℕ) → IsWalk limit bytes found left → (found ≡ items limit bytes)
+      × (left ≡ rest limit bytes)
 
 -- The fault of the bytes at which a walk stops: that they end within a length or within the item behind
 -- it, that the length leaves no room for a kind, or, if a whole item stands there, that its index would
@@ -52,11 +53,15 @@ pub record WalksOnce (limit : ℕ) (bytes : List ℕ) : Type 0 where
 pub record HasFault (bytes : List ℕ) : Type 0 where
   pub no_length : length bytes < 2 → fault_of bytes ≡ unexpected_eof
   pub too_short : 2 ≤ length bytes → little_number 2 (take 2 bytes) < 2 → fault_of bytes ≡ type_too_short
-  pub cut : 2 ≤ little_number 2 (take 2 bytes) → length bytes < 2 + little_number 2 (take 2 bytes) → fault_of bytes ≡ unexpected_eof
-  pub whole : (item more : List ℕ) → IsItem item → bytes ≡ framed item ++ more → fault_of bytes ≡ type_not_found 0xffffffff
+  pub cut : 2 ≤ little_number 2 (take 2 bytes) → length bytes < 2 + little_number 2 (take 2 bytes)
+      → fault_of bytes ≡ unexpected_eof
+  pub whole : (item more : List ℕ) → IsItem item → bytes ≡ framed item ++ more
+      → fault_of bytes ≡ type_not_found 0xffffffff
 
 -- A look-up reads at most eight length words. If the walk has the item, these are those of the items
 -- before it in its block, and its own.
 pub record ReadsFew (table : Table) (known i : ℕ) : Type 0 where
   pub few : reads_of table known i ≤ 8
-  pub found : IsTrue (has_index table i) → block_of table i < known → i - table.header.minimum_index < length (walk table) → reads_of table known i ≡ (i - table.header.minimum_index) % 8 + 1
+  pub found : IsTrue (has_index table i) → block_of table i < known
+      → i - table.header.minimum_index < length (walk table)
+      → reads_of table known i ≡ (i - table.header.minimum_index) % 8 + 1

@@ -35,7 +35,8 @@ located table i =
 
 -- the place of the record that the next step of a walk returns, and where the walk stands afterwards
 abbrev pub step_located : WalkPosition → Answer (Option RecordPlace × WalkPosition)
-step_located stand = step_of stand >>= λ step. Ok (option_map (λ item. record_at stand.table (steps_taken stand) item.1) step.0, step.1)
+step_located stand = step_of stand >>= λ step. Ok
+    (option_map (λ item. record_at stand.table (steps_taken stand) item.1) step.0, step.1)
 
 -- What an open table keeps: where the blocks begin that look-ups know, and where its walk stands.
 pub record IsOpen (table : Table) (positions : List ℕ) (capacity index position : ℕ) : Type 0 where

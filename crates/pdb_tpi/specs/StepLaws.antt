@@ -1,5 +1,6 @@
 -- What the steps of an iterator return one after another.
-use Rattle.std.specs.Prelude.{◌≡◌, ◌≢◌, ◌⊎◌, ℕ, ◌+◌, ◌≤◌, List, [], ◌∷◌, length, slice_get, Option, Some, None, Result, Ok, Err, ⊤}
+use Rattle.std.specs.Prelude.{◌≡◌, ◌≢◌, ◌⊎◌, ℕ, ◌+◌, ◌≤◌, List, [], ◌∷◌, length, slice_get, Option, Some, None, Result}
+use Rattle.std.specs.Prelude.{Ok, Err, ⊤}
 use Rattle.pdb_base.specs.declared.error.Error.{Error}
 use Rattle.pdb_base.specs.Refusal.{refusal_of}
 use Rattle.pdb_tpi.specs.Table.{Table}
@@ -9,14 +10,16 @@ use Rattle.pdb_tpi.specs.Steps.{WalkPosition, walk, walk_rest, IsStep}
 -- the results of steps, each of which begins where the one before ended
 abbrev pub AreSteps : {X : Type 0} → (X → ℕ × List ℕ) → WalkPosition → List (Result (Option X) Error) → Type 0
 AreSteps seen stand [] = ⊤
-AreSteps seen stand (result ∷ results) = (next : WalkPosition) × IsStep seen stand result next × AreSteps seen next results
+AreSteps seen stand (result ∷ results) = (next : WalkPosition) × IsStep seen stand result next
+    × AreSteps seen next results
 
 -- where an iterator stands before the first item
 abbrev pub first_stand : Table → WalkPosition
 first_stand table = record { table = table; index = table.header.minimum_index }
 
 -- A step returns item `n` of the walk, with its index.
-pub record GivesItem {X : Type 0} (seen : X → ℕ × List ℕ) (table : Table) (n : ℕ) (result : Result (Option X) Error) : Type 0 where
+pub record GivesItem {X : Type 0} (seen : X → ℕ × List ℕ) (table : Table) (n : ℕ)
+    (result : Result (Option X) Error) : Type 0 where
   pub item : List ℕ
   pub in_walk : slice_get (walk table) n ≡ Some item
   pub given : X
@@ -31,7 +34,8 @@ pub record IsRefusedThere {X : Type 0} (table : Table) (result : Result (Option 
 
 -- Behind the items of the walk, a step returns None if no byte is left, and fails if there is one.
 abbrev pub GivesRest : {X : Type 0} → Table → Result (Option X) Error → Type 0
-GivesRest table result = ((walk_rest table ≡ []) × (result ≡ Ok None)) ⊎ ((walk_rest table ≢ []) × IsRefusedThere table result)
+GivesRest table result = ((walk_rest table ≡ []) × (result ≡ Ok None))
+    ⊎ ((walk_rest table ≢ []) × IsRefusedThere table result)
 
 -- the result of a step that comes after `n` others: item `n` of the walk, or what comes behind the items
 abbrev pub IsAnswerAt : {X : Type 0} → (X → ℕ × List ℕ) → Table → ℕ → Result (Option X) Error → Type 0

@@ -1,5 +1,6 @@
 -- The walk over a table, and an iterator's steps along it.
-use Rattle.std.specs.Prelude.{◌≡◌, ℕ, ◌+◌, ◌-◌, ◌^◌, ◌<◌, ◌||◌, nat_lt, nat_le, if◌then◌else◌, List, [], ◌∷◌, length, drop, slice_get, Option, Some, None, Result, Ok, Err, OnErr, IfOk, IfSome}
+use Rattle.std.specs.Prelude.{◌≡◌, ℕ, ◌+◌, ◌-◌, ◌^◌, ◌<◌, ◌||◌, nat_lt, nat_le, if◌then◌else◌, List, [], ◌∷◌, length}
+use Rattle.std.specs.Prelude.{drop, slice_get, Option, Some, None, Result, Ok, Err, OnErr, IfOk, IfSome}
 use Rattle.std.specs.Option.{option_map, option_map_or}
 use Rattle.pdb_base.specs.declared.error.Error.{Error}
 use Rattle.pdb_base.specs.Answer.{Answer, Gives}
@@ -49,12 +50,14 @@ stopped stand (byte ∷ rest) = Err (fault_of (byte ∷ rest))
 -- what a step returns: the next item with its index, and where the iterator stands afterwards
 unfoldable pub step_of : WalkPosition → Answer (Option (ℕ × List ℕ) × WalkPosition)
 step_of stand =
-    option_map_or (λ item. Ok (Some (stand.index, item), record stand { index = stand.index + 1 })) (slice_get (walk stand.table) (steps_taken stand)) (stopped stand (walk_rest stand.table))
+    option_map_or (λ item. Ok (Some (stand.index, item), record stand { index = stand.index + 1 }))
+    (slice_get (walk stand.table) (steps_taken stand)) (stopped stand (walk_rest stand.table))
 
 -- A step returns what `step_of` gives, if `seen` shows each item as its index and bytes, and stays in its
 -- table. A step that fails doesn't move the iterator, so the next one fails with the same refusal. A step
 -- that returns an item leaves fewer items.
-pub record IsStep {X : Type 0} (seen : X → ℕ × List ℕ) (old : WalkPosition) (result : Result (Option X) Error) (new : WalkPosition) : Type 0 where
+pub record IsStep {X : Type 0} (seen : X → ℕ × List ℕ) (old : WalkPosition) (result : Result (Option X) Error)
+    (new : WalkPosition) : Type 0 where
   pub gives : Gives (λ item. (option_map seen item, new)) result (step_of old)
   pub kept : OnErr result (new ≡ old)
   pub stays : new.table ≡ old.table
@@ -63,4 +66,5 @@ pub record IsStep {X : Type 0} (seen : X → ℕ × List ℕ) (old : WalkPositio
 -- the count of length words after the next step, which reads one if two bytes are left for it
 abbrev pub reads_one : WalkPosition → ℕ → ℕ
 reads_one stand calls =
-    if nat_lt (steps_taken stand) (length (walk stand.table)) || nat_le 2 (length (walk_rest stand.table)) then one_more calls else calls
+    if nat_lt (steps_taken stand) (length (walk stand.table)) || nat_le 2
+    (length (walk_rest stand.table)) then one_more calls else calls

@@ -1,5 +1,6 @@
 -- The items of a table stand one behind another, each behind a u16 with its length.
-use Rattle.std.specs.Prelude.{◌≡◌, ◌≢◌, ℕ, zero, suc, ◌+◌, ◌^◌, ◌<◌, ◌≤◌, nat_le, List, [], ◌∷◌, ◌++◌, length, drop, Ok, Err}
+use Rattle.std.specs.Prelude.{◌≡◌, ◌≢◌, ℕ, zero, suc, ◌+◌, ◌^◌, ◌<◌, ◌≤◌, nat_le, List, [], ◌∷◌, ◌++◌, length, drop, Ok}
+use Rattle.std.specs.Prelude.{Err}
 use Rattle.std.specs.Option.{option_map_or}
 use Rattle.std.specs.Result.{result_ok}
 use Rattle.std.specs.List.{AllByRecursion, flat_map}
@@ -42,7 +43,8 @@ behind item bytes = drop (2 + length item) bytes
 -- the items at the front of bytes, at most as many as the first argument
 unfoldable pub items : ℕ → List ℕ → List (List ℕ)
 items zero bytes = []
-items (suc limit) bytes = option_map_or (λ item. item ∷ items limit (behind item bytes)) (result_ok (first_item bytes)) []
+items (suc limit) bytes = option_map_or (λ item. item ∷ items limit (behind item bytes))
+    (result_ok (first_item bytes)) []
 
 -- the bytes that are left behind those items
 unfoldable pub rest : ℕ → List ℕ → List ℕ

@@ -1,5 +1,6 @@
 -- Each primitive type has one index.
-use Rattle.std.proofs.Common.{◌≡◌, ℕ, ◌+◌, ◌*◌, ◌^◌, ◌<◌, true, ◌==◌, List, [], ◌∷◌, Option, Some, None, Ok, Err, refl, sym, ap, ◌∙◌, arith, lit<}
+use Rattle.std.proofs.Common.{◌≡◌, ℕ, ◌+◌, ◌*◌, ◌^◌, ◌<◌, true, ◌==◌, List, [], ◌∷◌, Option, Some, None, Ok, Err, refl}
+use Rattle.std.proofs.Common.{sym, ap, ◌∙◌, arith, lit<}
 use Rattle.std.specs.List.{list_all}
 use Rattle.std.proofs.lemmas.Bool.Decides.{nat_tests}
 use Rattle.pdb_base.specs.Bits.{bits}
@@ -12,7 +13,8 @@ use Rattle.pdb_values.specs.declared.primitive.Indirection.TheVariants as pointe
 use Rattle.pdb_values.specs.declared.primitive.PrimitiveKind.{PrimitiveKind}
 use Rattle.pdb_values.specs.declared.primitive.PrimitiveKind.TheVariants as kinds
 use Rattle.pdb_values.specs.declared.primitive.PrimitiveType.{PrimitiveType}
-use Rattle.pdb_values.specs.Primitive.{first_record, primitive_kinds, indirections, found, numbered, primitive_kind, primitive_indirection, primitive_type}
+use Rattle.pdb_values.specs.Primitive.{first_record, primitive_kinds, indirections, found, numbered, primitive_kind}
+use Rattle.pdb_values.specs.Primitive.{primitive_indirection, primitive_type}
 use Rattle.pdb_values.specs.Laws.{HasOneIndex, IsRefusedByIndex}
 
 -- the number of a kind
@@ -94,7 +96,8 @@ pointer_number-lt (Some pointers.Near16) = lit< tt
 pointer_number-lt (Some pointer) = lit< tt
 
 -- what a table says under a number, where each row has the number of what it says
-found_number : {A : Type 0} (number : A → ℕ) (rows : List (ℕ × A)) (n : ℕ) (x : A) → list_all (λ (row : ℕ × A). row.0 == number row.1) rows ≡ true → numbered rows n ≡ Some x → n ≡ number x
+found_number : {A : Type 0} (number : A → ℕ) (rows : List (ℕ × A)) (n : ℕ) (x : A)
+    → list_all (λ (row : ℕ × A). row.0 == number row.1) rows ≡ true → numbered rows n ≡ Some x → n ≡ number x
 found_number number [] n x all is = absurd cc
 found_number {A} number (row ∷ rows) n x all is =
     let rest = found_number number rows n x in
@@ -127,28 +130,41 @@ unfolding bits
 high kind pointer small few = omega arith
 
 -- both tables were read
-both : (index : ℕ) (type : PrimitiveType) → primitive_type index ≡ Ok type → (primitive_kind index ≡ Ok type.kind) × (primitive_indirection index ≡ Ok type.indirection)
+both : (index : ℕ) (type : PrimitiveType) → primitive_type index ≡ Ok type → (primitive_kind index ≡ Ok type.kind)
+    × (primitive_indirection index ≡ Ok type.indirection)
 unfolding primitive_type
 both index type is =
-    let kind = bind_ok (primitive_kind index) (λ k. primitive_indirection index >>= λ i. Ok (record { kind = k; indirection = i })) type is in
-    let pointer = bind_ok (primitive_indirection index) (λ i. Ok (record { kind = kind.0; indirection = i })) type kind.2 in
+    let kind = bind_ok (primitive_kind index)
+    (λ k. primitive_indirection index >>= λ i. Ok (record { kind = k; indirection = i })) type is in
+    let pointer = bind_ok (primitive_indirection index)
+    (λ i. Ok (record { kind = kind.0; indirection = i })) type kind.2 in
     let same = ok_is (record { kind = kind.0; indirection = pointer.0 }) type pointer.2 in
     (kind.1 ∙ ap (λ (t : PrimitiveType). Ok t.kind) same, pointer.1 ∙ ap (λ (t : PrimitiveType). Ok t.indirection) same)
 
 -- so an index is made of the numbers of what it stands for
-index_is : (index : ℕ) (type : PrimitiveType) → index < first_record → primitive_type index ≡ Ok type → index ≡ kind_number type.kind + 256 * pointer_number type.indirection
+index_is : (index : ℕ) (type : PrimitiveType) → index < first_record → primitive_type index ≡ Ok type
+    → index ≡ kind_number type.kind + 256 * pointer_number type.indirection
 unfolding primitive_kind primitive_indirection
 index_is index type small is =
     let read = both index type is in
-    let kind = found_number kind_number primitive_kinds (bits index 0 8) type.kind kinds_numbered (found_there index (numbered primitive_kinds (bits index 0 8)) type.kind read.0) in
-    let pointer = found_number pointer_number indirections (bits index 8 4) type.indirection pointers_numbered (found_there index (numbered indirections (bits index 8 4)) type.indirection read.1) in
+    let kind = found_number kind_number primitive_kinds (bits index 0 8) type.kind kinds_numbered
+    (found_there index (numbered primitive_kinds (bits index 0 8)) type.kind read.0) in
+    let pointer = found_number pointer_number indirections (bits index 8 4) type.indirection pointers_numbered
+    (found_there index (numbered indirections (bits index 8 4)) type.indirection read.1) in
     omega (arith, split index small, kind, pointer)
 
 -- and the index that is made of them stands for it
-stands : (type : PrimitiveType) → primitive_type (kind_number type.kind + 256 * pointer_number type.indirection) ≡ Ok type
+stands : (type : PrimitiveType) → primitive_type (kind_number type.kind + 256 * pointer_number type.indirection)
+    ≡ Ok type
 unfolding primitive_type primitive_kind primitive_indirection
 stands type =
-    rw (low (kind_number type.kind) (pointer_number type.indirection) (kind_number-lt type.kind), kind_row type.kind, high (kind_number type.kind) (pointer_number type.indirection) (kind_number-lt type.kind) (pointer_number-lt type.indirection), pointer_row type.indirection) refl
+    rw (
+      low (kind_number type.kind) (pointer_number type.indirection) (kind_number-lt type.kind),
+      kind_row type.kind,
+      high (kind_number type.kind) (pointer_number type.indirection) (kind_number-lt type.kind)
+          (pointer_number-lt type.indirection),
+      pointer_row type.indirection,
+    ) refl
 
 pub has_one_index : (type : PrimitiveType) → HasOneIndex type
 has_one_index type = record {
@@ -164,14 +180,18 @@ not_found {A} index (Some x) e is = absurd (ok_is_no_err x e is)
 not_found {A} index None e is = sym (err_is {A = A} (type_not_found index) e is)
 
 -- what is refused of two steps, the second or the first
-refused_step : {A B : Type 0} (answer : Answer A) (more : A → Answer B) (e d : Refusal) → ((e : Refusal) → answer ≡ Err e → e ≡ d) → ((x : A) → more x ≡ Err e → e ≡ d) → (answer >>= more) ≡ Err e → e ≡ d
+refused_step : {A B : Type 0} (answer : Answer A) (more : A → Answer B) (e d : Refusal)
+    → ((e : Refusal) → answer ≡ Err e → e ≡ d) → ((x : A) → more x ≡ Err e → e ≡ d) → (answer >>= more) ≡ Err e → e ≡ d
 refused_step (Ok x) more e d first second is = second x is
 refused_step {A} {B} (Err c) more e d first second is = sym (err_is {A = B} c e is) ∙ first c refl
 
 pub is_refused_by_index : (index : ℕ) → IsRefusedByIndex index
 unfolding primitive_type primitive_kind primitive_indirection
 is_refused_by_index index = λ e is.
-    refused_step (primitive_kind index) (λ k. primitive_indirection index >>= λ i. Ok (record { kind = k; indirection = i })) e (type_not_found index)
+    refused_step (primitive_kind index) (λ k. primitive_indirection index
+    >>= λ i. Ok (record { kind = k; indirection = i })) e (type_not_found index)
     (not_found index (numbered primitive_kinds (bits index 0 8)))
-    (λ k. refused_step (primitive_indirection index) (λ i. Ok (record { kind = k; indirection = i })) e (type_not_found index) (not_found index (numbered indirections (bits index 8 4))) (λ i no. absurd (ok_is_no_err _ e no)))
+    (λ k. refused_step (primitive_indirection index) (λ i. Ok (record { kind = k; indirection = i })) e
+    (type_not_found index) (not_found index (numbered indirections (bits index 8 4)))
+    (λ i no. absurd (ok_is_no_err _ e no)))
     is

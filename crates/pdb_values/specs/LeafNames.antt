@@ -151,4 +151,5 @@ later_leafs =
 
 -- the name of a leaf
 unfoldable pub leaf_text : ℕ → Option (List ℕ)
-leaf_text number = option_or (numbered narrow_leafs number) (option_or (numbered wide_leafs number) (numbered later_leafs number))
+leaf_text number = option_or (numbered narrow_leafs number)
+    (option_or (numbered wide_leafs number) (numbered later_leafs number))

@@ -36,7 +36,12 @@ member_value type = record {
 
 -- the value of a `StaticMemberType`
 abbrev pub static_member_value : StaticMemberType → StaticMemberValue
-static_member_value type = record { attributes = type.attributes; field_type = type.field_type; name = text_bytes type.name }
+static_member_value type = record {
+  attributes = type.attributes;
+  field_type = type.field_type;
+  name =
+      text_bytes type.name;
+}
 
 -- the value of a `NestedType`
 abbrev pub nested_value : NestedType → NestedValue

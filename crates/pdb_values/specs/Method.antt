@@ -22,7 +22,12 @@ pub record MethodValue : Type 0 where
 
 -- the value of an `OverloadedMethodType`
 abbrev pub overloaded_method_value : OverloadedMethodType → OverloadedMethodValue
-overloaded_method_value type = record { count = type.count; method_list = type.method_list; name = text_bytes type.name }
+overloaded_method_value type = record {
+  count = type.count;
+  method_list = type.method_list;
+  name =
+      text_bytes type.name;
+}
 
 -- the value of a `MethodType`
 abbrev pub method_value : MethodType → MethodValue

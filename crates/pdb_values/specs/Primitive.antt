@@ -9,7 +9,8 @@ use Rattle.pdb_base.specs.Refusal.{type_not_found}
 use Rattle.pdb_base.specs.Answer.{Answer, ◌>>=◌}
 use Rattle.pdb_values.specs.declared.primitive.TheConstants.{FIRST_RECORD}
 use Rattle.pdb_values.specs.declared.primitive.Indirection.{Indirection}
-use Rattle.pdb_values.specs.declared.primitive.Indirection.TheVariants.{Near16, Far16, Huge16, Near32, Far32, Near64, Near128}
+use Rattle.pdb_values.specs.declared.primitive.Indirection.TheVariants.{Near16, Far16, Huge16, Near32, Far32, Near64}
+use Rattle.pdb_values.specs.declared.primitive.Indirection.TheVariants.{Near128}
 use Rattle.pdb_values.specs.declared.primitive.PrimitiveKind.{PrimitiveKind}
 use Rattle.pdb_values.specs.declared.primitive.PrimitiveKind.TheVariants as kinds
 use Rattle.pdb_values.specs.declared.primitive.PrimitiveType.{PrimitiveType}

@@ -14,7 +14,13 @@ pub record Countdown : Type 0 where
 -- what it stands for as a source: it is sound once no view is left that fails
 abbrev pub state_of : Countdown → State
 state_of source =
-    record { bytes = source.bytes; faults = source.faults; last_fault = if source.faults == 0 then None else Some source.kind; is_sound = source.until == 0 }
+    record {
+      bytes = source.bytes;
+      faults = source.faults;
+      last_fault =
+          if source.faults == 0 then None else Some source.kind;
+      is_sound = source.until == 0;
+    }
 
 -- after one view more
 abbrev pub counted_down : Countdown → Countdown

@@ -8,7 +8,8 @@ use Rattle.pdb_base.specs.BitLaws.{ArePutTogether, IsAllItsBits, TellsOneBit}
 pub put_together : (word place low high : ℕ) → ArePutTogether word place low high
 unfolding bits
 put_together word place low high =
-    let above : word / 2 ^ place / 2 ^ low ≡ word / 2 ^ (place + low) = div-div-eq-div-mul word (2 ^ place) (2 ^ low) ∙ ap (λ (n : ℕ). word / n) (sym (pow-add 2 place low)) in
+    let above : word / 2 ^ place / 2 ^ low ≡ word / 2 ^ (place + low) = div-div-eq-div-mul word (2 ^ place) (2 ^ low)
+    ∙ ap (λ (n : ℕ). word / n) (sym (pow-add 2 place low)) in
     let order : low + high ≡ high + low = omega arith in
     ap (λ (n : ℕ). word / 2 ^ place % 2 ^ n) order
     ∙ mod-pow-add (word / 2 ^ place) high low

@@ -23,7 +23,8 @@ pub ok_is_no_err : {A : Type 0} (x : A) (e : Refusal) → ok x ≡ Err e → ⊥
 ok_is_no_err x e h = cc
 
 -- the values of two answers, one after the other
-pub bind_ok : {A B : Type 0} (r : Answer A) (f : A → Answer B) (y : B) → (r >>= f) ≡ Ok y → (x : A) × (r ≡ Ok x) × (f x ≡ Ok y)
+pub bind_ok : {A B : Type 0} (r : Answer A) (f : A → Answer B) (y : B) → (r >>= f) ≡ Ok y → (x : A) × (r ≡ Ok x)
+    × (f x ≡ Ok y)
 bind_ok (Ok x) f y e = (x, refl, e)
 bind_ok (Err d) f y e = absurd cc
 
@@ -32,14 +33,16 @@ bind_err : {A B : Type 0} (r : Answer A) (f : A → B) (e : Refusal) → (r >>= 
 bind_err (Ok x) f e h = absurd cc
 bind_err (Err d) f e h = cc
 
-pub collected-append_ok : {A : Type 0} (answers more : List (Answer A)) (xs ys : List A) → collected answers ≡ Ok xs → collected more ≡ Ok ys → collected (answers ++ more) ≡ Ok (xs ++ ys)
+pub collected-append_ok : {A : Type 0} (answers more : List (Answer A)) (xs ys : List A) → collected answers ≡ Ok xs
+    → collected more ≡ Ok ys → collected (answers ++ more) ≡ Ok (xs ++ ys)
 collected-append_ok {A} [] more xs ys e f = f ∙ ap (λ (zs : List A). Ok (zs ++ ys)) (ok_is [] xs e)
 collected-append_ok {A} (Ok x ∷ answers) more xs ys e f =
     let b = bind_ok (collected answers) (λ zs. Ok (x ∷ zs)) xs e in
     rw (collected-append_ok answers more b.0 ys b.1 f) (ap (λ (zs : List A). Ok (zs ++ ys)) (ok_is (x ∷ b.0) xs b.2))
 collected-append_ok {A} (Err d ∷ answers) more xs ys e f = absurd cc
 
-pub collected-append_err : {A : Type 0} (answers more : List (Answer A)) (xs : List A) (r : Refusal) → collected answers ≡ Ok xs → collected more ≡ Err r → collected (answers ++ more) ≡ Err r
+pub collected-append_err : {A : Type 0} (answers more : List (Answer A)) (xs : List A) (r : Refusal)
+    → collected answers ≡ Ok xs → collected more ≡ Err r → collected (answers ++ more) ≡ Err r
 collected-append_err [] more xs r e f = f
 collected-append_err (Ok x ∷ answers) more xs r e f =
     let b = bind_ok (collected answers) (λ zs. Ok (x ∷ zs)) xs e in
@@ -52,34 +55,44 @@ collected-values [] = refl
 collected-values (x ∷ xs) = rw (collected-values xs) refl
 
 -- what was collected is there
-values-collected : {A : Type 0} (answers : List (Answer A)) (xs : List A) → collected answers ≡ Ok xs → answers ≡ map ok xs
+values-collected : {A : Type 0} (answers : List (Answer A)) (xs : List A) → collected answers ≡ Ok xs
+    → answers ≡ map ok xs
 values-collected {A} [] xs e = ap (λ (ys : List A). map ok ys) (ok_is [] xs e)
 values-collected {A} (Ok x ∷ answers) xs e =
     let b = bind_ok (collected answers) (λ zs. Ok (x ∷ zs)) xs e in
-    ap (λ (r : List (Answer A)). ok x ∷ r) (values-collected answers b.0 b.1) ∙ ap (λ (ys : List A). map ok ys) (ok_is (x ∷ b.0) xs b.2)
+    ap (λ (r : List (Answer A)). ok x ∷ r) (values-collected answers b.0 b.1)
+    ∙ ap (λ (ys : List A). map ok ys) (ok_is (x ∷ b.0) xs b.2)
 values-collected (Err d ∷ answers) xs e = absurd cc
 
 pub collects_all : {A : Type 0} (answers : List (Answer A)) → CollectsAll answers
-collects_all {A} answers = (values-collected answers, λ xs e. ap (λ (r : List (Answer A)). collected r) e ∙ collected-values xs)
+collects_all {A} answers = (
+  values-collected answers,
+  λ xs e. ap (λ (r : List (Answer A)). collected r) e
+      ∙ collected-values xs,
+)
 
 -- the first that refuses is found
-first_refusal : {A : Type 0} (answers : List (Answer A)) (e : Refusal) → collected answers ≡ Err e → (before : List A) × (behind : List (Answer A)) × (answers ≡ map ok before ++ err e ∷ behind)
+first_refusal : {A : Type 0} (answers : List (Answer A)) (e : Refusal) → collected answers ≡ Err e → (before : List A)
+    × (behind : List (Answer A)) × (answers ≡ map ok before ++ err e ∷ behind)
 first_refusal [] e h = absurd cc
 first_refusal {A} (Ok x ∷ answers) e h =
     let rest = first_refusal answers e (bind_err (collected answers) (λ zs. x ∷ zs) e h) in
     (x ∷ rest.0, rest.1, ap (λ (r : List (Answer A)). ok x ∷ r) rest.2)
-first_refusal {A} (Err d ∷ answers) e h = ([], answers, ap (λ (r : Refusal). err r ∷ answers) (err_is {A = List A} d e h))
+first_refusal {A} (Err d ∷ answers) e h =
+    ([], answers, ap (λ (r : Refusal). err r ∷ answers) (err_is {A = List A} d e h))
 
 pub refuses_as_first : {A : Type 0} (answers : List (Answer A)) → RefusesAsFirst answers
 refuses_as_first {A} answers = (
   first_refusal answers,
-  λ e before behind is. ap (λ (r : List (Answer A)). collected r) is ∙ collected-append_err (map ok before) (err e ∷ behind) before e (collected-values before) refl,
+  λ e before behind is. ap (λ (r : List (Answer A)). collected r) is
+      ∙ collected-append_err (map ok before) (err e ∷ behind) before e (collected-values before) refl,
 )
 
 -- ---- answers in turn
 
 -- numbers up to one, that one, and those behind
-range_split : (from i more : ℕ) → range_with_len from (i + suc more) ≡ range_with_len from i ++ (from + i) ∷ range_with_len (from + i + 1) more
+range_split : (from i more : ℕ) → range_with_len from (i + suc more) ≡ range_with_len from i ++ (from + i)
+    ∷ range_with_len (from + i + 1) more
 range_split from zero more =
     let count : 0 + suc more ≡ suc more = omega arith in
     let first : from ≡ from + 0 = omega arith in
@@ -88,19 +101,26 @@ range_split from (suc i) more =
     let count : suc i + suc more ≡ suc (i + suc more) = omega arith in
     let first : from + 1 + i ≡ from + suc i = omega arith in
     ap (range_with_len from) count
-    ∙ ap (λ (r : List ℕ). from ∷ r) (range_split (from + 1) i more ∙ ap (λ (n : ℕ). range_with_len (from + 1) i ++ n ∷ range_with_len (n + 1) more) first)
+    ∙ ap (λ (r : List ℕ). from ∷ r) (range_split (from + 1) i more
+    ∙ ap (λ (n : ℕ). range_with_len (from + 1) i ++ n ∷ range_with_len (n + 1) more) first)
 
 -- the answers in turn, one more of which gives a value
-pub collected_more : {A : Type 0} (f : ℕ → Answer A) (i : ℕ) (xs : List A) (x : A) → collected (map f (range_with_len 0 i)) ≡ Ok xs → f i ≡ Ok x → collected (map f (range_with_len 0 (i + 1))) ≡ Ok (xs ++ x ∷ [])
+pub collected_more : {A : Type 0} (f : ℕ → Answer A) (i : ℕ) (xs : List A) (x : A)
+    → collected (map f (range_with_len 0 i)) ≡ Ok xs → f i ≡ Ok x
+    → collected (map f (range_with_len 0 (i + 1))) ≡ Ok (xs ++ x ∷ [])
 collected_more f i xs x so_far here =
     ap collected (map-range_with_len_more f 0 i i (omega arith))
     ∙ collected-append_ok (map f (range_with_len 0 i)) (f i ∷ []) xs (x ∷ []) so_far (rw here refl)
 
 -- the first of them that refuses is the refusal of all
-pub collected_stops : {A : Type 0} (f : ℕ → Answer A) (i count : ℕ) (xs : List A) (r : Refusal) → i < count → collected (map f (range_with_len 0 i)) ≡ Ok xs → f i ≡ Err r → collected (map f (range_with_len 0 count)) ≡ Err r
+pub collected_stops : {A : Type 0} (f : ℕ → Answer A) (i count : ℕ) (xs : List A) (r : Refusal) → i < count
+    → collected (map f (range_with_len 0 i)) ≡ Ok xs → f i ≡ Err r → collected (map f (range_with_len 0 count)) ≡ Err r
 collected_stops f i count xs r within so_far here =
     let all : count ≡ i + suc (count - i - 1) = omega arith in
     ap (λ (n : ℕ). collected (map f (range_with_len 0 n))) all
-    ∙ ap (λ (r : List ℕ). collected (map f r)) (range_split 0 i (count - i - 1) ∙ ap (λ (n : ℕ). range_with_len 0 i ++ n ∷ range_with_len (n + 1) (count - i - 1)) (omega arith))
+    ∙ ap (λ (r : List ℕ). collected (map f r))
+    (range_split 0 i (count - i - 1) ∙ ap (λ (n : ℕ). range_with_len 0 i ++ n
+    ∷ range_with_len (n + 1) (count - i - 1)) (omega arith))
     ∙ ap collected (map-append f (range_with_len 0 i) (i ∷ range_with_len (i + 1) (count - i - 1)))
-    ∙ collected-append_err (map f (range_with_len 0 i)) (f i ∷ map f (range_with_len (i + 1) (count - i - 1))) xs r so_far (rw here refl)
+    ∙ collected-append_err (map f (range_with_len 0 i))
+    (f i ∷ map f (range_with_len (i + 1) (count - i - 1))) xs r so_far (rw here refl)

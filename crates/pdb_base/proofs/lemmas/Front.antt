@@ -21,7 +21,9 @@ front_is_bytes (suc count) (byte ∷ bytes) =
     let more = front_is_bytes count bytes in
     elim (cases_lt (length bytes) count) [
       | inl short ↦
-          front_cut (suc count) (byte ∷ bytes) (omega (arith, short)) ∙ sym (rw (byte_read byte bytes, ← more, front_cut count bytes short) refl)
+          front_cut (suc count) (byte ∷ bytes) (omega (arith, short))
+          ∙ sym (rw (byte_read byte bytes, ← more, front_cut count bytes short) refl)
       | inr long ↦
-          front_whole (suc count) (byte ∷ bytes) (omega (arith, long)) ∙ sym (rw (byte_read byte bytes, ← more, front_whole count bytes long) refl)
+          front_whole (suc count) (byte ∷ bytes) (omega (arith, long))
+          ∙ sym (rw (byte_read byte bytes, ← more, front_whole count bytes long) refl)
     ]

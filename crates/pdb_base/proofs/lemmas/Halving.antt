@@ -1,5 +1,6 @@
 -- The steps of a search by halving.
-use Rattle.std.proofs.Common.{◌≡◌, ℕ, zero, suc, ◌+◌, ◌-◌, ◌/◌, ◌%◌, ◌^◌, ◌<◌, ◌≤◌, ◌⊎◌, inl, inr, length, sym, ap, ◌∙◌, arith}
+use Rattle.std.proofs.Common.{◌≡◌, ℕ, zero, suc, ◌+◌, ◌-◌, ◌/◌, ◌%◌, ◌^◌, ◌<◌, ◌≤◌, ◌⊎◌, inl, inr, length, sym, ap, ◌∙◌}
+use Rattle.std.proofs.Common.{arith}
 use Rattle.std.specs.Int.Digits.{digits_of}
 use Rattle.std.proofs.lemmas.Bool.{cases_lt}
 use Rattle.std.proofs.lemmas.Int.Digits.{length-digits_of_step, length-digits_of-le}
@@ -28,7 +29,8 @@ halving_begins number places bound last = record {
 }
 
 -- the number in the middle is at or below the bound
-pub halving_takes : (number : ℕ → ℕ) (places bound low size last next : ℕ) → IsHalved number places bound low size last → 0 < size → next ≡ number (low + size / 2) → next ≤ bound
+pub halving_takes : (number : ℕ → ℕ) (places bound low size last next : ℕ) → IsHalved number places bound low size last
+    → 0 < size → next ≡ number (low + size / 2) → next ≤ bound
     → IsHalved number places bound (low + size / 2 + size % 2) (size / 2) next
 halving_takes number places bound low size last next so_far some is at =
     let middle = low + size / 2 in
@@ -52,7 +54,8 @@ halving_takes number places bound low size last next so_far some is at =
     }
 
 -- it is above
-pub halving_passes : (number : ℕ → ℕ) (places bound low size last next : ℕ) → IsHalved number places bound low size last → 0 < size → next ≡ number (low + size / 2) → bound < next
+pub halving_passes : (number : ℕ → ℕ) (places bound low size last next : ℕ) → IsHalved number places bound low size last
+    → 0 < size → next ≡ number (low + size / 2) → bound < next
     → IsHalved number places bound low (size / 2) last
 halving_passes number places bound low size last next so_far some is above = record {
   within = omega (arith, so_far.within);
@@ -77,7 +80,8 @@ halving_passes number places bound low size last next so_far some is above = rec
 }
 
 -- and nothing is left
-pub halving_ends : (number : ℕ → ℕ) (places bound low size last : ℕ) → IsHalved number places bound low size last → size ≡ 0 → IsFound number places bound low last
+pub halving_ends : (number : ℕ → ℕ) (places bound low size last : ℕ) → IsHalved number places bound low size last
+    → size ≡ 0 → IsFound number places bound low last
 halving_ends number places bound low size last so_far none = record {
   within = omega (arith, so_far.within, none);
   before = λ here.
@@ -92,15 +96,18 @@ halving_ends number places bound low size last so_far none = record {
 
 -- ---- how many numbers are compared
 
-pub halving_counts : (size calls all : ℕ) → 0 < size → after_calls (binary_digits size) calls ≡ all → after_calls (binary_digits (size / 2)) (one_more calls) ≡ all
+pub halving_counts : (size calls all : ℕ) → 0 < size → after_calls (binary_digits size) calls ≡ all
+    → after_calls (binary_digits (size / 2)) (one_more calls) ≡ all
 unfolding binary_digits
 halving_counts size calls all some so_far =
-    let one : length (digits_of 2 size) ≡ length (digits_of 2 (size / 2)) + 1 = length-digits_of_step 2 size (omega arith) some in
+    let one : length (digits_of 2 size) ≡ length (digits_of 2 (size / 2)) + 1 =
+    length-digits_of_step 2 size (omega arith) some in
     call_before calls (length (digits_of 2 (size / 2))) ∙ ap (λ (n : ℕ). after_calls n calls) (sym one) ∙ so_far
 
 pub halving_counted : (size calls all : ℕ) → size ≡ 0 → after_calls (binary_digits size) calls ≡ all → calls ≡ all
 unfolding binary_digits
-halving_counted size calls all none so_far = ap (λ (n : ℕ). after_calls (length (digits_of 2 n)) calls) (sym none) ∙ so_far
+halving_counted size calls all none so_far = ap (λ (n : ℕ). after_calls (length (digits_of 2 n)) calls) (sym none)
+    ∙ so_far
 
 -- ---- binary digits
 
@@ -109,7 +116,8 @@ held_by turns zero few = let one : 2 ^ 0 ≡ 1 = pow-zero 2 in omega (arith, one
 held_by zero (suc n) few = absurd (omega (arith, few))
 held_by (suc turns) (suc n) few =
     let half = held_by turns (suc n / 2) (omega (arith, few)) in
-    let digits : length (digits_of 2 (suc n)) ≡ suc (length (digits_of 2 (suc n / 2))) = omega (arith, length-digits_of_step 2 (suc n) (omega arith) (omega arith)) in
+    let digits : length (digits_of 2 (suc n)) ≡ suc (length (digits_of 2 (suc n / 2))) =
+    omega (arith, length-digits_of_step 2 (suc n) (omega arith) (omega arith)) in
     let power = ap (λ (k : ℕ). 2 ^ k) digits ∙ pow-suc 2 (length (digits_of 2 (suc n / 2))) in
     omega (arith, half, power)
 

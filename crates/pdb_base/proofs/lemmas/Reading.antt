@@ -5,15 +5,19 @@ use Rattle.byteorder.specs.Endian.{little_number}
 use Rattle.pdb_base.specs.Refusal.{unexpected_eof}
 use Rattle.pdb_base.specs.Reading.{front_at, number_at}
 
-pub front_whole : (count : ℕ) (bytes : List ℕ) → count ≤ length bytes → front_at count bytes ≡ Ok (take count bytes, drop count bytes)
+pub front_whole : (count : ℕ) (bytes : List ℕ) → count ≤ length bytes
+    → front_at count bytes ≡ Ok (take count bytes, drop count bytes)
 unfolding front_at
-front_whole count bytes long = let test : ltb (length bytes) count ≡ false = le-ltb (length bytes) count long in rw test refl
+front_whole count bytes long = let test : ltb (length bytes) count ≡ false = le-ltb (length bytes) count long in
+    rw test refl
 
 pub front_cut : (count : ℕ) (bytes : List ℕ) → length bytes < count → front_at count bytes ≡ Err unexpected_eof
 unfolding front_at
-front_cut count bytes short = let test : ltb (length bytes) count ≡ true = lt-ltb (length bytes) count short in rw test refl
+front_cut count bytes short = let test : ltb (length bytes) count ≡ true = lt-ltb (length bytes) count short in
+    rw test refl
 
-pub number_whole : (width : ℕ) (bytes : List ℕ) → width ≤ length bytes → number_at width bytes ≡ Ok (little_number width (take width bytes), drop width bytes)
+pub number_whole : (width : ℕ) (bytes : List ℕ) → width ≤ length bytes
+    → number_at width bytes ≡ Ok (little_number width (take width bytes), drop width bytes)
 unfolding number_at
 number_whole width bytes long = rw (front_whole width bytes long) refl
 

@@ -17,7 +17,8 @@ bits_below word place count = mod_below (word / 2 ^ place) (2 ^ count) (pow_pos 
 
 -- a word of 32 bits is below any power of 2 from there on
 within : (word count : ℕ) → word < 2 ^ 32 → 32 ≤ count → word < 2 ^ count
-within word count small long = let more : 2 ^ 32 ≤ 2 ^ count = pow-le-pow_right {n = 2} (omega arith) long in omega (arith, small, more)
+within word count small long = let more : 2 ^ 32 ≤ 2 ^ count = pow-le-pow_right {n = 2} (omega arith) long in
+    omega (arith, small, more)
 
 -- of a word of 32 bits nothing is left behind them
 pub shifted_out : (word place : ℕ) → word < 2 ^ 32 → 32 ≤ place → word / 2 ^ place ≡ 0
@@ -27,5 +28,6 @@ shifted_out word place small far = div-eq_of_lt (within word place small far)
 pub bits_of_all : (word place count : ℕ) → word < 2 ^ 32 → 32 ≤ count → word / 2 ^ place ≡ bits word place count
 unfolding bits
 bits_of_all word place count small long =
-    let below : word / 2 ^ place < 2 ^ count = omega (arith, within word count small long, div-le_self word (2 ^ place)) in
+    let below : word / 2 ^ place < 2 ^ count =
+    omega (arith, within word count small long, div-le_self word (2 ^ place)) in
     sym (mod-eq_of_lt below)

@@ -23,7 +23,8 @@ IsReply-weaker failed unsound (replies.Refused e) meant weaker (inr (inl memory)
 IsReply-weaker failed unsound (replies.Refused e) meant weaker (inr (inr fault)) = inr (inr (fault.0, weaker fault.1))
 
 lone_reply : (file : List ℕ) (head : Head) (query : Query) (all front : List Reply) (reply : Reply)
-    → AreReplies (¬ IsTrue true) file head (query ∷ []) all → all ≡ front ++ reply ∷ [] → IsReply (¬ IsTrue true) reply (reply_of file head query)
+    → AreReplies (¬ IsTrue true) file head (query ∷ []) all → all ≡ front ++ reply ∷ []
+    → IsReply (¬ IsTrue true) reply (reply_of file head query)
 lone_reply file head query [] front reply are is = absurd are
 lone_reply file head query (first ∷ []) [] reply are is =
     let same : first ≡ reply = cc in rw (← same) are.0
@@ -33,7 +34,8 @@ lone_reply file head query (first ∷ second ∷ rest) front reply are is = absu
 
 -- the reply of a run with one query is that of the file
 pub one_reply : (file : List ℕ) (query : Query) (all : Vec Reply) (front : List Reply) (reply : Reply)
-    → IsRun (¬ IsTrue true) file (query ∷ []) (Ok all) → all.items ≡ front ++ reply ∷ [] → IsReply ⊥ reply (answer_of file query)
+    → IsRun (¬ IsTrue true) file (query ∷ []) (Ok all) → all.items ≡ front ++ reply ∷ []
+    → IsReply ⊥ reply (answer_of file query)
 unfolding answer_of
 one_reply file query all front reply (head, is, are) last =
     let told = lone_reply file head query all.items front reply are last in

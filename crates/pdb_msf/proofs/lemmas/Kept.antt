@@ -19,5 +19,6 @@ kept_then old middle new first second = record {
 pub unsound : (old new : State) → IsKept old new → HasFailed old new → ¬ IsTrue old.is_sound
 unsound old new kept failed sound = let same = (kept.sound sound).1 in omega arith
 
-pub unsound_before : (first old new : State) → IsKept first old → IsKept old new → HasFailed old new → ¬ IsTrue first.is_sound
+pub unsound_before : (first old new : State) → IsKept first old → IsKept old new → HasFailed old new
+    → ¬ IsTrue first.is_sound
 unsound_before first old new before kept failed sound = unsound old new kept failed (before.sound sound).0

@@ -6,7 +6,8 @@ use Rattle.std.specs.Io.KnownBytes.{Appends, Keeps}
 use Rattle.std.proofs.KnownBytes.{Appends-nil, Appends-trans, Appends-kept}
 use Rattle.pdb_base.specs.declared.error.Error.{Error}
 use Rattle.pdb_base.specs.declared.error.Error.TheVariants.{OutOfMemory}
-use Rattle.pdb_output.specs.Output.{OutputState, Flushes, Gets, GetsUnlessFailed, IsCutShort, IsFailed, IsOutputFailure, IsPrefix, IsReceived, IsWritten, Writes}
+use Rattle.pdb_output.specs.Output.{OutputState, Flushes, Gets, GetsUnlessFailed, IsCutShort, IsFailed, IsOutputFailure}
+use Rattle.pdb_output.specs.Output.{IsPrefix, IsReceived, IsWritten, Writes}
 
 -- ---- bytes that are received
 
@@ -15,7 +16,8 @@ pub received_none : (old : Option (List ℕ)) (all : List ℕ) → IsReceived ol
 received_none old all = record { done = []; got = Appends-nil old; left = refl }
 
 -- some bytes more
-pub received_more : (old now new : Option (List ℕ)) (all more rest left : List ℕ) → left ≡ more ++ rest → IsReceived old now all left → Appends now new more → IsReceived old new all rest
+pub received_more : (old now new : Option (List ℕ)) (all more rest left : List ℕ) → left ≡ more ++ rest
+    → IsReceived old now all left → Appends now new more → IsReceived old new all rest
 received_more old now new all more rest left next before got = record {
   done = before.done ++ more;
   got = Appends-trans old now new before.done more before.got got;
@@ -23,7 +25,8 @@ received_more old now new all more rest left next before got = record {
 }
 
 -- the contents are as they were
-pub received_kept : (old now new : Option (List ℕ)) (all rest : List ℕ) → IsReceived old now all rest → Keeps now new → IsReceived old new all rest
+pub received_kept : (old now new : Option (List ℕ)) (all rest : List ℕ) → IsReceived old now all rest → Keeps now new
+    → IsReceived old new all rest
 received_kept old now new all rest before kept = record {
   done = before.done;
   got = Appends-kept old now new before.done before.got kept;
@@ -31,13 +34,15 @@ received_kept old now new all rest before kept = record {
 }
 
 -- a prefix of the next bytes, after those that were received
-prefix_more : (old now new : Option (List ℕ)) (all more rest left : List ℕ) → left ≡ more ++ rest → IsReceived old now all left → IsPrefix more now new → IsPrefix all old new
+prefix_more : (old now new : Option (List ℕ)) (all more rest left : List ℕ) → left ≡ more ++ rest
+    → IsReceived old now all left → IsPrefix more now new → IsPrefix all old new
 prefix_more old now new all more rest left next before (others, part) = (
   others ++ rest,
   record {
     done = before.done ++ part.done;
     got = Appends-trans old now new before.done part.done before.got part.got;
-    left = before.left ∙ rw (next, part.left) (rw (append_assoc part.done others rest) (sym (append_assoc before.done part.done (others ++ rest))));
+    left = before.left ∙ rw (next, part.left)
+        (rw (append_assoc part.done others rest) (sym (append_assoc before.done part.done (others ++ rest))));
   },
 )
 
@@ -48,14 +53,16 @@ pub written_none : (old : OutputState) (all : List ℕ) → IsWritten old old al
 written_none old all = record { holds = refl; received = received_none old.contents all }
 
 -- one line more
-pub written_more : (old now new : OutputState) (all line rest left : List ℕ) → left ≡ line ++ rest → IsWritten old now all left → Gets now new line → IsWritten old new all rest
+pub written_more : (old now new : OutputState) (all line rest left : List ℕ) → left ≡ line ++ rest
+    → IsWritten old now all left → Gets now new line → IsWritten old new all rest
 written_more old now new all line rest left next before got = record {
   holds = got.holds ∙ before.holds;
   received = received_more old.contents now.contents new.contents all line rest left next before.received got.added;
 }
 
 -- nothing is left
-pub written_all : (old now : OutputState) (all rest : List ℕ) → rest ≡ [] → IsWritten old now all rest → Gets old now all
+pub written_all : (old now : OutputState) (all rest : List ℕ) → rest ≡ [] → IsWritten old now all rest
+    → Gets old now all
 written_all old now all rest none before =
     let part = before.received in
     record {
@@ -64,19 +71,24 @@ written_all old now all rest none before =
     }
 
 -- what is left, said in other words
-pub written_as : (old now : OutputState) (all rest other : List ℕ) → rest ≡ other → IsWritten old now all rest → IsWritten old now all other
+pub written_as : (old now : OutputState) (all rest other : List ℕ) → rest ≡ other → IsWritten old now all rest
+    → IsWritten old now all other
 written_as old now all rest other same before = subst (IsWritten old now all) same before
 
 -- memory was refused after what was written
-pub lacks_more : (old now : OutputState) (all left : List ℕ) (e : Error) → IsWritten old now all left → e ≡ OutOfMemory → IsCutShort all old now e
-lacks_more old now all left e before want = record { cause = inr (want, before.holds); prefix = (left, before.received) }
+pub lacks_more : (old now : OutputState) (all left : List ℕ) (e : Error) → IsWritten old now all left → e ≡ OutOfMemory
+    → IsCutShort all old now e
+lacks_more old now all left e before want =
+    record { cause = inr (want, before.holds); prefix = (left, before.received) }
 
-cause_after : (old now new : OutputState) (e : Error) → now.has_failed ≡ old.has_failed → IsOutputFailure now new e → IsOutputFailure old new e
+cause_after : (old now new : OutputState) (e : Error) → now.has_failed ≡ old.has_failed → IsOutputFailure now new e
+    → IsOutputFailure old new e
 cause_after old now new e same (inl failing) = inl failing
 cause_after old now new e same (inr (want, holds)) = inr (want, holds ∙ same)
 
 -- the next line was cut short
-pub cut_more : (old now new : OutputState) (all line rest left : List ℕ) (e : Error) → left ≡ line ++ rest → IsWritten old now all left → IsCutShort line now new e → IsCutShort all old new e
+pub cut_more : (old now new : OutputState) (all line rest left : List ℕ) (e : Error) → left ≡ line ++ rest
+    → IsWritten old now all left → IsCutShort line now new e → IsCutShort all old new e
 cut_more old now new all line rest left e next before cut = record {
   cause = cause_after old now new e before.holds cut.cause;
   prefix = prefix_more old.contents now.contents new.contents all line rest left next before.received cut.prefix;
@@ -93,31 +105,39 @@ pub lacks_all : (old : OutputState) (all : List ℕ) (e : Error) → e ≡ OutOf
 lacks_all old all e want = lacks_more old old all all e (written_none old all) want
 
 -- the first of two was cut short
-pub first_cut : (old new : OutputState) (first rest : List ℕ) (e : Error) → IsCutShort first old new e → IsCutShort (first ++ rest) old new e
-first_cut old new first rest e cut = cut_more old old new (first ++ rest) first rest (first ++ rest) e refl (written_none old (first ++ rest)) cut
+pub first_cut : (old new : OutputState) (first rest : List ℕ) (e : Error) → IsCutShort first old new e
+    → IsCutShort (first ++ rest) old new e
+first_cut old new first rest e cut = cut_more old old new (first ++ rest) first rest (first ++ rest) e refl
+    (written_none old (first ++ rest)) cut
 
 -- what follows the first is written, or cut short
-pub second_writes : (old now new : OutputState) (first second : List ℕ) (result : Result (Unit {0}) Error) → Gets old now first → Writes second now new result → Writes (first ++ second) old new result
+pub second_writes : (old now new : OutputState) (first second : List ℕ) (result : Result (Unit {0}) Error)
+    → Gets old now first → Writes second now new result → Writes (first ++ second) old new result
 second_writes old now new first second (Ok done) got more = record {
   holds = more.holds ∙ got.holds;
   added = Appends-trans old.contents now.contents new.contents first second got.added more.added;
 }
 second_writes old now new first second (Err e) got cut =
-    let before : IsWritten old now (first ++ second) second = record { holds = got.holds; received = record { done = first; got = got.added; left = refl } } in
+    let before : IsWritten old now (first ++ second) second =
+    record { holds = got.holds; received = record { done = first; got = got.added; left = refl } } in
     cut_more old now new (first ++ second) second [] second e (sym (append-nil second)) before cut
 
 -- ---- the end
 
 -- what was written is flushed, or the output failed
-pub flushed_after : (old now new : OutputState) (all : List ℕ) (e : Error) → Gets old now all → IsCutShort [] now new e → IsCutShort all old new e
+pub flushed_after : (old now new : OutputState) (all : List ℕ) (e : Error) → Gets old now all → IsCutShort [] now new e
+    → IsCutShort all old new e
 flushed_after old now new all e got cut =
-    subst (λ (bytes : List ℕ). IsCutShort bytes old new e) (append-nil all) (second_writes old now new all [] (Err e) got cut)
+    subst (λ (bytes : List ℕ). IsCutShort bytes old new e) (append-nil all)
+    (second_writes old now new all [] (Err e) got cut)
 
 pub gets_flushed : (old now new : OutputState) (all : List ℕ) → Gets old now all → Gets now new [] → Gets old new all
-gets_flushed old now new all got flushed = subst (Gets old new) (append-nil all) (second_writes old now new all [] (Ok tt) got flushed)
+gets_flushed old now new all got flushed =
+    subst (Gets old new) (append-nil all) (second_writes old now new all [] (Ok tt) got flushed)
 
 -- a write whose result is not looked at
-pub gets_unless_failed : (old new : OutputState) (all : List ℕ) (result : Result (Unit {0}) Error) → Writes all old new result → IfErr result (IsFailed new) → GetsUnlessFailed old new all
+pub gets_unless_failed : (old new : OutputState) (all : List ℕ) (result : Result (Unit {0}) Error)
+    → Writes all old new result → IfErr result (IsFailed new) → GetsUnlessFailed old new all
 gets_unless_failed old new all (Ok done) got failing = inl got
 gets_unless_failed old new all (Err e) cut failing = inr (failing.2, cut.prefix)
 

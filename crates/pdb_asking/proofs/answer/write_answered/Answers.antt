@@ -6,7 +6,8 @@ use Rattle.pdb_asking.proofs.answer.write_answered.Goals as goal
 pub returns-in_err-write_field : goal.returns-in_err-write_field
 unfolding answered_text
 returns-in_err-write_field g c =
-    rw (passed_on _ _ c.from_residual.ensures.1, ← c.text_field.ensures) (first_cut _ _ _ _ _ c.in_err-write_field.ensures)
+    rw (passed_on _ _ c.from_residual.ensures.1, ← c.text_field.ensures)
+    (first_cut _ _ _ _ _ c.in_err-write_field.ensures)
 
 pub returns : goal.returns
 unfolding answered_text

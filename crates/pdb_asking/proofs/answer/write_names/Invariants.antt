@@ -9,4 +9,7 @@ use Rattle.pdb_asking.specs.Answers.{name_field}
 use Rattle.pdb_asking.proofs.answer.write_names.Given as goal
 
 abbrev pub invariant-loop-name : goal.invariant-loop-name
-invariant-loop-name g l = IsWritten l.fn.out l.out (flat_map (λ name. row_text Json (name_field (option_map (λ copy. copy.items) name) ∷ [])) l.names) (flat_map (λ name. row_text Json (name_field (option_map (λ copy. copy.items) name) ∷ [])) (drop l.name-index l.names))
+invariant-loop-name g l = IsWritten l.fn.out l.out
+    (flat_map (λ name. row_text Json (name_field (option_map (λ copy. copy.items) name) ∷ [])) l.names)
+    (flat_map (λ name. row_text Json (name_field (option_map (λ copy. copy.items) name) ∷ []))
+    (drop l.name-index l.names))

@@ -8,4 +8,5 @@ use Rattle.pdb_asking.specs.Answers.{range_shown}
 use Rattle.pdb_asking.proofs.answer.write_ranges.Given as goal
 
 abbrev pub invariant-loop-range : goal.invariant-loop-range
-invariant-loop-range g l = IsWritten l.fn.out l.out (flat_map (λ range. row_text Json (range_shown range)) l.ranges) (flat_map (λ range. row_text Json (range_shown range)) (drop l.range-index l.ranges))
+invariant-loop-range g l = IsWritten l.fn.out l.out (flat_map (λ range. row_text Json (range_shown range)) l.ranges)
+    (flat_map (λ range. row_text Json (range_shown range)) (drop l.range-index l.ranges))

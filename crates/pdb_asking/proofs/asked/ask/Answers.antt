@@ -13,10 +13,14 @@ returns g c =
     let run = c.in_ok-replies.ensures in
     let replies = c.in_ok-replies.replies.items in
     let asks : c.deref-2.result.now ≡ queries_in text =
-    c.deref-2.ensures.value ∙ c.in_ok-queries.ensures.queries ∙ ap queries_in (ap (map asked) c.deref.ensures.value ∙ c.in_ok-questions.ensures.questions) in
-    let same : map asked c.deref-3.result.now ≡ text = ap (map asked) c.deref-3.ensures.value ∙ c.in_ok-questions.ensures.questions in
-    let are = answers_of c.args.form file run.0 text replies (subst (λ (queries : List Query). AreReplies Never file run.0 queries replies) asks run.2) in
-    asked_by c.args.form file c.args.text.now (answers_text c.args.form text replies) (are_answers text replies) _ _ c.write_answers.result
+    c.deref-2.ensures.value ∙ c.in_ok-queries.ensures.queries
+    ∙ ap queries_in (ap (map asked) c.deref.ensures.value ∙ c.in_ok-questions.ensures.questions) in
+    let same : map asked c.deref-3.result.now ≡ text = ap (map asked) c.deref-3.ensures.value
+    ∙ c.in_ok-questions.ensures.questions in
+    let are = answers_of c.args.form file run.0 text replies
+    (subst (λ (queries : List Query). AreReplies Never file run.0 queries replies) asks run.2) in
+    asked_by c.args.form file c.args.text.now (answers_text c.args.form text replies)
+    (are_answers text replies) _ _ c.write_answers.result
     (record { head = run.0; is_head = run.1; are_answered = are })
     (rw (same, c.deref-4.ensures.value) at c.write_answers.ensures.lines)
     (rw (same, c.deref-4.ensures.value) at c.write_answers.ensures.all)

@@ -9,5 +9,7 @@ use Rattle.pdb_asking.proofs.asked.queries_in.Goals as goal
 pub returns-clause-queries : goal.returns-clause-queries
 returns-clause-queries c =
     items_from_collect {E = Unit {0}} (Ok c.in_ok-queries.queries) c.in_ok-queries.ensures.ran
-    (YieldsList-from_filter_map _ (λ (question : Question). question.query) (YieldsList-from_slice c.args.questions.now (cc)) c.filter_map.ensures.closure (λ x r q k. search (rules, tests)))
+    (YieldsList-from_filter_map _ (λ (question : Question). question.query)
+    (YieldsList-from_slice c.args.questions.now (cc)) c.filter_map.ensures.closure
+    (λ x r q k. search (rules, tests)))
     ∙ queries_of c.args.questions.now

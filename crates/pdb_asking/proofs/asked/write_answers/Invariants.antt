@@ -9,5 +9,6 @@ abbrev pub invariant-loop-question : goal.invariant-loop-question
 invariant-loop-question g l = record {
   written : IsWritten l.fn.out l.out (answers_text l.form (map asked l.questions) l.fn.replies)
       (answers_text l.form (map asked (drop l.question-index l.questions)) l.replies);
-  all : are_answers (map asked l.questions) l.fn.replies ≡ (are_answers (map asked (drop l.question-index l.questions)) l.replies && l.all);
+  all : are_answers (map asked l.questions) l.fn.replies
+      ≡ (are_answers (map asked (drop l.question-index l.questions)) l.replies && l.all);
 }

@@ -1,4 +1,5 @@
-use Rattle.std.proofs.Common.{◌≡◌, ◌<◌, ◌+◌, List, [], ◌∷◌, ◌++◌, ℕ, Bool, Bor, map, take, get_or, true, false, length, refl, sym, ap, ◌∙◌, inl, inr, arith}
+use Rattle.std.proofs.Common.{◌≡◌, ◌<◌, ◌+◌, List, [], ◌∷◌, ◌++◌, ℕ, Bool, Bor, map, take, get_or, true, false, length}
+use Rattle.std.proofs.Common.{refl, sym, ap, ◌∙◌, inl, inr, arith}
 use Rattle.std.proofs.lemmas.Grind.{common_steps}
 use Rattle.std.proofs.lemmas.List.Folds.{list_all-append, list_all-map, list_all_at, list_all_more}
 use Rattle.std.proofs.lemmas.Str.{IsUtf8-from_is_utf8, is_utf8-from_IsUtf8}
@@ -8,7 +9,8 @@ use Rattle.std.specs.Str.{IsUtf8, is_utf8}
 use Rattle.pdb_asking.proofs.question.texts_of.Goals as goal
 
 -- one text more
-more_texts : (words : List (Bor (List ℕ))) (i : ℕ) (d : Bor (List ℕ)) → i < length words → list_all is_utf8 (map (λ word. word.now) (take i words)) ≡ true → is_utf8 (get_or words i d).now ≡ true
+more_texts : (words : List (Bor (List ℕ))) (i : ℕ) (d : Bor (List ℕ)) → i < length words
+    → list_all is_utf8 (map (λ word. word.now) (take i words)) ≡ true → is_utf8 (get_or words i d).now ≡ true
     → list_all is_utf8 (map (λ word. word.now) (take (i + 1) words)) ≡ true
 more_texts words i d within before here =
     list_all-map is_utf8 (λ (word : Bor (List ℕ)). word.now) (take (i + 1) words)
@@ -16,7 +18,8 @@ more_texts words i d within before here =
     ∙ rw (sym (list_all-map is_utf8 (λ (word : Bor (List ℕ)). word.now) (take i words)), before, here) refl
 
 -- a word that is none
-other_word : (words : List (Bor (List ℕ))) (i : ℕ) (d : Bor (List ℕ)) → i < length words → (IsUtf8 (get_or words i d).now → ⊥) → list_all is_utf8 (map (λ word. word.now) words) ≡ false
+other_word : (words : List (Bor (List ℕ))) (i : ℕ) (d : Bor (List ℕ)) → i < length words
+    → (IsUtf8 (get_or words i d).now → ⊥) → list_all is_utf8 (map (λ word. word.now) words) ≡ false
 other_word words i d within none =
     let false_here : is_utf8 (get_or words i d).now ≡ false = elim (cases_Bool (is_utf8 (get_or words i d).now)) [
       | inl t ↦ absurd (none (IsUtf8-from_is_utf8 _ t))
@@ -32,5 +35,6 @@ returns-in-Err-clause-texts c =
 pub loop-word-preserved : goal.loop-word-preserved
 loop-word-preserved c = record {
   texts = grind (arith, common_steps, c.in-Ok.ensures.cases);
-  all = more_texts c.args.words.now c.loop-word.word-index _ c.loop-word-test.true c.loop-word.invariant.all (is_utf8-from_IsUtf8 _ c.in-Ok.ensures.cases.1);
+  all = more_texts c.args.words.now c.loop-word.word-index _ c.loop-word-test.true c.loop-word.invariant.all
+      (is_utf8-from_IsUtf8 _ c.in-Ok.ensures.cases.1);
 }

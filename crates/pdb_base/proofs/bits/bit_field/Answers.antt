@@ -10,4 +10,8 @@ returns-then-count-lt32-clause-field c =
 
 pub returns-else-count-lt32-clause-below : goal.returns-else-count-lt32-clause-below
 returns-else-count-lt32-clause-below c =
-    rw (c.shifted-shifted.ensures, bits_of_all c.args.word c.args.place c.args.count c.ranges.word.fits c.if-count-lt32.false) (bits_below c.args.word c.args.place c.args.count)
+    rw (
+      c.shifted-shifted.ensures,
+      bits_of_all c.args.word c.args.place c.args.count c.ranges.word.fits
+          c.if-count-lt32.false,
+    ) (bits_below c.args.word c.args.place c.args.count)

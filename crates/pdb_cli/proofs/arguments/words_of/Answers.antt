@@ -12,6 +12,8 @@ returns c =
     let start = c.into_iter-word-iterator.result in
     let source : skip_source start ≡ c.args.args = search rules in
     let count : skip_count start ≡ 1 = search rules in
-    let words = YieldsList-from_vec (into_iter_items c.args.args) (ap into_iter_items source) (ap into_iter_len source ∙ whole) in
-    let end = YieldsList-end (YieldsList-from_skip 1 words count) c.loop-word.yielded _ c.loop-word.yielded_by _ c.next.new.self c.in-None.is c.next.ensures.steps in
+    let words = YieldsList-from_vec (into_iter_items c.args.args) (ap into_iter_items source)
+    (ap into_iter_len source ∙ whole) in
+    let end = YieldsList-end (YieldsList-from_skip 1 words count) c.loop-word.yielded _ c.loop-word.yielded_by _
+    c.next.new.self c.in-None.is c.next.ensures.steps in
     ap Ok (sym (c.loop-word.invariant ∙ sym (map-id c.loop-word.yielded) ∙ end.0))

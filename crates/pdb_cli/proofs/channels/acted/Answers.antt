@@ -16,6 +16,8 @@ returns-then-is_empty-clause-shown g c =
 
 pub returns-clause-shown : goal.returns-clause-shown
 returns-clause-shown g c =
-    let same : map string_bytes c.args.words.now ≡ map (λ text. text.now) c.in_ok-texts.texts.items = let told = c.in_ok-texts.ensures in cc in
+    let same : map string_bytes c.args.words.now ≡ map (λ text. text.now) c.in_ok-texts.texts.items = let told =
+    c.in_ok-texts.ensures in cc in
     let texts = same ∙ ap (map (λ text. text.now)) (sym c.deref.ensures.value) in
-    IfOk-weaker c.act-2.result _ _ (λ outcome shown. shown_of _ _ _ _ outcome texts c.in_ok-file.ensures.bytes shown) c.act-2.ensures.ok
+    IfOk-weaker c.act-2.result _ _
+    (λ outcome shown. shown_of _ _ _ _ outcome texts c.in_ok-file.ensures.bytes shown) c.act-2.ensures.ok

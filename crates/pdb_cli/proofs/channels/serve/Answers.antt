@@ -9,4 +9,5 @@ pub returns-in-Ok-show : goal.returns-in-Ok-show
 returns-in-Ok-show g c = shown c.in-Ok.outcome c.in-Ok.ensures.shown c.in-Ok-show.ensures.ok
 
 pub returns : goal.returns
-returns g c = cut c.in-Ok.outcome c.in-Err-show.fault c.in-Ok.ensures.shown c.in-Err-show.ensures.cut (rw c.in-Err-show.ensures.err at c.tell-in-Err-show.ensures)
+returns g c = cut c.in-Ok.outcome c.in-Err-show.fault c.in-Ok.ensures.shown c.in-Err-show.ensures.cut
+    (rw c.in-Err-show.ensures.err at c.tell-in-Err-show.ensures)

@@ -1,4 +1,5 @@
-use Rattle.std.proofs.Common.{◌≡◌, ℕ, ◌<◌, ◌++◌, List, Option, Result, Ok, refl, sym, ap, subst, ◌∙◌, arith, rules, length, take}
+use Rattle.std.proofs.Common.{◌≡◌, ℕ, ◌<◌, ◌++◌, List, Option, Result, Ok, refl, sym, ap, subst, ◌∙◌, arith, rules}
+use Rattle.std.proofs.Common.{length, take}
 use denote.Enum.Bare.{same_false}
 use Rattle.std.specs.contracts.io.ErrorKind.{the_type}
 use Rattle.std.specs.declared.io.ErrorKind.TheVariants.{Interrupted}
@@ -18,7 +19,8 @@ loop-init g c = record {
 }
 
 -- a read with room that gives nothing
-nothing_read : (old new : Option (List ℕ)) (result : Result ℕ Error) (block : List ℕ) → result ≡ Ok 0 → ReadConsumes old new result block → ReadConsumes {E = Error} old new (Ok 0) block
+nothing_read : (old new : Option (List ℕ)) (result : Result ℕ Error) (block : List ℕ) → result ≡ Ok 0
+    → ReadConsumes old new result block → ReadConsumes {E = Error} old new (Ok 0) block
 nothing_read old new result block is read = subst (λ (r : Result ℕ Error). ReadConsumes old new r block) is read
 
 pub returns-in-Ok-eq0-clause-bytes : goal.returns-in-Ok-eq0-clause-bytes
@@ -45,7 +47,8 @@ loop-preserved g c =
           ∙ ap (λ (bytes : List ℕ). c.loop.bytes.items ++ take w.in-Ok.count bytes) (w.deref.ensures.value ∙ block) in
           record {
             room = c.loop.invariant.room;
-            read = subst (Consumes _ _) (sym more) (Consumes-trans _ _ _ _ _ c.loop.invariant.read w.in-Ok.ensures.bytes.0);
+            read = subst (Consumes _ _) (sym more) (Consumes-trans _ _ _ _ _ c.loop.invariant.read
+                w.in-Ok.ensures.bytes.0);
           }
       | in-Err w ↦
           let same : c.match-read.bytes.items ≡ c.loop.bytes.items = ap (λ (b : Vec ℕ). b.items) w.bytes-is in
@@ -58,4 +61,5 @@ loop-preserved g c =
 -- a fault that is no interruption is a reason not to have read
 pub returns-in-Err-2-clause-refused : goal.returns-in-Err-2-clause-refused
 returns-in-Err-2-clause-refused g c =
-    subst IsUnread (sym c.into.ensures) (λ is. same_false the_type c.kind.result Interrupted (sym c.if-eq.ensures) (c.kind.ensures ∙ is))
+    subst IsUnread (sym c.into.ensures) (λ is. same_false the_type c.kind.result Interrupted (sym c.if-eq.ensures)
+    (c.kind.ensures ∙ is))

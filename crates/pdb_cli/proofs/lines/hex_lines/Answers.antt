@@ -16,7 +16,8 @@ loop-bytes-preserved c =
     let n = before.lines.0 in
     let step = c.in-Some.ensures.steps in
     let long : length c.in-Some.bytes.now ≡ min 32 (length (drop (32 * n) all)) =
-    step.1.1 ∙ ap (λ (size : ℕ). min size (length c.loop-bytes.bytes-iterator.rest.now)) before.size ∙ ap (λ (xs : List ℕ). min 32 (length xs)) before.lines.1 in
+    step.1.1 ∙ ap (λ (size : ℕ). min size (length c.loop-bytes.bytes-iterator.rest.now)) before.size
+    ∙ ap (λ (xs : List ℕ). min 32 (length xs)) before.lines.1 in
     let next = piece_is_line all c.in-Some.bytes.now c.next.new.self.rest.now n (sym before.lines.1 ∙ step.1.0) long in
     let some : 0 < length (drop (32 * n) all) = subst (λ (xs : List ℕ). 0 < length xs) before.lines.1 step.1.2 in
     record {
@@ -34,5 +35,6 @@ pub returns-clause-ok : goal.returns-clause-ok
 returns-clause-ok c =
     let all = c.args.all.now in
     let lines = c.loop-bytes.invariant.lines in
-    let none : length (drop (32 * lines.0) all) ≡ 0 = subst (λ (xs : List ℕ). length xs ≡ 0) lines.1 c.in-None.ensures.steps.1.0 in
+    let none : length (drop (32 * lines.0) all) ≡ 0 =
+    subst (λ (xs : List ℕ). length xs ≡ 0) lines.1 c.in-None.ensures.steps.1.0 in
     lines.3 ∙ no_line_left all lines.0 none lines.2

@@ -7,5 +7,6 @@ use Rattle.pdb_cli.proofs.lines.hex_lines.Given as goal
 abbrev pub invariant-loop-bytes : goal.invariant-loop-bytes
 invariant-loop-bytes l = record {
   size : l.bytes-iterator.size ≡ 32;
-  lines : (n : ℕ) × (l.bytes-iterator.rest.now ≡ drop (32 * n) l.all) × (n ≤ div_ceil (length l.all) 32) × (l.out.items ≡ lines_to l.all n);
+  lines : (n : ℕ) × (l.bytes-iterator.rest.now ≡ drop (32 * n) l.all) × (n ≤ div_ceil (length l.all) 32)
+      × (l.out.items ≡ lines_to l.all n);
 }

@@ -13,7 +13,8 @@ loop-digit-preserved c =
     omega (arith, digit.1, c.in_ok-shifted.ensures.1, c.in_ok-value.ensures.1) in
     record {
       read = subst (λ (value : ℕ). HasRead c.args.base digits (i + 1) value) value
-          (read_more c.args.base digits i c.loop-digit.value c.loop-digit-test.true c.loop-digit.invariant.read digit.0);
+          (read_more c.args.base digits i c.loop-digit.value c.loop-digit-test.true c.loop-digit.invariant.read
+          digit.0);
       fits = omega (arith, c.in_ok-value.ensures.0, c.in_ok-value.ensures.1);
     }
 
@@ -22,20 +23,25 @@ returns-in_err-shifted c =
     let digits = c.args.digits.now in
     let i = c.loop-digit.digit-index in
     let digit = c.in_ok-digit.ensures.value in
-    let more = read_more c.args.base digits i c.loop-digit.value c.loop-digit-test.true c.loop-digit.invariant.read digit.0 in
+    let more = read_more c.args.base digits i c.loop-digit.value c.loop-digit-test.true c.loop-digit.invariant.read
+    digit.0 in
     c.from_residual-in_err-shifted.ensures
-    ∙ sym (too_large c.args.base c.args.most digits (i + 1) (omega arith) (grind (arith, more.value_is, c.in_err-shifted.ensures)))
+    ∙ sym (too_large c.args.base c.args.most digits (i + 1) (omega arith)
+    (grind (arith, more.value_is, c.in_err-shifted.ensures)))
 
 pub returns-in_err-value : goal.returns-in_err-value
 returns-in_err-value c =
     let digits = c.args.digits.now in
     let i = c.loop-digit.digit-index in
     let digit = c.in_ok-digit.ensures.value in
-    let more = read_more c.args.base digits i c.loop-digit.value c.loop-digit-test.true c.loop-digit.invariant.read digit.0 in
+    let more = read_more c.args.base digits i c.loop-digit.value c.loop-digit-test.true c.loop-digit.invariant.read
+    digit.0 in
     c.from_residual-in_err-value.ensures
-    ∙ sym (too_large c.args.base c.args.most digits (i + 1) (omega arith) (grind (arith, more.value_is, digit.1, c.in_ok-shifted.ensures.1, c.in_err-value.ensures)))
+    ∙ sym (too_large c.args.base c.args.most digits (i + 1) (omega arith)
+    (grind (arith, more.value_is, digit.1, c.in_ok-shifted.ensures.1, c.in_err-value.ensures)))
 
 pub returns : goal.returns
 returns c =
     let some : 0 < length c.args.digits.now = grind (arith, nat_tests) in
-    sym (is_number c.args.base c.args.most c.args.digits.now c.loop-digit.digit-index c.loop-digit.value some c.if-digits-most.false c.loop-digit-test.false c.loop-digit.invariant.read c.loop-digit.invariant.fits)
+    sym (is_number c.args.base c.args.most c.args.digits.now c.loop-digit.digit-index c.loop-digit.value some
+    c.if-digits-most.false c.loop-digit-test.false c.loop-digit.invariant.read c.loop-digit.invariant.fits)

@@ -5,4 +5,5 @@ use Rattle.pdb_values.specs.TypeView.{type_value}
 use Rattle.pdb_container.proofs.replies.names_of.Given as goal
 
 abbrev pub invariant-loop-field : goal.invariant-loop-field
-invariant-loop-field l = map (λ name. option_map (λ copy. copy.items) name) l.names.items ≡ map name_of (map type_value (take l.field-index l.fields))
+invariant-loop-field l = map (λ name. option_map (λ copy. copy.items) name) l.names.items
+    ≡ map name_of (map type_value (take l.field-index l.fields))

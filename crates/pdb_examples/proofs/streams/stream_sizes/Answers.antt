@@ -17,7 +17,17 @@ loop-number-preserved c =
       head = rw c.get.ensures.head c.loop-number.invariant.head;
       same = c.get.ensures.source.bytes ∙ c.loop-number.invariant.same;
       so_far = elim c.match-get.branch [
-        | in-Ok+in_ok-push-in-Ok w ↦ rw (c.get.ensures.source.bytes, c.get.ensures.head, w.sizes-is, w.push.ensures.items, w.in_ok-push-in-Ok.was, w.as_slice.ensures.bytes) (one_more _ _ _ _ _ w.in-Ok.ensures.answer c.loop-number.invariant.so_far)
-        | in-Err-StreamNotFound w ↦ rw (c.get.ensures.source.bytes, c.get.ensures.head, w.sizes-is) (no_more _ _ _ _ _ _ (rw w.in-Err-StreamNotFound.field-0-is at w.in-Err-StreamNotFound.ensures.answer) c.loop-number.invariant.so_far)
+        | in-Ok+in_ok-push-in-Ok w ↦ rw (
+          c.get.ensures.source.bytes,
+          c.get.ensures.head,
+          w.sizes-is,
+          w.push.ensures.items,
+          w.in_ok-push-in-Ok.was,
+          w.as_slice.ensures.bytes,
+        )
+            (one_more _ _ _ _ _ w.in-Ok.ensures.answer c.loop-number.invariant.so_far)
+        | in-Err-StreamNotFound w ↦ rw (c.get.ensures.source.bytes, c.get.ensures.head, w.sizes-is)
+            (no_more _ _ _ _ _ _ (rw w.in-Err-StreamNotFound.field-0-is at w.in-Err-StreamNotFound.ensures.answer)
+            c.loop-number.invariant.so_far)
       ];
     }

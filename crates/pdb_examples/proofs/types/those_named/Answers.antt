@@ -15,7 +15,8 @@ loop-found-preserved-in-Continue-branch-4 c =
     record {
       least = least_more _ _ _ _ c.loop-found.invariant.least step;
       so_far = rw (c.push.ensures.items, c.in_ok-push.was, map-append, c.index.ensures)
-          (found_more _ _ _ _ _ _ _ c.loop-found.invariant.least step c.loop-found.invariant.so_far (sym (rw c.in_ok-is_named.was at c.is_named.ensures) ∙ c.if-branch.true));
+          (found_more _ _ _ _ _ _ _ c.loop-found.invariant.least step c.loop-found.invariant.so_far
+          (sym (rw c.in_ok-is_named.was at c.is_named.ensures) ∙ c.if-branch.true));
     }
 
 pub loop-found-preserved : goal.loop-found-preserved
@@ -23,7 +24,8 @@ loop-found-preserved c =
     let step = rw c.in-Some.is at rw c.in_ok-item.was at c.next.ensures in
     record {
       least = least_more _ _ _ _ c.loop-found.invariant.least step;
-      so_far = found_same _ _ _ _ _ _ _ c.loop-found.invariant.least step c.loop-found.invariant.so_far (sym (rw c.in_ok-is_named.was at c.is_named.ensures) ∙ c.if-branch.false);
+      so_far = found_same _ _ _ _ _ _ _ c.loop-found.invariant.least step c.loop-found.invariant.so_far
+          (sym (rw c.in_ok-is_named.was at c.is_named.ensures) ∙ c.if-branch.false);
     }
 
 pub returns : goal.returns

@@ -9,6 +9,8 @@ pub returns : goal.returns
 returns g c =
     let size = g.R.FrameRecord.SIZE in
     let some : 0 < size = search rules in
-    let place : c.args.place * c.SIZE.result ≡ size * c.args.place = ap (λ (n : ℕ). c.args.place * n) c.SIZE.ensures ∙ mul_comm c.args.place size in
-    ap (λ (b : List ℕ). spelled size g.R.FrameRecord.value b) (take_rest c.args.bytes.now (c.args.place * c.SIZE.result) ∙ ap (λ (n : ℕ). drop n c.args.bytes.now) place)
+    let place : c.args.place * c.SIZE.result ≡ size * c.args.place = ap (λ (n : ℕ). c.args.place * n) c.SIZE.ensures
+    ∙ mul_comm c.args.place size in
+    ap (λ (b : List ℕ). spelled size g.R.FrameRecord.value b)
+    (take_rest c.args.bytes.now (c.args.place * c.SIZE.result) ∙ ap (λ (n : ℕ). drop n c.args.bytes.now) place)
     ∙ spelled_behind size g.R.FrameRecord.value c.args.place c.args.bytes.now some

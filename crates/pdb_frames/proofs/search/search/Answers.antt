@@ -3,7 +3,8 @@ use Rattle.pdb_base.specs.Records.{spelled}
 use Rattle.pdb_base.proofs.lemmas.Halving.{IsHalved, halving_takes, halving_passes}
 use Rattle.pdb_frames.specs.Span.{start_at}
 use Rattle.pdb_frames.proofs.SplitLemmas.{split_takes, split_passes, split_ends}
-use Rattle.pdb_frames.proofs.search.search.Goals.{then-next-address, else-next-address, then-next-address-2, else-next-address-2}
+use Rattle.pdb_frames.proofs.search.search.Goals.{then-next-address, else-next-address, then-next-address-2}
+use Rattle.pdb_frames.proofs.search.search.Goals.{else-next-address-2}
 use Rattle.pdb_frames.proofs.search.search.Goals as goal
 
 -- the part that begins at the place ahead has been compared
@@ -14,11 +15,16 @@ loop-part-preserved g c =
     let step = c.loop-size-2.size / 8 in
     elim c.if-next-address.branch [
       | then-next-address w ↦ rw w.place-is record {
-        split = split_takes starts places c.args.address c.loop-size-2.place c.loop-size-2.size step c.loop-part.part c.loop-part.place (c.args.address - c.loop-part.distance) c.start_at-next.result c.if-next-address.distance c.loop-part.invariant.split c.loop-part-test.true c.start_at-next.ensures w.if-next-address.true w.distance-is;
+        split = split_takes starts places c.args.address c.loop-size-2.place c.loop-size-2.size step c.loop-part.part
+            c.loop-part.place (c.args.address - c.loop-part.distance) c.start_at-next.result c.if-next-address.distance
+            c.loop-part.invariant.split c.loop-part-test.true c.start_at-next.ensures w.if-next-address.true
+            w.distance-is;
         behind = omega (arith, w.distance-is);
       }
       | else-next-address w ↦ rw (w.place-is, w.distance-is) record {
-        split = split_passes starts places c.args.address c.loop-size-2.place c.loop-size-2.size step c.loop-part.part c.loop-part.place (c.args.address - c.loop-part.distance) c.start_at-next.result c.loop-part.invariant.split c.start_at-next.ensures w.if-next-address.false;
+        split = split_passes starts places c.args.address c.loop-size-2.place c.loop-size-2.size step c.loop-part.part
+            c.loop-part.place (c.args.address - c.loop-part.distance) c.start_at-next.result c.loop-part.invariant.split
+            c.start_at-next.ensures w.if-next-address.false;
         behind = c.loop-part.invariant.behind;
       }
     ]
@@ -30,7 +36,8 @@ loop-size-2-preserved g c =
     let places = length c.args.bytes.now / g.R.FrameRecord.SIZE in
     let all : c.loop-part.part ≡ 8 = omega (arith, c.loop-part-test.false, c.loop-part.auto.part-end) in
     record {
-      found = split_ends starts places c.args.address c.loop-size-2.place c.loop-size-2.size (c.loop-size-2.size / 8) c.loop-part.place (c.args.address - c.loop-part.distance)
+      found = split_ends starts places c.args.address c.loop-size-2.place c.loop-size-2.size
+          (c.loop-size-2.size / 8) c.loop-part.place (c.args.address - c.loop-part.distance)
           (rw all at c.loop-part.invariant.split);
       behind = c.loop-part.invariant.behind;
     }
@@ -46,14 +53,18 @@ loop-size-3-preserved g c =
     let next = c.start_at-next-in-loop-size-3.result in
     elim c.if-next-address-2.branch [
       | then-next-address-2 w ↦
-          let same : next ≡ c.args.address - c.if-next-address-2.distance = omega (arith, w.distance-is, w.if-next-address-2.true) in
+          let same : next ≡ c.args.address - c.if-next-address-2.distance =
+          omega (arith, w.distance-is, w.if-next-address-2.true) in
           rw w.place-is record {
-            found = subst (λ (l : ℕ). IsHalved starts places c.args.address (place + size / 2 + size % 2) (size / 2) l) same
-                (halving_takes starts places c.args.address place size last next c.loop-size-3.invariant.found c.loop-size-3-test.true c.start_at-next-in-loop-size-3.ensures w.if-next-address-2.true);
+            found = subst (λ (l : ℕ). IsHalved starts places c.args.address (place + size / 2 + size % 2)
+                (size / 2) l) same
+                (halving_takes starts places c.args.address place size last next c.loop-size-3.invariant.found
+                c.loop-size-3-test.true c.start_at-next-in-loop-size-3.ensures w.if-next-address-2.true);
             behind = omega (arith, w.distance-is);
           }
       | else-next-address-2 w ↦ rw (w.place-is, w.distance-is) record {
-        found = halving_passes starts places c.args.address place size last next c.loop-size-3.invariant.found c.loop-size-3-test.true c.start_at-next-in-loop-size-3.ensures w.if-next-address-2.false;
+        found = halving_passes starts places c.args.address place size last next c.loop-size-3.invariant.found
+            c.loop-size-3-test.true c.start_at-next-in-loop-size-3.ensures w.if-next-address-2.false;
         behind = c.loop-size-3.invariant.behind;
       }
     ]

@@ -18,13 +18,15 @@ decreases-loop-size g l = l.size
 
 abbrev pub invariant-loop-part : goal.invariant-loop-part
 invariant-loop-part g l = record {
-  split : IsSplit (start_at g.R.AddrRange.span (spelled g.R.FrameRecord.SIZE g.R.FrameRecord.value l.bytes)) (length l.bytes / g.R.FrameRecord.SIZE) l.address l.first l.size l.step l.part l.place (l.address - l.distance);
+  split : IsSplit (start_at g.R.AddrRange.span (spelled g.R.FrameRecord.SIZE g.R.FrameRecord.value l.bytes))
+      (length l.bytes / g.R.FrameRecord.SIZE) l.address l.first l.size l.step l.part l.place (l.address - l.distance);
   behind : l.distance ≤ l.address;
 }
 
 abbrev pub invariant-loop-size-2 : goal.invariant-loop-size-2
 invariant-loop-size-2 g l = record {
-  found : IsHalved (start_at g.R.AddrRange.span (spelled g.R.FrameRecord.SIZE g.R.FrameRecord.value l.bytes)) (length l.bytes / g.R.FrameRecord.SIZE) l.address l.place l.size (l.address - l.distance);
+  found : IsHalved (start_at g.R.AddrRange.span (spelled g.R.FrameRecord.SIZE g.R.FrameRecord.value l.bytes))
+      (length l.bytes / g.R.FrameRecord.SIZE) l.address l.place l.size (l.address - l.distance);
   behind : l.distance ≤ l.address;
 }
 
@@ -33,7 +35,8 @@ decreases-loop-size-2 g l = l.size
 
 abbrev pub invariant-loop-size-3 : goal.invariant-loop-size-3
 invariant-loop-size-3 g l = record {
-  found : IsHalved (start_at g.R.AddrRange.span (spelled g.R.FrameRecord.SIZE g.R.FrameRecord.value l.bytes)) (length l.bytes / g.R.FrameRecord.SIZE) l.address l.place l.size (l.address - l.distance);
+  found : IsHalved (start_at g.R.AddrRange.span (spelled g.R.FrameRecord.SIZE g.R.FrameRecord.value l.bytes))
+      (length l.bytes / g.R.FrameRecord.SIZE) l.address l.place l.size (l.address - l.distance);
   behind : l.distance ≤ l.address;
 }
 

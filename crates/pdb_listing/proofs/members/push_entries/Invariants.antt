@@ -7,4 +7,5 @@ use Rattle.pdb_values.specs.TypeView.{type_value}
 use Rattle.pdb_listing.proofs.members.push_entries.Given as goal
 
 abbrev pub invariant-loop-field : goal.invariant-loop-field
-invariant-loop-field l = l.lines.items ≡ l.initial.lines.items ++ flat_map (λ field. row_text l.form (field_row (type_value field))) (take l.field-index l.fields)
+invariant-loop-field l = l.lines.items ≡ l.initial.lines.items
+    ++ flat_map (λ field. row_text l.form (field_row (type_value field))) (take l.field-index l.fields)

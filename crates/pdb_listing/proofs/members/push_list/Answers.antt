@@ -20,6 +20,7 @@ returns c =
       flat_map line (map type_value c.in_ok-fields.fields.items),
       ap told c.in_ok-fields.ensures,
       c.in_ok-push_entries.ensures.ok
-          ∙ ap (λ (fields : List TypeData). before ++ flat_map (λ field. line (type_value field)) fields) c.as_slice.ensures.value
+          ∙ ap (λ (fields : List TypeData). before ++ flat_map
+          (λ field. line (type_value field)) fields) c.as_slice.ensures.value
           ∙ ap (λ (lines : List ℕ). before ++ lines) (sym (flat_map-map line type_value c.in_ok-fields.fields.items)),
     )

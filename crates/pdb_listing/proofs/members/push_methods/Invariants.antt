@@ -6,4 +6,5 @@ use Rattle.pdb_rows.specs.TypeRows.{listed_method_fields}
 use Rattle.pdb_listing.proofs.members.push_methods.Given as goal
 
 abbrev pub invariant-loop-method : goal.invariant-loop-method
-invariant-loop-method l = l.lines.items ≡ l.initial.lines.items ++ flat_map (λ method. row_text l.form (listed_method_fields method)) (take l.method-index l.methods)
+invariant-loop-method l = l.lines.items ≡ l.initial.lines.items
+    ++ flat_map (λ method. row_text l.form (listed_method_fields method)) (take l.method-index l.methods)

@@ -6,4 +6,13 @@ use Rattle.pdb_mapping.proofs.written.place_row.Goals as goal
 pub returns-clause-ok : goal.returns-clause-ok
 returns-clause-ok c =
     ap (map field_shown) c.in_ok-fields.ensures.items
-    ∙ simp (c.field.ensures, c.field-2.ensures, c.field-3.ensures, c.field-4.ensures, c.field-5.ensures, c.is_some.ensures, c.section_value.ensures, c.offset_value.ensures)
+    ∙ simp (
+      c.field.ensures,
+      c.field-2.ensures,
+      c.field-3.ensures,
+      c.field-4.ensures,
+      c.field-5.ensures,
+      c.is_some.ensures,
+      c.section_value.ensures,
+      c.offset_value.ensures,
+    )

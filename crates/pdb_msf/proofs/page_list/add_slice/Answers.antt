@@ -1,4 +1,5 @@
-use Rattle.std.proofs.Common.{◌≡◌, ◌+◌, ◌-◌, ◌<◌, ◌++◌, [], ◌∷◌, false, true, eqb, set, refl, arith, ap, sym, ◌∙◌, List, vec_len, Result, Ok, Err, OnErr}
+use Rattle.std.proofs.Common.{◌≡◌, ◌+◌, ◌-◌, ◌<◌, ◌++◌, [], ◌∷◌, false, true, eqb, set, refl, arith, ap, sym, ◌∙◌, List}
+use Rattle.std.proofs.Common.{vec_len, Result, Ok, Err, OnErr}
 use Rattle.std.proofs.lemmas.List.{set-get_or}
 use Rattle.pdb_msf.specs.declared.source.SourceSlice.{SourceSlice}
 use Rattle.pdb_msf.specs.PageList.{with_slice}
@@ -10,7 +11,11 @@ pub overflow_add-last : goal.overflow_add-last
 overflow_add-last c =
     let slices = c.args.slices.now in
     let some : 0 < vec_len slices = c.in-Some.ensures.variant.0 refl in
-    omega (arith, last_fits slices.items (vec_len slices - 1) c.in-Some.last.now (omega (arith, slices.ok.0)) c.in-Some.ensures.value)
+    omega (
+      arith,
+      last_fits slices.items (vec_len slices - 1) c.in-Some.last.now
+          (omega (arith, slices.ok.0)) c.in-Some.ensures.value,
+    )
 
 pub returns-then-ends_at-clause-slices : goal.returns-then-ends_at-clause-slices
 returns-then-ends_at-clause-slices c =
@@ -18,7 +23,8 @@ returns-then-ends_at-clause-slices c =
     let last = c.in-Some.last.now in
     let some : 0 < vec_len slices = c.in-Some.ensures.variant.0 refl in
     let meets : eqb (last.offset + last.size) c.args.next.offset ≡ true = sym c.ends_at.ensures ∙ c.if-ends_at.true in
-    add_joined slices.items (vec_len slices - 1) last c.args.next (omega (arith, slices.ok.0)) c.in-Some.ensures.value meets
+    add_joined slices.items (vec_len slices - 1) last c.args.next
+    (omega (arith, slices.ok.0)) c.in-Some.ensures.value meets
 
 on_err : {A E : Type 0} (r : Result A E) (P : Type 0) → P → OnErr r P
 on_err (Ok x) P holds = tt
@@ -31,7 +37,8 @@ returns-in_err-push-clause-begins c =
     let apart : with_slice slices.items c.args.next ≡ slices.items ++ c.args.next ∷ [] = elim c.match-last_mut.branch [
       | in-Some+else-ends_at w ↦
           let some : 0 < vec_len slices = w.in-Some.ensures.variant.0 refl in
-          sym (add_apart slices.items (vec_len slices - 1) w.in-Some.last.now c.args.next (omega (arith, slices.ok.0)) w.in-Some.ensures.value (sym w.ends_at.ensures ∙ w.if-ends_at.false))
+          sym (add_apart slices.items (vec_len slices - 1) w.in-Some.last.now c.args.next
+          (omega (arith, slices.ok.0)) w.in-Some.ensures.value (sym w.ends_at.ensures ∙ w.if-ends_at.false))
       | in_default w ↦ sym (add_first slices.items c.args.next
           (λ some. let e : false ≡ true = w.in_default.ensures.variant.1 (omega (arith, slices.ok.0, some)) in cc))
     ] in
@@ -45,10 +52,13 @@ returns-clause-slices c =
           let last = w.in-Some.last.now in
           let i = vec_len slices - 1 in
           let some : 0 < vec_len slices = w.in-Some.ensures.variant.0 refl in
-          let apart : eqb (last.offset + last.size) c.args.next.offset ≡ false = sym w.ends_at.ensures ∙ w.if-ends_at.false in
+          let apart : eqb (last.offset + last.size) c.args.next.offset ≡ false = sym w.ends_at.ensures
+          ∙ w.if-ends_at.false in
           let same : c.match-last_mut.slices.items ≡ slices.items =
-          ap (λ v. v.items) w.slices-is ∙ ap (set slices.items i) w.in-Some.ensures.value ∙ set-get_or slices.items i last in
-          ap (λ (s : List SourceSlice). s ++ c.args.next ∷ []) same ∙ add_apart slices.items i last c.args.next (omega (arith, slices.ok.0)) w.in-Some.ensures.value apart
+          ap (λ v. v.items) w.slices-is ∙ ap (set slices.items i) w.in-Some.ensures.value
+          ∙ set-get_or slices.items i last in
+          ap (λ (s : List SourceSlice). s ++ c.args.next ∷ []) same
+          ∙ add_apart slices.items i last c.args.next (omega (arith, slices.ok.0)) w.in-Some.ensures.value apart
       | in_default w ↦ ap (λ v. v.items ++ c.args.next ∷ []) w.slices-is ∙ add_first slices.items c.args.next
           (λ some. let e : false ≡ true = w.in_default.ensures.variant.1 (omega (arith, slices.ok.0, some)) in cc)
     ]

@@ -8,15 +8,20 @@ use Rattle.pdb_msf.proofs.source.total_size.Goals as goal
 pub returns-in_err-total : goal.returns-in_err-total
 returns-in_err-total c =
     c.from_residual.ensures
-    ∙ sym (size_past c.args.slices.now c.loop-slice.slice-index nowhere c.loop-slice.total (omega (arith, c.loop-slice-test.true)) c.loop-slice.invariant.is (omega (arith, c.in_err-total.ensures)))
+    ∙ sym (size_past c.args.slices.now c.loop-slice.slice-index nowhere c.loop-slice.total
+    (omega (arith, c.loop-slice-test.true)) c.loop-slice.invariant.is (omega (arith, c.in_err-total.ensures)))
 
 pub loop-slice-preserved : goal.loop-slice-preserved
 loop-slice-preserved c = record {
-  is = size_more c.args.slices.now c.loop-slice.slice-index nowhere c.loop-slice.total c.in_ok-total.total (omega (arith, c.loop-slice-test.true)) c.loop-slice.invariant.is c.in_ok-total.ensures.1;
+  is = size_more c.args.slices.now c.loop-slice.slice-index nowhere c.loop-slice.total c.in_ok-total.total
+      (omega (arith, c.loop-slice-test.true)) c.loop-slice.invariant.is c.in_ok-total.ensures.1;
   fits = let fits = c.in_ok-total.ensures.0 in let is = c.in_ok-total.ensures.1 in omega (arith, fits, is);
 }
 
 pub returns : goal.returns
 returns c =
-    let all : take c.loop-slice.slice-index c.args.slices.now ≡ c.args.slices.now = take_all c.loop-slice.slice-index c.args.slices.now c.loop-slice-test.false in
-    sym (size_fits c.args.slices.now c.loop-slice.total (c.loop-slice.invariant.is ∙ ap (λ (s : List SourceSlice). length (positions s)) all) c.loop-slice.invariant.fits)
+    let all : take c.loop-slice.slice-index c.args.slices.now ≡ c.args.slices.now =
+    take_all c.loop-slice.slice-index c.args.slices.now c.loop-slice-test.false in
+    sym (size_fits c.args.slices.now c.loop-slice.total
+    (c.loop-slice.invariant.is ∙ ap (λ (s : List SourceSlice). length
+    (positions s)) all) c.loop-slice.invariant.fits)

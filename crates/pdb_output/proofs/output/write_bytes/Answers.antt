@@ -9,6 +9,7 @@ taken rest n = sym (take-append-drop n rest) ∙ ap (λ (more : List ℕ). take 
 
 pub loop-preserved : goal.loop-preserved
 loop-preserved g c = elim c.match-write.branch [
-  | in-Ok w ↦ rw w.rest-is (received_more _ _ _ _ _ _ _ (taken c.loop.rest.now w.in-Ok.count) c.loop.invariant w.in-Ok.ensures.bytes)
+  | in-Ok w ↦ rw w.rest-is (received_more _ _ _ _ _ _ _
+      (taken c.loop.rest.now w.in-Ok.count) c.loop.invariant w.in-Ok.ensures.bytes)
   | in-Err w ↦ rw w.rest-is (received_kept _ _ _ _ _ c.loop.invariant w.in-Err.ensures.bytes)
 ]

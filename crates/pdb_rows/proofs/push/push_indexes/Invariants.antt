@@ -5,4 +5,5 @@ use Rattle.pdb_rows.specs.Lines.{index_text}
 use Rattle.pdb_rows.proofs.push.push_indexes.Given as goal
 
 abbrev pub invariant-loop-index : goal.invariant-loop-index
-invariant-loop-index l = l.out.items ≡ l.initial.out.items ++ flat_map (λ next. codes "," ++ index_text l.form next) (take l.index-index l.rest)
+invariant-loop-index l = l.out.items ≡ l.initial.out.items
+    ++ flat_map (λ next. codes "," ++ index_text l.form next) (take l.index-index l.rest)

@@ -9,4 +9,5 @@ use Rattle.pdb_rows.proofs.push.push_joined.Given as goal
 abbrev pub invariant-loop-field : goal.invariant-loop-field
 invariant-loop-field l =
     let shown = filter (is_shown l.form) (map field_shown (take l.field-index l.fields)) in
-    (l.is_first ≡ is_none shown) × (l.out.items ≡ l.initial.out.items ++ separated (separator l.form) (field_text l.form) shown)
+    (l.is_first ≡ is_none shown) × (l.out.items ≡ l.initial.out.items
+    ++ separated (separator l.form) (field_text l.form) shown)

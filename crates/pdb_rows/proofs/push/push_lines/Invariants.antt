@@ -7,4 +7,5 @@ use Rattle.pdb_rows.specs.Row.{field_shown}
 use Rattle.pdb_rows.proofs.push.push_lines.Given as goal
 
 abbrev pub invariant-loop-field : goal.invariant-loop-field
-invariant-loop-field l = l.out.items ≡ l.initial.out.items ++ flat_map field_line (filter (is_shown Text) (map field_shown (take l.field-index l.fields)))
+invariant-loop-field l = l.out.items ≡ l.initial.out.items
+    ++ flat_map field_line (filter (is_shown Text) (map field_shown (take l.field-index l.fields)))

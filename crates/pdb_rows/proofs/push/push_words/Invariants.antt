@@ -5,4 +5,5 @@ use Rattle.pdb_rows.specs.Text.{quoted}
 use Rattle.pdb_rows.proofs.push.push_words.Given as goal
 
 abbrev pub invariant-loop-word : goal.invariant-loop-word
-invariant-loop-word l = l.out.items ≡ l.initial.out.items ++ flat_map (λ next. codes "," ++ quoted l.form next.now) (take l.word-index l.rest)
+invariant-loop-word l = l.out.items ≡ l.initial.out.items
+    ++ flat_map (λ next. codes "," ++ quoted l.form next.now) (take l.word-index l.rest)

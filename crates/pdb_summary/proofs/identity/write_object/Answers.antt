@@ -7,7 +7,8 @@ pub returns-in_err-key : goal.returns-in_err-key
 returns-in_err-key g c = rw (passed_on _ _ c.from_residual.ensures.1) (lacks_all _ _ _ c.in_err-key.ensures.memory)
 
 pub returns-in_err-row : goal.returns-in_err-row
-returns-in_err-row g c = rw (passed_on _ _ c.from_residual-in_err-row.ensures.1) (lacks_all _ _ _ c.in_err-row.ensures.memory)
+returns-in_err-row g c = rw (passed_on _ _ c.from_residual-in_err-row.ensures.1)
+    (lacks_all _ _ _ c.in_err-row.ensures.memory)
 
 pub returns : goal.returns
 unfolding identity_line

@@ -7,4 +7,5 @@ use Rattle.pdb_summary.proofs.kinds.present.Given as goal
 
 abbrev pub invariant-loop-leaf : goal.invariant-loop-leaf
 invariant-loop-leaf l =
-    l.kinds.items ++ present (λ leaf. slice_index_or l.counts leaf 0) (range_with_len l.leaf (0x10000 - l.leaf)) ≡ present (λ leaf. slice_index_or l.counts leaf 0) (range_with_len 0 0x10000)
+    l.kinds.items ++ present (λ leaf. slice_index_or l.counts leaf 0) (range_with_len l.leaf (0x10000 - l.leaf))
+    ≡ present (λ leaf. slice_index_or l.counts leaf 0) (range_with_len 0 0x10000)

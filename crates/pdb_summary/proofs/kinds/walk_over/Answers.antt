@@ -13,7 +13,8 @@ returns-clause-walked c =
     let below = subst (λ (count : ℕ → ℕ). (leaf : ℕ) → count leaf ≤ length (walk c.args.table.now)) (sym same) few in
     record {
       kinds = c.in_ok-kinds.ensures.ranked (length (walk c.args.table.now)) below
-          ∙ kinds_by (λ leaf. slice_index_or c.deref.result.now leaf 0) _ (λ l within. ap (λ (xs : List ℕ). slice_index_or xs l 0) c.deref.ensures.value ∙ tally.counts l within);
+          ∙ kinds_by (λ leaf. slice_index_or c.deref.result.now leaf 0) _
+          (λ l within. ap (λ (xs : List ℕ). slice_index_or xs l 0) c.deref.ensures.value ∙ tally.counts l within);
       records = tally.records;
       continued = tally.continued;
       fault = tally.fault;

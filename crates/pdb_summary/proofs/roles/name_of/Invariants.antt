@@ -5,4 +5,5 @@ use Rattle.pdb_summary.specs.Streams.{name_of}
 use Rattle.pdb_summary.proofs.roles.name_of.Given as goal
 
 abbrev pub invariant-loop-named : goal.invariant-loop-named
-invariant-loop-named l = name_of (map named_view l.names) l.number ≡ name_of (map named_view (drop l.named-index l.names)) l.number
+invariant-loop-named l = name_of (map named_view l.names) l.number
+    ≡ name_of (map named_view (drop l.named-index l.names)) l.number

@@ -5,4 +5,5 @@ use Rattle.pdb_summary.specs.Kinds.{kind_lines}
 use Rattle.pdb_summary.proofs.tables.write_kinds.Given as goal
 
 abbrev pub invariant-loop-kind : goal.invariant-loop-kind
-invariant-loop-kind g l = IsWritten l.fn.out l.out (kind_lines l.form l.number l.kinds) (kind_lines l.form l.number (drop l.kind-index l.kinds))
+invariant-loop-kind g l = IsWritten l.fn.out l.out (kind_lines l.form l.number l.kinds)
+    (kind_lines l.form l.number (drop l.kind-index l.kinds))

@@ -6,4 +6,5 @@ use Rattle.pdb_tables.proofs.file.list_frames.Goals as goal
 
 pub returns-in_err-table : goal.returns-in_err-table
 unfolding file_frames
-returns-in_err-table g c = rw (passed_on _ _ c.from_residual.ensures.1) (refused_listed (frames_listing c.args.form) _ _ _ c.in_err-table.ensures.answer)
+returns-in_err-table g c = rw (passed_on _ _ c.from_residual.ensures.1)
+    (refused_listed (frames_listing c.args.form) _ _ _ c.in_err-table.ensures.answer)

@@ -8,4 +8,5 @@ use Rattle.pdb_tables.proofs.file.list_names.Goals as goal
 pub returns-in_err-table : goal.returns-in_err-table
 unfolding file_names
 returns-in_err-table g c =
-    rw (passed_on _ _ c.from_residual.ensures.1) (refused_listed (λ names. whole (name_lines c.args.form (all_names names))) _ _ _ c.in_err-table.ensures.answer)
+    rw (passed_on _ _ c.from_residual.ensures.1)
+    (refused_listed (λ names. whole (name_lines c.args.form (all_names names))) _ _ _ c.in_err-table.ensures.answer)

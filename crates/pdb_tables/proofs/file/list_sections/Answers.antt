@@ -7,10 +7,15 @@ use Rattle.pdb_tables.proofs.file.list_sections.Goals as goal
 pub returns-in_err-number : goal.returns-in_err-number
 unfolding file_sections
 returns-in_err-number g c =
-    rw (passed_on _ _ c.from_residual.ensures.1) (refused_listed (stream_listing (sections_listing c.args.form)) _ _ _ (refused_then _ _ _ c.in_err-number.ensures.answer))
+    rw (passed_on _ _ c.from_residual.ensures.1)
+    (refused_listed (stream_listing (sections_listing c.args.form)) _ _ _
+    (refused_then _ _ _ c.in_err-number.ensures.answer))
 
 pub returns-in_err-stream : goal.returns-in_err-stream
 unfolding file_sections
 returns-in_err-stream g c =
-    let refuses = rw (c.in_ok-number.ensures.source.bytes, c.in_ok-number.ensures.head) at c.in_err-stream.ensures.answer in
-    rw (passed_on _ _ c.from_residual-in_err-stream.ensures.1) (refused_listed (stream_listing (sections_listing c.args.form)) _ _ _ (answered_then _ _ _ _ c.in_ok-number.ensures.answer refuses))
+    let refuses = rw (c.in_ok-number.ensures.source.bytes, c.in_ok-number.ensures.head) at
+    c.in_err-stream.ensures.answer in
+    rw (passed_on _ _ c.from_residual-in_err-stream.ensures.1)
+    (refused_listed (stream_listing (sections_listing c.args.form)) _ _ _
+    (answered_then _ _ _ _ c.in_ok-number.ensures.answer refuses))

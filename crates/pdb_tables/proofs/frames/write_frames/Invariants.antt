@@ -6,7 +6,8 @@ use Rattle.pdb_output.specs.Output.{IsWritten}
 use Rattle.pdb_tables.proofs.frames.write_frames.Given as goal
 
 abbrev pub invariant-loop-frame : goal.invariant-loop-frame
-invariant-loop-frame g l = IsWritten l.fn.out l.out (frame_lines l.form (by_heads l.table.old l.table.new)) (frame_lines l.form l.frames)
+invariant-loop-frame g l = IsWritten l.fn.out l.out (frame_lines l.form (by_heads l.table.old l.table.new))
+    (frame_lines l.form l.frames)
 
 abbrev pub decreases-loop-frame : goal.decreases-loop-frame
 decreases-loop-frame g l = length l.frames

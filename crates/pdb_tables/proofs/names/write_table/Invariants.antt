@@ -5,4 +5,5 @@ use Rattle.pdb_output.specs.Output.{IsWritten}
 use Rattle.pdb_tables.proofs.names.write_table.Given as goal
 
 abbrev pub invariant-loop : goal.invariant-loop
-invariant-loop g l = IsWritten l.fn.out l.out (name_lines l.form (all_names l.table)) (name_lines l.form (names_from (0xffffffff - l.counter) l.table l.place))
+invariant-loop g l = IsWritten l.fn.out l.out (name_lines l.form (all_names l.table))
+    (name_lines l.form (names_from (0xffffffff - l.counter) l.table l.place))

@@ -6,4 +6,5 @@ use Rattle.pdb_tables.proofs.omap_roles.list_omap.Goals as goal
 pub returns-in_err-roles-in-None : goal.returns-in_err-roles-in-None
 unfolding file_omap
 returns-in_err-roles-in-None g c =
-    rw (c.in-None.is, passed_on _ _ c.from_residual.ensures.1) (refused_listed (both_omaps c.args.form _ _) _ _ _ c.in_err-roles-in-None.ensures.answer)
+    rw (c.in-None.is, passed_on _ _ c.from_residual.ensures.1)
+    (refused_listed (both_omaps c.args.form _ _) _ _ _ c.in_err-roles-in-None.ensures.answer)

@@ -11,8 +11,10 @@ returns-in_default-clause-listed g c = rw c.in_default.is (refl, gets_none _)
 
 pub returns-in_err-write_role-clause-listed : goal.returns-in_err-write_role-clause-listed
 unfolding role_omap
-returns-in_err-write_role-clause-listed g c = rw (c.in-Some.is, passed_on _ _ c.from_residual.ensures.1) (head_cut _ _ _ _ _ c.in_err-write_role.ensures)
+returns-in_err-write_role-clause-listed g c =
+    rw (c.in-Some.is, passed_on _ _ c.from_residual.ensures.1) (head_cut _ _ _ _ _ c.in_err-write_role.ensures)
 
 pub returns-clause-listed : goal.returns-clause-listed
 unfolding role_omap
-returns-clause-listed g c = rw c.in-Some.is (listed_headed _ _ _ _ _ _ c.in_ok-write_role.ensures c.list_numbered.ensures.listed)
+returns-clause-listed g c = rw c.in-Some.is
+    (listed_headed _ _ _ _ _ _ c.in_ok-write_role.ensures c.list_numbered.ensures.listed)

@@ -9,6 +9,7 @@ use Rattle.pdb_tables.proofs.sections.write_sections.Given as goal
 
 abbrev pub invariant-loop-place : goal.invariant-loop-place
 invariant-loop-place g l = record {
-  written : IsWritten l.fn.out l.out (section_lines l.form 1 (spelled 40 section_header l.fn.stream)) (section_lines l.form (l.place + 1) (spelled 40 section_header (left l.buffer)));
+  written : IsWritten l.fn.out l.out (section_lines l.form 1 (spelled 40 section_header l.fn.stream))
+      (section_lines l.form (l.place + 1) (spelled 40 section_header (left l.buffer)));
   rest : length (left l.buffer) ≡ length l.fn.stream - 40 * l.place;
 }

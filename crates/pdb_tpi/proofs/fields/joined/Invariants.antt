@@ -5,7 +5,8 @@ use Rattle.pdb_values.specs.TypeView.{type_value}
 use Rattle.pdb_tpi.proofs.fields.joined.Given as goal
 
 abbrev pub invariant-loop-continuation : goal.invariant-loop-continuation
-invariant-loop-continuation l = Follows (answers l.fn.types) l.fn.index.0 (map type_value l.fields.items) l.above.0 l.continuation
+invariant-loop-continuation l = Follows (answers l.fn.types) l.fn.index.0
+    (map type_value l.fields.items) l.above.0 l.continuation
 
 abbrev pub decreases-loop-continuation : goal.decreases-loop-continuation
 decreases-loop-continuation l = l.above.0

@@ -13,10 +13,13 @@ use Rattle.pdb_tpi.specs.Chain.{Listed, listed}
 use Rattle.pdb_tpi.proofs.fields.list_in.Goals as goal
 
 list_seen : (list : FieldList) → type_value (variants.FieldList list) ≡ field_list_value list
-list_seen list = ap type_value (sym (rolls-FieldList list)) ∙ fold-roll-TypeData TypeValue TypeValue view_step list_step (TypeData-F.FieldList list) ∙ fold_out-FieldList TypeValue TypeValue view_step list_step list
+list_seen list = ap type_value (sym (rolls-FieldList list))
+    ∙ fold-roll-TypeData TypeValue TypeValue view_step list_step (TypeData-F.FieldList list)
+    ∙ fold_out-FieldList TypeValue TypeValue view_step list_step list
 
 pub returns-in-FieldList : goal.returns-in-FieldList
 returns-in-FieldList c =
     let list = c.in-FieldList.list in
     ap (λ (value : TypeValue). listed c.args.kind value) (ap type_value c.in-FieldList.is ∙ list_seen list)
-    ∙ ap (λ (fields : List TypeValue). ok {A = Listed} (record { fields = fields; continuation = list.continuation })) (fields.listed (map type_value list.fields.items))
+    ∙ ap (λ (fields : List TypeValue). ok {A = Listed} (record { fields = fields; continuation = list.continuation }))
+    (fields.listed (map type_value list.fields.items))

@@ -15,4 +15,5 @@ returns-clause-read c =
     ap text_at is
     ∙ text_found rest len c.in-Some.ensures
     ∙ ap (λ (text : List ℕ). ok (text, drop (len + 1) rest)) (sym text)
-    ∙ ap (λ (behind : List ℕ). ok (c.from-text.result.0.now, behind)) (drop-drop (len + 1) c.self.inside.pos c.self.inside.slice.now)
+    ∙ ap (λ (behind : List ℕ). ok (c.from-text.result.0.now, behind))
+    (drop-drop (len + 1) c.self.inside.pos c.self.inside.slice.now)

@@ -5,4 +5,5 @@ use Rattle.pdb_base.proofs.buffer_text.EscapedBytesDisplay.fmt.Given as goal
 
 abbrev pub invariant-loop-byte : goal.invariant-loop-byte
 invariant-loop-byte g l =
-    IsPlainFormatter l.fn.f → HasWritten g.W.Write.write_str_gives l.fn.f (flat_map escaped (take l.byte-index l.self.0.now)) l.f
+    IsPlainFormatter l.fn.f → HasWritten g.W.Write.write_str_gives l.fn.f
+    (flat_map escaped (take l.byte-index l.self.0.now)) l.f

@@ -5,4 +5,5 @@ use Rattle.pdb_file.proofs.information.PDBInformation.stream_names.Goals as goal
 
 pub returns-in_err-map-clause-memory : goal.returns-in_err-map-clause-memory
 returns-in_err-map-clause-memory c = λ want.
-    absurd (no_want_before c.args.self.now _ (cause_is _ _ (sym (passed_on _ _ c.from_residual.ensures.1) ∙ want)) c.in_err-map.ensures)
+    absurd (no_want_before c.args.self.now _ (cause_is _ _ (sym (passed_on _ _ c.from_residual.ensures.1) ∙ want))
+    c.in_err-map.ensures)

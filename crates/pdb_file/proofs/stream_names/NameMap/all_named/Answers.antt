@@ -8,11 +8,16 @@ use Rattle.pdb_file.proofs.stream_names.NameMap.all_named.Goals as goal
 pub returns-in_err-named_at : goal.returns-in_err-named_at
 unfolding named_in
 returns-in_err-named_at c =
-    rw (passed_on _ _ c.from_residual-in_err-named_at.ensures.1) (inl (collected_stops (named_at (map_view c.args.self.now)) c.loop-place.place _ _ _ c.loop-place-test.true c.loop-place.invariant.so_far c.in_err-named_at.ensures))
+    rw (passed_on _ _ c.from_residual-in_err-named_at.ensures.1)
+    (inl (collected_stops (named_at (map_view c.args.self.now)) c.loop-place.place _ _ _ c.loop-place-test.true
+    c.loop-place.invariant.so_far c.in_err-named_at.ensures))
 
 pub loop-place-preserved : goal.loop-place-preserved
 loop-place-preserved c = record {
-  so_far = collected_more (named_at (map_view c.args.self.now)) c.loop-place.place _ (named_view c.in_ok-named_at.field-0) c.loop-place.invariant.so_far c.in_ok-named_at.ensures ∙ ap (λ (all : List Named). ok all) (sym (ap (map named_view) c.push_reserved.ensures.items ∙ map-append named_view c.loop-place.names.items (c.in_ok-named_at.field-0 ∷ [])));
+  so_far = collected_more (named_at (map_view c.args.self.now)) c.loop-place.place _
+      (named_view c.in_ok-named_at.field-0) c.loop-place.invariant.so_far c.in_ok-named_at.ensures
+      ∙ ap (λ (all : List Named). ok all) (sym (ap (map named_view) c.push_reserved.ensures.items
+      ∙ map-append named_view c.loop-place.names.items (c.in_ok-named_at.field-0 ∷ [])));
   counted = omega (arith, c.push_reserved.ensures.len, c.loop-place.invariant.counted);
   room = omega (arith, c.push_reserved.ensures.capacity, c.loop-place.invariant.room);
 }

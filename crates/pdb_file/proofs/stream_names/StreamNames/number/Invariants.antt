@@ -8,5 +8,6 @@ use Rattle.pdb_file.proofs.stream_names.StreamNames.number.Given as goal
 abbrev pub invariant-loop-named : goal.invariant-loop-named
 invariant-loop-named l = record {
   same : map named_view l.named-items ≡ l.self;
-  past : find (λ named. bytes_eq named.name l.name) l.self ≡ find (λ named. bytes_eq named.name l.name) (map named_view (drop l.named-index l.named-items));
+  past : find (λ named. bytes_eq named.name l.name) l.self
+      ≡ find (λ named. bytes_eq named.name l.name) (map named_view (drop l.named-index l.named-items));
 }

@@ -8,4 +8,6 @@ pub returns-clause-merged : goal.returns-clause-merged
 returns-clause-merged c up =
     let frames : Frames = record { old = old_frames c.bytes_of.result.now; new = new_frames c.bytes_of-2.result.now } in
     let is : c.args.self.now ≡ frames = rw (c.bytes_of.ensures, c.bytes_of-2.ensures) (sym c.self.view_is) in
-    rw (← c.rva.view_is, is) (end_merged _ frames _ _ (rw is at up) c.starting_at.ensures.exact c.starting_at-2.ensures.exact c.starting_at.ensures.end c.starting_at-2.ensures.end)
+    rw (← c.rva.view_is, is) (end_merged _ frames _ _
+    (rw is at up) c.starting_at.ensures.exact c.starting_at-2.ensures.exact c.starting_at.ensures.end
+    c.starting_at-2.ensures.end)

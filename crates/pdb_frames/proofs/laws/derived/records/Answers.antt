@@ -13,7 +13,70 @@ kinds a b = (same_true the_type tt a b, true_same the_type a b)
 
 pub returns-clause-frames : goal.returns-clause-frames
 returns-clause-frames c a b =
-    let fields = both _ _ (kinds a.ty b.ty) (both _ _ (unsigned_Decides a.code_start b.code_start) (both _ _ (unsigned_Decides a.code_size b.code_size) (both _ _ (unsigned_Decides a.locals_size b.locals_size) (both _ _ (unsigned_Decides a.params_size b.params_size) (both _ _ (unsigned_Decides a.prolog_size b.prolog_size) (both _ _ (unsigned_Decides a.saved_regs_size b.saved_regs_size) (both _ _ (options nat_eq unsigned_Decides a.max_stack_size b.max_stack_size) (both _ _ (booleans_Decides a.has_structured_eh b.has_structured_eh) (both _ _ (booleans_Decides a.has_cpp_eh b.has_cpp_eh) (both _ _ (booleans_Decides a.is_function_start b.is_function_start) (both _ _ (booleans_Decides a.uses_base_pointer b.uses_base_pointer) (options nat_eq unsigned_Decides a.program b.program)))))))))))) in (
-      λ holds. let same = fields.0 holds in λ i. record { ty = same.0 i; code_start = same.1.0 i; code_size = same.1.1.0 i; locals_size = same.1.1.1.0 i; params_size = same.1.1.1.1.0 i; prolog_size = same.1.1.1.1.1.0 i; saved_regs_size = same.1.1.1.1.1.1.0 i; max_stack_size = same.1.1.1.1.1.1.1.0 i; has_structured_eh = same.1.1.1.1.1.1.1.1.0 i; has_cpp_eh = same.1.1.1.1.1.1.1.1.1.0 i; is_function_start = same.1.1.1.1.1.1.1.1.1.1.0 i; uses_base_pointer = same.1.1.1.1.1.1.1.1.1.1.1.0 i; program = same.1.1.1.1.1.1.1.1.1.1.1.1 i },
-      λ is. fields.1 (ap (λ (x : FrameData). x.ty) is, (ap (λ (x : FrameData). x.code_start) is, (ap (λ (x : FrameData). x.code_size) is, (ap (λ (x : FrameData). x.locals_size) is, (ap (λ (x : FrameData). x.params_size) is, (ap (λ (x : FrameData). x.prolog_size) is, (ap (λ (x : FrameData). x.saved_regs_size) is, (ap (λ (x : FrameData). x.max_stack_size) is, (ap (λ (x : FrameData). x.has_structured_eh) is, (ap (λ (x : FrameData). x.has_cpp_eh) is, (ap (λ (x : FrameData). x.is_function_start) is, (ap (λ (x : FrameData). x.uses_base_pointer) is, ap (λ (x : FrameData). x.program) is)))))))))))),
+    let fields = both _ _ (kinds a.ty b.ty) (both _ _ (unsigned_Decides a.code_start b.code_start)
+    (both _ _ (unsigned_Decides a.code_size b.code_size)
+    (both _ _ (unsigned_Decides a.locals_size b.locals_size)
+    (both _ _ (unsigned_Decides a.params_size b.params_size)
+    (both _ _ (unsigned_Decides a.prolog_size b.prolog_size)
+    (both _ _ (unsigned_Decides a.saved_regs_size b.saved_regs_size)
+    (both _ _ (options nat_eq unsigned_Decides a.max_stack_size b.max_stack_size)
+    (both _ _ (booleans_Decides a.has_structured_eh b.has_structured_eh)
+    (both _ _ (booleans_Decides a.has_cpp_eh b.has_cpp_eh)
+    (both _ _ (booleans_Decides a.is_function_start b.is_function_start)
+    (both _ _ (booleans_Decides a.uses_base_pointer b.uses_base_pointer)
+    (options nat_eq unsigned_Decides a.program b.program)))))))))))) in (
+      λ holds. let same = fields.0 holds in λ i. record {
+        ty = same.0 i;
+        code_start = same.1.0 i;
+        code_size = same.1.1.0 i;
+        locals_size =
+            same.1.1.1.0 i;
+        params_size = same.1.1.1.1.0 i;
+        prolog_size = same.1.1.1.1.1.0 i;
+        saved_regs_size =
+            same.1.1.1.1.1.1.0 i;
+        max_stack_size = same.1.1.1.1.1.1.1.0 i;
+        has_structured_eh =
+            same.1.1.1.1.1.1.1.1.0 i;
+        has_cpp_eh = same.1.1.1.1.1.1.1.1.1.0 i;
+        is_function_start =
+            same.1.1.1.1.1.1.1.1.1.1.0 i;
+        uses_base_pointer = same.1.1.1.1.1.1.1.1.1.1.1.0 i;
+        program =
+            same.1.1.1.1.1.1.1.1.1.1.1.1 i;
+      },
+      λ is. fields.1 (
+        ap (λ (x : FrameData). x.ty) is,
+        (
+          ap (λ (x : FrameData). x.code_start) is,
+          (
+            ap (λ (x : FrameData). x.code_size) is,
+            (
+              ap (λ (x : FrameData). x.locals_size) is,
+              (
+                ap (λ (x : FrameData). x.params_size) is,
+                (
+                  ap (λ (x : FrameData). x.prolog_size) is,
+                  (
+                    ap (λ (x : FrameData). x.saved_regs_size) is,
+                    (
+                      ap (λ (x : FrameData). x.max_stack_size) is,
+                      (
+                        ap (λ (x : FrameData). x.has_structured_eh) is,
+                        (
+                          ap (λ (x : FrameData). x.has_cpp_eh) is,
+                          (
+                            ap (λ (x : FrameData). x.is_function_start) is,
+                            (ap (λ (x : FrameData). x.uses_base_pointer) is, ap (λ (x : FrameData). x.program) is),
+                          ),
+                        ),
+                      ),
+                    ),
+                  ),
+                ),
+              ),
+            ),
+          ),
+        ),
+      ),
     )

@@ -13,7 +13,9 @@ returns-in_err-pages-clause-entry c =
     let place = c.in_ok-place.place in
     rw (passed_on _ _ c.from_residual-in_err-pages.ensures.1)
     (elim c.in_err-pages.ensures.numbers [
-      | inl bad ↦ inl (entry_refused g c.args.stream_number c.args.limit d place _ c.in_ok-place.ensures.place (numbers_read g place.size place.start _ d c.as_slice.result.now _ _ _ c.as_slice.ensures.value c.from-buffer.ensures c.seek.ensures c.pages-count.ensures.pages bad))
+      | inl bad ↦ inl (entry_refused g c.args.stream_number c.args.limit d place _ c.in_ok-place.ensures.place
+          (numbers_read g place.size place.start _ d c.as_slice.result.now _ _ _ c.as_slice.ensures.value
+          c.from-buffer.ensures c.seek.ensures c.pages-count.ensures.pages bad))
       | inr want ↦ inr want
     ])
 
@@ -22,8 +24,11 @@ returns-clause-entry c =
     let g = c.args.geometry in
     let d = c.args.self.now.bytes.items in
     let place = c.in_ok-place.place in
-    entry_found g c.args.stream_number c.args.limit d place c.in_ok-pages.pages.items c.in_ok-place.ensures.place (numbers_read g place.size place.start _ d c.as_slice.result.now _ _ _ c.as_slice.ensures.value c.from-buffer.ensures c.seek.ensures c.pages-count.ensures.pages c.in_ok-pages.ensures.numbers)
-    ∙ ap (λ (size : ℕ). Ok (let entry : Entry = record { size = size; pages = c.in_ok-pages.pages.items } in entry)) (sym c.limited.ensures.size)
+    entry_found g c.args.stream_number c.args.limit d place c.in_ok-pages.pages.items c.in_ok-place.ensures.place
+    (numbers_read g place.size place.start _ d c.as_slice.result.now _ _ _ c.as_slice.ensures.value
+    c.from-buffer.ensures c.seek.ensures c.pages-count.ensures.pages c.in_ok-pages.ensures.numbers)
+    ∙ ap (λ (size : ℕ). Ok (let entry : Entry = record { size = size; pages = c.in_ok-pages.pages.items } in entry))
+    (sym c.limited.ensures.size)
 
 pub returns-clause-whole : goal.returns-clause-whole
 returns-clause-whole c =

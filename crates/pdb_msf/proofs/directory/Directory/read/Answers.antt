@@ -10,4 +10,5 @@ starts_of-requires-clause-short g c =
 pub returns-in_err-starts-clause-asked : goal.returns-in_err-starts-clause-asked
 returns-in_err-starts-clause-asked g c =
     rw (passed_on _ _ c.from_residual-in_err-starts.ensures.1)
-    (let asked = c.in_ok-read_directory.ensures.asked in let fits = c.args.source.now.fits in (omega arith, omega arith))
+    (let asked = c.in_ok-read_directory.ensures.asked in let fits = c.args.source.now.fits in
+    (omega arith, omega arith))

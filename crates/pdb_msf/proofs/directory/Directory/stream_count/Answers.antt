@@ -8,4 +8,5 @@ returns-in_err-count c =
     (uncounted _ c.as_slice.result.now _ _ c.as_slice.ensures.value c.from-buffer.ensures c.in_err-count.ensures.read)
 
 pub returns : goal.returns
-returns c = counted _ c.as_slice.result.now _ _ c.as_slice.ensures.value c.from-buffer.ensures c.in_ok-count.ensures.read
+returns c = counted _ c.as_slice.result.now _ _ c.as_slice.ensures.value c.from-buffer.ensures
+    c.in_ok-count.ensures.read

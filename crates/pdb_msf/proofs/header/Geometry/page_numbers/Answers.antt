@@ -1,4 +1,5 @@
-use Rattle.std.proofs.Common.{◌≡◌, ◌+◌, ℕ, refl, ap, sym, ◌∙◌, arith, inl, List, drop, map, Result, Ok, Err, Vec, Global}
+use Rattle.std.proofs.Common.{◌≡◌, ◌+◌, ℕ, refl, ap, sym, ◌∙◌, arith, inl, List, drop, map, Result, Ok, Err, Vec}
+use Rattle.std.proofs.Common.{Global}
 use Rattle.pdb_base.specs.declared.error.Error.{Error}
 use Rattle.std.specs.List.{range_with_len}
 use Rattle.pdb_base.specs.Place.{left}
@@ -15,10 +16,12 @@ pub loop-preserved : goal.loop-preserved
 loop-preserved c =
     let all = words (left c.args.buffer.now) in
     let next = next_word all c.loop.counter _ _ c.loop.invariant.rest c.in_ok-word.ensures.read in
-    let here : page_number c.args.self.pages_used all c.loop.counter ≡ Ok c.in_ok-number.number = rw next.0 c.in_ok-number.ensures in
+    let here : page_number c.args.self.pages_used all c.loop.counter ≡ Ok c.in_ok-number.number =
+    rw next.0 c.in_ok-number.ensures in
     record {
       rest = next.1;
-      so_far = collected_more (page_number c.args.self.pages_used all) c.loop.counter c.loop.numbers.items c.in_ok-number.number c.loop.invariant.so_far here
+      so_far = collected_more (page_number c.args.self.pages_used all) c.loop.counter c.loop.numbers.items
+          c.in_ok-number.number c.loop.invariant.so_far here
           ∙ ap (λ (numbers : List ℕ). Ok numbers) (sym c.in_ok-push.ensures.items);
       counted = omega (arith, c.in_ok-push.ensures.len, c.loop.invariant.counted);
     }
@@ -28,23 +31,30 @@ unfolding page_numbers
 returns-in_err-word-clause-numbers c =
     let all = words (left c.args.buffer.now) in
     let none = no_word all c.loop.counter _ _ c.loop.invariant.rest c.in_err-word.ensures.read in
-    let here : page_number c.args.self.pages_used all c.loop.counter ≡ Err (refusal_of c.in_err-word.field-0.0) = rw (none.0, none.1) refl in
-    rw (passed_on _ _ c.from_residual.ensures.1) (inl (collected_stops (page_number c.args.self.pages_used all) c.loop.counter c.args.count c.loop.numbers.items _ c.loop-test.true c.loop.invariant.so_far here))
+    let here : page_number c.args.self.pages_used all c.loop.counter ≡ Err (refusal_of c.in_err-word.field-0.0) =
+    rw (none.0, none.1) refl in
+    rw (passed_on _ _ c.from_residual.ensures.1)
+    (inl (collected_stops (page_number c.args.self.pages_used all) c.loop.counter c.args.count
+    c.loop.numbers.items _ c.loop-test.true c.loop.invariant.so_far here))
 
 pub returns-in_err-number-clause-numbers : goal.returns-in_err-number-clause-numbers
 unfolding page_numbers
 returns-in_err-number-clause-numbers c =
     let all = words (left c.args.buffer.now) in
     let next = next_word all c.loop.counter _ _ c.loop.invariant.rest c.in_ok-word.ensures.read in
-    let here : page_number c.args.self.pages_used all c.loop.counter ≡ Err (refusal_of c.in_err-number.field-0.0) = rw next.0 c.in_err-number.ensures in
-    rw (passed_on _ _ c.from_residual-in_err-number.ensures.1) (inl (collected_stops (page_number c.args.self.pages_used all) c.loop.counter c.args.count c.loop.numbers.items _ c.loop-test.true c.loop.invariant.so_far here))
+    let here : page_number c.args.self.pages_used all c.loop.counter ≡ Err (refusal_of c.in_err-number.field-0.0) =
+    rw next.0 c.in_err-number.ensures in
+    rw (passed_on _ _ c.from_residual-in_err-number.ensures.1)
+    (inl (collected_stops (page_number c.args.self.pages_used all) c.loop.counter c.args.count
+    c.loop.numbers.items _ c.loop-test.true c.loop.invariant.so_far here))
 
 pub returns-clause-numbers : goal.returns-clause-numbers
 unfolding page_numbers
 returns-clause-numbers c =
     let all = words (left c.args.buffer.now) in
     let end : c.args.count ≡ c.loop.counter = omega arith in
-    ap (λ (n : ℕ). collected (map (page_number c.args.self.pages_used all) (range_with_len 0 n))) end ∙ c.loop.invariant.so_far
+    ap (λ (n : ℕ). collected (map (page_number c.args.self.pages_used all) (range_with_len 0 n))) end
+    ∙ c.loop.invariant.so_far
 
 pub returns-clause-rest : goal.returns-clause-rest
 returns-clause-rest c =
@@ -56,22 +66,31 @@ pub returns-in_err-word-clause-exact : goal.returns-in_err-word-clause-exact
 returns-in_err-word-clause-exact c =
     let all = words (left c.args.buffer.now) in
     let none = no_word all c.loop.counter _ _ c.loop.invariant.rest c.in_err-word.ensures.read in
-    let here : page_number c.args.self.pages_used all c.loop.counter ≡ Err (refusal_of c.in_err-word.field-0.0) = rw (none.0, none.1) refl in
-    rw (passed_on _ _ c.from_residual.ensures.1) (first_refused (Vec ℕ Global) c.args.self.pages_used c.args.count c.loop.counter all _ _ c.loop-test.true c.loop.invariant.so_far here)
+    let here : page_number c.args.self.pages_used all c.loop.counter ≡ Err (refusal_of c.in_err-word.field-0.0) =
+    rw (none.0, none.1) refl in
+    rw (passed_on _ _ c.from_residual.ensures.1)
+    (first_refused (Vec ℕ Global) c.args.self.pages_used c.args.count c.loop.counter all _ _ c.loop-test.true
+    c.loop.invariant.so_far here)
 
 pub returns-in_err-number-clause-exact : goal.returns-in_err-number-clause-exact
 returns-in_err-number-clause-exact c =
     let all = words (left c.args.buffer.now) in
     let next = next_word all c.loop.counter _ _ c.loop.invariant.rest c.in_ok-word.ensures.read in
-    let here : page_number c.args.self.pages_used all c.loop.counter ≡ Err (refusal_of c.in_err-number.field-0.0) = rw next.0 c.in_err-number.ensures in
-    rw (passed_on _ _ c.from_residual-in_err-number.ensures.1) (first_refused (Vec ℕ Global) c.args.self.pages_used c.args.count c.loop.counter all _ _ c.loop-test.true c.loop.invariant.so_far here)
+    let here : page_number c.args.self.pages_used all c.loop.counter ≡ Err (refusal_of c.in_err-number.field-0.0) =
+    rw next.0 c.in_err-number.ensures in
+    rw (passed_on _ _ c.from_residual-in_err-number.ensures.1)
+    (first_refused (Vec ℕ Global) c.args.self.pages_used c.args.count c.loop.counter all _ _ c.loop-test.true
+    c.loop.invariant.so_far here)
 
 pub returns-in_err-push-clause-exact : goal.returns-in_err-push-clause-exact
 returns-in_err-push-clause-exact c =
     let all = words (left c.args.buffer.now) in
     let next = next_word all c.loop.counter _ _ c.loop.invariant.rest c.in_ok-word.ensures.read in
-    let here : page_number c.args.self.pages_used all c.loop.counter ≡ Ok c.in_ok-number.number = rw next.0 c.in_ok-number.ensures in
-    first_there c.args.self.pages_used c.args.count (c.loop.counter + 1) all _ _ (collected_more (page_number c.args.self.pages_used all) c.loop.counter c.loop.numbers.items c.in_ok-number.number c.loop.invariant.so_far here) (omega arith)
+    let here : page_number c.args.self.pages_used all c.loop.counter ≡ Ok c.in_ok-number.number =
+    rw next.0 c.in_ok-number.ensures in
+    first_there c.args.self.pages_used c.args.count (c.loop.counter + 1) all _ _
+    (collected_more (page_number c.args.self.pages_used all) c.loop.counter c.loop.numbers.items
+    c.in_ok-number.number c.loop.invariant.so_far here) (omega arith)
 
 pub returns-clause-exact : goal.returns-clause-exact
 returns-clause-exact c =

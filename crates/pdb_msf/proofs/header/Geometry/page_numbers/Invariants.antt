@@ -8,6 +8,7 @@ use Rattle.pdb_msf.proofs.header.Geometry.page_numbers.Given as goal
 abbrev pub invariant-loop : goal.invariant-loop
 invariant-loop l = record {
   rest : words (left l.buffer) ≡ drop l.counter (words (left l.fn.buffer));
-  so_far : collected (map (page_number l.self.pages_used (words (left l.fn.buffer))) (range_with_len 0 l.counter)) ≡ Ok l.numbers.items;
+  so_far : collected (map (page_number l.self.pages_used (words (left l.fn.buffer))) (range_with_len 0 l.counter))
+      ≡ Ok l.numbers.items;
   counted : vec_len l.numbers ≡ l.counter;
 }

@@ -9,4 +9,5 @@ returns-then-is_some-clause-asked g c =
     let inside = c.self.inside in
     rw (← c.self.view_is)
     (asks_nothing inside.source.asked inside.source.fits
-    ∙ ap (λ (b : Bool). raised_by (locating b inside.header.geometry) inside.source.asked) (sym (sym c.is_some.ensures ∙ c.if-is_some.true)))
+    ∙ ap (λ (b : Bool). raised_by (locating b inside.header.geometry) inside.source.asked)
+    (sym (sym c.is_some.ensures ∙ c.if-is_some.true)))

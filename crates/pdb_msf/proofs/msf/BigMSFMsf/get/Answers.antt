@@ -11,7 +11,8 @@ use Rattle.pdb_msf.proofs.msf.BigMSFMsf.get.Goals as goal
 pub returns-in_err-entry-clause-kind : goal.returns-in_err-entry-clause-kind
 returns-in_err-entry-clause-kind g c =
     rw (passed_on _ _ c.from_residual-in_err-entry.ensures.1)
-    (tells_entry (g.S.Source.state c.locate.new.self.source) entry_view c.in_err-entry.field-0.0 _ _ _ _ c.in_err-entry.ensures.entry)
+    (tells_entry (g.S.Source.state c.locate.new.self.source) entry_view c.in_err-entry.field-0.0 _ _ _ _
+    c.in_err-entry.ensures.entry)
 
 pub returns-in_err-entry-clause-asked : goal.returns-in_err-entry-clause-asked
 returns-in_err-entry-clause-asked g c =
@@ -21,11 +22,14 @@ returns-in_err-entry-clause-asked g c =
 pub returns-in_err-bytes-clause-asked : goal.returns-in_err-bytes-clause-asked
 returns-in_err-bytes-clause-asked g c =
     let inside = c.self.inside in
-    let kept : IsKeptOf (g.S.Source.state inside.source.source).bytes (header_view inside.header) c.in-Some.directory = rw c.in-Some.is at c.self.invariant.kept in
+    let kept : IsKeptOf (g.S.Source.state inside.source.source).bytes (header_view inside.header) c.in-Some.directory =
+    rw c.in-Some.is at c.self.invariant.kept in
     let file : (g.S.Source.state inside.source.source).bytes ≡ (g.S.Source.state c.args.self.now.source).bytes =
     ap (λ m. (g.S.Source.state m.source).bytes) c.self.view_is ∙ c.in_ok-locate.ensures.source.bytes in
-    let head : header_view inside.header ≡ c.args.self.now.head = ap (λ m. m.head) c.self.view_is ∙ c.in_ok-locate.ensures.head in
-    let wants = wanted_is _ _ _ _ c.args.stream_number c.args.limit c.in-Some.directory.bytes.items (entry_view c.in_ok-entry.entry) file head kept.bytes c.in_ok-entry.ensures.entry in
+    let head : header_view inside.header ≡ c.args.self.now.head = ap (λ m. m.head) c.self.view_is
+    ∙ c.in_ok-locate.ensures.head in
+    let wants = wanted_is _ _ _ _ c.args.stream_number c.args.limit c.in-Some.directory.bytes.items
+    (entry_view c.in_ok-entry.entry) file head kept.bytes c.in_ok-entry.ensures.entry in
     let whole = sym wants in
     let middle : inside.source.asked ≡ _ = ap (λ m. m.asked) c.self.view_is ∙ c.in_ok-locate.ensures.asked in
     rw (passed_on _ _ c.from_residual-in_err-bytes.ensures.1)

@@ -18,14 +18,20 @@ loop-self-preserved-then-self-len c =
     let last = c.in-Some.last in
     let long = c.loop-self.self-inside.len in
     let popped = c.in-Some.ensures.items in
-    let len : long ≡ length (positions shorter) + last.size = c.loop-self.invariant.counted ∙ ap (λ s. length (positions s)) popped ∙ length-positions_push shorter last in
+    let len : long ≡ length (positions shorter) + last.size = c.loop-self.invariant.counted
+    ∙ ap (λ s. length (positions s)) popped ∙ length-positions_push shorter last in
     let kept : long - last.size ≡ length (positions shorter) = omega arith in
-    let cut : List SourceSlice = shorter ++ record { offset = last.offset; size = n - length (positions shorter) } ∷ [] in
-    let now : c.push_reserved.new.self.items ≡ cut = c.push_reserved.ensures.items ∙ ap (λ (k : ℕ). shorter ++ record { offset = last.offset; size = n - k } ∷ []) kept in
-    let whole : length (positions cut) ≡ n = length-positions_push shorter (record { offset = last.offset; size = n - length (positions shorter) }) ∙ omega arith in
+    let cut : List SourceSlice = shorter ++ record { offset = last.offset; size = n - length (positions shorter) }
+    ∷ [] in
+    let now : c.push_reserved.new.self.items ≡ cut = c.push_reserved.ensures.items
+    ∙ ap (λ (k : ℕ). shorter ++ record { offset = last.offset; size = n - k } ∷ []) kept in
+    let whole : length (positions cut) ≡ n = length-positions_push shorter
+    (record { offset = last.offset; size = n - length (positions shorter) }) ∙ omega arith in
     record {
       counted = sym (ap (λ s. length (positions s)) now ∙ whole);
-      front = ap (first_of n) now ∙ first_of_all n cut (omega arith) ∙ sym (first_of_cut n shorter last (omega arith) (omega arith)) ∙ sym (ap (first_of n) popped) ∙ c.loop-self.invariant.front;
+      front = ap (first_of n) now ∙ first_of_all n cut (omega arith)
+          ∙ sym (first_of_cut n shorter last (omega arith) (omega arith)) ∙ sym (ap (first_of n) popped)
+          ∙ c.loop-self.invariant.front;
       page_size = c.loop-self.invariant.page_size;
       page_size_fits = c.loop-self.invariant.page_size_fits;
       marked = c.loop-self.invariant.marked;
@@ -37,10 +43,12 @@ loop-self-preserved c =
     let shorter = c.pop.new.self.items in
     let last = c.in-Some.last in
     let popped = c.in-Some.ensures.items in
-    let len : c.loop-self.self-inside.len ≡ length (positions shorter) + last.size = c.loop-self.invariant.counted ∙ ap (λ s. length (positions s)) popped ∙ length-positions_push shorter last in
+    let len : c.loop-self.self-inside.len ≡ length (positions shorter) + last.size = c.loop-self.invariant.counted
+    ∙ ap (λ s. length (positions s)) popped ∙ length-positions_push shorter last in
     record {
       counted = omega arith;
-      front = first_of_fewer n shorter last (omega arith) (omega arith) ∙ sym (ap (first_of n) popped) ∙ c.loop-self.invariant.front;
+      front = first_of_fewer n shorter last (omega arith) (omega arith) ∙ sym (ap (first_of n) popped)
+          ∙ c.loop-self.invariant.front;
       page_size = c.loop-self.invariant.page_size;
       page_size_fits = c.loop-self.invariant.page_size_fits;
       marked = c.loop-self.invariant.marked;
@@ -50,12 +58,14 @@ pub returns-clause-slices : goal.returns-clause-slices
 returns-clause-slices c =
     let n = c.args.len in
     let slices = c.loop-self.self-inside.slices.items in
-    let all : slices ≡ first_of n c.args.self.now.slices = sym (first_of_all n slices (omega (arith, c.loop-self.invariant.counted))) ∙ c.loop-self.invariant.front in
+    let all : slices ≡ first_of n c.args.self.now.slices =
+    sym (first_of_all n slices (omega (arith, c.loop-self.invariant.counted))) ∙ c.loop-self.invariant.front in
     cc
 
 pub returns-clause-positions : goal.returns-clause-positions
 returns-clause-positions c =
     let n = c.args.len in
     let slices = c.loop-self.self-inside.slices.items in
-    let all : slices ≡ first_of n c.args.self.now.slices = sym (first_of_all n slices (omega (arith, c.loop-self.invariant.counted))) ∙ c.loop-self.invariant.front in
+    let all : slices ≡ first_of n c.args.self.now.slices =
+    sym (first_of_all n slices (omega (arith, c.loop-self.invariant.counted))) ∙ c.loop-self.invariant.front in
     ap positions all ∙ positions_first_of n c.args.self.now.slices

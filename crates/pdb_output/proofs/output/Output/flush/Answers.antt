@@ -3,7 +3,8 @@ use Rattle.pdb_output.proofs.lemmas.Written.{fails_again, received_kept, receive
 use Rattle.pdb_output.proofs.output.Output.flush.Goals as goal
 
 pub returns-then-self-clause-bytes : goal.returns-then-self-clause-bytes
-returns-then-self-clause-bytes g c = fails_again _ _ _ (c.other.result, c.into.ensures, rw (← c.self.view_is) c.if-self.true)
+returns-then-self-clause-bytes g c = fails_again _ _ _
+    (c.other.result, c.into.ensures, rw (← c.self.view_is) c.if-self.true)
 
 pub returns-in-Err-clause-bytes : goal.returns-in-Err-clause-bytes
 returns-in-Err-clause-bytes g c =

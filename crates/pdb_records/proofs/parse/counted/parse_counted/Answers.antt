@@ -8,4 +8,5 @@ use Rattle.pdb_records.proofs.parse.counted.parse_counted.Goals as goal
 
 pub returns-in_err-count-clause-memory : goal.returns-in_err-count-clause-memory
 returns-in_err-count-clause-memory g c = λ want.
-    absurd (number_is_no_want (count_bytes c.args.width) (left c.args.buffer.now) _ c.in_err-count.ensures (cause_is _ _ (sym (passed_on _ _ c.from_residual.ensures.1) ∙ want)))
+    absurd (number_is_no_want (count_bytes c.args.width) (left c.args.buffer.now) _ c.in_err-count.ensures
+    (cause_is _ _ (sym (passed_on _ _ c.from_residual.ensures.1) ∙ want)))

@@ -15,10 +15,13 @@ loop-buffer-smaller c = method_shorter (left c.loop-buffer.buffer) _ _ c.in-Ok.e
 
 pub loop-buffer-preserved : goal.loop-buffer-preserved
 loop-buffer-preserved c =
-    let here = method_there (left c.loop-buffer.buffer) c.in-Ok.method (left c.parse_listed_method.new.buffer) c.in-Ok.ensures in
+    let here = method_there (left c.loop-buffer.buffer) c.in-Ok.method
+    (left c.parse_listed_method.new.buffer) c.in-Ok.ensures in
     rw c.in_ok-push-in-Ok.ensures.items (record {
-      all = c.loop-buffer.invariant.all ∙ methods_step c.loop-buffer.methods.items (left c.loop-buffer.buffer) c.in-Ok.method (left c.parse_listed_method.new.buffer) c.in-Ok.ensures;
-      begun = inr (holds_now HoldsMethod (left c.loop-buffer.buffer) (left c.args.buffer.now) c.loop-buffer.invariant.begun here);
+      all = c.loop-buffer.invariant.all ∙ methods_step c.loop-buffer.methods.items
+          (left c.loop-buffer.buffer) c.in-Ok.method (left c.parse_listed_method.new.buffer) c.in-Ok.ensures;
+      begun = inr (holds_now HoldsMethod (left c.loop-buffer.buffer)
+          (left c.args.buffer.now) c.loop-buffer.invariant.begun here);
     })
 
 pub returns-in_err-push-in-Ok-clause-memory : goal.returns-in_err-push-in-Ok-clause-memory
@@ -29,10 +32,12 @@ returns-in_err-push-in-Ok-clause-memory c = λ want.
 pub returns-in-Err-clause-read : goal.returns-in-Err-clause-read
 returns-in-Err-clause-read c =
     let some : left c.loop-buffer.buffer ≢ [] = λ none. false≢true (c.loop-buffer-test.ensures.1 none) in
-    inl (c.loop-buffer.invariant.all ∙ to_end_stops (row listed_method_row) c.loop-buffer.methods.items (left c.loop-buffer.buffer) _ some c.in-Err.ensures)
+    inl (c.loop-buffer.invariant.all ∙ to_end_stops (row listed_method_row) c.loop-buffer.methods.items
+    (left c.loop-buffer.buffer) _ some c.in-Err.ensures)
 
 pub returns-in-Err-clause-memory : goal.returns-in-Err-clause-memory
-returns-in-Err-clause-memory c = refusal_no_want (row listed_method_row (left c.loop-buffer.buffer)) c.in-Err.error _ (row_no_want listed_method_row (left c.loop-buffer.buffer)) c.in-Err.ensures
+returns-in-Err-clause-memory c = refusal_no_want (row listed_method_row (left c.loop-buffer.buffer)) c.in-Err.error _
+    (row_no_want listed_method_row (left c.loop-buffer.buffer)) c.in-Err.ensures
 
 pub returns-clause-read : goal.returns-clause-read
 returns-clause-read c =

@@ -11,7 +11,8 @@ use Rattle.pdb_records.proofs.parse.list.parse_method_list.Given as goal
 
 abbrev pub invariant-loop-buffer : goal.invariant-loop-buffer
 invariant-loop-buffer l = record {
-  all : to_end (row listed_method_row) (left l.fn.buffer) ≡ behind l.methods.items (to_end (row listed_method_row) (left l.buffer));
+  all : to_end (row listed_method_row) (left l.fn.buffer)
+      ≡ behind l.methods.items (to_end (row listed_method_row) (left l.buffer));
   begun : (left l.buffer ≡ left l.fn.buffer) ⊎ HoldsMethod (left l.fn.buffer);
 }
 

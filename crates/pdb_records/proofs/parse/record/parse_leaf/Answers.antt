@@ -18,4 +18,5 @@ returns-in_err-arguments-in-ArgumentList-clause-memory c = λ want.
 
 pub returns-in-Plain-clause-memory : goal.returns-in-Plain-clause-memory
 returns-in-Plain-clause-memory c =
-    gives_no_want _ c.parse_plain.result (plain_at (row_of c.args.number c.in-Plain.leaf) (left c.args.buffer.now)) _ (plain_no_want (row_of c.args.number c.in-Plain.leaf) (left c.args.buffer.now)) c.parse_plain.ensures
+    gives_no_want _ c.parse_plain.result (plain_at (row_of c.args.number c.in-Plain.leaf) (left c.args.buffer.now)) _
+    (plain_no_want (row_of c.args.number c.in-Plain.leaf) (left c.args.buffer.now)) c.parse_plain.ensures

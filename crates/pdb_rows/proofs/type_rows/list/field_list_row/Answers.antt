@@ -13,4 +13,6 @@ returns-clause-ok c =
     let front : ShownField = (codes "index", optional_hexadecimal c.args.head.index) in
     ap (map field_shown) c.in_ok-fields.ensures.items
     ∙ simp (c.index.ensures, c.kind.ensures, c.field.ensures, c.field-2.ensures, c.optional_type.ensures)
-    (ap (λ (count : ℕ). front ∷ (codes "kind", kind c.args.head.leaf) ∷ (codes "count", number count) ∷ (codes "continuation", optional_type list.continuation) ∷ []) (ap length c.as_slice.ensures.value ∙ sym (fields_counted list.fields.items)))
+    (ap (λ (count : ℕ). front ∷ (codes "kind", kind c.args.head.leaf) ∷ (codes "count", number count)
+    ∷ (codes "continuation", optional_type list.continuation) ∷ [])
+    (ap length c.as_slice.ensures.value ∙ sym (fields_counted list.fields.items)))

@@ -8,4 +8,11 @@ pub returns-clause-ok : goal.returns-clause-ok
 unfolding primitive_fields
 returns-clause-ok c =
     ap (map field_shown) c.in_ok-fields.ensures.items
-    ∙ simp (c.index.ensures, c.kind.ensures, c.field.ensures, c.primitive_word.ensures, c.field-2.ensures, c.indirection.ensures)
+    ∙ simp (
+      c.index.ensures,
+      c.kind.ensures,
+      c.field.ensures,
+      c.primitive_word.ensures,
+      c.field-2.ensures,
+      c.indirection.ensures,
+    )

@@ -5,4 +5,12 @@ use Rattle.pdb_rows.proofs.words.pointer_attributes.pointer_words.Goals as goal
 
 pub returns-clause-ok : goal.returns-clause-ok
 unfolding pointer_words
-returns-clause-ok c = c.in_ok-words.ensures.ok ∙ simp (c.is_flat_32.ensures, c.is_volatile.ensures, c.is_const.ensures, c.is_unaligned.ensures, c.is_restrict.ensures, c.is_mocom.ensures)
+returns-clause-ok c = c.in_ok-words.ensures.ok
+    ∙ simp (
+      c.is_flat_32.ensures,
+      c.is_volatile.ensures,
+      c.is_const.ensures,
+      c.is_unaligned.ensures,
+      c.is_restrict.ensures,
+      c.is_mocom.ensures,
+    )

@@ -5,4 +5,26 @@ use Rattle.pdb_rows.proofs.words.section_characteristics.section_words.Goals as 
 
 pub returns-clause-ok : goal.returns-clause-ok
 unfolding section_words
-returns-clause-ok c = c.in_ok-words.ensures.ok ∙ simp (c.executable.ensures, c.initialized_data.ensures, c.uninitialized_data.ensures, c.other.ensures, c.info.ensures, c.remove.ensures, c.comdat.ensures, c.defer_speculative_exceptions.ensures, c.global_pointer_relative.ensures, c.purgeable.ensures, c.locked.ensures, c.preload.ensures, c.lnk_nreloc_ovfl.ensures, c.discardable.ensures, c.not_cached.ensures, c.not_paged.ensures, c.shared.ensures, c.execute.ensures, c.read.ensures, c.write.ensures)
+returns-clause-ok c = c.in_ok-words.ensures.ok
+    ∙ simp (
+      c.executable.ensures,
+      c.initialized_data.ensures,
+      c.uninitialized_data.ensures,
+      c.other.ensures,
+      c.info.ensures,
+      c.remove.ensures,
+      c.comdat.ensures,
+      c.defer_speculative_exceptions.ensures,
+      c.global_pointer_relative.ensures,
+      c.purgeable.ensures,
+      c.locked.ensures,
+      c.preload.ensures,
+      c.lnk_nreloc_ovfl.ensures,
+      c.discardable.ensures,
+      c.not_cached.ensures,
+      c.not_paged.ensures,
+      c.shared.ensures,
+      c.execute.ensures,
+      c.read.ensures,
+      c.write.ensures,
+    )

@@ -5,9 +5,11 @@ use Rattle.pdb_space.proofs.section_header.ImageSectionHeader.name_bytes.Goals a
 pub returns-in-Some : goal.returns-in-Some
 returns-in-Some c =
     let name = c.args.self.now.name in
-    ap (λ n. take n name) (sym (position_or_len_is (λ (b : ℕ). b == 0) name c.in-Some.end 0 (search rules) (search rules) (search rules)))
+    ap (λ n. take n name) (sym (position_or_len_is (λ (b : ℕ). b == 0) name c.in-Some.end 0 (search rules)
+    (search rules) (search rules)))
 
 pub returns-in-None : goal.returns-in-None
 returns-in-None c =
     let name = c.args.self.now.name in
-    sym (ap (λ n. take n name) (position_or_len_is (λ (b : ℕ). b == 0) name (length name) 0 (omega arith) (search rules) (search rules)) ∙ take_all (length name) name (omega arith))
+    sym (ap (λ n. take n name) (position_or_len_is (λ (b : ℕ). b == 0) name (length name) 0 (omega arith) (search rules)
+    (search rules)) ∙ take_all (length name) name (omega arith))

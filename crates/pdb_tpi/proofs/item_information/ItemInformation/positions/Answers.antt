@@ -19,16 +19,21 @@ push_reserved-requires g c =
 pub returns-clause-places : goal.returns-clause-places
 returns-clause-places g c = elim c.if-not-is_empty.branch [
   | then-not-is_empty w ↦
-      let places = places_first c.args.self.now (vec_capacity w.push_reserved.new.self) c.header-header.ensures.sound (some (count_of c.args.self.now) w.if-not-is_empty.ensures.1)
+      let places = places_first c.args.self.now (vec_capacity w.push_reserved.new.self) c.header-header.ensures.sound
+      (some (count_of c.args.self.now) w.if-not-is_empty.ensures.1)
       (omega (arith, c.most_blocks.ensures, c.in_ok-positions.ensures.exact, w.push_reserved.ensures.capacity)) in
       let items : w.push_reserved.new.self.items ≡ c.args.self.now.header.header_size ∷ [] =
-      w.push_reserved.ensures.items ∙ ap (λ (l : List ℕ). l ++ c.header-header.result.header_size ∷ []) c.in_ok-positions.ensures.items
+      w.push_reserved.ensures.items ∙ ap (λ (l : List ℕ). l ++ c.header-header.result.header_size
+      ∷ []) c.in_ok-positions.ensures.items
       ∙ ap (λ (h : Header). h.header_size ∷ []) c.header-header.ensures.header in
       rw (w.positions-is, items) places
   | else-not-is_empty w ↦
-      rw (w.positions-is, c.in_ok-positions.ensures.items) (places_none c.args.self.now (vec_capacity c.in_ok-positions.positions) (omega (arith, c.most_blocks.ensures, c.in_ok-positions.ensures.exact)))
+      rw (w.positions-is, c.in_ok-positions.ensures.items)
+      (places_none c.args.self.now (vec_capacity c.in_ok-positions.positions)
+      (omega (arith, c.most_blocks.ensures, c.in_ok-positions.ensures.exact)))
 ]
 
 -- where no index is counted, no place is reserved, and so memory is not refused
 pub returns-in_err-positions-clause-uncounted : goal.returns-in_err-positions-clause-uncounted
-returns-in_err-positions-clause-uncounted g c none = absurd (false≢true (c.in_err-positions.ensures.succeeds (c.most_blocks.ensures ∙ no_blocks c.args.self.now none)))
+returns-in_err-positions-clause-uncounted g c none =
+    absurd (false≢true (c.in_err-positions.ensures.succeeds (c.most_blocks.ensures ∙ no_blocks c.args.self.now none)))

@@ -15,14 +15,17 @@ returns-in_err-read-clause-item g c =
     let to = steps_taken c.args.self.now + c.args.steps in
     let later : steps_taken c.loop.self ≤ to = omega arith in
     rw (passed_on _ _ c.from_residual.ensures.1)
-    (ap (λ (t : Table). nth_item t to) (sym c.loop.invariant.table) ∙ nth_further c.loop.self.table (steps_taken c.loop.self) to _ c.in_err-read.ensures.item later)
+    (ap (λ (t : Table). nth_item t to) (sym c.loop.invariant.table)
+    ∙ nth_further c.loop.self.table (steps_taken c.loop.self) to _ c.in_err-read.ensures.item later)
 
 pub returns-in_err-read-clause-counted : goal.returns-in_err-read-clause-counted
 returns-in_err-read-clause-counted g c =
     let stops = (nth_err c.loop.self.table (steps_taken c.loop.self) _ c.in_err-read.ensures.item).0 in
     let test = c.loop-test.true in
     c.in_err-read.ensures.counted ∙ ap (reads_one c.loop.self) c.loop.invariant.counted
-    ∙ last_count c.args.self.now c.loop.self c.args.steps c.loop.counter (calls_of c.args.count.now) c.loop.invariant.table c.loop.invariant.place c.in_err-read.ensures.reached.1 (omega arith) (λ within. absurd (omega (arith, stops, within)))
+    ∙ last_count c.args.self.now c.loop.self c.args.steps c.loop.counter
+    (calls_of c.args.count.now) c.loop.invariant.table c.loop.invariant.place c.in_err-read.ensures.reached.1
+    (omega arith) (λ within. absurd (omega (arith, stops, within)))
 
 pub loop-preserved : goal.loop-preserved
 loop-preserved g c =
@@ -42,4 +45,6 @@ pub returns-clause-counted : goal.returns-clause-counted
 returns-clause-counted g c =
     let end : c.loop.counter ≡ c.args.steps = omega arith in
     c.read-2.ensures.counted ∙ ap (reads_one c.loop.self) c.loop.invariant.counted
-    ∙ last_count c.args.self.now c.loop.self c.args.steps c.loop.counter (calls_of c.args.count.now) c.loop.invariant.table c.loop.invariant.place c.read-2.ensures.reached.1 (omega arith) (λ _. end)
+    ∙ last_count c.args.self.now c.loop.self c.args.steps c.loop.counter
+    (calls_of c.args.count.now) c.loop.invariant.table c.loop.invariant.place c.read-2.ensures.reached.1
+    (omega arith) (λ _. end)

@@ -19,8 +19,10 @@ kinds a b = (same_true the_type tt a b, true_same the_type a b)
 
 type_indexes : TellsApart (λ (a b : TypeIndex). nat_eq a.0 b.0)
 type_indexes a b =
-    let numbers = unsigned_Decides a.0 b.0 in
-    (λ holds. let same = numbers.0 holds in λ i. record { 0 = same i }, λ is. numbers.1 (ap (λ (x : TypeIndex). x.0) is))
+    let numbers = unsigned_Decides a.0 b.0 in (
+      λ holds. let same = numbers.0 holds in λ i. record { 0 = same i },
+      λ is. numbers.1 (ap (λ (x : TypeIndex). x.0) is),
+    )
 
 names : TellsApartBy text_bytes (λ (a b : RawString). pointwise nat_eq a.0.now b.0.now)
 names a b = bytes_decides a.0.now b.0.now
@@ -33,7 +35,50 @@ unique_names (Some a) (Some b) = (λ holds. ap Some ((names a b).0 holds), λ is
 
 pub returns-clause-classes : goal.returns-clause-classes
 returns-clause-classes c a b =
-    let fields = both _ _ (kinds a.kind b.kind) (both _ _ (unsigned_Decides a.count b.count) (both _ _ (unsigned_Decides a.properties b.properties) (both _ _ (options _ type_indexes a.fields b.fields) (both _ _ (options _ type_indexes a.derived_from b.derived_from) (both _ _ (options _ type_indexes a.vtable_shape b.vtable_shape) (both _ _ (unsigned_Decides a.size b.size) (both _ _ (names a.name b.name) (unique_names a.unique_name b.unique_name)))))))) in (
-      λ holds. let same = fields.0 holds in λ i. record { kind = same.0 i; count = same.1.0 i; properties = same.1.1.0 i; fields = same.1.1.1.0 i; derived_from = same.1.1.1.1.0 i; vtable_shape = same.1.1.1.1.1.0 i; size = same.1.1.1.1.1.1.0 i; name = same.1.1.1.1.1.1.1.0 i; unique_name = same.1.1.1.1.1.1.1.1 i },
-      λ is. fields.1 (ap (λ (x : ClassValue). x.kind) is, (ap (λ (x : ClassValue). x.count) is, (ap (λ (x : ClassValue). x.properties) is, (ap (λ (x : ClassValue). x.fields) is, (ap (λ (x : ClassValue). x.derived_from) is, (ap (λ (x : ClassValue). x.vtable_shape) is, (ap (λ (x : ClassValue). x.size) is, (ap (λ (x : ClassValue). x.name) is, ap (λ (x : ClassValue). x.unique_name) is)))))))),
+    let fields = both _ _ (kinds a.kind b.kind)
+    (both _ _ (unsigned_Decides a.count b.count)
+    (both _ _ (unsigned_Decides a.properties b.properties)
+    (both _ _ (options _ type_indexes a.fields b.fields)
+    (both _ _ (options _ type_indexes a.derived_from b.derived_from)
+    (both _ _ (options _ type_indexes a.vtable_shape b.vtable_shape)
+    (both _ _ (unsigned_Decides a.size b.size)
+    (both _ _ (names a.name b.name) (unique_names a.unique_name b.unique_name)))))))) in (
+      λ holds. let same = fields.0 holds in λ i. record {
+        kind = same.0 i;
+        count = same.1.0 i;
+        properties = same.1.1.0 i;
+        fields = same.1.1.1.0 i;
+        derived_from =
+            same.1.1.1.1.0 i;
+        vtable_shape = same.1.1.1.1.1.0 i;
+        size = same.1.1.1.1.1.1.0 i;
+        name =
+            same.1.1.1.1.1.1.1.0 i;
+        unique_name = same.1.1.1.1.1.1.1.1 i;
+      },
+      λ is. fields.1 (
+        ap (λ (x : ClassValue). x.kind) is,
+        (
+          ap (λ (x : ClassValue). x.count) is,
+          (
+            ap (λ (x : ClassValue). x.properties) is,
+            (
+              ap (λ (x : ClassValue). x.fields) is,
+              (
+                ap (λ (x : ClassValue). x.derived_from) is,
+                (
+                  ap (λ (x : ClassValue). x.vtable_shape) is,
+                  (
+                    ap (λ (x : ClassValue). x.size) is,
+                    (
+                      ap (λ (x : ClassValue). x.name) is,
+                      ap (λ (x : ClassValue). x.unique_name) is,
+                    ),
+                  ),
+                ),
+              ),
+            ),
+          ),
+        ),
+      ),
     )

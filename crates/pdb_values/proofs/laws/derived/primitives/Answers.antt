@@ -15,7 +15,8 @@ indirections a b = (same_true indirection.the_type tt a b, true_same indirection
 
 pub returns-clause-types : goal.returns-clause-types
 returns-clause-types c a b =
-    let fields = both _ _ (kinds a.kind b.kind) (options (sameb indirection.the_type) indirections a.indirection b.indirection) in (
+    let fields = both _ _ (kinds a.kind b.kind)
+    (options (sameb indirection.the_type) indirections a.indirection b.indirection) in (
       λ holds. let same = fields.0 holds in λ i. record { kind = same.0 i; indirection = same.1 i },
       λ is. fields.1 (ap (λ (x : PrimitiveType). x.kind) is, ap (λ (x : PrimitiveType). x.indirection) is),
     )
