@@ -8,9 +8,7 @@ use Rattle.pdb_base.specs.Refusal.{refusal_of}
 use Rattle.pdb_container.specs.declared.query.Query.{Query}
 use Rattle.pdb_container.specs.declared.query.Reply.{Reply}
 use Rattle.pdb_container.specs.declared.query.Reply.TheVariants as replies
-use Rattle.pdb_cli.specs.Lines.{reply_lines}
 use Rattle.pdb_rows.specs.declared.form.Form.{Form}
-use Rattle.pdb_rows.specs.declared.form.Form.TheVariants.{Text, Json}
 use Rattle.pdb_rows.specs.Fields.{optional_text}
 use Rattle.pdb_rows.specs.Lines.{row_text}
 use Rattle.pdb_rows.specs.Refused.{refusal_shown}
@@ -33,33 +31,29 @@ abbrev pub bytes_shown : List ℕ → ShownRow
 bytes_shown stream = (codes "bytes", text (encode_lower stream)) ∷ []
 
 -- a name, if there is one
-abbrev pub name_field : Option (List ℕ) → ShownField
-name_field name = (codes "name", optional_text name)
+abbrev pub name_field : List ℕ → Option (List ℕ) → ShownField
+name_field key name = (key, optional_text name)
 
 -- a record: its index, its kind, and its name if it has one
 abbrev pub record_shown : ℕ → ℕ → Option (List ℕ) → ShownRow
-record_shown index leaf name = (codes "index", hexadecimal index) ∷ (codes "kind", kind leaf) ∷ name_field name ∷ []
+record_shown index leaf name = (codes "index", hexadecimal index) ∷ (codes "kind", kind leaf)
+    ∷ name_field (codes "name") name ∷ []
 
 -- a range: where it starts, and where it ends
 abbrev pub range_shown : Range ℕ → ShownRow
 range_shown range = (codes "start", hexadecimal range.start) ∷ (codes "end", hexadecimal range.end) ∷ []
 
--- the lines of a reply in JSON: for a list, one line for each field; for ranges, one line for each
-abbrev pub json_text : Reply → List ℕ
-json_text (replies.Bytes stream) = row_text Json (bytes_shown stream.items)
-json_text (replies.Record index leaf name) =
-    row_text Json (record_shown index leaf (option_map (λ copy. copy.items) name))
-json_text (replies.Fields names) = flat_map
-    (λ name. row_text Json (name_field (option_map (λ copy. copy.items) name) ∷ [])) names.items
-json_text (replies.Name name) = row_text Json (name_field (Some name.items) ∷ [])
-json_text (replies.Ranges ranges) = flat_map (λ range. row_text Json (range_shown range)) ranges.items
-json_text (replies.Refused e) = row_text Json (refusal_shown (refusal_of e) ∷ [])
-
--- The lines of a reply: in text, the lines that `pdbq` prints; but a refusal is a row in both forms.
-unfoldable pub reply_text : Form → Reply → List ℕ
+-- The lines of a reply: for a list, one line for each field; for ranges, one line for each. In text a line begins with
+-- an index, or with the key of its field, which is never that of a question.
+abbrev pub reply_text : Form → Reply → List ℕ
+reply_text form (replies.Bytes stream) = row_text form (bytes_shown stream.items)
+reply_text form (replies.Record index leaf name) =
+    row_text form (record_shown index leaf (option_map (λ copy. copy.items) name))
+reply_text form (replies.Fields names) = flat_map
+    (λ name. row_text form (name_field (codes "field") (option_map (λ copy. copy.items) name) ∷ [])) names.items
+reply_text form (replies.Name name) = row_text form ((codes "string", text name.items) ∷ [])
+reply_text form (replies.Ranges ranges) = flat_map (λ range. row_text form (range_shown range)) ranges.items
 reply_text form (replies.Refused e) = row_text form (refusal_shown (refusal_of e) ∷ [])
-reply_text Text reply = reply_lines reply
-reply_text Json reply = json_text reply
 
 -- the lines of an answer: those of the reply, or a line that says that nothing was asked
 abbrev pub answer_text : Form → Option Reply → List ℕ

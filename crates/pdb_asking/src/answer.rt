@@ -12,11 +12,9 @@ ghost use Rattle.pdb_rows.specs.Row.{field_shown, row_shown, value_shown};
 ghost use Rattle.pdb_rows.specs.Refused.{refusal_shown, refusal_text};
 ghost use Rattle.pdb_rows.specs.Row.{text as shown_text};
 ghost use Rattle.pdb_output.specs.Output.{Writes};
-ghost use Rattle.pdb_cli.specs.Lines.{reply_lines};
-ghost use Rattle.pdb_asking.specs.Answers.{answer_text, answered_text, bytes_shown, is_answer, json_text, name_field, no_query, question_shown, range_shown, record_shown, reply_text, unasked_shown};
+ghost use Rattle.pdb_asking.specs.Answers.{answer_text, answered_text, bytes_shown, is_answer, name_field, no_query, question_shown, range_shown, record_shown, reply_text, unasked_shown};
 
 use pdb_base::RawString;
-use pdb_cli::reply_lines;
 use pdb_container::{Error, Reply, Result};
 use pdb_output::Output;
 use pdb_rows::{Field, Form, Row, Value, error_field, error_text, field, write_row};
@@ -44,13 +42,13 @@ fn text_field<'t>(name: &'static str, text: &'t [u8]) -> Field<'t>
     field(name, Value::Text(RawString::from(text)))
 }
 
-/// Returns the field of a name, which is absent if there is none.
-fn name_field<'t>(name: Option<&'t [u8]>) -> Field<'t>
-    ensures { field_shown result ≡ name_field (option_map (λ name. name.now) name.entry) }
+/// Returns the field of a name with this key, which is absent if there is none.
+fn name_field<'t>(key: &'static str, name: Option<&'t [u8]>) -> Field<'t>
+    ensures { field_shown result ≡ name_field key.now (option_map (λ name. name.now) name.entry) }
 {
     match name {
-        Some(name) => text_field("name", name),
-        None => field("name", Value::Absent),
+        Some(name) => text_field(key, name),
+        None => field(key, Value::Absent),
     }
 }
 
@@ -63,7 +61,7 @@ fn record_row<'t>(alloc: Global, index: u32, leaf: u16, name: Option<&'t [u8]>) 
     let fields = vec![in alloc;
         field("index", Value::Hexadecimal(index)),
         field("kind", Value::Kind(leaf)),
-        name_field(name),
+        name_field("name", name),
     ]?;
     Ok(Row { fields })
 }
@@ -95,21 +93,22 @@ fn write_field<W: Write>(
     write_row(form, &row, line, out)
 }
 
-/// Writes a record as a line of JSON.
+/// Writes a record as a line.
 #[tactic(auto)]
 fn write_record<W: Write>(
     alloc: Global,
+    form: Form,
     index: u32,
     leaf: u16,
     name: Option<&[u8]>,
     line: &mut Vec<u8>,
     out: &mut Output<W>,
 ) -> Result<()>
-    ensures { Writes (row_text Form.Json (record_shown index leaf (option_map (λ name. name.now) name.entry)))
+    ensures { Writes (row_text form (record_shown index leaf (option_map (λ name. name.now) name.entry)))
         out.old out.new result }
 {
     let row = record_row(alloc, index, leaf, name)?;
-    write_row(Form::Json, &row, line, out)
+    write_row(form, &row, line, out)
 }
 
 /// Writes why there is no answer.
@@ -137,88 +136,60 @@ fn hexadecimal(alloc: Global, bytes: &[u8]) -> Result<String>
     Ok(digits)
 }
 
-/// Writes the bytes of a stream as a line of JSON, in hexadecimal digits.
+/// Writes the bytes of a stream as a line, in hexadecimal digits.
 #[tactic(auto)]
 fn write_stream<W: Write>(
     alloc: Global,
+    form: Form,
     stream: &[u8],
     line: &mut Vec<u8>,
     out: &mut Output<W>,
 ) -> Result<()>
-    ensures { Writes (row_text Form.Json (bytes_shown stream.now)) out.old out.new result }
+    ensures { Writes (row_text form (bytes_shown stream.now)) out.old out.new result }
 {
     let digits = hexadecimal(alloc, stream)?;
     let field = text_field("bytes", digits.as_bytes());
-    write_field(alloc, Form::Json, field, line, out)
+    write_field(alloc, form, field, line, out)
 }
 
-/// Writes the names of fields, each as a line of JSON.
+/// Writes the names of fields, each as a line.
 fn write_names<W: Write>(
     alloc: Global,
+    form: Form,
     names: &[Option<Vec<u8>>],
     line: &mut Vec<u8>,
     out: &mut Output<W>,
 ) -> Result<()>
     ensures { Writes (flat_map (λ name.
-        row_text Form.Json (name_field (option_map (λ copy. copy.items) name) ∷ [])) names.now)
+        row_text form (name_field (codes "field") (option_map (λ copy. copy.items) name) ∷ [])) names.now)
         out.old out.new result }
 {
     for name in names {
-        let row = row_of(alloc, name_field(name.as_deref()))?;
-        write_row(Form::Json, &row, line, out)?;
+        let row = row_of(alloc, name_field("field", name.as_deref()))?;
+        write_row(form, &row, line, out)?;
     }
     Ok(())
 }
 
-/// Writes ranges, each as a line of JSON.
+/// Writes ranges, each as a line.
 fn write_ranges<W: Write>(
     alloc: Global,
+    form: Form,
     ranges: &[Range<u32>],
     line: &mut Vec<u8>,
     out: &mut Output<W>,
 ) -> Result<()>
-    ensures { Writes (flat_map (λ range. row_text Form.Json (range_shown range)) ranges.now)
+    ensures { Writes (flat_map (λ range. row_text form (range_shown range)) ranges.now)
         out.old out.new result }
 {
     for range in ranges {
         let row = range_row(alloc, range)?;
-        write_row(Form::Json, &row, line, out)?;
+        write_row(form, &row, line, out)?;
     }
     Ok(())
 }
 
-/// Writes a reply as lines of JSON.
-fn write_json<W: Write>(
-    alloc: Global,
-    reply: &Reply,
-    line: &mut Vec<u8>,
-    out: &mut Output<W>,
-) -> Result<()>
-    ensures { Writes (json_text reply.now) out.old out.new result }
-{
-    match reply {
-        Reply::Bytes(stream) => write_stream(alloc, stream, line, out),
-        Reply::Record { index, kind, name } => {
-            write_record(alloc, *index, *kind, name.as_deref(), line, out)
-        }
-        Reply::Fields(names) => write_names(alloc, names, line, out),
-        Reply::Name(name) => { write_field(alloc, Form::Json, text_field("name", name), line, out) }
-        Reply::Ranges(ranges) => write_ranges(alloc, ranges, line, out),
-        Reply::Refused(error) => write_refused(alloc, Form::Json, error, line, out),
-    }
-}
-
-/// Writes the lines that the program `pdbq` prints for a reply.
-#[tactic(auto)]
-fn write_lines<W: Write>(alloc: Global, reply: &Reply, out: &mut Output<W>) -> Result<()>
-    ensures { Writes (reply_lines reply.now) out.old out.new result }
-{
-    let lines = reply_lines(alloc, reply)?;
-    out.write(&lines)
-}
-
 /// Writes the lines of a reply.
-#[tactic(auto, unfolding(crate::specs::Answers::reply_text))]
 fn write_reply<W: Write>(
     alloc: Global,
     form: Form,
@@ -228,10 +199,15 @@ fn write_reply<W: Write>(
 ) -> Result<()>
     ensures { Writes (reply_text form reply.now) out.old out.new result }
 {
-    match (form, reply) {
-        (_, Reply::Refused(error)) => write_refused(alloc, form, error, line, out),
-        (Form::Text, reply) => write_lines(alloc, reply, out),
-        (Form::Json, reply) => write_json(alloc, reply, line, out),
+    match reply {
+        Reply::Bytes(stream) => write_stream(alloc, form, stream, line, out),
+        Reply::Record { index, kind, name } => {
+            write_record(alloc, form, *index, *kind, name.as_deref(), line, out)
+        }
+        Reply::Fields(names) => write_names(alloc, form, names, line, out),
+        Reply::Name(name) => write_field(alloc, form, text_field("string", name), line, out),
+        Reply::Ranges(ranges) => write_ranges(alloc, form, ranges, line, out),
+        Reply::Refused(error) => write_refused(alloc, form, error, line, out),
     }
 }
 

@@ -4,7 +4,7 @@ use pdb_asking::ask;
 use pdb_container::Result;
 use pdb_output::Output;
 use pdb_rows::Form;
-use pdb_vectors::s1;
+use pdb_vectors::{s1, s1_with};
 use std::alloc::Global;
 use std::test::Fail;
 
@@ -16,14 +16,14 @@ const ASKED: &[Asked] = &[
     (
         b"stream 3\nstream 0x3 2\n",
         Form::Text,
-        "question=stream 3\n68656c6c6f\nquestion=stream 0x3 2\n6865\n",
+        "question=stream 3\nbytes=68656c6c6f\nquestion=stream 0x3 2\nbytes=6865\n",
         true,
     ),
     (
         b"stream 9\r\n\r\n \tstream\t3 ",
         Form::Text,
         "question=stream 9\nerror=The requested stream (9) is not stored in this file\n\
-        question= \\tstream\\t3 \n68656c6c6f\n",
+        question= \\tstream\\t3 \nbytes=68656c6c6f\n",
         false,
     ),
     (
@@ -48,6 +48,22 @@ fn answers(alloc: Global, row: &Asked) -> Result<bool> {
     let mut out = Output::new(Vec::new(alloc));
     let answered = ask(alloc, s1(alloc)?, questions, form, &mut out)?;
     Ok(answered == all && out.into_inner().as_slice() == lines.as_bytes())
+}
+
+/// A string table whose only name looks like the line of a question, and would end a line.
+const HOSTILE_NAMES: &[u8] = b"\xfe\xef\xfe\xef\x01\0\0\0\x12\0\0\0\0question=stream\n\0\0\0\0\0\0\0\0\0";
+
+/// What is answered to a question for that name.
+const HOSTILE_ANSWER: &[u8] = b"question=name 3 1\nstring=question=stream\\n\n";
+
+#[test]
+fn hostile_name(rt: HostRuntime) -> std::result::Result<(), Fail> {
+    let mut out = Output::new(Vec::new(rt.alloc()));
+    let file = s1_with(rt.alloc(), HOSTILE_NAMES)?;
+    let answered = ask(rt.alloc(), file, b"name 3 1", Form::Text, &mut out)?;
+    let written = out.into_inner();
+    assert!(rt; answered && written.as_slice() == HOSTILE_ANSWER, "{written:?}");
+    Ok(())
 }
 
 #[test]

@@ -1,9 +1,8 @@
-use Rattle.std.proofs.Common.{ℕ, List, [], ◌∷◌, Option, ap, sym, ◌∙◌}
+use Rattle.std.proofs.Common.{ℕ, List, [], ◌∷◌, codes, Option, ap, sym, ◌∙◌}
 use Rattle.std.specs.Global.{Vec}
 use Rattle.std.specs.Option.{option_map}
 use Rattle.pdb_base.proofs.lemmas.Refused.{passed_on}
 use Rattle.pdb_output.proofs.lemmas.Written.{cut_more, lacks_more, written_more}
-use Rattle.pdb_rows.specs.declared.form.Form.TheVariants.{Json}
 use Rattle.pdb_rows.specs.Lines.{row_text}
 use Rattle.pdb_rows.specs.Row.{ShownField}
 use Rattle.pdb_asking.specs.Answers.{name_field}
@@ -15,9 +14,9 @@ loop-name-preserved g c =
     let same = c.as_deref.ensures.value ∙ ap (λ (name : Option (Vec ℕ)). option_map
     (λ copy. copy.items) name) c.name-item.is in
     let shown = c.in_ok-row.ensures.ok ∙ ap (λ (field : ShownField). field ∷ [])
-    (c.name_field.ensures ∙ ap name_field same) in
+    (c.name_field.ensures ∙ ap (name_field (codes "field")) same) in
     let next = flat_next _ c.args.names.now c.loop-name.name-index c.name-item.result _ c.loop-name-test.true
-    (ap (row_text Json) (sym shown)) in
+    (ap (row_text c.args.form) (sym shown)) in
     written_more _ _ _ _ _ _ _ next c.loop-name.invariant c.in_ok-write_row.ensures
 
 pub returns-in_err-write_row : goal.returns-in_err-write_row
@@ -25,9 +24,9 @@ returns-in_err-write_row g c =
     let same = c.as_deref.ensures.value ∙ ap (λ (name : Option (Vec ℕ)). option_map
     (λ copy. copy.items) name) c.name-item.is in
     let shown = c.in_ok-row.ensures.ok ∙ ap (λ (field : ShownField). field ∷ [])
-    (c.name_field.ensures ∙ ap name_field same) in
+    (c.name_field.ensures ∙ ap (name_field (codes "field")) same) in
     let next = flat_next _ c.args.names.now c.loop-name.name-index c.name-item.result _ c.loop-name-test.true
-    (ap (row_text Json) (sym shown)) in
+    (ap (row_text c.args.form) (sym shown)) in
     rw (passed_on _ _ c.from_residual-in_err-write_row.ensures.1)
     (cut_more _ _ _ _ _ _ _ _ next c.loop-name.invariant c.in_err-write_row.ensures)
 

@@ -1,12 +1,11 @@
 -- The lines of the ranges that are left are still to be written.
 use Rattle.std.proofs.Common.{drop}
 use Rattle.std.specs.List.{flat_map}
-use Rattle.pdb_rows.specs.declared.form.Form.TheVariants.{Json}
 use Rattle.pdb_rows.specs.Lines.{row_text}
 use Rattle.pdb_output.specs.Output.{IsWritten}
 use Rattle.pdb_asking.specs.Answers.{range_shown}
 use Rattle.pdb_asking.proofs.answer.write_ranges.Given as goal
 
 abbrev pub invariant-loop-range : goal.invariant-loop-range
-invariant-loop-range g l = IsWritten l.fn.out l.out (flat_map (λ range. row_text Json (range_shown range)) l.ranges)
-    (flat_map (λ range. row_text Json (range_shown range)) (drop l.range-index l.ranges))
+invariant-loop-range g l = IsWritten l.fn.out l.out (flat_map (λ range. row_text l.form (range_shown range)) l.ranges)
+    (flat_map (λ range. row_text l.form (range_shown range)) (drop l.range-index l.ranges))
