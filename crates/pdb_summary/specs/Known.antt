@@ -6,4 +6,4 @@ use Rattle.pdb_summary.specs.declared.streams.Known.{Known}
 
 -- the same as a value, in which each name is the list of its bytes
 abbrev pub known_view : Known → streams.Known
-known_view known = record { page_size = known.page_size; roles = known.roles; names = map named_view known.names.now }
+known_view known = record { layout = known.layout.now; roles = known.roles; names = map named_view known.names.now }

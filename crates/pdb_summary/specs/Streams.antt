@@ -1,14 +1,14 @@
 -- What a summary shows of each stream.
-use Rattle.std.specs.Prelude.{ℕ, ◌==◌, Bool, false, if◌then◌else◌, List, [], ◌∷◌, length, codes, Option, Some, None, Ok}
+use Rattle.std.specs.Prelude.{ℕ, ◌==◌, Bool, false, if◌then◌else◌, List, [], ◌∷◌, min, codes, Option, Some, None, Ok}
 use Rattle.std.specs.Prelude.{Err}
 use Rattle.std.specs.Option.{option_map, option_map_or}
 use Rattle.std.specs.List.{find, flat_map, range_with_len}
 use Rattle.pdb_base.specs.Answer.{Answer}
-use Rattle.pdb_base.specs.Index.{stream_number}
+use Rattle.pdb_base.specs.Index.{no_stream, stream_number}
 use Rattle.pdb_base.specs.Refusal.{stream_not_found}
 use Rattle.pdb_base.specs.declared.index.StreamIndex.{StreamIndex}
-use Rattle.pdb_msf.specs.File.{stream_of}
-use Rattle.pdb_msf.specs.Header.{Head}
+use Rattle.pdb_msf.specs.Directory.{stream_count_in}
+use Rattle.pdb_msf.specs.Layout.{LayoutValue, size_by}
 use Rattle.pdb_msf.specs.Pages.{pages}
 use Rattle.pdb_file.specs.StreamNames.{Named}
 use Rattle.pdb_file.specs.declared.debug_header.DBIExtraStreams.{DBIExtraStreams}
@@ -62,27 +62,34 @@ stream_shown page_size n size role name =
     (codes "stream", number n) ∷ (codes "bytes", number size) ∷ (codes "pages", pages_held page_size size)
     ∷ (codes "role", optional_text role) ∷ (codes "name", optional_text name) ∷ []
 
--- What is known of a file's streams apart from their bytes: the size of a page, their roles and their names.
+-- What is known of a file's streams apart from their bytes: where the directory places them, their roles and their
+-- names.
 pub record Known : Type 0 where
-  pub page_size : ℕ
+  pub layout : LayoutValue
   pub roles : DBIExtraStreams
   pub names : List Named
 
 -- the line of a stream with this number and this size
 abbrev pub size_line : Form → Known → ℕ → ℕ → List ℕ
 size_line form known n size = row_text form
-    (stream_shown known.page_size n size (role_of known.roles n) (name_of known.names n))
+    (stream_shown known.layout.head.geometry.page_size n size (role_of known.roles n) (name_of known.names n))
 
--- the line of the stream with this number; nothing, if there is no such stream
-abbrev pub said_of : Form → Known → ℕ → Answer (List ℕ) → List ℕ
-said_of form known n (Ok stream) = size_line form known n (length stream)
-said_of form known n (Err (stream_not_found m)) = []
-said_of form known n (Err refusal) = refused_line form (parts.Stream n) refusal
+-- the line of the stream with this number, by its size; nothing, if there is no such stream
+abbrev pub sized_line : Form → Known → ℕ → Answer ℕ → List ℕ
+sized_line form known n (Ok size) = size_line form known n size
+sized_line form known n (Err (stream_not_found m)) = []
+sized_line form known n (Err refusal) = refused_line form (parts.Stream n) refusal
 
--- the line of stream n of a file
-unfoldable pub stream_line : Form → Known → List ℕ → Head → ℕ → List ℕ
-stream_line form known file head n = said_of form known n (stream_of file head n None)
+-- the line of stream n, whose size the directory has
+unfoldable pub stream_line : Form → Known → ℕ → List ℕ
+stream_line form known n = sized_line form known n (size_by known.layout n)
 
--- the lines of all streams that a number of 16 bits can name
-unfoldable pub stream_lines : Form → Known → List ℕ → Head → List ℕ
-stream_lines form known file head = flat_map (stream_line form known file head) (range_with_len 0 0xffff)
+-- how many streams the directory has that a number of 16 bits can name
+abbrev pub nameable : Answer ℕ → ℕ
+nameable (Ok count) = min count no_stream
+nameable (Err refusal) = 0
+
+-- the lines of all streams
+unfoldable pub stream_lines : Form → Known → List ℕ
+stream_lines form known =
+    flat_map (stream_line form known) (range_with_len 0 (nameable (stream_count_in known.layout.directory)))

@@ -4,8 +4,9 @@ use Rattle.pdb_base.specs.Answer.{Answer, ◌>>=◌}
 use Rattle.pdb_base.specs.Reading.{number_at}
 use Rattle.pdb_base.specs.declared.index.StreamIndex.{StreamIndex}
 use Rattle.pdb_base.specs.Index.{no_stream}
-use Rattle.pdb_msf.specs.Directory.{directory_of}
+use Rattle.pdb_msf.specs.Directory.{stream_count_in}
 use Rattle.pdb_msf.specs.Header.{Head}
+use Rattle.pdb_msf.specs.Layout.{LayoutValue, layout_of}
 use Rattle.pdb_file.specs.File.{file_information, file_roles}
 use Rattle.pdb_file.specs.StreamNames.{Named, stream_names_of}
 use Rattle.pdb_file.specs.declared.debug_header.DBIExtraStreams.{DBIExtraStreams}
@@ -38,10 +39,6 @@ abbrev pub said_or : {A : Type 0} → A → Answer A → A
 said_or empty (Ok said) = said
 said_or empty (Err refusal) = empty
 
--- the size of a page that the header has, or 0 if the header doesn't have it
-abbrev pub page_size_of : List ℕ → ℕ
-page_size_of file = (said_or (0, 0) (pages_of file)).0
-
 -- the line of the refusal of a part, if it is refused
 abbrev pub told : {A : Type 0} → Form → Part → Answer A → List ℕ
 told form part (Ok said) = []
@@ -71,32 +68,35 @@ unfoldable pub names_of : List ℕ → Head → Answer (List Named)
 names_of file head = file_information file head >>= stream_names_of
 
 -- the lines of the streams of a file, behind the line of the refusal of their names, if these are refused
-abbrev pub named_part : Form → ℕ → DBIExtraStreams → List ℕ → Head → Answer (List Named) → List ℕ
-named_part form page_size roles file head names =
-    told form parts.Names names ++ stream_lines form
-    (record { page_size = page_size; roles = roles; names = said_or [] names }) file head
+abbrev pub named_part : Form → LayoutValue → DBIExtraStreams → Answer (List Named) → List ℕ
+named_part form layout roles names =
+    told form parts.Names names
+    ++ stream_lines form (record { layout = layout; roles = roles; names = said_or [] names })
 
 -- the lines of the streams of a file, behind the lines of the refusals of their roles and names
-unfoldable pub streams_part : Form → List ℕ → Head → List ℕ
-streams_part form file head =
+unfoldable pub streams_part : Form → LayoutValue → List ℕ → Head → List ℕ
+streams_part form layout file head =
     told form parts.Roles (file_roles file head)
-    ++ named_part form (page_size_of file) (said_or no_roles (file_roles file head)) file head (names_of file head)
+    ++ named_part form layout (said_or no_roles (file_roles file head)) (names_of file head)
 
 -- the lines of the tables of types and of ids
 unfoldable pub tables_part : Form → List ℕ → Head → List ℕ
 tables_part form file head = table_part form 2 file head ++ table_part form 4 file head
 
--- succeeds if the directory of a file can be read, and else has its refusal
-unfoldable pub directory_read : List ℕ → Head → Answer (Unit {0})
-directory_read file head = directory_of file head >>= λ directory. Ok tt
+-- the layout of a file whose directory has its count of streams
+unfoldable pub counted_layout : List ℕ → Answer LayoutValue
+counted_layout file = do
+  layout ← layout_of file
+  count ← stream_count_in layout.directory
+  Ok layout
 
 -- the lines of all parts of a file whose directory can be read, or else the line of its refusal
-abbrev pub parts_by : Form → List ℕ → Head → Answer (Unit {0}) → List ℕ
-parts_by form file head (Ok done) = streams_part form file head ++ tables_part form file head
+abbrev pub parts_by : Form → List ℕ → Head → Answer LayoutValue → List ℕ
+parts_by form file head (Ok layout) = streams_part form layout file head ++ tables_part form file head
 parts_by form file head (Err refusal) = refused_line form parts.Directory refusal
 
 unfoldable pub parts_lines : Form → List ℕ → Head → List ℕ
-parts_lines form file head = parts_by form file head (directory_read file head)
+parts_lines form file head = parts_by form file head (counted_layout file)
 
 -- the line of a file's pages, or that of the refusal of its header
 abbrev pub pages_by : Form → ℕ → Answer (ℕ × ℕ) → List ℕ

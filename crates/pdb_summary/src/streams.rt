@@ -4,28 +4,32 @@ ghost use Rattle.std.specs.Prelude.{◌≡◌, map, None, IfOk};
 ghost use Rattle.std.specs.Option.{option_map};
 ghost use Rattle.pdb_base.specs.Memory.{FailsOnlyForMemory};
 ghost use Rattle.pdb_base.specs.Answer.{Answers};
+ghost use Rattle.pdb_msf.specs.Directory.{stream_count_in};
 ghost use Rattle.pdb_msf.specs.File.{stream_of};
 ghost use Rattle.pdb_file.specs.StreamNames.{named_view};
 ghost use Rattle.pdb_rows.specs.Row.{row_shown, value_shown};
 ghost use Rattle.pdb_output.specs.Output.{Writes};
 ghost use Rattle.pdb_summary.specs.Known.{known_view};
-ghost use Rattle.pdb_summary.specs.Streams.{pages_held, size_line, stream_line, stream_lines, stream_shown};
+ghost use Rattle.pdb_summary.specs.Streams.{nameable, pages_held, size_line, stream_line, stream_lines, stream_shown};
 
 use crate::refused::{Part, write_refused};
 use crate::roles::{name_of, role_of};
 use pdb_base::{Error, RawString, Result, Stream};
 use pdb_file::{DBIExtraStreams, PDB, StreamName};
-use pdb_msf::Msf;
+use pdb_msf::{Layout, Msf};
 use pdb_output::Output;
 use pdb_rows::{Form, Row, Value, field, optional_text, optional_word, write_row};
 use std::alloc::Global;
 use std::io::Write;
 
+/// The number of 16 bits that names no stream.
+const NO_STREAM: u32 = 0xffff;
+
 /// What is known of a file's streams apart from their bytes.
 #[derive(Clone, Copy)]
 pub struct Known<'k, 'n> {
-    /// The size of a page in bytes, or 0 if it is not known.
-    pub page_size: u32,
+    /// Where the directory places the streams.
+    pub layout: &'k Layout,
     /// The roles of streams.
     pub roles: DBIExtraStreams,
     /// The streams that have names.
@@ -43,7 +47,7 @@ pub fn stream(alloc: Global, file: &mut PDB<Vec<u8>>, number: u32) -> Result<Str
 
 /// Returns how many pages hold `size` bytes, or no value if the size of a page is not known.
 #[tactic(auto, unfolding(pdb_msf::specs::Pages::pages))]
-fn pages_held<'t>(page_size: u32, size: usize) -> Value<'t>
+fn pages_held<'t>(page_size: u32, size: u32) -> Value<'t>
     ensures { value_shown result ≡ pages_held page_size size }
 {
     if page_size == 0 {
@@ -58,7 +62,7 @@ fn stream_row<'t>(
     alloc: Global,
     page_size: u32,
     number: u32,
-    size: usize,
+    size: u32,
     role: Option<&'static str>,
     name: Option<RawString<'t>>,
 ) -> Result<Row<'t>>
@@ -82,7 +86,7 @@ fn stream_row<'t>(
 fn write_size<W: Write>(
     alloc: Global,
     number: u32,
-    size: usize,
+    size: u32,
     known: Known<'_, '_>,
     form: Form,
     out: &mut Output<W>,
@@ -92,49 +96,50 @@ fn write_size<W: Write>(
 {
     let role = role_of(&known.roles, number);
     let name = name_of(known.names, number);
-    let row = stream_row(alloc, known.page_size, number, size, role, name)?;
+    let row = stream_row(alloc, known.layout.page_size(), number, size, role, name)?;
     write_row(form, &row, &mut Vec::new(alloc), out)
 }
 
-/// Writes the line of the stream with this number, if there is one. If the stream is refused, the
+/// Writes the line of the stream with this number, if there is one. If its size is refused, the
 /// line says so.
 #[tactic(auto, unfolding(crate::specs::Streams::stream_line), using(pdb_output::proofs::lemmas::Written::writing))]
 fn write_stream<W: Write>(
     alloc: Global,
-    file: &mut PDB<Vec<u8>>,
     number: u32,
     known: Known<'_, '_>,
     form: Form,
     out: &mut Output<W>,
 ) -> Result<()>
-    ensures line { Writes (stream_line form (known_view known.entry) file.old.source.items file.old.head number)
-        out.old out.new result }
-    ensures bytes { file.new.source.items ≡ file.old.source.items }
-    ensures head { file.new.head ≡ file.old.head }
+    ensures { Writes (stream_line form (known_view known.entry) number) out.old out.new result }
 {
-    match stream(alloc, file, number) {
-        Ok(stream) => write_size(alloc, number, stream.as_slice().len(), known, form, out),
+    match known.layout.stream_size(number) {
+        Ok(size) => write_size(alloc, number, size, known, form, out),
         Err(Error::StreamNotFound(_)) => Ok(()),
-        Err(Error::OutOfMemory) => Err(Error::OutOfMemory),
         Err(error) => write_refused(alloc, Part::Stream(number), &error, form, out),
+    }
+}
+
+/// Returns how many streams of a layout a number of 16 bits can name.
+fn nameable(layout: &Layout) -> u32
+    ensures { result ≡ nameable (stream_count_in layout.now.directory) }
+{
+    match layout.stream_count() {
+        Ok(count) => count.min(NO_STREAM),
+        Err(_) => 0,
     }
 }
 
 /// Writes a line for each stream.
 pub fn write_streams<W: Write>(
     alloc: Global,
-    file: &mut PDB<Vec<u8>>,
     known: Known<'_, '_>,
     form: Form,
     out: &mut Output<W>,
 ) -> Result<()>
-    ensures lines { Writes (stream_lines form (known_view known.entry) file.old.source.items file.old.head)
-        out.old out.new result }
-    ensures bytes { file.new.source.items ≡ file.old.source.items }
-    ensures head { file.new.head ≡ file.old.head }
+    ensures { Writes (stream_lines form (known_view known.entry)) out.old out.new result }
 {
-    for number in 0..0xffff {
-        write_stream(alloc, file, number, known, form, out)?;
+    for number in 0..nameable(known.layout) {
+        write_stream(alloc, number, known, form, out)?;
     }
     Ok(())
 }

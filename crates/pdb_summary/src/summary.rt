@@ -11,7 +11,7 @@ ghost use Rattle.pdb_output.specs.Output.{Writes, done_of};
 ghost use Rattle.pdb_summary.specs.Known.{known_view};
 ghost use Rattle.pdb_summary.specs.Refused.{refused_line};
 ghost use Rattle.pdb_summary.specs.Streams.{stream_lines};
-ghost use Rattle.pdb_summary.specs.Summary.{directory_read, named_part, names_of, no_roles, page_size_of, pages_line, pages_of, pages_shown, parts_lines, said_or, streams_part, summary_listing, tables_part, told};
+ghost use Rattle.pdb_summary.specs.Summary.{counted_layout, named_part, names_of, no_roles, pages_line, pages_of, pages_shown, parts_lines, said_or, streams_part, summary_listing, tables_part, told};
 ghost use Rattle.pdb_summary.specs.declared.refused.Part.TheVariants as parts;
 ghost use Rattle.pdb_tables.specs.Listing.{IsListed};
 
@@ -20,7 +20,7 @@ use crate::streams::{Known, write_streams};
 use crate::tables::write_table;
 use pdb_base::{Error, ParseBuffer, Result};
 use pdb_file::{DBIExtraStreams, ID_STREAM, PDB, PDBInformation, TYPE_STREAM};
-use pdb_msf::Msf;
+use pdb_msf::Layout;
 use pdb_output::Output;
 use pdb_rows::{Form, Row, Value, field, write_row};
 use std::alloc::Global;
@@ -42,16 +42,6 @@ fn pages_of(file: &[u8]) -> Result<(u32, u32)>
     Ok((page_size, pages_used))
 }
 
-/// Returns the size of a page as the header of a file says it, or 0 if it does not.
-fn page_size_of(file: &[u8]) -> u32
-    ensures { result ≡ page_size_of file.now }
-{
-    match pages_of(file) {
-        Ok((page_size, _)) => page_size,
-        Err(_) => 0,
-    }
-}
-
 /// Returns the row of a file: the size of its pages in bytes, how many pages it uses, and its own
 /// size in bytes.
 fn pages_row<'t>(alloc: Global, page_size: u32, pages: u32, size: usize) -> Result<Row<'t>>
@@ -67,28 +57,24 @@ fn pages_row<'t>(alloc: Global, page_size: u32, pages: u32, size: usize) -> Resu
 }
 
 /// Returns what is known of streams that have no names.
-fn unnamed(page_size: u32, roles: DBIExtraStreams) -> Known<'static, 'static>
-    ensures { known_view result ≡ record { page_size = page_size; roles = roles; names = [] } }
+fn unnamed<'k>(layout: &'k Layout, roles: DBIExtraStreams) -> Known<'k, 'static>
+    ensures { known_view result ≡ record { layout = layout.now; roles = roles; names = [] } }
 {
     Known {
-        page_size,
+        layout,
         roles,
         names: &[],
     }
 }
 
-/// Reads the directory of a file, and fails if the directory is refused.
-#[tactic(auto, unfolding(crate::specs::Summary::directory_read))]
-fn read_directory(alloc: Global, file: &mut PDB<Vec<u8>>) -> Result<()>
-    ensures directory { Answers (λ done. done) result (directory_read file.old.source.items file.old.head) }
-    ensures bytes { file.new.source.items ≡ file.old.source.items }
-    ensures head { file.new.head ≡ file.old.head }
+/// Reads the layout of a file, and fails if its directory or the count of streams is refused.
+#[tactic(auto, unfolding(crate::specs::Summary::counted_layout))]
+fn counted_layout(alloc: Global, file: &[u8]) -> Result<Layout>
+    ensures { Answers (λ layout. layout) result (counted_layout file.now) }
 {
-    let read = file.get(alloc, 0, Some(0));
-    match read {
-        Err(error) if !file.msf().located() => Err(error),
-        _ => Ok(()),
-    }
+    let layout = Layout::read(alloc, file)?;
+    layout.stream_count()?;
+    Ok(layout)
 }
 
 /// Returns the roles of streams that stream 3 gives. If these are refused, writes that, and returns
@@ -120,20 +106,16 @@ fn known_roles<W: Write>(
 #[tactic(auto, using(pdb_output::proofs::lemmas::Written::writing))]
 fn write_unnamed<W: Write>(
     alloc: Global,
-    file: &mut PDB<Vec<u8>>,
     known: Known<'_, '_>,
     error: &Error,
     form: Form,
     out: &mut Output<W>,
 ) -> Result<()>
-    ensures lines { Writes (refused_line form parts.Names (refusal_of error.now) ++
-        stream_lines form (known_view known.entry) file.old.source.items file.old.head)
-        out.old out.new result }
-    ensures bytes { file.new.source.items ≡ file.old.source.items }
-    ensures head { file.new.head ≡ file.old.head }
+    ensures { Writes (refused_line form parts.Names (refusal_of error.now) ++
+        stream_lines form (known_view known.entry)) out.old out.new result }
 {
     write_refused(alloc, Part::Names, error, form, out)?;
-    write_streams(alloc, file, known, form, out)
+    write_streams(alloc, known, form, out)
 }
 
 /// Writes the streams of a file, with the names that stream 1 gives. If these are refused, writes
@@ -141,29 +123,25 @@ fn write_unnamed<W: Write>(
 #[tactic(auto, using(pdb_output::proofs::lemmas::Written::writing))]
 fn write_named<W: Write>(
     alloc: Global,
-    file: &mut PDB<Vec<u8>>,
-    page_size: u32,
+    layout: &Layout,
     roles: DBIExtraStreams,
     information: &PDBInformation,
     form: Form,
     out: &mut Output<W>,
 ) -> Result<()>
-    ensures lines { Writes (named_part form page_size roles file.old.source.items file.old.head
-        (stream_names_of information.now)) out.old out.new result }
-    ensures bytes { file.new.source.items ≡ file.old.source.items }
-    ensures head { file.new.head ≡ file.old.head }
+    ensures { Writes (named_part form layout.now roles (stream_names_of information.now)) out.old out.new result }
 {
     match information.stream_names(alloc) {
         Ok(names) => {
             let known = Known {
-                page_size,
+                layout,
                 roles,
                 names: names.as_slice(),
             };
-            write_streams(alloc, file, known, form, out)
+            write_streams(alloc, known, form, out)
         }
         Err(Error::OutOfMemory) => Err(Error::OutOfMemory),
-        Err(error) => write_unnamed(alloc, file, unnamed(page_size, roles), &error, form, out),
+        Err(error) => write_unnamed(alloc, unnamed(layout, roles), &error, form, out),
     }
 }
 
@@ -173,20 +151,20 @@ fn write_named<W: Write>(
 fn write_all_streams<W: Write>(
     alloc: Global,
     file: &mut PDB<Vec<u8>>,
+    layout: &Layout,
     roles: DBIExtraStreams,
     form: Form,
     out: &mut Output<W>,
 ) -> Result<()>
-    ensures lines { Writes (named_part form (page_size_of file.old.source.items) roles file.old.source.items
-        file.old.head (names_of file.old.source.items file.old.head)) out.old out.new result }
+    ensures lines { Writes (named_part form layout.now roles (names_of file.old.source.items file.old.head))
+        out.old out.new result }
     ensures bytes { file.new.source.items ≡ file.old.source.items }
     ensures head { file.new.head ≡ file.old.head }
 {
-    let page_size = page_size_of(file.msf().source());
     match file.pdb_information(alloc) {
-        Ok(information) => write_named(alloc, file, page_size, roles, &information, form, out),
+        Ok(information) => write_named(alloc, layout, roles, &information, form, out),
         Err(Error::OutOfMemory) => Err(Error::OutOfMemory),
-        Err(error) => write_unnamed(alloc, file, unnamed(page_size, roles), &error, form, out),
+        Err(error) => write_unnamed(alloc, unnamed(layout, roles), &error, form, out),
     }
 }
 
@@ -195,16 +173,17 @@ fn write_all_streams<W: Write>(
 fn write_streams_part<W: Write>(
     alloc: Global,
     file: &mut PDB<Vec<u8>>,
+    layout: &Layout,
     form: Form,
     out: &mut Output<W>,
 ) -> Result<()>
-    ensures lines { Writes (streams_part form file.old.source.items file.old.head)
+    ensures lines { Writes (streams_part form layout.now file.old.source.items file.old.head)
         out.old out.new result }
     ensures bytes { file.new.source.items ≡ file.old.source.items }
     ensures head { file.new.head ≡ file.old.head }
 {
     let roles = known_roles(alloc, file, form, out)?;
-    write_all_streams(alloc, file, roles, form, out)
+    write_all_streams(alloc, file, layout, roles, form, out)
 }
 
 /// Writes the tables of types and of ids.
@@ -227,14 +206,15 @@ fn write_tables<W: Write>(
 fn write_read_parts<W: Write>(
     alloc: Global,
     file: &mut PDB<Vec<u8>>,
+    layout: &Layout,
     form: Form,
     out: &mut Output<W>,
 ) -> Result<()>
-    ensures { Writes (streams_part form file.old.source.items file.old.head ++
+    ensures { Writes (streams_part form layout.now file.old.source.items file.old.head ++
         tables_part form file.old.source.items file.old.head)
         out.old out.new result }
 {
-    write_streams_part(alloc, file, form, out)?;
+    write_streams_part(alloc, file, layout, form, out)?;
     write_tables(alloc, file, form, out)
 }
 
@@ -249,8 +229,8 @@ fn write_parts<W: Write>(
     ensures { Writes (parts_lines form file.old.source.items file.old.head)
         out.old out.new result }
 {
-    match read_directory(alloc, file) {
-        Ok(()) => write_read_parts(alloc, file, form, out),
+    match counted_layout(alloc, file.msf().source()) {
+        Ok(layout) => write_read_parts(alloc, file, &layout, form, out),
         Err(Error::OutOfMemory) => Err(Error::OutOfMemory),
         Err(error) => write_refused(alloc, Part::Directory, &error, form, out),
     }
