@@ -1,13 +1,12 @@
 //! Records, as the one item of a table.
 
-use super::stream;
+use super::{is_error, stream};
 use pdb_base::{Error, Stream, TypeIndex};
 use pdb_records::parse_type_data;
 use pdb_tpi::{Type, TypeFinder, TypeInformation};
 use pdb_values::TypeData;
 use pdb_vectors::item_table;
 use std::alloc::Global;
-use std::fmt::Debug;
 use std::test::Fail;
 
 /// A record behind its length.
@@ -34,71 +33,71 @@ pub(crate) fn record_of(alloc: Global, leaf: u16, fields: &[u8]) -> Result<Vec<u
     Ok(record)
 }
 
-/// A value, as `Debug` writes it.
-pub(crate) fn text_of<T: Debug>(alloc: Global, value: &T) -> pdb_base::Result<String> {
-    Ok(format!(in alloc; "{value:?}")?)
+/// What is wanted of a type: a value, or an error.
+#[derive(Clone, Copy)]
+pub(crate) enum Want<'w> {
+    Value(&'w TypeData<'w>),
+    Error(&'w Error),
 }
 
-/// What was read, as `Debug` writes it, or the text of its refusal.
-pub(crate) fn said_of<T: Debug>(
-    alloc: Global,
-    read: &pdb_base::Result<T>,
-) -> pdb_base::Result<String> {
-    match read {
-        Ok(data) => text_of(alloc, data),
-        Err(error) => Ok(error.to_string(alloc)?),
+/// Whether what was read is what is wanted.
+fn is_wanted(read: &pdb_base::Result<TypeData<'_>>, want: Want<'_>) -> bool {
+    match (read, want) {
+        (Ok(data), Want::Value(value)) => *data == *value,
+        (Err(error), Want::Error(same)) => is_error(error, same),
+        _ => false,
     }
 }
 
-/// What a type is, or the text of its refusal.
-fn item_said(alloc: Global, item: Type<'_>) -> pdb_base::Result<String> {
-    said_of(alloc, &item.parse(alloc))
+/// Whether a type is what is wanted.
+fn is_item(alloc: Global, item: Type<'_>, want: Want<'_>) -> bool {
+    is_wanted(&item.parse(alloc), want)
 }
 
-/// What the type of an index is, or the text of its refusal.
-fn found(alloc: Global, finder: &TypeFinder<'_>, index: u32) -> pdb_base::Result<String> {
-    item_said(alloc, finder.find(TypeIndex(index))?)
+/// Whether the type of an index is what is wanted.
+fn is_found(alloc: Global, finder: &TypeFinder<'_>, index: u32, want: Want<'_>) -> bool {
+    match finder.find(TypeIndex(index)) {
+        Ok(item) => is_item(alloc, item, want),
+        Err(error) => is_wanted(&Err(error), want),
+    }
 }
 
-/// The same of a table.
-fn found_in(alloc: Global, table: &TypeInformation, index: u32) -> pdb_base::Result<String> {
-    found(alloc, &table.finder(alloc)?, index)
+/// Whether the type of an index of a table is what is wanted.
+fn is_found_in(
+    alloc: Global,
+    table: &TypeInformation,
+    index: u32,
+    want: Want<'_>,
+) -> pdb_base::Result<bool> {
+    Ok(is_found(alloc, &table.finder(alloc)?, index, want))
 }
 
-/// What the type of an index is, as `Debug` writes it, or the text of its refusal, in a table whose
-/// one item is this record.
-fn said_at(alloc: Global, record: &[u8], index: u32) -> Result<String, Fail> {
-    let table = TypeInformation::parse(table_of(alloc, record)?)?;
-    Ok(found_in(alloc, &table, index)?)
-}
-
-/// Whether this is what the type of an index is, or the text of its refusal, in a table whose one item
-/// is this record.
-pub(crate) fn is_said_at(
+/// Whether the type of an index is what is wanted, in a table whose one item is this record.
+pub(crate) fn is_read_at(
     alloc: Global,
     record: &[u8],
     index: u32,
-    want: &str,
+    want: Want<'_>,
 ) -> Result<bool, Fail> {
-    let said = said_at(alloc, record, index)?;
-    Ok(said.as_str() == want)
+    let table = TypeInformation::parse(table_of(alloc, record)?)?;
+    Ok(is_found_in(alloc, &table, index, want)?)
 }
 
 /// The same of the type of the record.
-pub(crate) fn is_said(alloc: Global, record: &[u8], want: &str) -> Result<bool, Fail> {
-    is_said_at(alloc, record, 0x1000, want)
+pub(crate) fn is_read(alloc: Global, record: &[u8], want: Want<'_>) -> Result<bool, Fail> {
+    is_read_at(alloc, record, 0x1000, want)
 }
 
 /// The same of the type of the record with more bytes behind it.
-pub(crate) fn is_said_with(
+pub(crate) fn is_read_with(
     alloc: Global,
     record: &[u8],
     more: &[u8],
-    want: &str,
+    want: Want<'_>,
 ) -> Result<bool, Fail> {
     let mut longer = Vec::from_slice(alloc, record)?;
     longer.extend_from_slice(more)?;
-    is_said(alloc, &longer, want)
+    is_read(alloc, &longer, want)
 }
 
 /// Whether the front of a record ends too soon.
