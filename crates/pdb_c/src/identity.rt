@@ -3,13 +3,13 @@
 ghost use Rattle.std.specs.Prelude.{◌≡◌, Ok};
 ghost use Rattle.pdb_identity.specs.Format.{format_of};
 ghost use Rattle.pdb_handles.specs.Copied.{CopiesOrLacks};
-ghost use Rattle.pdb_reports.specs.Identity.{format_number, identity_of, identity_said, key_text};
+ghost use Rattle.pdb_reports.specs.Identity.{format_number, identity_said, key_text};
 ghost use Rattle.pdb_handles.specs.Records.{if_copied};
 ghost use Rattle.pdb_handles.specs.Roles.{IsAnswered};
 
 use pdb_handles::Fault;
 use pdb_identity::Format;
-use pdb_reports::identity::{FileIdentity, copy_key, format_number, identity_in, write_identity};
+use pdb_reports::identity::{FileIdentity, copy_key, format_number, identity_in, write_read};
 use std::alloc::Global;
 
 /// Writes what identifies a file.
@@ -20,10 +20,10 @@ pub extern "C" fn pdb_identity_of(
     identity: &mut FileIdentity,
     fault: &mut Fault,
 ) -> u32
-    ensures answer { IsAnswered identity_of (identity_said bytes.now) identity.old fault.new identity.new }
+    ensures answer { IsAnswered (λ identity. identity) (identity_said bytes.now) identity.old fault.new identity.new }
     ensures status { result ≡ fault.new.status }
 {
-    write_identity(identity_in(alloc, bytes), identity).tell(fault)
+    write_read(identity_in(alloc, bytes), identity).tell(fault)
 }
 
 /// Copies the text of a file's key in the form of a number.

@@ -1,9 +1,9 @@
 -- What identifies a file, as a caller sees it.
-use Rattle.std.specs.Prelude.{ℕ, ◌==◌, if◌then◌else◌, is_some, List, Option, Some, None}
+use Rattle.std.specs.Prelude.{ℕ, ◌==◌, if◌then◌else◌, is_some, List, Option, Some, None, Ok}
 use Rattle.std.specs.Option.{option_map_or}
 use Rattle.uuid.specs.Parts.{swap_fields}
 use Rattle.uuid.specs.Text.{hyphenated_text, upper}
-use Rattle.pdb_base.specs.Answer.{Answer}
+use Rattle.pdb_base.specs.Answer.{Answer, ◌>>=◌}
 use Rattle.pdb_file.specs.declared.dbi_header.DBIHeader.{DBIHeader}
 use Rattle.pdb_identity.specs.Identity.{age_of, file_identity}
 use Rattle.pdb_identity.specs.Key.{lower_key, upper_key}
@@ -13,10 +13,6 @@ use Rattle.pdb_identity.specs.declared.identity.Identity.{Identity}
 use Rattle.pdb_reports.specs.declared.identity.FileIdentity.{FileIdentity}
 use Rattle.pdb_handles.specs.File.{said}
 use Rattle.pdb_handles.specs.Frame.{flag}
-
--- what identifies a file
-abbrev pub identity_said : List ℕ → Answer Identity
-identity_said file = said file_identity file
 
 -- a number in the header of the debug information, or 0 if the file has no such header
 abbrev pub number_in : (DBIHeader → ℕ) → Option DBIHeader → ℕ
@@ -35,6 +31,10 @@ identity_of identity = record {
   flags = number_in (λ header. header.flags) identity.debug_header;
   guid = swap_fields identity.guid;
 }
+
+-- what identifies the file of these bytes, for the caller
+abbrev pub identity_said : List ℕ → Answer FileIdentity
+identity_said file = said file_identity file >>= λ identity. Ok (identity_of identity)
 
 -- The text of a key in the form of a number: in upper case, in lower case, or the GUID alone with its hyphens. Other
 -- numbers stand for no form.

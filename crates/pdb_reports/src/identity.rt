@@ -1,10 +1,10 @@
 //! What identifies a file: its numbers, its key, and its format.
 
 ghost use Rattle.std.specs.Prelude.{◌≡◌, ℕ, List, string_bytes, Ok};
+ghost use Rattle.uuid.specs.Text.{hyphenated_text, upper};
 ghost use Rattle.pdb_base.specs.Answer.{Answer, Answers};
 ghost use Rattle.pdb_identity.specs.Key.{lower_key, upper_key};
-ghost use Rattle.pdb_identity.specs.declared.identity.Identity.{Identity};
-ghost use Rattle.pdb_handles.specs.Copied.{CopiesOrLacks, copied};
+ghost use Rattle.pdb_handles.specs.Copied.{CopiesOrLacks, copied, written};
 ghost use Rattle.pdb_reports.specs.Identity.{format_number, identity_of, identity_said, key_text};
 ghost use Rattle.pdb_handles.specs.Records.{if_copied};
 ghost use Rattle.pdb_handles.specs.Roles.{IsAnswered};
@@ -76,21 +76,22 @@ impl FileIdentity {
 ///
 /// # Errors
 /// Fails as `opened` and `Identity::of` do.
-pub fn identity_in(alloc: Global, file: &[u8]) -> Result<Identity>
+pub fn identity_in(alloc: Global, file: &[u8]) -> Result<FileIdentity>
     ensures { Answers (λ identity. identity) result (identity_said file.now) }
 {
     let mut file = opened(alloc, file)?;
-    Identity::of(alloc, &mut file)
+    let identity = Identity::of(alloc, &mut file)?;
+    Ok(FileIdentity::of(&identity))
 }
 
-/// Writes what identifies a file, or returns the fault of the error.
-pub fn write_identity(read: Result<Identity>, identity: &mut FileIdentity) -> Fault
-    ensures { (meant : Answer Identity) → Answers (λ identity. identity) read meant
-        → IsAnswered identity_of meant identity.old result identity.new }
+/// Writes a value that was read, or returns the fault of the error.
+pub fn write_read<T: Copy>(read: Result<T>, value: &mut T) -> Fault
+    ensures { (meant : Answer T) → Answers (λ value. value) read meant
+        → IsAnswered (λ value. value) meant value.old result value.new }
 {
     match read {
-        Ok(said) => {
-            *identity = FileIdentity::of(&said);
+        Ok(found) => {
+            *value = found;
             Fault::status(FINE)
         }
         Err(error) => Fault::of(&error),
@@ -125,6 +126,16 @@ fn copy_made(made: Result<String>, room: &mut [u8], length: &mut usize) -> Fault
     }
 }
 
+/// Copies the text of a GUID with hyphens to the caller's array.
+fn copy_guid(guid: Uuid, room: &mut [u8], length: &mut usize) -> Fault
+    ensures { record { fault = result; length = length.new; room = room.new }
+        ≡ written room.old (hyphenated_text upper guid) }
+{
+    let mut buffer = [0u8; 36];
+    let text = guid.hyphenated().encode_upper(&mut buffer);
+    copy_out(text.as_bytes(), room, length)
+}
+
 /// Copies the text of a file's key to the caller's array, in the form of a number: 0 for upper case,
 /// 1 for lower case, and 2 for the GUID alone with hyphens. Returns a fault of status `NOWHERE` for
 /// any other number.
@@ -143,11 +154,7 @@ pub fn copy_key(
     match form {
         0 => copy_made(upper_text(alloc, guid, age), room, length),
         1 => copy_made(lower_text(alloc, guid, age), room, length),
-        2 => {
-            let mut buffer = [0u8; 36];
-            let text = guid.hyphenated().encode_upper(&mut buffer);
-            copy_out(text.as_bytes(), room, length)
-        }
+        2 => copy_guid(guid, room, length),
         _ => copy_nothing(Fault::status(NOWHERE), length),
     }
 }
