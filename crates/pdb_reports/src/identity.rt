@@ -3,9 +3,11 @@
 ghost use Rattle.std.specs.Prelude.{◌≡◌, ℕ, List, string_bytes, Ok};
 ghost use Rattle.uuid.specs.Text.{hyphenated_text, upper};
 ghost use Rattle.pdb_base.specs.Answer.{Answer, Answers};
+ghost use Rattle.pdb_identity.specs.Identity.{file_identity};
 ghost use Rattle.pdb_identity.specs.Key.{lower_key, upper_key};
 ghost use Rattle.pdb_handles.specs.Copied.{CopiesOrLacks, copied, written};
 ghost use Rattle.pdb_reports.specs.Identity.{format_number, identity_of, identity_said, key_text};
+ghost use Rattle.pdb_handles.specs.File.{said};
 ghost use Rattle.pdb_handles.specs.Records.{if_copied};
 ghost use Rattle.pdb_handles.specs.Roles.{IsAnswered};
 
@@ -73,15 +75,24 @@ impl FileIdentity {
 }
 
 /// Reads what identifies a file.
+fn read_identity(alloc: Global, file: &[u8]) -> Result<Identity>
+    ensures { Answers (λ identity. identity) result (said file_identity file.now) }
+{
+    let mut file = opened(alloc, file)?;
+    Identity::of(alloc, &mut file)
+}
+
+/// Reads what identifies a file, for the caller.
 ///
 /// # Errors
 /// Fails as `opened` and `Identity::of` do.
 pub fn identity_in(alloc: Global, file: &[u8]) -> Result<FileIdentity>
     ensures { Answers (λ identity. identity) result (identity_said file.now) }
 {
-    let mut file = opened(alloc, file)?;
-    let identity = Identity::of(alloc, &mut file)?;
-    Ok(FileIdentity::of(&identity))
+    match read_identity(alloc, file) {
+        Ok(identity) => Ok(FileIdentity::of(&identity)),
+        Err(error) => Err(error),
+    }
 }
 
 /// Writes a value that was read, or returns the fault of the error.
