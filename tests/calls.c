@@ -1,6 +1,7 @@
 // Asks the library for C all that the example pdbq.c doesn't ask, of one program database, and prints each
-// answer on a line: the file's streams, what its stream 1 says, its sections, its addresses and ranges of them,
-// its frames and names, lists of types in stream 2, and the status and numbers of each call that is refused.
+// answer on a line: the file's streams, what its stream 1 says, what identifies it, its sections, its addresses and
+// ranges of them, its frames and names, lists of types in stream 2, and the status and numbers of each call that is
+// refused.
 //
 // usage: calls FILE
 #include <inttypes.h>
@@ -81,6 +82,28 @@ static void ask_information(void) {
     pdb_roles roles;
     allowed(pdb_file_roles(file, file_length, &roles, &fault), PDB_OK);
     printf("roles %u %u %u %u %u\n", roles.fpo, roles.omap_to_src, roles.omap_from_src, roles.section_headers, roles.original_section_headers);
+}
+
+static void ask_identity(void) {
+    pdb_identity said = {0};
+    allowed(pdb_identity_of(file, file_length, &said, &fault), PDB_OK);
+    printf("identity %" PRIu32 " %" PRIu32 " %" PRIu32 " %" PRIu32 " %" PRIu32 " %" PRIu32, said.version, said.signature, said.age, said.information_age,
+           said.has_debug_header, said.debug_age);
+    printf(" %u %u", said.machine, said.flags);
+    print_bytes(" guid ", said.guid, 16);
+    for (uint32_t form = PDB_KEY_UPPER; form <= PDB_KEY_GUID; form++) {
+        allowed(pdb_key(&said, form, text, 0, &length, &fault), PDB_TOO_SMALL);
+        printf("key %" PRIu32 " needs %zu", form, length);
+        allowed(pdb_key(&said, form, text, ROOM, &length, &fault), PDB_OK);
+        printf(" is %.*s\n", (int)length, (char *)text);
+    }
+    allowed(pdb_key(&said, PDB_KEY_GUID + 1, text, ROOM, &length, &fault), PDB_NOWHERE);
+    printf("key of no form %" PRIu32 " %zu\n", fault.status, length);
+    static const char *const begin[] = {"Microsoft C/C++ program database 2.00\r\n\x1aJG\0", "BSJB", "MSCF", "MZ", ""};
+    printf("format %" PRIu32, pdb_format_of(file, file_length));
+    printf(" %" PRIu32, pdb_format_of((const uint8_t *)begin[0], 44));
+    for (int i = 1; i < 5; i++) printf(" %" PRIu32, pdb_format_of((const uint8_t *)begin[i], strlen(begin[i])));
+    printf("\n");
 }
 
 static void ask_sections(uint32_t number) {
@@ -243,6 +266,7 @@ static void told(const char *what, uint32_t status) {
 static void ask_whole(const char *what, const uint8_t *bytes, size_t bytes_length) {
     pdb_handle handle = {0};
     pdb_information said;
+    pdb_identity identity;
     pdb_named_stream rows[64];
     pdb_roles roles;
     size_t count = 0;
@@ -250,6 +274,7 @@ static void ask_whole(const char *what, const uint8_t *bytes, size_t bytes_lengt
 #define TOLD(name, status) (snprintf(front, sizeof front, "%s %s", what, name), told(front, status), pdb_close(&handle))
     TOLD("open", pdb_file_open(bytes, bytes_length, &handle, &fault));
     TOLD("information", pdb_file_information(bytes, bytes_length, &said, &fault));
+    TOLD("identity", pdb_identity_of(bytes, bytes_length, &identity, &fault));
     TOLD("stream names", pdb_file_stream_names(bytes, bytes_length, rows, 64, &count, text, ROOM, &length, &fault));
     TOLD("named stream", pdb_file_named_stream(bytes, bytes_length, (const uint8_t *)"/names", 6, text, ROOM, &length, &fault));
     TOLD("roles", pdb_file_roles(bytes, bytes_length, &roles, &fault));
@@ -373,6 +398,7 @@ int main(int count, char **words) {
     read_file(words[1]);
     ask_streams();
     ask_information();
+    ask_identity();
     pdb_roles roles;
     allowed(pdb_file_roles(file, file_length, &roles, &fault), PDB_OK);
     ask_sections(roles.section_headers);

@@ -12,12 +12,14 @@ on the thread that opened it.
 """
 
 from ._file import AddressMap, Frame, Frames, Information, Names, Omap, Pdb, Roles, Section, Stream, Streams, open
+from ._identity import Identity, format_of
 from ._library import LibraryError, PdbError
-from ._sys import IdShape, Shape, Status
+from ._sys import Format, IdShape, KeyForm, Shape, Status
 from ._tables import Field, Id, Ids, Row, Type, Types
 
 __version__ = "0.1.0"
 __all__ = [
-    "AddressMap", "Field", "Frame", "Frames", "Id", "IdShape", "Ids", "Information", "LibraryError", "Names", "Omap",
-    "Pdb", "PdbError", "Roles", "Row", "Section", "Shape", "Status", "Stream", "Streams", "Type", "Types", "open",
+    "AddressMap", "Field", "Format", "Frame", "Frames", "Id", "IdShape", "Identity", "Ids", "Information", "KeyForm",
+    "LibraryError", "Names", "Omap", "Pdb", "PdbError", "Roles", "Row", "Section", "Shape", "Status", "Stream", "Streams",
+    "Type", "Types", "format_of", "open",
 ]  # fmt: skip

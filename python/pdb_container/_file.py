@@ -11,6 +11,7 @@ from functools import cached_property
 from typing import Dict, Iterator, List, Optional, Tuple, Union
 
 from . import _sys
+from ._identity import Identity, identity_of
 from ._library import Lent, Opened, PdbError, items, library, named_items, value
 from ._sys import Fault, Status
 from ._tables import IDS, TYPES, Ids, Types
@@ -318,6 +319,11 @@ class Pdb:
     def information(self) -> Information:
         it = value(_sys.Information, library().pdb_file_information, *self._bytes())
         return Information(it.version, it.signature, it.age, uuid.UUID(bytes_le=bytes(it.guid)))
+
+    @cached_property
+    def identity(self) -> Identity:
+        """What identifies the file, and its key."""
+        return identity_of(*self._bytes())
 
     @cached_property
     def named_streams(self) -> Dict[str, Optional[int]]:

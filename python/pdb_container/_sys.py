@@ -42,6 +42,21 @@ class Status(IntEnum):
     NOWHERE = 105
 
 
+class KeyForm(IntEnum):
+    UPPER = 0
+    LOWER = 1
+    GUID = 2
+
+
+class Format(IntEnum):
+    UNKNOWN = 0
+    MSF_7 = 1
+    MSF_2 = 2
+    PORTABLE = 3
+    COMPRESSED = 4
+    IMAGE = 5
+
+
 class Shape(IntEnum):
     PRIMITIVE = 0
     CLASS = 1
@@ -134,6 +149,20 @@ class Roles(Structure):
         ("pdata", c_uint16),
         ("framedata", c_uint16),
         ("original_section_headers", c_uint16),
+    ]
+
+
+class Identity(Structure):
+    _fields_ = [
+        ("version", c_uint32),
+        ("signature", c_uint32),
+        ("age", c_uint32),
+        ("information_age", c_uint32),
+        ("has_debug_header", c_uint32),
+        ("debug_age", c_uint32),
+        ("machine", c_uint16),
+        ("flags", c_uint16),
+        ("guid", c_uint8 * 16),
     ]
 
 
@@ -255,6 +284,9 @@ FUNCTIONS = {
     "pdb_file_stream_names": (c_uint32, [c_void_p, c_size_t, c_void_p, c_size_t, c_void_p, c_void_p, c_size_t, c_void_p, c_void_p]),
     "pdb_file_named_stream": (c_uint32, [c_void_p, c_size_t, c_void_p, c_size_t, c_void_p, c_size_t, c_void_p, c_void_p]),
     "pdb_file_roles": (c_uint32, [c_void_p, c_size_t, c_void_p, c_void_p]),
+    "pdb_identity_of": (c_uint32, [c_void_p, c_size_t, c_void_p, c_void_p]),
+    "pdb_key": (c_uint32, [c_void_p, c_uint32, c_void_p, c_size_t, c_void_p, c_void_p]),
+    "pdb_format_of": (c_uint32, [c_void_p, c_size_t]),
     "pdb_names_open": (c_uint32, [c_void_p, c_size_t, c_void_p, c_void_p]),
     "pdb_file_names": (c_uint32, [c_void_p, c_size_t, c_void_p, c_void_p]),
     "pdb_names_get": (c_uint32, [c_void_p, c_uint32, c_void_p, c_size_t, c_void_p, c_void_p]),

@@ -11,10 +11,11 @@ import sys
 import tempfile
 import threading
 import unittest
+import uuid
 from unittest import mock
 
 import pdb_container
-from pdb_container import IdShape, Pdb, PdbError, Shape, Status
+from pdb_container import Format, IdShape, KeyForm, Pdb, PdbError, Shape, Status, format_of
 from pdb_container.__main__ import main
 
 SAMPLE = pathlib.Path(__file__).resolve().parents[2] / "examples" / "sample.pdb"
@@ -40,6 +41,7 @@ def read_ids(pdb):
 EVERYTHING = [
     lambda pdb: [stream.read() for stream in pdb.streams if stream.size is not None],
     lambda pdb: (pdb.information, pdb.named_streams, pdb.roles),
+    lambda pdb: (pdb.identity, pdb.identity.key()),
     lambda pdb: [(stream.name, stream.role) for stream in pdb.streams],
     lambda pdb: list(pdb.names),
     lambda pdb: pdb.sections + pdb.original_sections,
@@ -70,6 +72,20 @@ class OfFile(unittest.TestCase):
         self.assertEqual(self.pdb.information.version, 20000404)
         self.assertEqual(self.pdb.information.age, 1)
         self.assertEqual(self.pdb.information.guid.bytes_le, bytes(self.pdb.stream(1)[12:28]))
+
+    def test_identity(self):
+        # As llvm-pdbutil says.
+        guid = "CAD5A44E-0F4E-3F06-4C4C-44205044422E"
+        it = self.pdb.identity
+        self.assertEqual((it.version, it.signature, it.information_age, it.age), (20000404, 3402998862, 1, 1))
+        self.assertEqual((it.guid, it.debug_age, it.machine), (uuid.UUID(guid), 1, 0x14C))
+        self.assertEqual(it.key(), guid.replace("-", "") + "1")
+        self.assertEqual(it.key(KeyForm.LOWER), it.key().lower())
+        self.assertEqual(it.key(KeyForm.GUID), guid)
+        self.assertEqual(format_of(SAMPLE.read_bytes()), Format.MSF_7)
+        begin = {b"MZ": Format.IMAGE, b"BSJB": Format.PORTABLE, b"MSCF": Format.COMPRESSED, b"": Format.UNKNOWN}
+        for data, format in begin.items():
+            self.assertEqual(format_of(data), format)
 
     def test_streams(self):
         self.assertEqual(len(self.pdb.stream(10)), 160)

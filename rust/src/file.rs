@@ -4,6 +4,7 @@ use crate::addresses::{AddressMap, Omap, Section, sections};
 use crate::error::{Error, Result};
 use crate::frames::Frames;
 use crate::handle::{Handle, items, named_items, value};
+use crate::identity::Identity;
 use crate::ids::Ids;
 use crate::names::{Name, Names};
 use crate::sys;
@@ -79,6 +80,11 @@ impl<'f> Pdb<'f> {
         })?;
         let sys::Information { version, signature, age, guid } = found.unwrap_or_default();
         Ok(Information { version, signature, age, guid: Guid(guid) })
+    }
+
+    /// What identifies the file, and its key.
+    pub fn identity(&self) -> Result<Identity> {
+        Identity::of(self.bytes)
     }
 
     /// The streams that have names, in the order in which the file lists them.

@@ -54,6 +54,20 @@ pub struct Roles {
 
 #[repr(C)]
 #[derive(Debug, Clone, Copy, Default, PartialEq, Eq)]
+pub struct Identity {
+    pub version: u32,
+    pub signature: u32,
+    pub age: u32,
+    pub information_age: u32,
+    pub has_debug_header: u32,
+    pub debug_age: u32,
+    pub machine: u16,
+    pub flags: u16,
+    pub guid: [u8; 16],
+}
+
+#[repr(C)]
+#[derive(Debug, Clone, Copy, Default, PartialEq, Eq)]
 pub struct Name {
     pub offset: usize,
     pub length: usize,
@@ -193,6 +207,17 @@ pub const PDB_TOO_LONG: u32 = 103;
 pub const PDB_NO_TEXT: u32 = 104;
 pub const PDB_NOWHERE: u32 = 105;
 
+pub const PDB_KEY_UPPER: u32 = 0;
+pub const PDB_KEY_LOWER: u32 = 1;
+pub const PDB_KEY_GUID: u32 = 2;
+
+pub const PDB_FORMAT_UNKNOWN: u32 = 0;
+pub const PDB_FORMAT_MSF_7: u32 = 1;
+pub const PDB_FORMAT_MSF_2: u32 = 2;
+pub const PDB_FORMAT_PORTABLE: u32 = 3;
+pub const PDB_FORMAT_COMPRESSED: u32 = 4;
+pub const PDB_FORMAT_IMAGE: u32 = 5;
+
 pub const PDB_PRIMITIVE: u32 = 0;
 pub const PDB_CLASS: u32 = 1;
 pub const PDB_MEMBER: u32 = 2;
@@ -247,6 +272,9 @@ unsafe extern "C" {
     pub fn pdb_file_stream_names(file: *const u8, file_length: usize, rows: *mut NamedStream, rows_length: usize, count: *mut usize, names: *mut u8, names_length: usize, size: *mut usize, fault: *mut Fault) -> u32;
     pub fn pdb_file_named_stream(file: *const u8, file_length: usize, name: *const u8, name_length: usize, room: *mut u8, room_length: usize, length: *mut usize, fault: *mut Fault) -> u32;
     pub fn pdb_file_roles(file: *const u8, file_length: usize, roles: *mut Roles, fault: *mut Fault) -> u32;
+    pub fn pdb_identity_of(file: *const u8, file_length: usize, identity: *mut Identity, fault: *mut Fault) -> u32;
+    pub fn pdb_key(identity: *const Identity, form: u32, room: *mut u8, room_length: usize, length: *mut usize, fault: *mut Fault) -> u32;
+    pub fn pdb_format_of(file: *const u8, file_length: usize) -> u32;
     pub fn pdb_names_open(stream: *const u8, stream_length: usize, names: *mut Handle, fault: *mut Fault) -> u32;
     pub fn pdb_file_names(file: *const u8, file_length: usize, names: *mut Handle, fault: *mut Fault) -> u32;
     pub fn pdb_names_get(names: *mut Handle, offset: u32, room: *mut u8, room_length: usize, length: *mut usize, fault: *mut Fault) -> u32;

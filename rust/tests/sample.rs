@@ -1,6 +1,6 @@
 //! Reads examples/sample.pdb, and copies of it with damage.
 
-use pdb_container::{Error, IdShape, Pdb, Shape};
+use pdb_container::{Error, Format, IdShape, KeyForm, Pdb, Shape};
 
 fn sample() -> Vec<u8> {
     std::fs::read(concat!(env!("CARGO_MANIFEST_DIR"), "/../examples/sample.pdb")).unwrap()
@@ -32,6 +32,25 @@ fn header_and_streams() {
     let about = pdb.information().unwrap();
     assert_eq!((about.version, about.age), (20000404, 1));
     assert_eq!(about.guid.to_string().len(), 36);
+}
+
+#[test]
+fn identity_and_format() {
+    let file = sample();
+    let about = Pdb::parse(&file).unwrap().identity().unwrap();
+    // As llvm-pdbutil says.
+    let guid = "CAD5A44E-0F4E-3F06-4C4C-44205044422E";
+    assert_eq!(about.guid.to_string(), guid);
+    assert_eq!((about.version, about.signature, about.information_age, about.age()), (20000404, 3402998862, 1, 1));
+    assert_eq!(about.debug.map(|it| (it.age, it.machine)), Some((1, 0x14c)));
+    let digits = guid.replace('-', "");
+    assert_eq!(about.key(KeyForm::Upper).unwrap(), format!("{digits}1"));
+    assert_eq!(about.key(KeyForm::Lower).unwrap(), format!("{}1", digits.to_lowercase()));
+    assert_eq!(about.key(KeyForm::Guid).unwrap(), guid);
+    assert_eq!(Format::of(&file), Format::Msf7);
+    let begin =
+        [("MZ", Format::Image), ("BSJB", Format::Portable), ("MSCF", Format::Compressed), ("", Format::Unknown)];
+    assert!(begin.iter().all(|(text, format)| Format::of(text.as_bytes()) == *format));
 }
 
 #[test]
@@ -169,6 +188,7 @@ fn read_everything(pdb: &Pdb<'_>) -> usize {
     let mut count = |is_read: bool| failed += usize::from(!is_read);
     (0..pdb.stream_count()).for_each(|number| count(pdb.stream(number).is_ok()));
     count(pdb.information().is_ok());
+    count(pdb.identity().is_ok_and(|it| it.key(KeyForm::Upper).is_ok()));
     count(pdb.named_streams().is_ok());
     count(pdb.names().and_then(|names| names.iter()?.collect::<Result<Vec<_>, _>>().map(|it| it.len())).is_ok());
     count(pdb.sections().is_ok());

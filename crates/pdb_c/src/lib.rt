@@ -5,6 +5,7 @@ mod addresses;
 mod fields;
 mod file;
 mod frames;
+mod identity;
 mod ids;
 mod information;
 mod lists;

@@ -1,0 +1,49 @@
+"""What identifies a program database."""
+
+import uuid
+from ctypes import byref, c_uint8
+from dataclasses import dataclass
+from typing import Optional
+
+from . import _sys
+from ._library import Lent, items, library, value
+from ._sys import Format, KeyForm
+
+
+@dataclass(frozen=True)
+class Identity:
+    """What identifies a file. The last three are None if it has no debug information, as that of a type server."""
+
+    version: int  # of the format, such as 20000404 for version 7
+    signature: int  # the time at which the file was made, in seconds since 1970, or a hash in its place
+    information_age: int  # the age in stream 1: how often the file was written
+    guid: uuid.UUID
+    debug_age: Optional[int]  # the age of the debug information
+    machine: Optional[int]  # as the header of an image numbers it, such as 0x8664 for x86-64
+    flags: Optional[int]  # 1 if linked incrementally, 2 if private symbols are stripped, 4 if types may conflict, added up
+
+    @property
+    def age(self) -> int:
+        """The age in the key: that of the debug information, or that of stream 1 if there is none."""
+        return self.information_age if self.debug_age is None else self.debug_age
+
+    def key(self, form: KeyForm = KeyForm.UPPER) -> str:
+        """The key under which a symbol server stores the file."""
+        about = _sys.Identity(age=self.age, guid=(c_uint8 * 16)(*self.guid.bytes_le))
+        return bytes(items(c_uint8, library().pdb_key, byref(about), form)).decode()
+
+
+def identity_of(*place: int) -> Identity:
+    """What identifies the file at an address, of a length."""
+    it = value(_sys.Identity, library().pdb_identity_of, *place)
+    debug = (it.debug_age, it.machine, it.flags) if it.has_debug_header else (None, None, None)
+    return Identity(it.version, it.signature, it.information_age, uuid.UUID(bytes_le=bytes(it.guid)), *debug)
+
+
+def format_of(data) -> Format:
+    """What a file is that begins with these bytes. The first 42 bytes decide."""
+    lent = Lent(data)
+    try:
+        return Format(library().pdb_format_of(lent.at, lent.length))
+    finally:
+        lent.release()
