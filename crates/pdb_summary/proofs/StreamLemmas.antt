@@ -26,4 +26,7 @@ pub lines_from_first : (form : Form) (known : Known)
     → stream_lines form known
     ≡ made_from (stream_line form known) (nameable (stream_count_in known.layout.directory)) 0
 unfolding stream_lines made_from
-lines_from_first form known = refl
+lines_from_first form known =
+    let count = nameable (stream_count_in known.layout.directory) in
+    let all : count - 0 ≡ count = omega arith in
+    rw all refl

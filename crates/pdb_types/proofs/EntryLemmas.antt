@@ -1,5 +1,7 @@
 -- The entries of a table are those of its definitions.
-use Rattle.std.proofs.Common.{◌≡◌, ◌≢◌, inl, inr, ℕ, zero, suc, ◌+◌, ◌-◌, ◌<◌, ◌≤◌, List, [], ◌∷◌, ◌++◌, length, get_or, take, drop, refl, sym, ap, ◌∙◌, arith, Bool, true, false, not, ◌||◌, cond, eqb, ltb, leb, Option, Some, None, Ok, Err, Vec, Global}
+use Rattle.std.proofs.Common.{◌≡◌, ◌≢◌, inl, inr, ℕ, zero, suc, ◌+◌, ◌-◌, ◌<◌, ◌≤◌, List, [], ◌∷◌, ◌++◌, length, get_or}
+use Rattle.std.proofs.Common.{take, drop, refl, sym, ap, ◌∙◌, arith, Bool, true, false, not, ◌||◌, cond, eqb, ltb, leb}
+use Rattle.std.proofs.Common.{Option, Some, None, Ok, Err, Vec, Global}
 use Rattle.std.specs.List.{All, list_any, slice_get}
 use Rattle.std.specs.List.Sorted.{IsNonDecreasingBy, IsPartitionPoint, IsPermutation}
 use Rattle.std.specs.Option.{option_map_or}
@@ -7,7 +9,8 @@ use Rattle.std.specs.Result.{result_ok}
 use Rattle.std.specs.Str.{bytes_eq}
 use Rattle.std.proofs.Math.Seq.{drop-cons}
 use Rattle.std.proofs.Math.ListN.{drop_of_length-le}
-use Rattle.std.proofs.lemmas.Bool.{cases_lt, leb-false, ltb-true, false≢true, and_parts, and_from, not-true, or_left, or_right, le-ltb, ltb-false, leb-true, eq-eqb, eqb-true}
+use Rattle.std.proofs.lemmas.Bool.{cases_lt, leb-false, ltb-true, false≢true, and_parts, and_from, not-true, or_left}
+use Rattle.std.proofs.lemmas.Bool.{or_right, le-ltb, ltb-false, leb-true, eq-eqb, eqb-true}
 use Rattle.std.proofs.lemmas.List.{append_assoc, append-nil, get_or-take, get_or-drop, length-take-le, length-drop}
 use Rattle.std.proofs.lemmas.List.Elements.{All-nil, All-cons, All-append, All-weaker}
 use Rattle.std.proofs.lemmas.List.Folds.{Any-from_list_any, list_any-append, list_any_at}
@@ -26,9 +29,11 @@ use Rattle.pdb_tpi.specs.Table.{Table}
 use Rattle.pdb_tpi.specs.Walk.{items, first_item, behind, fault_of}
 use Rattle.pdb_tpi.proofs.StepLemmas.{nth_ok, step_some, step_none, step_err}
 use Rattle.pdb_types.specs.declared.entry.Entry.{Entry}
-use Rattle.pdb_types.specs.Declaration.{Declared, TypeName, source_name, decorated_name, bears, declaration_of, is_forward, text_of}
+use Rattle.pdb_types.specs.Declaration.{Declared, TypeName, source_name, decorated_name, bears, declaration_of}
+use Rattle.pdb_types.specs.Declaration.{is_forward, text_of}
 use Rattle.pdb_types.specs.Definition.{defines, declares, if_none_left, walked}
-use Rattle.pdb_types.specs.Entries.{rank, entry_of, names_entries, entries_of, entries_from, all_entries, is_entry, IsIndexed, AreCandidates}
+use Rattle.pdb_types.specs.Entries.{rank, entry_of, names_entries, entries_of, entries_from, all_entries, is_entry}
+use Rattle.pdb_types.specs.Entries.{IsIndexed, AreCandidates}
 use Rattle.pdb_types.specs.NameHash.{name_hash}
 use Rattle.pdb_types.specs.TypeAt.{type_at}
 
@@ -40,15 +45,19 @@ IsOf index entry = entry.index.0 ≡ index
 abbrev IsWithin : ℕ → ℕ → Entry → Type 0
 IsWithin from to entry = (from ≤ entry.index.0) × (entry.index.0 < to)
 
-names_of : (index : ℕ) (name : List ℕ) (other : Option (List ℕ)) → All (IsOf index) (entry_of index name ∷ option_map_or (λ text. entry_of index text ∷ []) other [])
+names_of : (index : ℕ) (name : List ℕ) (other : Option (List ℕ))
+    → All (IsOf index) (entry_of index name ∷ option_map_or (λ text. entry_of index text ∷ []) other [])
 names_of index name None = All-cons (IsOf index) (entry_of index name) [] refl (All-nil (IsOf index))
-names_of index name (Some text) = All-cons (IsOf index) (entry_of index name) (entry_of index text ∷ []) refl (All-cons (IsOf index) (entry_of index text) [] refl (All-nil (IsOf index)))
+names_of index name (Some text) = All-cons (IsOf index) (entry_of index name) (entry_of index text ∷ []) refl
+    (All-cons (IsOf index) (entry_of index text) [] refl (All-nil (IsOf index)))
 
-unless_forward : (index : ℕ) (declared : Declared) (forward : Bool) → All (IsOf index) (cond forward [] (names_entries index declared))
+unless_forward : (index : ℕ) (declared : Declared) (forward : Bool)
+    → All (IsOf index) (cond forward [] (names_entries index declared))
 unless_forward index declared true = All-nil (IsOf index)
 unless_forward index declared false = names_of index declared.name declared.unique_name
 
-declared_of : (index : ℕ) (declared : Option Declared) → All (IsOf index) (option_map_or (λ d. cond (is_forward d) [] (names_entries index d)) declared [])
+declared_of : (index : ℕ) (declared : Option Declared)
+    → All (IsOf index) (option_map_or (λ d. cond (is_forward d) [] (names_entries index d)) declared [])
 declared_of index None = All-nil (IsOf index)
 declared_of index (Some declared) = unless_forward index declared (is_forward declared)
 
@@ -57,12 +66,18 @@ type_entries index (Err refusal) = All-nil (IsOf index)
 type_entries index (Ok value) = declared_of index (declaration_of value)
 
 -- the entries of items have the items' indexes
-entries_within : (index : ℕ) (items : List (List ℕ)) → All (IsWithin index (index + length items)) (entries_from index items)
+entries_within : (index : ℕ) (items : List (List ℕ))
+    → All (IsWithin index (index + length items)) (entries_from index items)
 entries_within index [] = All-nil (IsWithin index (index + 0))
 entries_within index (item ∷ items) =
     let P : Entry → Type 0 = IsWithin index (index + length (item ∷ items)) in
-    let first : All P (entries_of index (type_of index item)) = All-weaker (IsOf index) P (λ entry is. (omega (arith, is), omega (arith, is))) (entries_of index (type_of index item)) (type_entries index (type_of index item)) in
-    let others : All P (entries_from (index + 1) items) = All-weaker (IsWithin (index + 1) (index + 1 + length items)) P (λ entry is. (omega (arith, is.0), omega (arith, is.1))) (entries_from (index + 1) items) (entries_within (index + 1) items) in
+    let first : All P (entries_of index (type_of index item)) =
+    All-weaker (IsOf index) P (λ entry is. (omega (arith, is), omega (arith, is)))
+    (entries_of index (type_of index item)) (type_entries index (type_of index item)) in
+    let others : All P (entries_from (index + 1) items) =
+    All-weaker (IsWithin (index + 1) (index + 1 + length items)) P
+    (λ entry is. (omega (arith, is.0), omega (arith, is.1))) (entries_from (index + 1) items)
+    (entries_within (index + 1) items) in
     All-append P (entries_of index (type_of index item)) (entries_from (index + 1) items) first others
 
 -- ---- each name of a definition has its entry
@@ -71,24 +86,33 @@ same_bytes : (xs ys : List ℕ) → bytes_eq xs ys ≡ true → xs ≡ ys
 same_bytes xs ys is = (bytes_eq-Decides xs ys).0 is
 
 the_entry : (index : ℕ) (xs ys : List ℕ) → xs ≡ ys → is_entry (name_hash ys) index (entry_of index xs) ≡ true
-the_entry index xs ys same = and_from (eqb (name_hash xs) (name_hash ys)) (eqb index index) (eq-eqb (name_hash xs) (name_hash ys) (ap name_hash same)) (eq-eqb index index refl)
+the_entry index xs ys same = and_from (eqb (name_hash xs) (name_hash ys)) (eqb index index)
+    (eq-eqb (name_hash xs) (name_hash ys) (ap name_hash same)) (eq-eqb index index refl)
 
-second_entry : (index : ℕ) (name text : List ℕ) (other : Option (List ℕ)) → option_map_or (λ own. bytes_eq own text) other false ≡ true
-    → list_any (is_entry (name_hash text) index) (entry_of index name ∷ option_map_or (λ own. entry_of index own ∷ []) other []) ≡ true
+second_entry : (index : ℕ) (name text : List ℕ) (other : Option (List ℕ))
+    → option_map_or (λ own. bytes_eq own text) other false ≡ true
+    → list_any (is_entry (name_hash text) index)
+    (entry_of index name ∷ option_map_or (λ own. entry_of index own ∷ []) other []) ≡ true
 second_entry index name text None is = absurd (false≢true is)
 second_entry index name text (Some own) is =
     let here = the_entry index own text (same_bytes own text is) in
-    or_right (is_entry (name_hash text) index (entry_of index name)) (is_entry (name_hash text) index (entry_of index own) || false) (or_left (is_entry (name_hash text) index (entry_of index own)) false here)
+    or_right (is_entry (name_hash text) index (entry_of index name))
+    (is_entry (name_hash text) index (entry_of index own) || false)
+    (or_left (is_entry (name_hash text) index (entry_of index own)) false here)
 
 has_name : (index : ℕ) (name : TypeName) (declared : Declared) → bears name declared ≡ true
     → list_any (is_entry (name_hash (text_of name)) index) (names_entries index declared) ≡ true
 has_name index (source_name text) declared is =
     let here = the_entry index declared.name text (same_bytes declared.name text is) in
-    or_left (is_entry (name_hash text) index (entry_of index declared.name)) (list_any (is_entry (name_hash text) index) (option_map_or (λ own. entry_of index own ∷ []) declared.unique_name [])) here
+    or_left (is_entry (name_hash text) index (entry_of index declared.name))
+    (list_any (is_entry (name_hash text) index)
+    (option_map_or (λ own. entry_of index own ∷ []) declared.unique_name [])) here
 has_name index (decorated_name text) declared is = second_entry index declared.name text declared.unique_name is
 
-has_declared : (index : ℕ) (name : TypeName) (declared : Option Declared) → option_map_or (declares name) declared false ≡ true
-    → list_any (is_entry (name_hash (text_of name)) index) (option_map_or (λ d. cond (is_forward d) [] (names_entries index d)) declared []) ≡ true
+has_declared : (index : ℕ) (name : TypeName) (declared : Option Declared)
+    → option_map_or (declares name) declared false ≡ true
+    → list_any (is_entry (name_hash (text_of name)) index)
+    (option_map_or (λ d. cond (is_forward d) [] (names_entries index d)) declared []) ≡ true
 has_declared index name None is = absurd (false≢true is)
 has_declared index name (Some declared) is =
     let parts = and_parts (not (is_forward declared)) (bears name declared) is in
@@ -99,30 +123,37 @@ has_type : (index : ℕ) (name : TypeName) (answer : Answer TypeValue) → defin
 has_type index name (Err refusal) is = absurd (false≢true is)
 has_type index name (Ok value) is = has_declared index name (declaration_of value) is
 
-has_item : (at index k : ℕ) (name : TypeName) (items : List (List ℕ)) (item : List ℕ) → at ≡ index + k → slice_get items k ≡ Some item
-    → defines name (type_of at item) ≡ true → list_any (is_entry (name_hash (text_of name)) at) (entries_from index items) ≡ true
+has_item : (at index k : ℕ) (name : TypeName) (items : List (List ℕ)) (item : List ℕ) → at ≡ index + k
+    → slice_get items k ≡ Some item
+    → defines name (type_of at item) ≡ true → list_any (is_entry (name_hash (text_of name)) at)
+    (entries_from index items) ≡ true
 has_item at index k name [] item same there is = absurd cc
 has_item at index zero name (first ∷ items) item same there is =
     let here : at ≡ index = omega (arith, same) in
     let one : first ≡ item = cc in
     let test = is_entry (name_hash (text_of name)) at in
-    let found : list_any test (entries_of index (type_of index first)) ≡ true = rw (one, ← here) (has_type at name (type_of at item) is) in
+    let found : list_any test (entries_of index (type_of index first)) ≡ true =
+    rw (one, ← here) (has_type at name (type_of at item) is) in
     list_any-append test (entries_of index (type_of index first)) (entries_from (index + 1) items)
-    ∙ or_left (list_any test (entries_of index (type_of index first))) (list_any test (entries_from (index + 1) items)) found
+    ∙ or_left (list_any test (entries_of index (type_of index first)))
+    (list_any test (entries_from (index + 1) items)) found
 has_item at index (suc k) name (first ∷ items) item same there is =
     let test = is_entry (name_hash (text_of name)) at in
     let found = has_item at (index + 1) k name items item (omega (arith, same)) there is in
     list_any-append test (entries_of index (type_of index first)) (entries_from (index + 1) items)
-    ∙ or_right (list_any test (entries_of index (type_of index first))) (list_any test (entries_from (index + 1) items)) found
+    ∙ or_right (list_any test (entries_of index (type_of index first)))
+    (list_any test (entries_from (index + 1) items)) found
 
 -- ---- the items of a table
 
-ok_there : (table : Table) (index : ℕ) (item : List ℕ) (past : Bool) → cond past (Err (type_not_found index)) (nth_item table (index - table.header.minimum_index)) ≡ Ok item
+ok_there : (table : Table) (index : ℕ) (item : List ℕ) (past : Bool)
+    → cond past (Err (type_not_found index)) (nth_item table (index - table.header.minimum_index)) ≡ Ok item
     → slice_get (walk table) (index - table.header.minimum_index) ≡ Some item
 ok_there table index item true is = absurd cc
 ok_there table index item false is = nth_ok table (index - table.header.minimum_index) item is
 
-item_there : (table : Table) (index : ℕ) (item : List ℕ) → table.header.minimum_index ≤ index → item_of table index ≡ Ok item
+item_there : (table : Table) (index : ℕ) (item : List ℕ) → table.header.minimum_index ≤ index
+    → item_of table index ≡ Ok item
     → slice_get (walk table) (index - table.header.minimum_index) ≡ Some item
 unfolding item_of
 item_there table index item least is =
@@ -156,7 +187,8 @@ walk_few table = items_few (room table) (body table)
 -- ---- the index of a table
 
 -- its entries, sorted
-pub indexed : (table : Table) (entries sorted : List Entry) → entries ≡ all_entries table → IsPermutation entries sorted → IsNonDecreasingBy rank sorted
+pub indexed : (table : Table) (entries sorted : List Entry) → entries ≡ all_entries table → IsPermutation entries sorted
+    → IsNonDecreasingBy rank sorted
     → IsIndexed table sorted
 unfolding all_entries
 indexed table entries sorted are moved order =
@@ -168,12 +200,15 @@ indexed table entries sorted are moved order =
     record {
       sorted = order;
       least = All-weaker P (λ entry. least ≤ entry.index.0) (λ entry is. is.0) sorted within;
-      most = All-weaker P (λ entry. entry.index.0 < 0x1_0000_0000) (λ entry is. omega (arith, is.0, is.1, few)) sorted within;
+      most = All-weaker P (λ entry. entry.index.0 < 0x1_0000_0000)
+          (λ entry is. omega (arith, is.0, is.1, few)) sorted within;
       complete = λ name index above is.
           let there = defined_there table name index is in
           let item = item_there table index there.0 above there.1 in
           let test = is_entry (name_hash (text_of name)) index in
-          let found : list_any test entries ≡ true = rw are (has_item index least (index - least) name (walk table) there.0 (omega (arith, above)) item there.2) in
+          let found : list_any test entries ≡ true =
+          rw are (has_item index least (index - least) name (walk table) there.0
+          (omega (arith, above)) item there.2) in
           sym (list_any-IsPermutation test entries sorted moved) ∙ found;
     }
 
@@ -184,12 +219,14 @@ abbrev pub still_entries : WalkPosition → List Entry
 still_entries stand = entries_from stand.index (drop (steps_taken stand) (walk stand.table))
 
 -- a new one has all of them to give
-pub all_still : (table : Table) → all_entries table ≡ still_entries (record { table = table; index = table.header.minimum_index })
+pub all_still : (table : Table) → all_entries table
+    ≡ still_entries (record { table = table; index = table.header.minimum_index })
 unfolding all_entries
 all_still table = let none : table.header.minimum_index - table.header.minimum_index ≡ 0 = omega arith in rw none refl
 
 -- the entries of the item of a step come first, and then those that are left
-still_more : {X : Type 0} (seen : X → ℕ × List ℕ) (old : WalkPosition) (x : X) (new : WalkPosition) → old.table.header.minimum_index ≤ old.index → IsStep seen old (Ok (Some x)) new
+still_more : {X : Type 0} (seen : X → ℕ × List ℕ) (old : WalkPosition) (x : X) (new : WalkPosition)
+    → old.table.header.minimum_index ≤ old.index → IsStep seen old (Ok (Some x)) new
     → still_entries old ≡ entries_of (seen x).0 (type_of (seen x).0 (seen x).1) ++ still_entries new
 still_more seen old x new least step =
     let given = step_some seen old x new step in
@@ -204,7 +241,8 @@ pub record AreFound (table : Table) (found : List Entry) (stand : WalkPosition) 
   pub least : stand.table.header.minimum_index ≤ stand.index
   pub so_far : all_entries table ≡ found ++ still_entries stand
 
-pub found_more : {X : Type 0} (seen : X → ℕ × List ℕ) (table : Table) (found : List Entry) (old : WalkPosition) (x : X) (new : WalkPosition) → AreFound table found old → IsStep seen old (Ok (Some x)) new
+pub found_more : {X : Type 0} (seen : X → ℕ × List ℕ) (table : Table) (found : List Entry) (old : WalkPosition) (x : X)
+    (new : WalkPosition) → AreFound table found old → IsStep seen old (Ok (Some x)) new
     → AreFound table (found ++ entries_of (seen x).0 (type_of (seen x).0 (seen x).1)) new
 found_more seen table found old x new are step =
     let given = step_some seen old x new step in
@@ -212,14 +250,16 @@ found_more seen table found old x new are step =
     record {
       same = rw given.moved are.same;
       least = rw given.moved (omega (arith, are.least));
-      so_far = are.so_far ∙ ap (λ (l : List Entry). found ++ l) (still_more seen old x new are.least step) ∙ sym (append_assoc found entries (still_entries new));
+      so_far = are.so_far ∙ ap (λ (l : List Entry). found ++ l) (still_more seen old x new are.least step)
+          ∙ sym (append_assoc found entries (still_entries new));
     }
 
 none_left : (entries : List Entry) (rest : List ℕ) → rest ≡ [] → if_none_left entries rest ≡ Ok entries
 none_left entries rest none = rw none refl
 
 -- at the end all were found
-pub found_all : {X : Type 0} (seen : X → ℕ × List ℕ) (table : Table) (found : List Entry) (old new : WalkPosition) → AreFound table found old → IsStep seen old (Ok None) new
+pub found_all : {X : Type 0} (seen : X → ℕ × List ℕ) (table : Table) (found : List Entry) (old new : WalkPosition)
+    → AreFound table found old → IsStep seen old (Ok None) new
     → if_none_left (all_entries table) (walk_rest table) ≡ Ok found
 found_all seen table found old new are step =
     let end = step_none seen old new step in
@@ -228,45 +268,56 @@ found_all seen table found old new are step =
     let rest : walk_rest table ≡ [] = ap walk_rest (sym are.same) ∙ end.1 in
     rw (all, rest) refl
 
-stopped_left : (entries : List Entry) (rest : List ℕ) (fault : Refusal) → rest ≢ [] → fault_of rest ≡ fault → if_none_left entries rest ≡ Err fault
+stopped_left : (entries : List Entry) (rest : List ℕ) (fault : Refusal) → rest ≢ [] → fault_of rest ≡ fault
+    → if_none_left entries rest ≡ Err fault
 stopped_left entries [] fault some is = absurd (some refl)
 stopped_left entries (byte ∷ bytes) fault some is = ap (λ (f : Refusal). err {A = List Entry} f) is
 
 -- a fault stops the walk before the end
-pub found_stopped : {X : Type 0} (seen : X → ℕ × List ℕ) (table : Table) (found : List Entry) (old new : WalkPosition) (e : Error) → AreFound table found old → IsStep seen old (Err e) new
+pub found_stopped : {X : Type 0} (seen : X → ℕ × List ℕ) (table : Table) (found : List Entry) (old new : WalkPosition)
+    (e : Error) → AreFound table found old → IsStep seen old (Err e) new
     → if_none_left (all_entries table) (walk_rest table) ≡ Err (refusal_of e)
 found_stopped seen table found old new e are step =
     let end = step_err seen old new e step in
     let some : walk_rest table ≢ [] = λ none. end.some (ap walk_rest are.same ∙ none) in
-    stopped_left (all_entries table) (walk_rest table) (refusal_of e) some (ap (λ (t : Table). fault_of (walk_rest t)) (sym are.same) ∙ end.is)
+    stopped_left (all_entries table) (walk_rest table) (refusal_of e) some
+    (ap (λ (t : Table). fault_of (walk_rest t)) (sym are.same) ∙ end.is)
 
 -- ---- a walk over a whole table
 
-refused_alike : {A B : Type 0} (x : A) (y : B) (rest : List ℕ) (fault : Refusal) → if_none_left x rest ≡ Err fault → if_none_left y rest ≡ Err fault
+refused_alike : {A B : Type 0} (x : A) (y : B) (rest : List ℕ) (fault : Refusal) → if_none_left x rest ≡ Err fault
+    → if_none_left y rest ≡ Err fault
 refused_alike x y [] fault is = absurd cc
-refused_alike {A} {B} x y (byte ∷ bytes) fault is = ap (λ (f : Refusal). err {A = B} f) (err_is {A = A} (fault_of (byte ∷ bytes)) fault is)
+refused_alike {A} {B} x y (byte ∷ bytes) fault is =
+    ap (λ (f : Refusal). err {A = B} f) (err_is {A = A} (fault_of (byte ∷ bytes)) fault is)
 
-given_alike : {A B : Type 0} (x z : A) (y : B) (rest : List ℕ) → if_none_left x rest ≡ Ok z → (if_none_left y rest ≡ Ok y) × (z ≡ x)
+given_alike : {A B : Type 0} (x z : A) (y : B) (rest : List ℕ) → if_none_left x rest ≡ Ok z
+    → (if_none_left y rest ≡ Ok y) × (z ≡ x)
 given_alike x z y [] is = (refl, sym (ok_is x z is))
 given_alike x z y (byte ∷ bytes) is = absurd cc
 
-pub whole_refused : (table : Table) (e : Error) → Answers {X = Vec Entry Global} {Y = List Entry} (λ entries. entries.items) (Err e) (if_none_left (all_entries table) (walk_rest table))
+pub whole_refused : (table : Table) (e : Error)
+    → Answers {X = Vec Entry Global} {Y = List Entry} (λ entries. entries.items) (Err e)
+    (if_none_left (all_entries table) (walk_rest table))
     → Answers {X = Table} {Y = Table} (λ table. table) (Err e) (walked table)
 unfolding walked
 whole_refused table e (inl is) = inl (refused_alike (all_entries table) table (walk_rest table) (refusal_of e) is)
 whole_refused table e (inr memory) = inr memory
 
-pub whole_walked : (table : Table) (entries : List Entry) → if_none_left (all_entries table) (walk_rest table) ≡ Ok entries → walked table ≡ Ok table
+pub whole_walked : (table : Table) (entries : List Entry)
+    → if_none_left (all_entries table) (walk_rest table) ≡ Ok entries → walked table ≡ Ok table
 unfolding walked
 whole_walked table entries is = (given_alike (all_entries table) entries table (walk_rest table) is).0
 
-pub whole_entries : (table : Table) (entries : List Entry) → if_none_left (all_entries table) (walk_rest table) ≡ Ok entries → entries ≡ all_entries table
+pub whole_entries : (table : Table) (entries : List Entry)
+    → if_none_left (all_entries table) (walk_rest table) ≡ Ok entries → entries ≡ all_entries table
 whole_entries table entries is = (given_alike (all_entries table) entries table (walk_rest table) is).1
 
 -- ---- the entries of a hash
 
 -- the hashes of sorted entries don't fall
-pub by_hash : (table : Table) (entries : List Entry) → IsIndexed table entries → IsNonDecreasingBy (λ entry. entry.hash) entries
+pub by_hash : (table : Table) (entries : List Entry) → IsIndexed table entries
+    → IsNonDecreasingBy (λ entry. entry.hash) entries
 by_hash table entries are i j d le within =
     let order = are.sorted i j d le within in
     let most = are.most i d (omega arith) in
@@ -274,9 +325,11 @@ by_hash table entries are i j d le within =
     omega (arith, order, most, other)
 
 -- those from the first one of a hash on, as many as have it
-pub candidates : (table : Table) (hash : ℕ) (entries : List Entry) (start count : ℕ) → IsIndexed table entries → start ≤ length entries → count ≤ length (drop start entries)
+pub candidates : (table : Table) (hash : ℕ) (entries : List Entry) (start count : ℕ) → IsIndexed table entries
+    → start ≤ length entries → count ≤ length (drop start entries)
     → IsPartitionPoint (λ entry. ltb entry.hash hash ≡ true) (λ entry. ltb entry.hash hash ≡ false) entries start
-    → IsPartitionPoint (λ entry. leb entry.hash hash ≡ true) (λ entry. leb entry.hash hash ≡ false) (drop start entries) count
+    → IsPartitionPoint (λ entry. leb entry.hash hash ≡ true) (λ entry. leb entry.hash hash ≡ false)
+    (drop start entries) count
     → AreCandidates table hash (take count (drop start entries))
 candidates table hash entries start count are within few from to =
     let ours : List Entry = take count (drop start entries) in
@@ -286,17 +339,20 @@ candidates table hash entries start count are within few from to =
     λ k d below. get_or-take count (drop start entries) k d below ∙ get_or-drop start entries k d in
     let equal : (k : ℕ) (d : Entry) → k < count → (get_or entries (start + k) d).hash ≡ hash =
     λ k d below.
-    let high = ltb-false (get_or entries (start + k) d).hash hash (from.1 (start + k) d (omega arith) (omega (arith, below, all, few, within))) in
+    let high = ltb-false (get_or entries (start + k) d).hash hash
+    (from.1 (start + k) d (omega arith) (omega (arith, below, all, few, within))) in
     let upto : leb (get_or (drop start entries) k d).hash hash ≡ true = to.0 k d (omega arith) below in
     let low = leb-true (get_or (drop start entries) k d).hash hash upto in
-    let same : (get_or (drop start entries) k d).hash ≡ (get_or entries (start + k) d).hash = ap (λ (e : Entry). e.hash) (get_or-drop start entries k d) in
+    let same : (get_or (drop start entries) k d).hash ≡ (get_or entries (start + k) d).hash =
+    ap (λ (e : Entry). e.hash) (get_or-drop start entries k d) in
     omega (arith, high, low, same) in
     record {
       rising = λ i j d le below.
           let last : j < count = omega (arith, below, long) in
           let one = there i d (omega (arith, le, last)) in
           let other = there j d last in
-          let order = are.sorted (start + i) (start + j) d (omega (arith, le)) (omega (arith, last, all, few, within)) in
+          let order = are.sorted (start + i) (start + j) d (omega (arith, le))
+          (omega (arith, last, all, few, within)) in
           let one_hash = equal i d (omega (arith, le, last)) in
           let other_hash = equal j d last in
           rw (one, other) (omega (arith, order, one_hash, other_hash));
@@ -324,11 +380,14 @@ candidates table hash entries start count are within few from to =
                 let high = to.1 (k - start) entry after (omega (arith, all, found.2, behind)) in
                 let higher = leb-false (get_or (drop start entries) (k - start) entry).hash hash high in
                 let place : start + (k - start) ≡ k = omega (arith, behind) in
-                let at : (get_or (drop start entries) (k - start) entry).hash ≡ entry.hash = ap (λ (e : Entry). e.hash) (get_or-drop start entries (k - start) entry ∙ ap (λ (n : ℕ). get_or entries n entry) place ∙ found.3) in
+                let at : (get_or (drop start entries) (k - start) entry).hash ≡ entry.hash =
+                ap (λ (e : Entry). e.hash) (get_or-drop start entries (k - start) entry
+                ∙ ap (λ (n : ℕ). get_or entries n entry) place ∙ found.3) in
                 absurd (omega (arith, higher, at, its_hash))
           ] in
           let place : start + (k - start) ≡ k = omega (arith, behind) in
-          let at : get_or ours (k - start) entry ≡ entry = there (k - start) entry ahead ∙ ap (λ (n : ℕ). get_or entries n entry) place ∙ found.3 in
+          let at : get_or ours (k - start) entry ≡ entry = there (k - start) entry ahead
+          ∙ ap (λ (n : ℕ). get_or entries n entry) place ∙ found.3 in
           let passes : eqb (get_or ours (k - start) entry).index.0 index ≡ true = rw at parts.1 in
           list_any_at (λ e. eqb e.index.0 index) ours (k - start) entry (omega (arith, ahead, long)) passes;
     }

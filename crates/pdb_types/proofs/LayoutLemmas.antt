@@ -1,5 +1,6 @@
 -- The fields of a class, one after another.
-use Rattle.std.proofs.Common.{◌≡◌, ◌⊎◌, inl, inr, ℕ, suc, ◌+◌, ◌<◌, ◌≤◌, List, [], ◌∷◌, ◌++◌, length, get_or, drop, map, refl, sym, ap, subst, ◌∙◌, Bool, Option, Some, None, Ok, Err, append_assoc, add-one}
+use Rattle.std.proofs.Common.{◌≡◌, ◌⊎◌, inl, inr, ℕ, suc, ◌+◌, ◌<◌, ◌≤◌, List, [], ◌∷◌, ◌++◌, length, get_or, drop, map}
+use Rattle.std.proofs.Common.{refl, sym, ap, subst, ◌∙◌, Bool, Option, Some, None, Ok, Err, append_assoc, add-one}
 use Rattle.std.specs.Option.{option_to_list}
 use Rattle.std.specs.List.{cons_option, list_any}
 use Rattle.std.proofs.Math.Seq.{drop-cons}
@@ -22,7 +23,8 @@ use Rattle.pdb_types.specs.declared.span.Span.{Span}
 use Rattle.pdb_types.specs.Extent.{extent_at}
 use Rattle.pdb_types.specs.FieldPlace.{PlaceValue, place_of, place_value}
 use Rattle.pdb_types.specs.Gap.{AreGapRows}
-use Rattle.pdb_types.specs.Layout.{FieldValue, field_from, field_of, field_span, field_value, fields_in, is_virtual_field, with_field}
+use Rattle.pdb_types.specs.Layout.{FieldValue, field_from, field_of, field_span, field_value, fields_in}
+use Rattle.pdb_types.specs.Layout.{is_virtual_field, with_field}
 
 -- fields behind others
 abbrev pub behind : List FieldValue → Answer (List FieldValue) → Answer (List FieldValue)
@@ -36,64 +38,83 @@ behind_none : (fields : Answer (List FieldValue)) → fields ≡ behind [] field
 behind_none (Ok fields) = refl
 behind_none (Err refusal) = refl
 
-pub fields_begin : (table : Table) (items : List TypeData) → AreFieldsTo table (map type_value items) (map type_value (drop 0 items)) []
+pub fields_begin : (table : Table) (items : List TypeData)
+    → AreFieldsTo table (map type_value items) (map type_value (drop 0 items)) []
 fields_begin table items = record { is = behind_none (fields_in table (map type_value items)) }
 
 -- the fields from an item on
-items_from : (items : List TypeData) (i : ℕ) (item : TypeData) → i < length items → get_or items i item ≡ item → map type_value (drop i items) ≡ type_value item ∷ map type_value (drop (i + 1) items)
+items_from : (items : List TypeData) (i : ℕ) (item : TypeData) → i < length items → get_or items i item ≡ item
+    → map type_value (drop i items) ≡ type_value item ∷ map type_value (drop (i + 1) items)
 items_from items i item within here =
-    let next : drop i items ≡ item ∷ drop (i + 1) items = rw (add-one, drop-cons items i item within) (ap (λ (x : TypeData). x ∷ drop (suc i) items) here) in
+    let next : drop i items ≡ item ∷ drop (i + 1) items =
+    rw (add-one, drop-cons items i item within) (ap (λ (x : TypeData). x ∷ drop (suc i) items) here) in
     ap (map type_value) next
 
 abbrev next_fields : Answer (Option FieldValue) → Answer (List FieldValue) → Answer (List FieldValue)
 next_fields field fields = field >>= λ one. fields >>= λ more. Ok (cons_option one more)
 
-some_next : (found : List FieldValue) (field : FieldValue) (fields : Answer (List FieldValue)) → behind found (next_fields (Ok (Some field)) fields) ≡ behind (found ++ field ∷ []) fields
+some_next : (found : List FieldValue) (field : FieldValue) (fields : Answer (List FieldValue))
+    → behind found (next_fields (Ok (Some field)) fields) ≡ behind (found ++ field ∷ []) fields
 some_next found field (Ok fields) = ap (λ (l : List FieldValue). Ok l) (sym (append_assoc found (field ∷ []) fields))
 some_next found field (Err refusal) = refl
 
-none_next : (found : List FieldValue) (fields : Answer (List FieldValue)) → behind found (next_fields (Ok None) fields) ≡ behind found fields
+none_next : (found : List FieldValue) (fields : Answer (List FieldValue))
+    → behind found (next_fields (Ok None) fields) ≡ behind found fields
 none_next found (Ok fields) = refl
 none_next found (Err refusal) = refl
 
-next_is : (table : Table) (records : List TypeValue) (items : List TypeData) (i : ℕ) (item : TypeData) (found : List FieldValue) (field : Answer (Option FieldValue))
-    → AreFieldsTo table records (map type_value (drop i items)) found → i < length items → get_or items i item ≡ item → field_of table (type_value item) ≡ field
+next_is : (table : Table) (records : List TypeValue) (items : List TypeData) (i : ℕ) (item : TypeData)
+    (found : List FieldValue) (field : Answer (Option FieldValue))
+    → AreFieldsTo table records (map type_value (drop i items)) found → i < length items → get_or items i item ≡ item
+    → field_of table (type_value item) ≡ field
     → fields_in table records ≡ behind found (next_fields field (fields_in table (map type_value (drop (i + 1) items))))
 next_is table records items i item found field so_far within here is =
     so_far.is
     ∙ ap (λ (l : List TypeValue). behind found (fields_in table l)) (items_from items i item within here)
-    ∙ ap (λ (f : Answer (Option FieldValue)). behind found (next_fields f (fields_in table (map type_value (drop (i + 1) items))))) is
+    ∙ ap (λ (f : Answer (Option FieldValue)). behind found
+    (next_fields f (fields_in table (map type_value (drop (i + 1) items))))) is
 
-option_next : (found : List FieldValue) (field : Option FieldValue) (fields : Answer (List FieldValue)) → behind found (next_fields (Ok field) fields) ≡ behind (found ++ option_to_list field) fields
+option_next : (found : List FieldValue) (field : Option FieldValue) (fields : Answer (List FieldValue))
+    → behind found (next_fields (Ok field) fields) ≡ behind (found ++ option_to_list field) fields
 option_next found (Some field) fields = some_next found field fields
-option_next found None fields = none_next found fields ∙ ap (λ (l : List FieldValue). behind l fields) (sym (append-nil found))
+option_next found None fields = none_next found fields
+    ∙ ap (λ (l : List FieldValue). behind l fields) (sym (append-nil found))
 
 -- one more record
-pub fields_more : (table : Table) (records : List TypeValue) (items : List TypeData) (i : ℕ) (item : TypeData) (found new : List FieldValue)
-    → AreFieldsTo table records (map type_value (drop i items)) found → i < length items → get_or items i item ≡ item → with_field found (field_of table (type_value item)) ≡ Ok new
+pub fields_more : (table : Table) (records : List TypeValue) (items : List TypeData) (i : ℕ) (item : TypeData)
+    (found new : List FieldValue)
+    → AreFieldsTo table records (map type_value (drop i items)) found → i < length items → get_or items i item ≡ item
+    → with_field found (field_of table (type_value item)) ≡ Ok new
     → AreFieldsTo table records (map type_value (drop (i + 1) items)) new
 fields_more table records items i item found new so_far within here is =
-    let one = bind_ok (field_of table (type_value item)) (λ (field : Option FieldValue). ok (found ++ option_to_list field)) new is in record {
+    let one = bind_ok (field_of table (type_value item))
+    (λ (field : Option FieldValue). ok (found ++ option_to_list field)) new is in record {
       is =
           next_is table records items i item found (Ok one.0) so_far within here one.1
           ∙ option_next found one.0 (fields_in table (map type_value (drop (i + 1) items)))
-          ∙ ap (λ (l : List FieldValue). behind l (fields_in table (map type_value (drop (i + 1) items)))) (ok_is (found ++ option_to_list one.0) new one.2);
+          ∙ ap (λ (l : List FieldValue). behind l (fields_in table (map type_value (drop (i + 1) items))))
+          (ok_is (found ++ option_to_list one.0) new one.2);
     }
 
-refused_one : (found : List FieldValue) (field : Answer (Option FieldValue)) (refusal : Refusal) → with_field found field ≡ Err refusal → field ≡ Err refusal
+refused_one : (found : List FieldValue) (field : Answer (Option FieldValue)) (refusal : Refusal)
+    → with_field found field ≡ Err refusal → field ≡ Err refusal
 refused_one found (Ok field) refusal is = absurd cc
 refused_one found (Err other) refusal is = cc
 
 -- a record that is refused
-pub fields_refused : (table : Table) (records : List TypeValue) (items : List TypeData) (i : ℕ) (item : TypeData) (found : List FieldValue) (e : Error)
+pub fields_refused : (table : Table) (records : List TypeValue) (items : List TypeData) (i : ℕ) (item : TypeData)
+    (found : List FieldValue) (e : Error)
     → AreFieldsTo table records (map type_value (drop i items)) found → i < length items → get_or items i item ≡ item
-    → (with_field found (field_of table (type_value item)) ≡ Err (refusal_of e)) ⊎ (e ≡ OutOfMemory) → (fields_in table records ≡ Err (refusal_of e)) ⊎ (e ≡ OutOfMemory)
+    → (with_field found (field_of table (type_value item)) ≡ Err (refusal_of e)) ⊎ (e ≡ OutOfMemory)
+    → (fields_in table records ≡ Err (refusal_of e)) ⊎ (e ≡ OutOfMemory)
 fields_refused table records items i item found e so_far within here (inl is) =
-    inl (next_is table records items i item found (Err (refusal_of e)) so_far within here (refused_one found (field_of table (type_value item)) (refusal_of e) is))
+    inl (next_is table records items i item found (Err (refusal_of e)) so_far within here
+    (refused_one found (field_of table (type_value item)) (refusal_of e) is))
 fields_refused table records items i item found e so_far within here (inr memory) = inr memory
 
 -- behind all records
-pub fields_all : (table : Table) (records : List TypeValue) (items : List TypeData) (i : ℕ) (found : List FieldValue) → AreFieldsTo table records (map type_value (drop i items)) found → length items ≤ i
+pub fields_all : (table : Table) (records : List TypeValue) (items : List TypeData) (i : ℕ) (found : List FieldValue)
+    → AreFieldsTo table records (map type_value (drop i items)) found → length items ≤ i
     → fields_in table records ≡ Ok found
 fields_all table records items i found so_far past =
     so_far.is
@@ -103,7 +124,8 @@ fields_all table records items i found so_far past =
 -- ---- one field
 
 -- a record of a field
-pub pushed_some : (table : Table) (value : TypeValue) (place : FieldPlace) (extent : Extent) (old new : List LayoutField) → Some (place_value place) ≡ place_of value
+pub pushed_some : (table : Table) (value : TypeValue) (place : FieldPlace) (extent : Extent)
+    (old new : List LayoutField) → Some (place_value place) ≡ place_of value
     → extent_at table place.field_type.0 ≡ Ok extent → new ≡ old ++ (record { place = place; extent = extent }) ∷ []
     → with_field (map field_value old) (field_of table value) ≡ Ok (map field_value new)
 unfolding field_of
@@ -116,8 +138,10 @@ pushed_some table value place extent old new at is are =
 
 -- ---- gaps
 
-pub gaps_left : (fields : List LayoutField) (spans : List Span) (size : ℕ) (virtual : Bool) (rows : List Gap) → spans ≡ map field_span fields → virtual ≡ list_any is_virtual_field fields
-    → AreGapRows spans size virtual rows → AreGapRows (map field_span fields) size (list_any is_virtual_field fields) rows
+pub gaps_left : (fields : List LayoutField) (spans : List Span) (size : ℕ) (virtual : Bool) (rows : List Gap)
+    → spans ≡ map field_span fields → virtual ≡ list_any is_virtual_field fields
+    → AreGapRows spans size virtual rows → AreGapRows (map field_span fields) size
+    (list_any is_virtual_field fields) rows
 gaps_left fields spans size virtual rows are has gaps =
     let P : List Span → Type 0 = λ l. AreGapRows l size (list_any is_virtual_field fields) rows in
     let Q : Bool → Type 0 = λ b. AreGapRows spans size b rows in

@@ -1,5 +1,6 @@
 -- The first number of a range that passes a test.
-use Rattle.std.proofs.Common.{◌≡◌, ℕ, zero, suc, ◌+◌, ◌-◌, ◌<◌, ◌≤◌, inl, inr, refl, sym, ap, ◌∙◌, arith, Bool, true, false, cond, Some, None, List, [], ◌∷◌, ◌++◌, add-zero}
+use Rattle.std.proofs.Common.{◌≡◌, ℕ, zero, suc, ◌+◌, ◌-◌, ◌<◌, ◌≤◌, inl, inr, refl, sym, ap, ◌∙◌, arith, Bool, true}
+use Rattle.std.proofs.Common.{false, cond, Some, None, List, [], ◌∷◌, ◌++◌, add-zero}
 use Rattle.std.specs.List.{filter, find, range_with_len}
 use Rattle.std.proofs.lemmas.Bool.{cases_Bool, cases_eq, cases_lt}
 use Rattle.std.proofs.lemmas.List.{append-nil}
@@ -14,11 +15,13 @@ find_first p a (suc n) i least most passes lower = elim (cases_eq a i) [
       rw here (rw same refl)
   | inr other ↦
       let fails : p a ≡ false = lower a (omega arith) (omega (arith, least, other)) in
-      rw fails (find_first p (a + 1) n i (omega (arith, least, other)) (omega (arith, most)) passes (λ j from below. lower j (omega (arith, from)) below))
+      rw fails (find_first p (a + 1) n i (omega (arith, least, other)) (omega (arith, most)) passes
+      (λ j from below. lower j (omega (arith, from)) below))
 ]
 
 -- no number passes
-pub find_none : (p : ℕ → Bool) (a n : ℕ) → ((j : ℕ) → a ≤ j → j < a + n → p j ≡ false) → find p (range_with_len a n) ≡ None
+pub find_none : (p : ℕ → Bool) (a n : ℕ) → ((j : ℕ) → a ≤ j → j < a + n → p j ≡ false)
+    → find p (range_with_len a n) ≡ None
 find_none p a zero none = refl
 find_none p a (suc n) none =
     let fails : p a ≡ false = none a (omega arith) (omega arith) in
@@ -31,8 +34,12 @@ find_found p a zero i is = absurd cc
 find_found p a (suc n) i is = elim (cases_Bool (p a)) [
   | inl passes ↦
       let same : Some a ≡ Some i = rw passes at is in
-      let here : a ≡ i = cc in
-      (omega (arith, here), omega (arith, here), rw (← here) passes, λ j from below. absurd (omega (arith, here, from, below)))
+      let here : a ≡ i = cc in (
+        omega (arith, here),
+        omega (arith, here),
+        rw (← here) passes,
+        λ j from below. absurd (omega (arith, here, from, below)),
+      )
   | inr fails ↦
       let more = find_found p (a + 1) n i (rw fails at is) in (
         omega (arith, more.0),
@@ -46,7 +53,8 @@ find_found p a (suc n) i is = elim (cases_Bool (p a)) [
 ]
 
 -- where none was found, none passes
-pub find_missed : (p : ℕ → Bool) (a n : ℕ) → find p (range_with_len a n) ≡ None → (j : ℕ) → a ≤ j → j < a + n → p j ≡ false
+pub find_missed : (p : ℕ → Bool) (a n : ℕ) → find p (range_with_len a n) ≡ None → (j : ℕ) → a ≤ j → j < a + n
+    → p j ≡ false
 find_missed p a zero is j from below = absurd (omega (arith, from, below))
 find_missed p a (suc n) is j from below = elim (cases_Bool (p a)) [
   | inl passes ↦ let same : Some a ≡ None = rw passes at is in absurd cc
@@ -59,13 +67,15 @@ find_missed p a (suc n) is j from below = elim (cases_Bool (p a)) [
 -- ---- all numbers of a range that pass a test
 
 -- one more number
-filter_more : (p : ℕ → Bool) (a n : ℕ) → filter p (range_with_len a (suc n)) ≡ filter p (range_with_len a n) ++ cond (p (a + n)) ((a + n) ∷ []) []
+filter_more : (p : ℕ → Bool) (a n : ℕ) → filter p (range_with_len a (suc n)) ≡ filter p (range_with_len a n)
+    ++ cond (p (a + n)) ((a + n) ∷ []) []
 filter_more p a zero = rw (add-zero a) refl
 filter_more p a (suc n) =
     let next : a + 1 + n ≡ a + suc n = omega arith in
     let more = filter_more p (a + 1) n in
     elim (cases_Bool (p a)) [
-      | inl passes ↦ rw passes (ap (λ (l : List ℕ). a ∷ l) (more ∙ ap (λ (k : ℕ). filter p (range_with_len (a + 1) n) ++ cond (p k) (k ∷ []) []) next))
+      | inl passes ↦ rw passes (ap (λ (l : List ℕ). a ∷ l)
+          (more ∙ ap (λ (k : ℕ). filter p (range_with_len (a + 1) n) ++ cond (p k) (k ∷ []) []) next))
       | inr fails ↦ rw fails (more ∙ ap (λ (k : ℕ). filter p (range_with_len (a + 1) n) ++ cond (p k) (k ∷ []) []) next)
     ]
 
@@ -77,8 +87,10 @@ filter_gap p a n (suc m) none =
     let longer : n + suc m ≡ suc (n + m) = omega arith in
     let fails : p (a + (n + m)) ≡ false = none (a + (n + m)) (omega arith) (omega arith) in
     let more : filter p (range_with_len a (suc (n + m))) ≡ filter p (range_with_len a (n + m)) =
-    filter_more p a (n + m) ∙ ap (λ (b : Bool). filter p (range_with_len a (n + m)) ++ cond b ((a + (n + m)) ∷ []) []) fails ∙ append-nil (filter p (range_with_len a (n + m))) in
-    ap (λ (k : ℕ). filter p (range_with_len a k)) longer ∙ more ∙ filter_gap p a n m (λ j from below. none j from (omega (arith, below)))
+    filter_more p a (n + m) ∙ ap (λ (b : Bool). filter p (range_with_len a (n + m))
+    ++ cond b ((a + (n + m)) ∷ []) []) fails ∙ append-nil (filter p (range_with_len a (n + m))) in
+    ap (λ (k : ℕ). filter p (range_with_len a k)) longer ∙ more
+    ∙ filter_gap p a n m (λ j from below. none j from (omega (arith, below)))
 
 -- behind numbers that don't pass comes one that may
 pub filter_next : (p : ℕ → Bool) (a next x : ℕ) → a ≤ next → next ≤ x → ((j : ℕ) → next ≤ j → j < x → p j ≡ false)
@@ -88,7 +100,8 @@ filter_next p a next x least order none =
     let m = x - next in
     let all : x + 1 - a ≡ suc (n + m) = omega (arith, least, order) in
     let here : a + (n + m) ≡ x = omega (arith, least, order) in
-    let gap = filter_gap p a n m (λ j from below. none j (omega (arith, from, least)) (omega (arith, below, least, order))) in
+    let gap = filter_gap p a n m (λ j from below. none j (omega (arith, from, least))
+    (omega (arith, below, least, order))) in
     ap (λ (k : ℕ). filter p (range_with_len a k)) all
     ∙ filter_more p a (n + m)
     ∙ ap (λ (l : List ℕ). l ++ cond (p (a + (n + m))) ((a + (n + m)) ∷ []) []) gap

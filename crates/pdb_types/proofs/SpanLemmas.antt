@@ -1,8 +1,10 @@
 -- The gaps between sorted spans.
-use Rattle.std.proofs.Common.{◌≡◌, inl, inr, ℕ, ◌+◌, ◌<◌, ◌≤◌, min, max, List, [], ◌++◌, length, get_or, take, refl, sym, ap, ◌∙◌, arith, Bool, true, false, ◌&&◌, ◌||◌, cond, ltb, leb}
+use Rattle.std.proofs.Common.{◌≡◌, inl, inr, ℕ, ◌+◌, ◌<◌, ◌≤◌, min, max, List, [], ◌++◌, length, get_or, take, refl}
+use Rattle.std.proofs.Common.{sym, ap, ◌∙◌, arith, Bool, true, false, ◌&&◌, ◌||◌, cond, ltb, leb}
 use Rattle.std.specs.List.{All, count_by, list_any}
 use Rattle.std.specs.List.Sorted.{IsNonDecreasingBy, IsPermutation}
-use Rattle.std.proofs.lemmas.Bool.{cases_lt, cases_Bool, both_ways, and_from, and_left, and_right, or_parts, or_from, lt-ltb, le-ltb, le-leb, lt-leb}
+use Rattle.std.proofs.lemmas.Bool.{cases_lt, cases_Bool, both_ways, and_from, and_left, and_right, or_parts, or_from}
+use Rattle.std.proofs.lemmas.Bool.{lt-ltb, le-ltb, le-leb, lt-leb}
 use Rattle.std.proofs.lemmas.List.{get_or_default, take_all}
 use Rattle.std.proofs.lemmas.List.Elements.{All-append, All-cons, All-nil}
 use Rattle.std.proofs.lemmas.List.Folds.{list_any_more}
@@ -13,11 +15,13 @@ use Rattle.pdb_types.specs.Span.{AreGaps, gap_of, holds}
 
 -- ---- one gap
 
-counted_more : (place : ℕ) (gaps more : List Span) → count_by (holds place) (gaps ++ more) ≡ count_by (holds place) gaps + count_by (holds place) more
+counted_more : (place : ℕ) (gaps more : List Span)
+    → count_by (holds place) (gaps ++ more) ≡ count_by (holds place) gaps + count_by (holds place) more
 counted_more place gaps more = sum_by-append (λ (span : Span). cond (holds place span) 1 0) gaps more
 
 pub held_test : (place start end : ℕ) → start ≤ place → place < end → (leb start place && ltb place end) ≡ true
-held_test place start end from to = and_from (leb start place) (ltb place end) (le-leb start place from) (lt-ltb place end to)
+held_test place start end from to = and_from (leb start place) (ltb place end) (le-leb start place from)
+    (lt-ltb place end to)
 
 pub before_test : (place start end : ℕ) → place < start → (leb start place && ltb place end) ≡ false
 before_test place start end before = and_left (leb start place) (ltb place end) (lt-leb start place before)
@@ -71,7 +75,8 @@ pub record AreGapsTo (spans : List Span) (end k at : ℕ) (gaps : List Span) : T
   pub beyond : (place : ℕ) → end ≤ place → count_by (holds place) gaps ≡ 0
   pub ahead : (place : ℕ) → at ≤ place → count_by (holds place) gaps ≡ 0
   pub over : (place : ℕ) → at ≤ place → holders place k spans ≡ false
-  pub later : (place i : ℕ) (d : Span) → place < at → holders place k spans ≡ false → k ≤ i → i < length spans → holds place (get_or spans i d) ≡ false
+  pub later : (place i : ℕ) (d : Span) → place < at → holders place k spans ≡ false → k ≤ i → i < length spans
+      → holds place (get_or spans i d) ≡ false
   pub some : All (λ gap. gap.start < gap.end) gaps
   pub within : All (λ gap. gap.end ≤ end) gaps
 
@@ -90,24 +95,34 @@ gaps_begin spans end = record {
 abbrev pub next_at : ℕ → ℕ → ℕ → ℕ
 next_at at start end = max (max at start) end
 
-one_more : (spans : List Span) (k place : ℕ) (span : Span) → k < length spans → get_or spans k span ≡ span → holders place (k + 1) spans ≡ (holders place k spans || holds place span)
-one_more spans k place span within here = list_any_more (holds place) spans k span within ∙ ap (λ (s : Span). holders place k spans || holds place s) here
+one_more : (spans : List Span) (k place : ℕ) (span : Span) → k < length spans → get_or spans k span ≡ span
+    → holders place (k + 1) spans ≡ (holders place k spans || holds place span)
+one_more spans k place span within here = list_any_more (holds place) spans k span within
+    ∙ ap (λ (s : Span). holders place k spans || holds place s) here
 
-pub gaps_more : (spans : List Span) (end k at : ℕ) (gaps : List Span) (span : Span) → IsNonDecreasingBy (λ span. span.start) spans → AreGapsTo spans end k at gaps → k < length spans → get_or spans k span ≡ span
+pub gaps_more : (spans : List Span) (end k at : ℕ) (gaps : List Span) (span : Span)
+    → IsNonDecreasingBy (λ span. span.start) spans → AreGapsTo spans end k at gaps → k < length spans
+    → get_or spans k span ≡ span
     → AreGapsTo spans end (k + 1) (next_at at span.start span.end) (gaps ++ gap_of at (min span.start end))
 gaps_more spans end k at gaps span order are within here =
     let stop = min span.start end in
     let next = next_at at span.start span.end in
     let gap = gap_of at stop in
-    let none_in : (place : ℕ) → holders place (k + 1) spans ≡ false → (holders place k spans ≡ false) × (holds place span ≡ false) =
-    λ place none. or_parts (holders place k spans) (holds place span) (sym (one_more spans k place span within here) ∙ none) in
-    let start_there : (d : Span) → (get_or spans k d).start ≡ span.start = λ d. ap (λ (s : Span). s.start) (get_or_default spans k d span within ∙ here) in
+    let none_in : (place : ℕ) → holders place (k + 1) spans ≡ false → (holders place k spans ≡ false)
+    × (holds place span ≡ false) =
+    λ place none. or_parts (holders place k spans) (holds place span)
+    (sym (one_more spans k place span within here) ∙ none) in
+    let start_there : (d : Span) → (get_or spans k d).start ≡ span.start =
+    λ d. ap (λ (s : Span). s.start) (get_or_default spans k d span within ∙ here) in
     let keeps : (place : ℕ) → place < at → holders place (k + 1) spans ≡ true → holders place k spans ≡ true =
     λ place before some. elim (cases_Bool (holders place k spans)) as (λ _. holders place k spans ≡ true) [
       | inl already ↦ already
       | inr other ↦
-          let not_here : holds place span ≡ false = rw here at (are.later place k span before other (omega arith) within) in
-          absurd (both_ways (holders place (k + 1) spans) (one_more spans k place span within here ∙ or_from (holders place k spans) (holds place span) other not_here) some)
+          let not_here : holds place span ≡ false =
+          rw here at (are.later place k span before other (omega arith) within) in
+          absurd (both_ways (holders place (k + 1) spans)
+          (one_more spans k place span within here ∙ or_from (holders place k spans)
+          (holds place span) other not_here) some)
     ] in
     record {
       free = λ place before inside none.
@@ -115,37 +130,47 @@ gaps_more spans end k at gaps span order are within here =
           elim (cases_lt place at) [
             | inl old ↦
                 counted_more place gaps gap
-                ∙ (let a = are.free place old inside parts.0 in let b = gap_before place at stop old in omega (arith, a, b))
+                ∙ (let a = are.free place old inside parts.0 in let b = gap_before place at stop old in
+                omega (arith, a, b))
             | inr new ↦
                 let early : place < span.start = elim (cases_lt place span.start) as (λ _. place < span.start) [
                   | inl already ↦ already
-                  | inr from ↦ absurd (both_ways (holds place span) parts.1 (held_test place span.start span.end from (omega (arith, before, new, from))))
+                  | inr from ↦ absurd (both_ways (holds place span) parts.1
+                      (held_test place span.start span.end from (omega (arith, before, new, from))))
                 ] in
                 counted_more place gaps gap
-                ∙ (let a = are.ahead place new in let b = gap_holds place at stop new (omega (arith, early, inside)) in omega (arith, a, b))
+                ∙ (let a = are.ahead place new in let b = gap_holds place at stop new (omega (arith, early, inside)) in
+                omega (arith, a, b))
           ];
       taken = λ place before some. elim (cases_lt place at) [
         | inl old ↦
             counted_more place gaps gap
-            ∙ (let a = are.taken place old (keeps place old some) in let b = gap_before place at stop old in omega (arith, a, b))
+            ∙ (let a = are.taken place old (keeps place old some) in let b = gap_before place at stop old in
+            omega (arith, a, b))
         | inr new ↦
             let late : span.start ≤ place = elim (cases_lt place span.start) as (λ _. span.start ≤ place) [
               | inl early ↦
-                  absurd (both_ways (holders place (k + 1) spans) (one_more spans k place span within here ∙ or_from (holders place k spans) (holds place span) (are.over place new) (before_test place span.start span.end early)) some)
+                  absurd (both_ways (holders place (k + 1) spans)
+                  (one_more spans k place span within here ∙ or_from (holders place k spans) (holds place span)
+                  (are.over place new) (before_test place span.start span.end early)) some)
               | inr from ↦ from
             ] in
             counted_more place gaps gap
-            ∙ (let a = are.ahead place new in let b = gap_behind place at stop (omega (arith, late)) in omega (arith, a, b))
+            ∙ (let a = are.ahead place new in let b = gap_behind place at stop (omega (arith, late)) in
+            omega (arith, a, b))
       ];
       beyond = λ place past.
           counted_more place gaps gap
-          ∙ (let a = are.beyond place past in let b = gap_behind place at stop (omega (arith, past)) in omega (arith, a, b));
+          ∙ (let a = are.beyond place past in let b = gap_behind place at stop (omega (arith, past)) in
+          omega (arith, a, b));
       ahead = λ place from.
           counted_more place gaps gap
-          ∙ (let a = are.ahead place (omega (arith, from)) in let b = gap_behind place at stop (omega (arith, from)) in omega (arith, a, b));
+          ∙ (let a = are.ahead place (omega (arith, from)) in let b = gap_behind place at stop (omega (arith, from)) in
+          omega (arith, a, b));
       over = λ place from.
           one_more spans k place span within here
-          ∙ or_from (holders place k spans) (holds place span) (are.over place (omega (arith, from))) (behind_test place span.start span.end (omega (arith, from)));
+          ∙ or_from (holders place k spans) (holds place span) (are.over place (omega (arith, from)))
+          (behind_test place span.start span.end (omega (arith, from)));
       later = λ place i d before none after inside.
           let parts = none_in place none in
           elim (cases_lt place at) [
@@ -153,7 +178,8 @@ gaps_more spans end k at gaps span order are within here =
             | inr new ↦
                 let early : place < span.start = elim (cases_lt place span.start) as (λ _. place < span.start) [
                   | inl already ↦ already
-                  | inr from ↦ absurd (both_ways (holds place span) parts.1 (held_test place span.start span.end from (omega (arith, before, new, from))))
+                  | inr from ↦ absurd (both_ways (holds place span) parts.1
+                      (held_test place span.start span.end from (omega (arith, before, new, from))))
                 ] in
                 let up = order k i d (omega (arith, after)) inside in
                 let its = start_there d in
@@ -164,15 +190,18 @@ gaps_more spans end k at gaps span order are within here =
     }
 
 -- and the last one
-pub gaps_end : (spans : List Span) (end k at : ℕ) (gaps : List Span) → AreGapsTo spans end k at gaps → length spans ≤ k → AreGaps spans end (gaps ++ gap_of at end)
+pub gaps_end : (spans : List Span) (end k at : ℕ) (gaps : List Span) → AreGapsTo spans end k at gaps → length spans ≤ k
+    → AreGaps spans end (gaps ++ gap_of at end)
 gaps_end spans end k at gaps are past =
     let gap = gap_of at end in
-    let all : (place : ℕ) → holders place k spans ≡ list_any (holds place) spans = λ place. ap (list_any (holds place)) (take_all k spans past) in
+    let all : (place : ℕ) → holders place k spans ≡ list_any (holds place) spans =
+    λ place. ap (list_any (holds place)) (take_all k spans past) in
     record {
       free = λ place inside none. elim (cases_lt place at) [
         | inl old ↦
             counted_more place gaps gap
-            ∙ (let a = are.free place old inside (all place ∙ none) in let b = gap_before place at end old in omega (arith, a, b))
+            ∙ (let a = are.free place old inside (all place ∙ none) in let b = gap_before place at end old in
+            omega (arith, a, b))
         | inr new ↦
             counted_more place gaps gap
             ∙ (let a = are.ahead place new in let b = gap_holds place at end new inside in omega (arith, a, b))
@@ -180,7 +209,8 @@ gaps_end spans end k at gaps are past =
       taken = λ place some. elim (cases_lt place at) [
         | inl old ↦
             counted_more place gaps gap
-            ∙ (let a = are.taken place old (all place ∙ some) in let b = gap_before place at end old in omega (arith, a, b))
+            ∙ (let a = are.taken place old (all place ∙ some) in let b = gap_before place at end old in
+            omega (arith, a, b))
         | inr new ↦ absurd (both_ways (list_any (holds place) spans) (sym (all place) ∙ are.over place new) some)
       ];
       beyond = λ place past'.
@@ -191,9 +221,11 @@ gaps_end spans end k at gaps are past =
     }
 
 -- the order of the spans doesn't matter
-pub gaps_moved : (spans sorted : List Span) (end : ℕ) (gaps : List Span) → IsPermutation spans sorted → AreGaps sorted end gaps → AreGaps spans end gaps
+pub gaps_moved : (spans sorted : List Span) (end : ℕ) (gaps : List Span) → IsPermutation spans sorted
+    → AreGaps sorted end gaps → AreGaps spans end gaps
 gaps_moved spans sorted end gaps moved are = record {
-  free = λ place inside none. are.free place inside (sym (list_any-IsPermutation (holds place) spans sorted moved) ∙ none);
+  free = λ place inside none. are.free place inside
+      (sym (list_any-IsPermutation (holds place) spans sorted moved) ∙ none);
   taken = λ place some. are.taken place (sym (list_any-IsPermutation (holds place) spans sorted moved) ∙ some);
   beyond = are.beyond;
   some = are.some;

@@ -17,9 +17,12 @@ pub record Declared : Type 0 where
 
 -- what a type without a list says of its name
 abbrev pub plain_declaration : PlainValue → Option Declared
-plain_declaration (class value) = Some (record { properties = value.properties; name = value.name; unique_name = value.unique_name })
-plain_declaration (union value) = Some (record { properties = value.properties; name = value.name; unique_name = value.unique_name })
-plain_declaration (enumeration value) = Some (record { properties = value.properties; name = value.name; unique_name = value.unique_name })
+plain_declaration (class value) = Some (record
+    { properties = value.properties; name = value.name; unique_name = value.unique_name })
+plain_declaration (union value) = Some (record
+    { properties = value.properties; name = value.name; unique_name = value.unique_name })
+plain_declaration (enumeration value) = Some
+    (record { properties = value.properties; name = value.name; unique_name = value.unique_name })
 plain_declaration value = None
 
 -- what a class, a union or an enumeration says of its name

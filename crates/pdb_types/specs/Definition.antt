@@ -35,11 +35,13 @@ all_definitions table name = filter (λ index. defines name (type_at table index
 -- The definition of a type that says this of its name: the type itself if it isn't a forward reference. For a
 -- forward reference it is the first definition of its unique name, or of its name if it has no unique name.
 abbrev pub declared_definition : Table → ℕ → Declared → Option ℕ
-declared_definition table index declared = if is_forward declared then first_definition table (sought_name declared) else Some index
+declared_definition table index declared =
+    if is_forward declared then first_definition table (sought_name declared) else Some index
 
 -- the definition of the type of an index, if it is a class, a union or an enumeration and has a definition
 unfoldable pub definition_of : Table → ℕ → Answer (Option ℕ)
-definition_of table index = type_at table index >>= λ value. Ok (option_map_or (declared_definition table index) (declaration_of value) None)
+definition_of table index = type_at table index
+    >>= λ value. Ok (option_map_or (declared_definition table index) (declaration_of value) None)
 
 -- what is made of a table's items if no byte is left behind them, and else the fault at which the walk over
 -- them stops

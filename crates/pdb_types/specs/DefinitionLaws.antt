@@ -13,5 +13,6 @@ pub record IsDefinition (table : Table) (name : TypeName) (index : ℕ) : Type 0
 
 -- An index is the least one whose type is a definition of a name; or none is, and there is none.
 abbrev pub IsFirstDefinition : Table → TypeName → Option ℕ → Type 0
-IsFirstDefinition table name (Some index) = IsDefinition table name index × ((other : ℕ) → IsDefinition table name other → index ≤ other)
+IsFirstDefinition table name (Some index) = IsDefinition table name index
+    × ((other : ℕ) → IsDefinition table name other → index ≤ other)
 IsFirstDefinition table name None = (other : ℕ) → ¬ IsDefinition table name other

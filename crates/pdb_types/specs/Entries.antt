@@ -1,6 +1,7 @@
 -- The index of the definitions of a table: for each name of a definition an entry with the hash of the name
 -- and the index of the type, sorted.
-use Rattle.std.specs.Prelude.{◌≡◌, ℕ, ◌+◌, ◌*◌, ◌<◌, ◌≤◌, ◌==◌, Bool, true, ◌&&◌, if◌then◌else◌, List, [], ◌∷◌, ◌++◌, Ok, Err}
+use Rattle.std.specs.Prelude.{◌≡◌, ℕ, ◌+◌, ◌*◌, ◌<◌, ◌≤◌, ◌==◌, Bool, true, ◌&&◌, if◌then◌else◌, List, [], ◌∷◌, ◌++◌}
+use Rattle.std.specs.Prelude.{Ok, Err}
 use Rattle.std.specs.List.{All, list_any}
 use Rattle.std.specs.List.Sorted.{IsNonDecreasingBy}
 use Rattle.std.specs.Option.{option_map_or}
@@ -25,11 +26,13 @@ entry_of index name = record { hash = name_hash name; index = record { 0 = index
 
 -- the entries of the names of a definition
 abbrev pub names_entries : ℕ → Declared → List Entry
-names_entries index declared = entry_of index declared.name ∷ option_map_or (λ name. entry_of index name ∷ []) declared.unique_name []
+names_entries index declared = entry_of index declared.name
+    ∷ option_map_or (λ name. entry_of index name ∷ []) declared.unique_name []
 
 -- the entries of a type: those of its names, if it is a definition
 abbrev pub entries_of : ℕ → Answer TypeValue → List Entry
-entries_of index (Ok value) = option_map_or (λ declared. if is_forward declared then [] else names_entries index declared) (declaration_of value) []
+entries_of index (Ok value) = option_map_or
+    (λ declared. if is_forward declared then [] else names_entries index declared) (declaration_of value) []
 entries_of index (Err refusal) = []
 
 -- the entries of items, of which the first has that index
@@ -51,7 +54,8 @@ pub record IsIndexed (table : Table) (entries : List Entry) : Type 0 where
   pub sorted : IsNonDecreasingBy rank entries
   pub least : All (λ entry. table.header.minimum_index ≤ entry.index.0) entries
   pub most : All (λ entry. entry.index.0 < 0x1_0000_0000) entries
-  pub complete : (name : TypeName) (index : ℕ) → table.header.minimum_index ≤ index → defines name (type_at table index) ≡ true
+  pub complete : (name : TypeName) (index : ℕ) → table.header.minimum_index ≤ index
+      → defines name (type_at table index) ≡ true
       → list_any (is_entry (name_hash (text_of name)) index) entries ≡ true
 
 -- Entries are those of the definitions of a table whose names have this hash, and of no primitive type.

@@ -15,7 +15,11 @@ use Rattle.pdb_types.specs.TypeAt.{type_at}
 -- how large its type is.
 abbrev pub bits_of : ℕ → Extent → Span
 bits_of offset (Bytes size) = record { start = offset * 8; end = offset * 8 + size * 8 }
-bits_of offset (Bits field) = record { start = offset * 8 + field.position; end = offset * 8 + field.position + field.length }
+bits_of offset (Bits field) = record {
+  start = offset * 8 + field.position;
+  end =
+      offset * 8 + field.position + field.length;
+}
 bits_of offset Unknown = record { start = offset * 8; end = offset * 8 }
 
 -- the extent of a field whose type has a size that may be known

@@ -3,7 +3,8 @@ use Rattle.std.specs.Prelude.{ℕ, Bool, true, false, List, Option, Some, None}
 use Rattle.pdb_base.specs.declared.index.TypeIndex.{TypeIndex}
 use Rattle.pdb_values.specs.Text.{text_bytes}
 use Rattle.pdb_values.specs.TypeValue as types
-use Rattle.pdb_values.specs.TypeValue.{TypeValue, PlainValue, plain, base_class, virtual_base_class, virtual_function_table_pointer}
+use Rattle.pdb_values.specs.TypeValue.{TypeValue, PlainValue, plain, base_class, virtual_base_class}
+use Rattle.pdb_values.specs.TypeValue.{virtual_function_table_pointer}
 use Rattle.pdb_types.specs.declared.field_place.FieldKind.{FieldKind}
 use Rattle.pdb_types.specs.declared.field_place.FieldKind.TheVariants as kinds
 use Rattle.pdb_types.specs.declared.field_place.FieldPlace.{FieldPlace}
@@ -39,10 +40,22 @@ place_value place = record { role = field_role place.kind; field_type = place.fi
 abbrev pub plain_place : PlainValue → Option PlaceValue
 plain_place (base_class class) = Some (record { role = base; field_type = class.base_class; offset = class.offset })
 plain_place (virtual_base_class class) =
-    let base : VirtualBase = record { base_class = class.base_class; direct = class.direct; position = class.virtual_base_offset } in
-    Some (record { role = virtual_base_pointer base; field_type = class.base_pointer; offset = class.base_pointer_offset })
-plain_place (virtual_function_table_pointer pointer) = Some (record { role = virtual_function_pointer; field_type = pointer.table; offset = 0 })
-plain_place (types.member value) = Some (record { role = member value.name; field_type = value.field_type; offset = value.offset })
+    let base : VirtualBase = record {
+      base_class = class.base_class;
+      direct = class.direct;
+      position =
+          class.virtual_base_offset;
+    } in
+    Some (record {
+      role = virtual_base_pointer base;
+      field_type = class.base_pointer;
+      offset =
+          class.base_pointer_offset;
+    })
+plain_place (virtual_function_table_pointer pointer) =
+    Some (record { role = virtual_function_pointer; field_type = pointer.table; offset = 0 })
+plain_place (types.member value) = Some (record
+    { role = member value.name; field_type = value.field_type; offset = value.offset })
 plain_place value = None
 
 -- what a record in a list of fields says of a field

@@ -1,5 +1,6 @@
 -- The bits of a class that no field takes.
-use Rattle.std.specs.Prelude.{◌≡◌, ℕ, ◌+◌, ◌-◌, ◌*◌, ◌/◌, ◌%◌, ◌≤◌, max, Bool, true, false, ◌&&◌, nat_lt, if◌then◌else◌, List, [], ◌∷◌, map}
+use Rattle.std.specs.Prelude.{◌≡◌, ℕ, ◌+◌, ◌-◌, ◌*◌, ◌/◌, ◌%◌, ◌≤◌, max, Bool, true, false, ◌&&◌, nat_lt, if◌then◌else◌}
+use Rattle.std.specs.Prelude.{List, [], ◌∷◌, map}
 use Rattle.std.specs.List.{All, list_any}
 use Rattle.pdb_types.specs.declared.gap.Gap.{Gap}
 use Rattle.pdb_types.specs.declared.gap.GapKind.{GapKind}
@@ -47,7 +48,8 @@ pub record AreGapRows (spans : List Span) (size : ℕ) (virtual : Bool) (rows : 
 
 -- the bytes of which a span of bits has some
 abbrev pub bytes_of : Span → Span
-bytes_of bits = if nat_lt bits.start bits.end then record { start = bits.start / 8; end = (bits.end - 1) / 8 + 1 } else record { start = 0; end = 0 }
+bytes_of bits = if nat_lt bits.start bits.end then record
+    { start = bits.start / 8; end = (bits.end - 1) / 8 + 1 } else record { start = 0; end = 0 }
 
 -- the greatest end of spans
 abbrev pub end_of : List Span → ℕ

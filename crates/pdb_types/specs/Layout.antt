@@ -38,7 +38,8 @@ is_virtual_field field = is_virtual_role (field_role field.place.kind)
 
 -- the field that begins at a place, which goes as far as its type says
 abbrev pub field_from : Table → Option PlaceValue → Answer (Option FieldValue)
-field_from table (Some place) = extent_at table place.field_type.0 >>= λ extent. Ok (Some (record { place = place; extent = extent }))
+field_from table (Some place) = extent_at table place.field_type.0
+    >>= λ extent. Ok (Some (record { place = place; extent = extent }))
 field_from table None = Ok None
 
 -- the field of a record in a list of fields, if the record is of one
@@ -52,7 +53,8 @@ with_field fields field = field >>= λ one. Ok (fields ++ option_to_list one)
 -- the fields of records in order, or the first refusal among them
 abbrev pub fields_in : Table → List TypeValue → Answer (List FieldValue)
 fields_in table [] = Ok []
-fields_in table (value ∷ values) = field_of table value >>= λ field. fields_in table values >>= λ fields. Ok (cons_option field fields)
+fields_in table (value ∷ values) = field_of table value >>= λ field. fields_in table values
+    >>= λ fields. Ok (cons_option field fields)
 
 -- a list of an index, unless that stands for no type
 abbrev pub list_there : TypeIndex → Option TypeIndex
@@ -82,11 +84,17 @@ pub record LayoutValue : Type 0 where
 
 -- the value of a `Layout`, without its gaps
 abbrev pub layout_value : Layout → LayoutValue
-layout_value layout = record { index = layout.index.0; size = layout.size; fields = map field_value layout.fields.items }
+layout_value layout = record {
+  index = layout.index.0;
+  size = layout.size;
+  fields =
+      map field_value layout.fields.items;
+}
 
 -- the gaps of a layout are those that its fields leave
 abbrev pub HasGaps : Layout → Type 0
-HasGaps layout = AreGapRows (map field_span layout.fields.items) layout.size (list_any is_virtual_field layout.fields.items) layout.gaps.items
+HasGaps layout = AreGapRows (map field_span layout.fields.items) layout.size
+    (list_any is_virtual_field layout.fields.items) layout.gaps.items
 
 -- the layout of a class or a union that says this of it
 abbrev pub body_layout : Table → ℕ → ClassBody → Answer LayoutValue

@@ -6,6 +6,7 @@ pub mod NameHash
 pub mod Definition
 pub mod DefinitionLaws
 pub mod Entries
+pub mod KeptEntries
 pub mod Size
 pub mod Span
 pub mod Extent

@@ -2,9 +2,16 @@
 -- `CV_prmode_e` of Microsoft's cvinfo.h state, divided by 8.
 use Rattle.std.specs.Prelude.{ℕ, Option, Some, None}
 use Rattle.pdb_values.specs.declared.primitive.Indirection.{Indirection}
-use Rattle.pdb_values.specs.declared.primitive.Indirection.TheVariants.{Near16, Far16, Huge16, Near32, Far32, Near64, Near128}
+use Rattle.pdb_values.specs.declared.primitive.Indirection.TheVariants.{Near16, Far16, Huge16, Near32, Far32, Near64}
+use Rattle.pdb_values.specs.declared.primitive.Indirection.TheVariants.{Near128}
 use Rattle.pdb_values.specs.declared.primitive.PrimitiveKind.{PrimitiveKind}
-use Rattle.pdb_values.specs.declared.primitive.PrimitiveKind.TheVariants.{NoType, Void, HRESULT, Char, UChar, I8, U8, RChar, WChar, RChar16, RChar32, Short, UShort, I16, U16, Long, ULong, I32, U32, Quad, UQuad, I64, U64, Octa, UOcta, I128, U128, F16, F32, F32PP, F48, F64, F80, F128, Complex32, Complex64, Complex80, Complex128, Bool8, Bool16, Bool32, Bool64}
+use Rattle.pdb_values.specs.declared.primitive.PrimitiveKind.TheVariants.{NoType, Void, HRESULT, Char, UChar, I8, U8}
+use Rattle.pdb_values.specs.declared.primitive.PrimitiveKind.TheVariants.{RChar, WChar, RChar16, RChar32, Short, UShort}
+use Rattle.pdb_values.specs.declared.primitive.PrimitiveKind.TheVariants.{I16, U16, Long, ULong, I32, U32, Quad, UQuad}
+use Rattle.pdb_values.specs.declared.primitive.PrimitiveKind.TheVariants.{I64, U64, Octa, UOcta, I128, U128, F16, F32}
+use Rattle.pdb_values.specs.declared.primitive.PrimitiveKind.TheVariants.{F32PP, F48, F64, F80, F128, Complex32}
+use Rattle.pdb_values.specs.declared.primitive.PrimitiveKind.TheVariants.{Complex64, Complex80, Complex128, Bool8}
+use Rattle.pdb_values.specs.declared.primitive.PrimitiveKind.TheVariants.{Bool16, Bool32, Bool64}
 use Rattle.pdb_values.specs.declared.primitive.PrimitiveType.{PrimitiveType}
 
 -- the size of a value of a primitive type; `void`, and a type that isn't stated, have no values

@@ -2,7 +2,8 @@
 use Rattle.std.specs.Prelude.{ℕ, ◌-◌, ◌==◌, if◌then◌else◌, length, slice_get, Option, Some, None}
 use Rattle.pdb_flags.specs.PointerAttributes as pointers
 use Rattle.pdb_flags.specs.TypeProperties.{forward_reference}
-use Rattle.pdb_values.specs.TypeValue.{TypeValue, PlainValue, plain, array, primitive, pointer, modifier, bitfield, class, union, enumeration}
+use Rattle.pdb_values.specs.TypeValue.{TypeValue, PlainValue, plain, array, primitive, pointer, modifier, bitfield}
+use Rattle.pdb_values.specs.TypeValue.{class, union, enumeration}
 use Rattle.pdb_types.specs.declared.size_source.SizeSource.{SizeSource}
 use Rattle.pdb_types.specs.declared.size_source.SizeSource.TheVariants.{Stated, SameAs, Unknown}
 use Rattle.pdb_types.specs.PrimitiveSize.{primitive_size}

@@ -1,16 +1,17 @@
 //! The definitions of the types of a table, by their names.
 
-ghost use Rattle.std.specs.Prelude.{◌≡◌, ◌≤◌, length, drop, map, Ok};
+ghost use Rattle.std.specs.Prelude.{◌≡◌, ◌≤◌, length, drop, map, IfOk, Ok};
 ghost use Rattle.std.specs.Option.{option_map};
 ghost use Rattle.pdb_base.specs.Answer.{Answers};
 ghost use Rattle.pdb_tpi.specs.Steps.{walk_rest};
 ghost use Rattle.pdb_types.specs.Declaration.{source_name, type_name};
 ghost use Rattle.pdb_types.specs.Definition.{all_definitions, defines, definition_of, first_definition, if_none_left, walked};
-ghost use Rattle.pdb_types.specs.Entries.{AreCandidates, all_entries};
+ghost use Rattle.pdb_types.specs.Entries.{AreCandidates, IsIndexed, all_entries};
 ghost use Rattle.pdb_types.specs.TypeAt.{type_at};
 
 use crate::declaration::declaration_of;
 use crate::entry::{Entry, push_entries};
+use crate::kept_entries::KeptEntries;
 use crate::name_hash::name_hash;
 use crate::type_at::type_at;
 use crate::type_name::TypeName;
@@ -29,18 +30,19 @@ use std::marker::Model;
 pub struct Definitions<'t> {
     types: &'t OpenTable<TypeIndex>,
     /// An entry for each name of a definition, sorted by their ranks.
-    entries: Vec<Entry>,
+    entries: KeptEntries<'t>,
 }
 
 impl<'t> Model for Definitions<'t> {
     ghost use Rattle.pdb_tpi.specs.Table.{Table};
     ghost use Rattle.pdb_types.specs.Entries.{IsIndexed};
+    ghost use Rattle.pdb_types.specs.KeptEntries.{entries_kept};
 
     ghost Value = { Table };
 
     ghost view = { λ d. d.types.now.table };
 
-    ghost invariant = { λ d. IsIndexed d.types.now.table d.entries.items };
+    ghost invariant = { λ d. IsIndexed d.types.now.table (entries_kept d.entries) };
 }
 
 /// Returns an entry for each name of a definition in a table, in the order of the types.
@@ -53,6 +55,16 @@ fn entries_in(alloc: Global, table: &TypeInformation) -> Result<Vec<Entry>>
     while let Some(item) = items.next()? {
         push_entries(alloc, &item, &mut entries)?;
     }
+    Ok(entries)
+}
+
+/// Returns the sorted entries of a table.
+pub(crate) fn sorted_entries(alloc: Global, table: &TypeInformation) -> Result<Vec<Entry>>
+    ensures indexed { IfOk result (λ entries. IsIndexed table.now entries.items) }
+    ensures walked { Answers (λ _. table.now) result (walked table.now) }
+{
+    let mut entries = entries_in(alloc, table)?;
+    entries.sort_unstable_by_key(|entry| entry.rank());
     Ok(entries)
 }
 
@@ -75,9 +87,17 @@ impl<'t> Definitions<'t> {
     pub fn new(alloc: Global, types: &'t OpenTable<TypeIndex>) -> Result<Self>
         ensures { Answers (λ definitions. definitions) result (walked types.now.table) }
     {
-        let mut entries = entries_in(alloc, types.items())?;
-        entries.sort_unstable_by_key(|entry| entry.rank());
+        let entries = KeptEntries::Own(sorted_entries(alloc, types.items())?);
         Ok(Definitions { types, entries })
+    }
+
+    /// Returns the definitions of a table whose entries another keeps.
+    pub(crate) fn lent(types: &'t OpenTable<TypeIndex>, entries: &'t [Entry]) -> Self
+        requires { IsIndexed types.now.table entries.now }
+        ensures { result ≡ types.now.table }
+    {
+        let entries = KeptEntries::Lent(entries);
+        Definitions { types, entries }
     }
 
     /// Returns the table.

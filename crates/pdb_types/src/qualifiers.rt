@@ -47,4 +47,17 @@ impl Qualifiers {
             ""
         }
     }
+
+    /// Returns the qualifiers as C++ spells them behind a method, with a space before each.
+    pub(crate) fn suffix(self) -> &'static str {
+        if self.is_const && self.is_volatile {
+            " const volatile"
+        } else if self.is_const {
+            " const"
+        } else if self.is_volatile {
+            " volatile"
+        } else {
+            ""
+        }
+    }
 }

@@ -18,6 +18,9 @@ use std::alloc::Global;
 /// How many types one text reads at most, so that it ends in a damaged table too.
 const MOST_TYPES: u32 = 4096;
 
+/// The index of no type, which stands for any further arguments in a list of arguments.
+const ANY_ARGUMENTS: u32 = 0;
+
 /// How deep the arguments of functions may be nested.
 const MOST_DEPTH: u32 = 16;
 
@@ -187,6 +190,30 @@ impl<'t> Definitions<'t> {
         Ok(())
     }
 
+    /// Puts the qualifiers of the object of a method behind a declarator.
+    fn push_object(
+        &self,
+        alloc: Global,
+        this: Option<TypeIndex>,
+        declarator: &mut Declarator,
+    ) -> Result<()>
+        ensures { FailsAsTable self.now result }
+    {
+        let Some(this) = this else {
+            return Ok(());
+        };
+        let TypeData::Pointer(pointer) = type_at(self.types(), alloc, this)? else {
+            return Ok(());
+        };
+        let TypeData::Modifier(modifier) = type_at(self.types(), alloc, pointer.underlying_type)?
+        else {
+            return Ok(());
+        };
+        let qualifiers = Qualifiers::none().with_modifier(modifier);
+        declarator.push_behind(qualifiers.suffix().as_bytes())?;
+        Ok(())
+    }
+
     /// Puts what a type says of the name around a declarator, and returns the qualifiers of the type
     /// within.
     fn push_part(
@@ -210,6 +237,10 @@ impl<'t> Definitions<'t> {
             }
             TypeData::Bitfield(field) => {
                 push_width(field.length, declarator)?;
+                Ok(qualifiers)
+            }
+            TypeData::MemberFunction(function) => {
+                self.push_object(alloc, function.this_pointer_type, declarator)?;
                 Ok(qualifiers)
             }
             _ => Ok(qualifiers),
@@ -245,6 +276,10 @@ impl<'t> Definitions<'t> {
             for argument in &arguments {
                 if text.len() > 1 {
                     text.extend_from_slice(", ".as_bytes())?;
+                }
+                if argument.0 == ANY_ARGUMENTS {
+                    text.extend_from_slice("...".as_bytes())?;
+                    continue;
                 }
                 let declared = self.declared(alloc, *argument, &[], depth - 1, most)?;
                 text.extend_from_slice(&declared)?;

@@ -11,11 +11,13 @@ loop-entries-init c = record {
 }
 
 pub returns-in_err-item : goal.returns-in_err-item
-returns-in_err-item c = rw (passed_on _ _ c.from_residual.ensures.1) (inl (found_stopped _ _ _ _ _ _ c.loop-entries.invariant c.in_err-item.ensures))
+returns-in_err-item c = rw (passed_on _ _ c.from_residual.ensures.1)
+    (inl (found_stopped _ _ _ _ _ _ c.loop-entries.invariant c.in_err-item.ensures))
 
 pub loop-entries-preserved : goal.loop-entries-preserved
 loop-entries-preserved c =
-    rw c.in_ok-push_entries.ensures.ok (found_more _ _ _ _ _ _ c.loop-entries.invariant (rw c.in-Some.is at c.in_ok-item.ensures))
+    rw c.in_ok-push_entries.ensures.ok (found_more _ _ _ _ _ _ c.loop-entries.invariant
+    (rw c.in-Some.is at c.in_ok-item.ensures))
 
 pub returns : goal.returns
 returns c = found_all _ _ _ _ _ c.loop-entries.invariant (rw c.in_default.is at c.in_ok-item.ensures)

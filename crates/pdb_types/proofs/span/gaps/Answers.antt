@@ -6,7 +6,8 @@ use Rattle.pdb_types.proofs.SpanLemmas.{gaps_moved}
 use Rattle.pdb_types.proofs.span.gaps.Goals as goal
 
 pub sorted_gaps-requires : goal.sorted_gaps-requires
-sorted_gaps-requires c = IsNonDecreasingBy-from_sort_by_key (λ (span : Span). span.start) _ c.sort_unstable_by_key.ensures.sorted (λ a r f k. search rules)
+sorted_gaps-requires c = IsNonDecreasingBy-from_sort_by_key
+    (λ (span : Span). span.start) _ c.sort_unstable_by_key.ensures.sorted (λ a r f k. search rules)
 
 pub returns-clause-gaps : goal.returns-clause-gaps
 returns-clause-gaps c =

@@ -9,7 +9,8 @@ pub loop-entry-preserved-then-not-branch : goal.loop-entry-preserved-then-not-br
 loop-entry-preserved-then-not-branch c =
     let are = rw (c.name_hash.ensures, c.text.ensures) at c.candidates-candidates.ensures in
     let within : c.loop-entry.entry-index < length c.candidates-candidates.result.now = omega arith in
-    named_none _ _ _ c.loop-entry.entry-index _ _ _ are c.loop-entry.invariant within (λ d. ap (λ (e : Entry). e.index.0) (get_or_default _ _ _ _ within))
+    named_none _ _ _ c.loop-entry.entry-index _ _ _ are c.loop-entry.invariant within
+    (λ d. ap (λ (e : Entry). e.index.0) (get_or_default _ _ _ _ within))
     c.if-number-next.false (ok_is _ _ c.in_ok-defines.ensures ∙ c.if-not-branch.true)
 
 pub loop-entry-preserved : goal.loop-entry-preserved
@@ -17,7 +18,8 @@ loop-entry-preserved c =
     let are = rw (c.name_hash.ensures, c.text.ensures) at c.candidates-candidates.ensures in
     let within : c.loop-entry.entry-index < length c.candidates-candidates.result.now = omega arith in
     rw (c.in_ok-push.ensures.items, map-append)
-    (named_some _ _ _ c.loop-entry.entry-index _ _ _ are c.loop-entry.invariant within (λ d. ap (λ (e : Entry). e.index.0) (get_or_default _ _ _ _ within))
+    (named_some _ _ _ c.loop-entry.entry-index _ _ _ are c.loop-entry.invariant within
+    (λ d. ap (λ (e : Entry). e.index.0) (get_or_default _ _ _ _ within))
     c.if-number-next.false (ok_is _ _ c.in_ok-defines.ensures ∙ c.if-not-branch.false))
 
 pub returns : goal.returns

@@ -4,4 +4,5 @@ use Rattle.pdb_types.proofs.DefinitionLemmas.{AreNamed}
 use Rattle.pdb_types.proofs.definitions.Definitions.all_definitions.Given as goal
 
 abbrev pub invariant-loop-entry : goal.invariant-loop-entry
-invariant-loop-entry l = AreNamed l.self (type_name l.name) l.candidates l.entry-index (map (λ index. index.0) l.found.items) l.next
+invariant-loop-entry l = AreNamed l.self (type_name l.name) l.candidates l.entry-index
+    (map (λ index. index.0) l.found.items) l.next

@@ -8,7 +8,8 @@ pub returns-then-branch : goal.returns-then-branch
 returns-then-branch c =
     let are = rw (c.name_hash.ensures, c.text.ensures) at c.candidates-candidates.ensures in
     let within : c.loop-entry.entry-index < length c.candidates-candidates.result.now = omega arith in
-    ap ok (entry_first _ _ _ c.loop-entry.entry-index _ are c.loop-entry.invariant within (get_or_default _ _ _ _ within) (ok_is _ _ c.in_ok-defines.ensures ∙ c.if-branch.true))
+    ap ok (entry_first _ _ _ c.loop-entry.entry-index _ are c.loop-entry.invariant within
+    (get_or_default _ _ _ _ within) (ok_is _ _ c.in_ok-defines.ensures ∙ c.if-branch.true))
 
 pub returns : goal.returns
 returns c =

@@ -1,0 +1,56 @@
+//! The definitions of a table, together with the table.
+
+ghost use Rattle.std.specs.Prelude.{◌≡◌};
+ghost use Rattle.pdb_base.specs.Answer.{Answers};
+ghost use Rattle.pdb_types.specs.Definition.{walked};
+
+use crate::definitions::{Definitions, sorted_entries};
+use crate::entry::Entry;
+use pdb_base::{Result, TypeIndex};
+use pdb_tpi::OpenTable;
+use std::alloc::Global;
+use std::marker::Model;
+
+/// A table that knows where its items stand, and its definitions, which are found by their names.
+///
+/// `Definitions` borrows its table. This type is for a caller that can keep no borrow.
+#[derive(Debug, Drop)]
+pub struct OpenDefinitions {
+    types: OpenTable<TypeIndex>,
+    /// An entry for each name of a definition, sorted by their ranks.
+    entries: Vec<Entry>,
+}
+
+impl Model for OpenDefinitions {
+    ghost use Rattle.pdb_tpi.specs.Table.{Table};
+    ghost use Rattle.pdb_types.specs.Entries.{IsIndexed};
+
+    ghost Value = { Table };
+
+    ghost view = { λ d. d.types.table };
+
+    ghost invariant = { λ d. IsIndexed d.types.table d.entries.items };
+}
+
+impl OpenDefinitions {
+    /// Finds the definitions of a table in one walk along it, and learns where its items stand.
+    ///
+    /// # Errors
+    /// Fails as `Definitions::new` does.
+    pub fn new(alloc: Global, types: OpenTable<TypeIndex>) -> Result<Self>
+        ensures { Answers (λ definitions. definitions) result (walked types.table) }
+    {
+        let mut types = types;
+        let last = types.items().header().maximum_index.saturating_sub(1);
+        types.learn(TypeIndex(last));
+        let entries = sorted_entries(alloc, types.items())?;
+        Ok(OpenDefinitions { types, entries })
+    }
+
+    /// Returns the definitions, which borrow the table.
+    pub fn definitions(&self) -> Definitions<'_>
+        ensures { result ≡ self.now }
+    {
+        Definitions::lent(&self.types, &self.entries)
+    }
+}
