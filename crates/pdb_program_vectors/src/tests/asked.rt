@@ -51,7 +51,8 @@ fn answers(alloc: Global, row: &Asked) -> Result<bool> {
 }
 
 /// A string table whose only name looks like the line of a question, and would end a line.
-const HOSTILE_NAMES: &[u8] = b"\xfe\xef\xfe\xef\x01\0\0\0\x12\0\0\0\0question=stream\n\0\0\0\0\0\0\0\0\0";
+const HOSTILE_NAMES: &[u8] =
+    b"\xfe\xef\xfe\xef\x01\0\0\0\x12\0\0\0\0question=stream\n\0\0\0\0\0\0\0\0\0";
 
 /// What is answered to a question for that name.
 const HOSTILE_ANSWER: &[u8] = b"question=name 3 1\nstring=question=stream\\n\n";
@@ -62,7 +63,10 @@ fn hostile_name(rt: HostRuntime) -> std::result::Result<(), Fail> {
     let file = s1_with(rt.alloc(), HOSTILE_NAMES)?;
     let answered = ask(rt.alloc(), file, b"name 3 1", Form::Text, &mut out)?;
     let written = out.into_inner();
-    assert!(rt; answered && written.as_slice() == HOSTILE_ANSWER, "{written:?}");
+    assert!(rt;
+        answered && written.as_slice() == HOSTILE_ANSWER,
+        "{written:?}"
+    );
     Ok(())
 }
 
