@@ -1,7 +1,7 @@
 //! Records without a list: the fields of each leaf. Each field has a value of its own, so that one
 //! read in the place of another shows.
 
-use super::read::{Want as Wanted, ends_soon, is_read, is_read_with, is_value_copied, record_of};
+use super::read::{ends_soon, is_said, is_said_with, is_value_copied, record_of, text_of};
 use pdb_base::{RawString, TypeIndex, Variant};
 use pdb_flags::{FieldAttributes, FunctionAttributes, PointerAttributes, TypeProperties};
 use pdb_values::{
@@ -646,16 +646,16 @@ fn wanted(want: &Want) -> TypeData<'static> {
 }
 
 /// Whether a record says this with a byte behind it too, and no front of it says anything.
-fn is_record_of(alloc: Global, record: &[u8], want: &TypeData<'_>) -> Result<bool, Fail> {
-    let value = Wanted::Value(want);
-    let is_whole = is_read(alloc, record, value)? && is_read_with(alloc, record, b"\x41", value)?;
+fn is_record_of(alloc: Global, record: &[u8], want: &str) -> Result<bool, Fail> {
+    let is_whole = is_said(alloc, record, want)? && is_said_with(alloc, record, b"\x41", want)?;
     Ok(is_whole && ends_soon(alloc, record))
 }
 
 /// Whether the record of this leaf says this, and a copy of that is equal.
 fn is_told(alloc: Global, leaf: u16, fields: &[u8], want: &TypeData<'_>) -> Result<bool, Fail> {
     let record = record_of(alloc, leaf, fields)?;
-    Ok(is_record_of(alloc, &record, want)? && is_value_copied(alloc, want)?)
+    let text = text_of(alloc, want)?;
+    Ok(is_record_of(alloc, &record, text.as_str())? && is_value_copied(alloc, want)?)
 }
 
 /// Whether a record says its row.
@@ -676,12 +676,8 @@ fn records(rt: HostRuntime) -> Result<(), Fail> {
 /// A shape of three functions, with padding behind it.
 #[test]
 fn padded_table_shape(rt: HostRuntime) -> Result<(), Fail> {
-    let want = TypeData::VirtualTableShape(VirtualTableShapeType {
-        count: 3,
-        descriptors: b"\x55\x05",
-    });
-    let record = b"\x0a\x00\x03\x00\x55\x05\xf2\xf1";
-    assert!(rt; is_read(rt.alloc(), record, Wanted::Value(&want))?);
+    let want = "VirtualTableShape(VirtualTableShapeType { count: 3, descriptors: [85, 5] })";
+    assert!(rt; is_said(rt.alloc(), b"\x0a\x00\x03\x00\x55\x05\xf2\xf1", want)?);
     Ok(())
 }
 

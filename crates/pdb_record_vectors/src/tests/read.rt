@@ -1,12 +1,13 @@
 //! Records, as the one item of a table.
 
-use super::{is_error, stream};
+use super::stream;
 use pdb_base::{Error, Stream, TypeIndex};
 use pdb_records::parse_type_data;
 use pdb_tpi::{Type, TypeFinder, TypeInformation};
 use pdb_values::TypeData;
 use pdb_vectors::item_table;
 use std::alloc::Global;
+use std::fmt::Debug;
 use std::test::Fail;
 
 /// A record behind its length.
@@ -33,71 +34,71 @@ pub(crate) fn record_of(alloc: Global, leaf: u16, fields: &[u8]) -> Result<Vec<u
     Ok(record)
 }
 
-/// What is wanted of a type: a value, or an error.
-#[derive(Clone, Copy)]
-pub(crate) enum Want<'w> {
-    Value(&'w TypeData<'w>),
-    Error(&'w Error),
+/// A value, as `Debug` writes it.
+pub(crate) fn text_of<T: Debug>(alloc: Global, value: &T) -> pdb_base::Result<String> {
+    Ok(format!(in alloc; "{value:?}")?)
 }
 
-/// Whether what was read is what is wanted.
-fn is_wanted(read: &pdb_base::Result<TypeData<'_>>, want: Want<'_>) -> bool {
-    match (read, want) {
-        (Ok(data), Want::Value(value)) => *data == *value,
-        (Err(error), Want::Error(same)) => is_error(error, same),
-        _ => false,
-    }
-}
-
-/// Whether a type is what is wanted.
-fn is_item(alloc: Global, item: Type<'_>, want: Want<'_>) -> bool {
-    is_wanted(&item.parse(alloc), want)
-}
-
-/// Whether the type of an index is what is wanted.
-fn is_found(alloc: Global, finder: &TypeFinder<'_>, index: u32, want: Want<'_>) -> bool {
-    match finder.find(TypeIndex(index)) {
-        Ok(item) => is_item(alloc, item, want),
-        Err(error) => is_wanted(&Err(error), want),
-    }
-}
-
-/// Whether the type of an index of a table is what is wanted.
-fn is_found_in(
+/// What was read, as `Debug` writes it, or the text of its refusal.
+pub(crate) fn said_of<T: Debug>(
     alloc: Global,
-    table: &TypeInformation,
-    index: u32,
-    want: Want<'_>,
-) -> pdb_base::Result<bool> {
-    Ok(is_found(alloc, &table.finder(alloc)?, index, want))
+    read: &pdb_base::Result<T>,
+) -> pdb_base::Result<String> {
+    match read {
+        Ok(data) => text_of(alloc, data),
+        Err(error) => Ok(error.to_string(alloc)?),
+    }
 }
 
-/// Whether the type of an index is what is wanted, in a table whose one item is this record.
-pub(crate) fn is_read_at(
+/// What a type is, or the text of its refusal.
+fn item_said(alloc: Global, item: Type<'_>) -> pdb_base::Result<String> {
+    said_of(alloc, &item.parse(alloc))
+}
+
+/// What the type of an index is, or the text of its refusal.
+fn found(alloc: Global, finder: &TypeFinder<'_>, index: u32) -> pdb_base::Result<String> {
+    item_said(alloc, finder.find(TypeIndex(index))?)
+}
+
+/// The same of a table.
+fn found_in(alloc: Global, table: &TypeInformation, index: u32) -> pdb_base::Result<String> {
+    found(alloc, &table.finder(alloc)?, index)
+}
+
+/// What the type of an index is, as `Debug` writes it, or the text of its refusal, in a table whose
+/// one item is this record.
+fn said_at(alloc: Global, record: &[u8], index: u32) -> Result<String, Fail> {
+    let table = TypeInformation::parse(table_of(alloc, record)?)?;
+    Ok(found_in(alloc, &table, index)?)
+}
+
+/// Whether this is what the type of an index is, or the text of its refusal, in a table whose one item
+/// is this record.
+pub(crate) fn is_said_at(
     alloc: Global,
     record: &[u8],
     index: u32,
-    want: Want<'_>,
+    want: &str,
 ) -> Result<bool, Fail> {
-    let table = TypeInformation::parse(table_of(alloc, record)?)?;
-    Ok(is_found_in(alloc, &table, index, want)?)
+    let said = said_at(alloc, record, index)?;
+    Ok(said.as_str() == want)
 }
 
 /// The same of the type of the record.
-pub(crate) fn is_read(alloc: Global, record: &[u8], want: Want<'_>) -> Result<bool, Fail> {
-    is_read_at(alloc, record, 0x1000, want)
+pub(crate) fn is_said(alloc: Global, record: &[u8], want: &str) -> Result<bool, Fail> {
+    is_said_at(alloc, record, 0x1000, want)
 }
 
 /// The same of the type of the record with more bytes behind it.
-pub(crate) fn is_read_with(
+pub(crate) fn is_said_with(
     alloc: Global,
     record: &[u8],
     more: &[u8],
-    want: Want<'_>,
+    want: &str,
 ) -> Result<bool, Fail> {
     let mut longer = Vec::from_slice(alloc, record)?;
     longer.extend_from_slice(more)?;
-    is_read(alloc, &longer, want)
+    is_said(alloc, &longer, want)
 }
 
 /// Whether the front of a record ends too soon.
