@@ -1,8 +1,8 @@
 /* Program databases (PDB): the container, names, addresses, frames, types and ids.
  *
- * Every function except pdb_close returns a status: PDB_OK, a refusal of the library, or one from
- * PDB_ALREADY_OPEN on. It also writes the status to `fault`, with the numbers that go with it. pdb_error_text
- * copies the text of a refusal.
+ * Every function except pdb_close and pdb_format_of returns a status: PDB_OK, a refusal of the
+ * library, or one from PDB_ALREADY_OPEN on. It also writes the status to `fault`, with the numbers
+ * that go with it. pdb_error_text copies the text of a refusal.
  *
  * The caller must ensure the following, which nothing checks:
  * - Each pointer points to as many items as its length says. They are readable, and writable if the pointer is
@@ -161,6 +161,56 @@ typedef struct pdb_roles {
 
 /* Writes the numbers of the streams in their roles. */
 uint32_t pdb_file_roles(const uint8_t *file, size_t file_length, pdb_roles *roles, pdb_fault *fault);
+
+/* ---- which file it is */
+
+/* What identifies a file. */
+typedef struct pdb_identity {
+    uint32_t version;          /* the version of the format, such as 20000404 for version 7 */
+    uint32_t signature;        /* when the file was made, in seconds since 1970, or a hash */
+    uint32_t age;              /* the age in the key: debug_age, or information_age if there is no
+                                  debug information */
+    uint32_t information_age;  /* the age in stream 1: how often the file was written */
+    uint32_t has_debug_header; /* whether there is debug information, 0 or 1; if not, as in the
+                                  file of a type server, the next three numbers are 0 */
+    uint32_t debug_age;        /* the age of the debug information, in stream 3 */
+    uint16_t machine;          /* as in the header of an image, such as 0x8664 for x86-64 */
+    uint16_t flags;            /* 1 if the file was linked incrementally, 2 if private symbols
+                                  are stripped, 4 if types may conflict, added up */
+    uint8_t guid[16];          /* the bytes as they stand in the file, and in the image's debug
+                                  directory */
+} pdb_identity;
+
+/* Writes what identifies a file. It reads streams 1 and 3 alone. */
+uint32_t pdb_identity_of(const uint8_t *file, size_t file_length, pdb_identity *identity,
+                         pdb_fault *fault);
+
+/* The forms of a key. */
+enum pdb_key_form {
+    PDB_KEY_UPPER = 0, /* as symbol stores and Breakpad have it: the GUID and then the age, in
+                          hexadecimal digits, in upper case */
+    PDB_KEY_LOWER = 1, /* the same in lower case, as SSQP has it */
+    PDB_KEY_GUID = 2   /* the GUID alone, in upper case and with hyphens */
+};
+
+/* Copies the key under which a symbol server stores a file, of at most 40 bytes. The form is a
+ * value of enum pdb_key_form; for any other, the status is PDB_NOWHERE. */
+uint32_t pdb_key(const pdb_identity *identity, uint32_t form, uint8_t *room, size_t room_length,
+                 size_t *length, pdb_fault *fault);
+
+/* The formats that are told apart by the first bytes of a file. */
+enum pdb_format {
+    PDB_FORMAT_UNKNOWN = 0,
+    PDB_FORMAT_MSF_7 = 1,      /* a program database of version 7.00, which this library reads */
+    PDB_FORMAT_MSF_2 = 2,      /* one of version 2.00 */
+    PDB_FORMAT_PORTABLE = 3,   /* a portable program database, of .NET */
+    PDB_FORMAT_COMPRESSED = 4, /* a cabinet, in which symbol servers keep a compressed file */
+    PDB_FORMAT_IMAGE = 5       /* a program or a library */
+};
+
+/* Returns the format with whose first bytes a file begins, a value of enum pdb_format. It needs no
+ * more than the first 42 bytes. */
+uint32_t pdb_format_of(const uint8_t *file, size_t file_length);
 
 /* ---- names */
 
