@@ -22,11 +22,11 @@ use std::alloc::Global;
 use std::io::Write;
 use std::ops::Range;
 
-/// What is written in answer to a line that asks nothing.
+/// What is written in answer to a line that is no question.
 const NO_QUERY: &[u8] =
     b"no question: stream N [LIMIT] | type S I | id S I | name S O | ranges S A B | fields S I";
 
-/// Returns a row of one field.
+/// Returns a `Row` of one field.
 fn row_of<'t>(alloc: Global, field: Field<'t>) -> Result<Row<'t>>
     ensures ok { IfOk result (λ row. row_shown row ≡ field_shown field.entry ∷ []) }
     ensures memory { FailsOnlyForMemory result }
@@ -52,7 +52,7 @@ fn name_field<'t>(key: &'static str, name: Option<&'t [u8]>) -> Field<'t>
     }
 }
 
-/// Returns the row of a record: its index, its kind and its name, if it has one.
+/// Returns the `Row` of a record: its index, its kind and its name, if it has one.
 fn record_row<'t>(alloc: Global, index: u32, leaf: u16, name: Option<&'t [u8]>) -> Result<Row<'t>>
     ensures ok { IfOk result (λ row. row_shown row ≡
         record_shown index leaf (option_map (λ name. name.now) name.entry)) }
@@ -66,7 +66,7 @@ fn record_row<'t>(alloc: Global, index: u32, leaf: u16, name: Option<&'t [u8]>) 
     Ok(Row { fields })
 }
 
-/// Returns the row of a range: its start and its end.
+/// Returns the `Row` of a range: its start and its end.
 fn range_row<'t>(alloc: Global, range: &Range<u32>) -> Result<Row<'t>>
     ensures ok { IfOk result (λ row. row_shown row ≡ range_shown range.now) }
     ensures memory { FailsOnlyForMemory result }
@@ -78,7 +78,7 @@ fn range_row<'t>(alloc: Global, range: &Range<u32>) -> Result<Row<'t>>
     Ok(Row { fields })
 }
 
-/// Writes a row of one field.
+/// Writes a `Row` of one field.
 #[tactic(auto)]
 fn write_field<W: Write>(
     alloc: Global,
@@ -211,14 +211,15 @@ fn write_reply<W: Write>(
     }
 }
 
-/// Returns the field that answers a line that asks nothing.
+/// Returns the field that answers a line that is no question.
 fn unasked_field<'t>() -> Field<'t>
     ensures { field_shown result ≡ (codes "error", shown_text no_query) }
 {
     error_field(NO_QUERY)
 }
 
-/// Writes the lines of an answer: those of the reply, or one that says that nothing was asked.
+/// Writes the lines of an answer: those of the reply, or one that says that the line has no
+/// question.
 fn write_answer<W: Write>(
     alloc: Global,
     form: Form,

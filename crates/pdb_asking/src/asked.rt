@@ -1,4 +1,4 @@
-//! Asking a file all questions of a text.
+//! The answers to all questions of a text about one file.
 
 ghost use Rattle.std.specs.Prelude.{◌≡◌, map, IfOk};
 ghost use Rattle.pdb_asking.specs.Answers.{answers_text, are_answers, next_reply};
@@ -16,7 +16,7 @@ use pdb_rows::Form;
 use std::alloc::Global;
 use std::io::Write;
 
-/// Returns the queries that questions ask, in order.
+/// Returns the queries of questions, in order.
 fn queries_in(alloc: Global, questions: &[Question<'_>]) -> Result<Vec<Query>>
     ensures queries { IfOk result (λ queries. queries.items ≡ queries_in (map asked questions.now)) }
     ensures memory { FailsOnlyForMemory result }
@@ -28,7 +28,7 @@ fn queries_in(alloc: Global, questions: &[Question<'_>]) -> Result<Vec<Query>>
     Ok(queries)
 }
 
-/// Returns the reply to a question, or None if it asks nothing, and the replies to the others.
+/// Returns the reply to a question, or None if it has no query, and the replies to the others.
 fn next_reply(asks: Option<Query>, replies: &[Reply]) -> (Option<&Reply>, &[Reply])
     ensures reply { option_copied result.0 ≡ (next_reply asks replies.now).0 }
     ensures rest { result.1.now ≡ (next_reply asks replies.now).1 }
@@ -43,7 +43,7 @@ fn next_reply(asks: Option<Query>, replies: &[Reply]) -> (Option<&Reply>, &[Repl
 }
 
 /// Writes each question and its answer after it, and returns whether all are answered. The replies
-/// are those to the questions that ask something, in order.
+/// are those to the questions that have a query, in order.
 fn write_answers<W: Write>(
     alloc: Global,
     form: Form,
@@ -67,17 +67,16 @@ fn write_answers<W: Write>(
     Ok(all)
 }
 
-/// Asks a file the questions of a text, one for each line that is not empty, and writes each line
-/// and the answer after it. Returns whether all are answered. If a question is refused or a line
-/// asks nothing, a line that says so stands in place of an answer, and the other questions are
+/// Queries a file with the questions of a text, one for each line that is not empty, and writes
+/// each line and the answer after it. Returns whether all are answered. If a question has an error,
+/// or a line has no question, the answer is a line that says so, and the other questions are
 /// answered all the same.
 ///
-/// Each table that is asked about is read and walked along once for all questions.
+/// Each table is read and walked along once for all its questions.
 ///
 /// # Errors
-/// Fails with what `open_msf` refuses of the file, before anything is written; with `IoError` if
-/// the writer fails; and with `OutOfMemory` if there is no memory for the questions or their
-/// answers.
+/// Fails as `open_msf` does for the file, before anything is written; with `IoError` if the writer
+/// fails; and with `OutOfMemory` if an allocation for the questions or their answers fails.
 pub fn ask<W: Write>(
     alloc: Global,
     file: Vec<u8>,

@@ -9,7 +9,7 @@ use pdb_cli::query;
 use pdb_container::{Error, Query, Result};
 use std::alloc::Global;
 
-/// A line, and what it asks.
+/// A line, and its query.
 #[derive(Clone, Copy, Debug)]
 pub struct Question<'t> {
     /// The bytes of the line.
@@ -75,7 +75,7 @@ fn query_in(alloc: Global, line: &[u8]) -> Result<Option<Query>>
 /// Returns the questions of a text, one for each line that is not empty.
 ///
 /// # Errors
-/// Fails with `OutOfMemory` if memory is refused.
+/// Fails with `OutOfMemory` if an allocation fails.
 #[tactic(auto, unfolding(crate::specs::Questions::questions_in))]
 pub fn questions_in<'t>(alloc: Global, text: &'t [u8]) -> Result<Vec<Question<'t>>>
     ensures questions { IfOk result (λ questions. map asked questions.items ≡ questions_in text.now) }

@@ -1,4 +1,4 @@
-//! A slice of bytes that is parsed from its front.
+//! A slice of bytes that is parsed from its start on.
 
 ghost use Rattle.std.specs.Prelude.{◌≡◌, ◌≢◌, ◌+◌, ◌↔◌, [], length, min, IsTrue, OnErr};
 ghost use Rattle.std.specs.Int.{w16, w32, w64};
@@ -15,8 +15,8 @@ use std::marker::Model;
 
 /// A slice of bytes and a position in it, from which fields are read one after another.
 ///
-/// A read that fails leaves the position where it was, except that `parse_u8_pascal_string` may
-/// have moved it past the length.
+/// A read that fails does not move the position, except that `parse_u8_pascal_string` may have
+/// moved it past the length.
 #[derive(Clone, Debug, Drop)]
 pub struct ParseBuffer<'b> {
     slice: &'b [u8],

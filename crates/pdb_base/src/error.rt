@@ -33,13 +33,13 @@ pub enum Error {
     /// The directory has no stream of this number, or says that it is absent.
     StreamNotFound(u32),
 
-    /// No stream has the name that was asked for.
+    /// No stream has the name that was looked up.
     StreamNameNotFound,
 
     /// The length of the named stream is no multiple of the length of its records.
     InvalidStreamLength(&'static str),
 
-    /// The source of the file failed, or ended before the bytes that were asked for.
+    /// The source of the file failed, or ended before the requested bytes.
     IoError(io::Error),
 
     /// The bytes end before the value that is to be read from them does.
@@ -102,7 +102,7 @@ pub enum Error {
     /// The library does not read binary annotations of this number.
     UnknownBinaryAnnotation(u32),
 
-    /// Memory was asked for and refused.
+    /// An allocation failed.
     OutOfMemory,
 }
 

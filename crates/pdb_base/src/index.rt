@@ -8,7 +8,7 @@ ghost use Rattle.pdb_base.specs.Index.{debug_text, no_stream, stream_number, str
 use crate::item_index::ItemIndex;
 use std::fmt;
 
-/// The number that stands for no stream.
+/// The number that means no stream.
 const NO_STREAM: u16 = 0xffff;
 
 /// The number of a stream, or 0xffff for no stream.

@@ -31,7 +31,7 @@ pub trait ItemIndex: Copy
     // The index that is made of a number is that number.
     ghost is_made_of: { (n : ℕ) (index : Self) → Self.from_gives n index → number index ≡ n };
 
-    // An index turns into the number that it is.
+    // An index converts into its number.
     ghost turns_into: { (index : Self) (n : ℕ) → Self.converts index n → n ≡ number index };
 
     // Indexes of one number are one index.
@@ -40,7 +40,7 @@ pub trait ItemIndex: Copy
     // Indexes are equal just where their numbers are.
     ghost is_equal_by_number: { (left right : Self) → Self.eq left right ≡ (number left == number right) };
 
-    // Indexes stand in the order of their numbers.
+    // Indexes are ordered by their numbers.
     ghost is_ordered_by_number: { (left right : Self) →
         Self.partial_cmp left right ≡ Some (nat_cmp (number left) (number right)) };
 }

@@ -18,22 +18,22 @@ use crate::item_index::ItemIndex;
 
 pub mod derived;
 
-/// Answers in order are collected as all their values, or as the refusal of the first one that
-/// refuses.
+/// Answers in order are collected as the list of all their values, or as the first error among
+/// them.
 pub fn collected<A>()
     ensures all { (answers : List (Answer A)) → CollectsAll answers }
     ensures first { (answers : List (Answer A)) → RefusesAsFirst answers }
 {}
 
-/// A number is read from the front of bytes that begin with its spelling, the lowest byte first,
-/// and no number is read from too few bytes.
+/// A number is read from bytes that begin with its spelling, the lowest byte first, and no number
+/// is read from too few bytes.
 #[tactic(auto, using(crate::proofs::SpellingLemmas::reads_spelling))]
 pub fn numbers()
     ensures { (width : ℕ) (bytes : List ℕ) → ReadsSpelling width bytes }
 {}
 
-/// The value that is read from bytes is the one that a front of them spells, and at most one front
-/// of any bytes spells a value.
+/// The value that is read from bytes is the one that a prefix of them spells, and at most one
+/// prefix of any bytes spells a value.
 #[tactic(auto, using(crate::proofs::lemmas::Spelling::numbers, crate::proofs::lemmas::Spelling::signed_numbers, crate::proofs::lemmas::Spelling::texts, crate::proofs::lemmas::Spelling::pascal_texts, crate::proofs::lemmas::Numeric::nums, crate::proofs::lemmas::Numeric::variants))]
 pub fn spellings()
     ensures numbers { (width : ℕ) → ReadsWhatIsSpelled (SpellsNumber width) (number_at width) }
@@ -45,14 +45,14 @@ pub fn spellings()
     ensures variants { ReadsWhatIsSpelled SpellsVariant variant_at }
 {}
 
-/// The bytes at the front are numbers of one byte, one after another, as many as there are bytes.
+/// A list of numbers of one byte is spelled by the bytes themselves, as many as there are numbers.
 #[tactic(auto, using(crate::proofs::lemmas::Front::front_is_bytes))]
 pub fn fronts()
     ensures { (count : ℕ) (bytes : List ℕ) → front_at count bytes ≡ repeated (number_at 1) count bytes }
 {}
 
-/// A number of variable width is refused for its prefix if that is whole and announces no number,
-/// and otherwise only because the bytes end before the number does.
+/// A number of variable width has the error of its prefix if the prefix is whole and announces no
+/// number, and otherwise has an error only because the bytes end before the number does.
 #[tactic(auto, using(crate::proofs::lemmas::Numeric::num_refusals, crate::proofs::lemmas::Numeric::variant_refusals))]
 pub fn refused_prefixes()
     ensures nums { RefusesPrefixFirst unsigned_leaves num_at }
@@ -90,7 +90,7 @@ pub fn records<A>()
 {}
 
 /// A bit field is composed of its lower and its higher bits, all bits of a number are the number,
-/// and a field of one bit tells whether that bit is set.
+/// and a field of one bit says whether that bit is set.
 #[tactic(auto, using(crate::proofs::lemmas::BitFields::put_together, crate::proofs::lemmas::BitFields::all_bits, crate::proofs::lemmas::BitFields::one_bit))]
 pub fn bit_fields()
     ensures together { (word place low high : ℕ) → ArePutTogether word place low high }

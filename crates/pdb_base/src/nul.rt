@@ -7,7 +7,7 @@ ghost use Rattle.memchr.specs.Find.{IsFirst, IsFirstByte, Passes, is_byte};
 use memchr::memchr;
 use std::simd::prelude::*;
 
-/// Returns how many bytes stand between `from` and the first NUL from there on.
+/// Returns how many bytes are between `from` and the first NUL from there on.
 ///
 /// As many bytes are compared at once as the slice has, up to 64: most texts end among them, so
 /// that no loop's end has to be guessed. The function is large, and its callers stay small enough

@@ -1,4 +1,4 @@
-//! Values that are read from the front of bytes.
+//! Values that are read from the start of bytes.
 
 ghost use Rattle.std.specs.Prelude.{◌≡◌, ◌≤◌, ℕ, List, length, drop, IfOk};
 ghost use Rattle.std.specs.Int.{w8, w16, w32, w64};
@@ -14,12 +14,12 @@ use crate::variant::Variant;
 #[derive(Clone, Copy, Debug, Default, PartialEq, Eq)]
 pub struct Le;
 
-/// A value that is read from the front of bytes, by the rule that a context gives.
+/// A value that is read from the start of bytes, by the rule that a context gives.
 pub trait Parse<C>: Sized {
     // What is read of bytes, and what is behind it.
     ghost reads: { C → List ℕ → Answer (Self × List ℕ) };
 
-    /// Returns the value at the front of the bytes and how many of them it takes, which is never
+    /// Returns the value at the start of the bytes and how many of them it takes, which is never
     /// more than there are.
     ///
     /// # Errors

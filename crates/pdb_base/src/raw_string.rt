@@ -17,7 +17,7 @@ use std::fmt;
 pub struct RawString<'b>(&'b [u8]);
 
 impl<'b> RawString<'b> {
-    /// Returns the bytes of the text, without the NUL or the length that stood beside them.
+    /// Returns the bytes of the text, without the NUL or the length beside them.
     pub fn as_bytes(&self) -> &'b [u8]
         ensures { result.now ≡ self.now.0.now }
     {
@@ -43,7 +43,7 @@ impl<'b> RawString<'b> {
     /// not.
     ///
     /// # Errors
-    /// Returns `OutOfMemory` if the bytes are not UTF-8 and memory is refused.
+    /// Returns `OutOfMemory` if the bytes are not UTF-8 and an allocation fails.
     pub fn to_string(&self, alloc: Global) -> Result<CowStr<'b>>
         ensures text { IfOk result (λ text. cow_str_bytes text ≡ lossy self.now.0.now) }
         ensures borrowed { IsUtf8 self.now.0.now → IfOk result (λ text. ¬ IsOwnedStr text) }

@@ -3,7 +3,7 @@
 use pdb_container::{Msf, open_msf};
 use std::alloc::Global;
 
-/// Opens a file and reads each of its first streams; a sum with the size of each.
+/// Opens a file and reads each of its first streams. Returns `sum` plus the size of each.
 #[inline(never)]
 fn read_streams(alloc: Global, file: &[u8], streams: u32, mut sum: u64) -> u64 {
     let Ok(mut file) = open_msf(alloc, file) else {
@@ -17,7 +17,7 @@ fn read_streams(alloc: Global, file: &[u8], streams: u32, mut sum: u64) -> u64 {
     sum
 }
 
-/// Opens a file and reads its first streams, so many of them. Sums their sizes.
+/// Opens a file and reads the given number of its first streams. Sums their sizes.
 #[unsafe(no_mangle)]
 pub extern "C" fn bench_read_streams(alloc: Global, file: &[u8], streams: u32, turns: u32) -> u64 {
     let mut sum = 0;

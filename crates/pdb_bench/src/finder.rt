@@ -35,7 +35,7 @@ pub extern "C" fn bench_build(alloc: Global, stream: &[u8], turns: u32) -> u64 {
     sum
 }
 
-/// Finds types by their indexes; a sum with the size of each record.
+/// Finds types by their indexes. Returns `sum` plus the size of each record.
 #[inline(never)]
 fn find(finder: &TypeFinder<'_>, indexes: &[u32], mut sum: u64) -> u64 {
     for index in indexes {
@@ -46,7 +46,8 @@ fn find(finder: &TypeFinder<'_>, indexes: &[u32], mut sum: u64) -> u64 {
     sum
 }
 
-/// Finds the types of these indexes in the table in a stream, by a finder. Sums the sizes of the records.
+/// Finds the types of these indexes in the table in a stream, by a finder. Sums the sizes of the
+/// records.
 #[unsafe(no_mangle)]
 pub extern "C" fn bench_find(alloc: Global, stream: &[u8], indexes: &[u32], turns: u32) -> u64 {
     let Some(table) = types_in(alloc, stream) else {
@@ -67,7 +68,8 @@ fn parse_at<'t>(alloc: Global, finder: &TypeFinder<'t>, index: TypeIndex) -> Res
     finder.find(index)?.parse(alloc)
 }
 
-/// Finds types by their indexes and parses their records; a sum with 1 and the length of the name of each.
+/// Finds types by their indexes and parses their records. Returns `sum` plus 1 and the length of
+/// the name of each.
 #[inline(never)]
 fn find_and_parse(alloc: Global, finder: &TypeFinder<'_>, indexes: &[u32], mut sum: u64) -> u64 {
     for index in indexes {
@@ -78,8 +80,8 @@ fn find_and_parse(alloc: Global, finder: &TypeFinder<'_>, indexes: &[u32], mut s
     sum
 }
 
-/// Builds a finder of the table in a stream, finds the types of these indexes by it and parses their
-/// records. Sums 1 and the length of the name of each.
+/// Builds a finder of the table in a stream, finds the types of these indexes by it and parses
+/// their records. Sums 1 and the length of the name of each.
 #[unsafe(no_mangle)]
 pub extern "C" fn bench_build_and_find(
     alloc: Global,

@@ -12,7 +12,7 @@ fn first_start(table: &FrameTable, address: u32) -> u32 {
     }
 }
 
-/// Looks for the first frame from each address on; a sum with where its code starts.
+/// Looks for the first frame from each address on. Returns `sum` plus where its code starts.
 #[inline(never)]
 fn find(table: &FrameTable, addresses: &[u32], mut sum: u64) -> u64 {
     for address in addresses {
@@ -21,8 +21,8 @@ fn find(table: &FrameTable, addresses: &[u32], mut sum: u64) -> u64 {
     sum
 }
 
-/// Looks for the first frame from each of these addresses on, in a stream of frames in the newer format.
-/// Sums where their code starts, and 1 for no frame.
+/// Looks for the first frame from each of these addresses on, in a stream of frames in the newer
+/// format. Sums where their code starts, and 1 for no frame.
 #[unsafe(no_mangle)]
 pub extern "C" fn bench_frames(alloc: Global, stream: &[u8], addresses: &[u32], turns: u32) -> u64 {
     let Some(stream) = stream_of(alloc, stream) else {

@@ -1,8 +1,9 @@
 //! The library's calls at work, for the driver in `bench/`, which times them.
 //!
-//! Each export prepares what it needs of the bytes that it is given, does its work so many times, a turn
-//! each, and returns the sum over all turns of what was answered. So a call of no turns takes the time of
-//! the preparation alone, and returns 0. Where something is refused, its part of the sum is missing.
+//! Each export prepares what it needs of the bytes that it is given, repeats its work as often as
+//! it is told, and returns the sum over all repetitions of the answers. So a call with no
+//! repetitions takes the time of the preparation alone, and returns 0. Where something fails, its
+//! part of the sum is missing.
 #![tactic(auto)]
 
 mod files;

@@ -4,7 +4,7 @@ use crate::stream::stream_of;
 use pdb_container::{StringRef, StringTable};
 use std::alloc::Global;
 
-/// Gets names; a sum with 1 and the length of each.
+/// Gets names. Returns `sum` plus 1 and the length of each.
 #[inline(never)]
 fn get(names: &StringTable, offsets: &[u32], mut sum: u64) -> u64 {
     for offset in offsets {

@@ -13,7 +13,7 @@ fn omap_in(alloc: Global, stream: &[u8]) -> Option<OMAPTable> {
     OMAPTable::parse(stream).ok()
 }
 
-/// Looks addresses up; a sum with where each goes, and 1 for one that goes nowhere.
+/// Looks addresses up. Returns `sum` plus where each goes, and 1 for one that goes nowhere.
 #[inline(never)]
 fn look_up(table: &OMAPTable, addresses: &[u32], mut sum: u64) -> u64 {
     for address in addresses {
@@ -36,7 +36,8 @@ pub extern "C" fn bench_omap(alloc: Global, stream: &[u8], addresses: &[u32], tu
     sum
 }
 
-/// Moves a range that begins at an address; a sum with 1 and the length for each range that it becomes.
+/// Moves a range that begins at an address. Returns `sum` plus 1 and the length for each range that
+/// it becomes.
 fn move_range(table: &OMAPTable, address: u32, mut sum: u64) -> u64 {
     for range in table.lookup_range(address..address.saturating_add(RANGE_SIZE)) {
         let length = range.end.wrapping_sub(range.start);
@@ -54,8 +55,8 @@ fn move_ranges(table: &OMAPTable, addresses: &[u32], mut sum: u64) -> u64 {
     sum
 }
 
-/// Moves the range of 256 addresses from each of these on, by the OMAP table in a stream. Sums 1 and the
-/// length for each range that they become.
+/// Moves the range of 256 addresses from each of these on, by the OMAP table in a stream. Sums 1
+/// and the length for each range that they become.
 #[unsafe(no_mangle)]
 pub extern "C" fn bench_ranges(alloc: Global, stream: &[u8], addresses: &[u32], turns: u32) -> u64 {
     let Some(table) = omap_in(alloc, stream) else {

@@ -25,7 +25,7 @@ fn size_of(reply: &Reply) -> u64 {
     }
 }
 
-/// Asks a file all queries; a sum with the size of each reply.
+/// Runs all queries over a file. Returns `sum` plus the size of each reply.
 #[inline(never)]
 fn ask(alloc: Global, file: &[u8], queries: &[Query], mut sum: u64) -> u64 {
     let Ok(replies) = run(alloc, file, queries) else {
@@ -37,8 +37,8 @@ fn ask(alloc: Global, file: &[u8], queries: &[Query], mut sum: u64) -> u64 {
     sum
 }
 
-/// Asks a file for the types of these indexes in the table in a stream, in one run. Sums 1 and the length
-/// of the name for each record that is replied.
+/// Queries the types of these indexes in the table in a stream of a file, in one run. Sums 1 and
+/// the length of the name for each record that is replied.
 #[unsafe(no_mangle)]
 pub extern "C" fn bench_queries(
     alloc: Global,

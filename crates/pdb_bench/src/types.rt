@@ -11,7 +11,7 @@ pub fn types_in(alloc: Global, stream: &[u8]) -> Option<TypeInformation> {
     TypeInformation::parse(stream).ok()
 }
 
-/// Walks along a table; a sum with the size of each record.
+/// Walks along a table. Returns `sum` plus the size of each record.
 #[inline(never)]
 fn walk(table: &TypeInformation, mut sum: u64) -> u64 {
     let mut items = table.iter();
@@ -37,7 +37,7 @@ pub extern "C" fn bench_walk(alloc: Global, stream: &[u8], turns: u32) -> u64 {
     sum
 }
 
-/// Walks along a table and parses each record; a sum with what each says.
+/// Walks along a table and parses each record. Returns `sum` plus what each says.
 #[inline(never)]
 fn parse(alloc: Global, table: &TypeInformation, mut sum: u64) -> u64 {
     let mut items = table.iter();
@@ -54,8 +54,8 @@ fn parse(alloc: Global, table: &TypeInformation, mut sum: u64) -> u64 {
     sum
 }
 
-/// Walks along the table of types in a stream and parses each record. Sums for each record that is read 1,
-/// the length of its name and the number of its fields.
+/// Walks along the table of types in a stream and parses each record. Sums for each record that is
+/// read 1, the length of its name and the number of its fields.
 #[unsafe(no_mangle)]
 pub extern "C" fn bench_parse(alloc: Global, stream: &[u8], turns: u32) -> u64 {
     let Some(table) = types_in(alloc, stream) else {
@@ -68,7 +68,7 @@ pub extern "C" fn bench_parse(alloc: Global, stream: &[u8], turns: u32) -> u64 {
     sum
 }
 
-/// Walks along a table and parses each record; a sum with 1 for each that is read.
+/// Walks along a table and parses each record. Returns `sum` plus 1 for each that is read.
 #[inline(never)]
 fn parse_alone(alloc: Global, table: &TypeInformation, mut sum: u64) -> u64 {
     let mut items = table.iter();
@@ -83,7 +83,8 @@ fn parse_alone(alloc: Global, table: &TypeInformation, mut sum: u64) -> u64 {
     sum
 }
 
-/// Walks along the table of types in a stream and parses each record. Sums 1 for each record that is read.
+/// Walks along the table of types in a stream and parses each record. Sums 1 for each record that
+/// is read.
 #[unsafe(no_mangle)]
 pub extern "C" fn bench_rows(alloc: Global, stream: &[u8], turns: u32) -> u64 {
     let Some(table) = types_in(alloc, stream) else {

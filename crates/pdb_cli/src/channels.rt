@@ -17,8 +17,8 @@ use std::io::{ErrorKind, Read, Write};
 /// The line that is written if there is no memory for another.
 const NO_MEMORY: &[u8] = b"OutOfMemory\n";
 
-/// Returns the outcome of what the words after the program's name ask of the file in an input.
-/// Without words nothing is read.
+/// Returns the outcome of the query that the words after the program's name spell, for the file in
+/// an input. Without words nothing is read.
 fn acted<I: Read>(alloc: Global, words: &[String], input: &mut I) -> Result<Outcome>
     ensures shown { IfOk result (IsShownOf (map string_bytes words.now) (I.remaining input.old)) }
     ensures unread { words.now ≡ [] → input.new ≡ input.old }
@@ -36,8 +36,8 @@ fn acted<I: Read>(alloc: Global, words: &[String], input: &mut I) -> Result<Outc
 /// outcome is that of bad words, and the input is read all the same.
 ///
 /// # Errors
-/// Fails with the error of reading the words or the input, or with `OutOfMemory` if memory is
-/// refused.
+/// Fails with the error of reading the words or the input, or with `OutOfMemory` if an allocation
+/// fails.
 fn attempt<I: Read>(alloc: Global, arguments: io::Result<Args>, input: &mut I) -> Result<Outcome>
     ensures shown { IfOk result (IsShownOfCall arguments (I.remaining input.old)) }
     ensures refused { IfErr result IsFault }
@@ -88,8 +88,9 @@ pub fn tell<E: Write>(alloc: Global, fault: &Error, err: &mut Output<E>) -> u8
 }
 
 /// Serves one call of the program: reads the input if there are words after the program's name,
-/// asks the file in it what they ask, writes the answer, or why there is none, and returns the exit
-/// status: 0 if the query was answered, 1 if something failed, 2 for bad words.
+/// answers the query that they spell about the file in it, writes the answer, or why there is none,
+/// and returns the exit status: 0 if the query was answered, 1 if something failed, 2 for bad
+/// words.
 pub fn serve<I: Read, O: Write, E: Write>(
     alloc: Global,
     arguments: io::Result<Args>,

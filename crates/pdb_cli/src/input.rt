@@ -9,7 +9,7 @@ use std::alloc::Global;
 use std::io;
 use std::io::{ErrorKind, Read};
 
-/// The number of bytes that are asked for at a time.
+/// The number of bytes that are requested at a time.
 const BLOCK_SIZE: usize = 65_536;
 
 /// The most reads that an input may take.
@@ -21,8 +21,8 @@ const _: () = prove!(MOST_READS == 4_294_967_295);
 ///
 /// # Errors
 /// Fails with `IoError` if a read fails, or with one of kind `Other` if the input has not ended
-/// after `most` reads; and with `OutOfMemory` if memory is refused. A read that was interrupted is
-/// tried again.
+/// after `most` reads; and with `OutOfMemory` if an allocation fails. A read that was interrupted
+/// is tried again. It counts as a read, and so does the empty read that shows the end.
 pub fn read_within<R: Read>(alloc: Global, input: &mut R, most: u32) -> Result<Vec<u8>>
     ensures bytes { IfOk result (λ file. IfSome (R.remaining input.old) (λ xs. file.items ≡ xs)) }
     ensures end { OnOk result (IsAtEnd (R.remaining input.new)) }
@@ -45,7 +45,7 @@ pub fn read_within<R: Read>(alloc: Global, input: &mut R, most: u32) -> Result<V
 ///
 /// # Errors
 /// Fails with `IoError` if a read fails, or with one of kind `Other` if the input has not ended
-/// after 4,294,967,295 reads; and with `OutOfMemory` if memory is refused. A read that was
+/// after 4,294,967,295 reads; and with `OutOfMemory` if an allocation fails. A read that was
 /// interrupted is tried again.
 pub fn read_all<R: Read>(alloc: Global, input: &mut R) -> Result<Vec<u8>>
     ensures bytes { IfOk result (λ file. IfSome (R.remaining input.old) (λ xs. file.items ≡ xs)) }

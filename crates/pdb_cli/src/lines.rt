@@ -125,7 +125,7 @@ fn range_lines(alloc: Global, ranges: &[Range<u32>]) -> Result<Vec<u8>>
     Ok(out.into_bytes())
 }
 
-/// Returns the lines that are printed for a reply. A refusal has none.
+/// Returns the lines that are printed for a reply. An error has none.
 pub fn reply_lines(alloc: Global, reply: &Reply) -> Result<Vec<u8>>
     ensures ok { IfOk result (λ out. out.items ≡ reply_lines reply.now) }
     ensures memory { FailsOnlyForMemory result }

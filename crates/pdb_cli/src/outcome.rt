@@ -16,7 +16,7 @@ use std::alloc::Global;
 /// What the program writes, and the status that it ends with.
 #[derive(Debug, Drop)]
 pub struct Outcome {
-    /// The exit status: 0 answered, 1 refused, 2 bad words.
+    /// The exit status: 0 for an answer, 1 for an error, 2 for bad words.
     pub status: u8,
     /// What goes to standard output.
     pub out: Vec<u8>,
@@ -35,7 +35,7 @@ fn answered(alloc: Global, out: Vec<u8>) -> Outcome
     }
 }
 
-/// Returns the outcome of a refusal: status 1, and its text on a line of standard error.
+/// Returns the outcome of an error: status 1, and its text on a line of standard error.
 fn refused(alloc: Global, error: &Error) -> Result<Outcome>
     ensures ok { IfOk result (IsRefused (refusal_of error.now)) }
     ensures memory { FailsOnlyForMemory result }
@@ -51,7 +51,7 @@ fn refused(alloc: Global, error: &Error) -> Result<Outcome>
 /// error.
 ///
 /// # Errors
-/// Fails with `OutOfMemory` if memory is refused.
+/// Fails with `OutOfMemory` if an allocation fails.
 pub fn usage(alloc: Global) -> Result<Outcome>
     ensures ok { IfOk result IsUsage }
     ensures memory { FailsOnlyForMemory result }
@@ -65,8 +65,8 @@ pub fn usage(alloc: Global) -> Result<Outcome>
     })
 }
 
-/// Returns the outcome of a reply: status 0 with its lines on standard output, or status 1 for a
-/// refusal.
+/// Returns the outcome of a reply: status 0 with its lines on standard output, or status 1 for an
+/// error.
 fn shown(alloc: Global, reply: &Reply) -> Result<Outcome>
     ensures ok { IfOk result (ShowsReply reply.now) }
     ensures memory { FailsOnlyForMemory result }
@@ -90,8 +90,8 @@ fn reply_to(alloc: Global, file: Vec<u8>, query: Query) -> Reply
     }
 }
 
-/// Asks a file a query and returns the outcome: status 0 with the reply on standard output, or
-/// status 1.
+/// Answers a query about a file and returns the outcome: status 0 with the reply on standard
+/// output, or status 1.
 fn answer(alloc: Global, file: Vec<u8>, query: Query) -> Result<Outcome>
     ensures ok { IfOk result (λ o. IsOutcomeOf (answer_of file.items query) o ⊎ IsRefused out_of_memory o) }
     ensures memory { FailsOnlyForMemory result }
@@ -99,12 +99,12 @@ fn answer(alloc: Global, file: Vec<u8>, query: Query) -> Result<Outcome>
     shown(alloc, &reply_to(alloc, file, query))
 }
 
-/// Does what the program does, apart from input and output: parses the words as a query, asks the
-/// file, and returns what to write and the status to end with. Without words it asks for stream 1
-/// of the example file S1.
+/// Does what the program does, apart from input and output: parses the words as a query, answers it
+/// about the file, and returns what to write and the status to end with. Without words the query is
+/// for stream 1 of the example file S1.
 ///
 /// # Errors
-/// Fails with `OutOfMemory` if memory is refused.
+/// Fails with `OutOfMemory` if an allocation fails.
 pub fn act(alloc: Global, words: &[&str], file: Vec<u8>) -> Result<Outcome>
     ensures ok { IfOk result (Shows (asked (map (λ word. word.now) words.now) file.items)) }
     ensures memory { FailsOnlyForMemory result }

@@ -1,4 +1,4 @@
-//! The line that tells a refusal.
+//! The line of an error.
 
 ghost use Rattle.std.specs.Prelude.{◌≡◌, IfOk};
 ghost use Rattle.pdb_base.specs.Memory.{FailsOnlyForMemory};

@@ -1,4 +1,7 @@
 //! The words that the program takes.
+//!
+//! The words after a command are numbers alone, so that one definition of two numbers serves every
+//! command.
 
 ghost use Rattle.std.specs.Prelude.{◌≡◌, ◌≤◌, map};
 ghost use Rattle.pdb_cli.specs.Words.{spelled, number_of, two_numbers, stream_asked, ranges_asked, pair_of, query_of};

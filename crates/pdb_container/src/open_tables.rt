@@ -50,8 +50,8 @@ impl Table for OMAPTable {
     }
 }
 
-/// A table, and the number of the stream that holds it. The table is boxed, so that it is not copied
-/// each time it is taken up and laid down.
+/// A table, and the number of the stream that holds it. The table is boxed, so that it is not
+/// copied each time it is put into the struct or taken out of it.
 #[derive(Drop)]
 pub struct Numbered<T> {
     number: u32,
@@ -82,7 +82,7 @@ fn opened<T: Table, F: ReadStreams>(
     Ok(Numbered { number, table })
 }
 
-/// Learns where items stand, up to the one of an index, if another query can follow. The last query
+/// Learns where items begin, up to the one of an index, if another query can follow. The last query
 /// learns nothing, so that it takes no memory beyond the file.
 fn learn_for_later<F: ReadStreams, I: ItemIndex>(table: &mut OpenTable<I>, index: I)
     ensures { table.new ≡ table.old }
@@ -102,7 +102,7 @@ pub struct OpenTables {
 }
 
 impl OpenTables {
-    /// Answers a query from the table that it asks, which is opened if it is not open yet.
+    /// Answers a query from the table that it is about, which is opened if it is not open yet.
     fn attempt<F: ReadStreams>(
         &mut self,
         alloc: Global,

@@ -33,12 +33,13 @@ fn answer_all<S: Source + Drop>(
     replies
 }
 
-/// Opens a file, asks it all queries, and returns one reply to each, in order. On a sound source, a
-/// query that fails does not affect the next.
+/// Opens a file, runs all queries on it, and returns one reply to each, in order. On a sound
+/// source, a query that fails does not affect the next.
 ///
 /// The last table of each kind (types, ids, names, OMAP) stays open, so queries that alternate
 /// between two tables of one kind read them anew each time. The last query consumes the file: a
-/// `Vec<u8>` gives up its bytes, so that a single query takes no memory for the stream that it asks.
+/// `Vec<u8>` keeps its memory for the stream's bytes, so that a single query allocates nothing to
+/// hold its stream's bytes if the stream's pages have increasing numbers.
 ///
 /// # Errors
 /// Fails as `open_msf` does, or with `OutOfMemory` if there is no room for the list of replies. An

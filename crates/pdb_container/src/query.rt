@@ -65,7 +65,7 @@ pub enum Reply {
 
     /// A type or an id.
     Record {
-        /// The index that was asked for.
+        /// The index of the item that is looked up.
         index: u32,
         /// The kind: the first two bytes of the record, the lowest first.
         kind: u16,
@@ -83,7 +83,7 @@ pub enum Reply {
     /// a field that has no name.
     Fields(Vec<Option<Vec<u8>>>),
 
-    /// Why there is no answer: the first refusal of the stream, of the table in it, of the look-up
-    /// and of the record, tried in this order; or that memory was refused on the way.
+    /// Why there is no answer: the first error of the stream, of the table in it, of the look-up
+    /// and of the record, tried in this order; or an allocation that failed on the way.
     Refused(Error),
 }

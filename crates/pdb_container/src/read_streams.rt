@@ -15,8 +15,9 @@ pub trait ReadStreams {
     /// Whether another stream can be read after the next one.
     const STAYS_OPEN: bool;
 
-    // The stream of a number, cut to a limit; whether one can still be read; whether the source failed
-    // between two states; and what stays true from one to the next, also where nothing is read.
+    // The stream of a number, cut to a limit; whether one can still be read; whether the source
+    // failed between two states; and what stays true from one to the next, also where nothing is
+    // read.
     ghost stream: { Self → ℕ → Option ℕ → Answer (List ℕ) };
 
     ghost can_read: { Self → Type 0 };

@@ -1,4 +1,5 @@
-//! An address of the running image, the section of the original image that it comes from, and the way back.
+//! An address of the running image, the section of the original image that it comes from, and the
+//! way back.
 
 ghost use Rattle.std.specs.Prelude.{◌≡◌};
 ghost use Rattle.pdb_container.specs.Answer.{Answers};
@@ -18,8 +19,8 @@ pub fn map_of(alloc: Global, bytes: Vec<u8>) -> Result<AddressMap>
     file.address_map(alloc)
 }
 
-/// The place in a section of the original image from which an address of the running image comes, and
-/// the address to which the map moves that place. Nothing if the address comes from no section.
+/// The place in a section of the original image from which an address of the running image comes,
+/// and the address to which the map moves that place. Nothing if the address comes from no section.
 pub fn there_and_back(
     map: &AddressMap,
     address: Rva,

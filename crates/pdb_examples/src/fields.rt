@@ -12,7 +12,7 @@ use std::alloc::Global;
 /// A finder of all types of a table.
 ///
 /// # Errors
-/// The first fault along the types, and `OutOfMemory` if memory is refused.
+/// The first fault along the types, and `OutOfMemory` if an allocation fails.
 pub fn finder_of(alloc: Global, types: &TypeInformation) -> Result<TypeFinder<'_>>
     ensures { IfOk result (FindsAll types.now) }
 {
@@ -34,11 +34,11 @@ fn list_in(value: &TypeData<'_>) -> Option<TypeIndex>
     }
 }
 
-/// The fields of a class, those of the lists in which its list goes on included. A type that is no
-/// class, or a class without a list, has none.
+/// The fields of a class, those of the lists in which its list continues included. A type that is
+/// no class, or a class without a list, has none.
 ///
 /// # Errors
-/// What `TypeFinder::find`, `Type::parse` and `TypeFinder::fields` refuse.
+/// The errors of `TypeFinder::find`, `Type::parse` and `TypeFinder::fields`.
 pub fn class_fields<'t>(
     alloc: Global,
     finder: &TypeFinder<'t>,

@@ -23,7 +23,7 @@ fn those_at(alloc: Global, table: &FrameTable, address: PdbInternalRva) -> Resul
 {
     let mut frames = table.iter();
     let mut found = Vec::new(alloc);
-    // No step is refused.
+    // No step fails.
     while let Ok(Some(frame)) = frames.next() {
         if is_at(&frame, address) {
             found.push(frame)?;
@@ -35,7 +35,7 @@ fn those_at(alloc: Global, table: &FrameTable, address: PdbInternalRva) -> Resul
 /// The frames of the code at an address of the original image.
 ///
 /// # Errors
-/// Fails as `PDB::open` and `PDB::frame_table` do, and with `OutOfMemory` if memory is refused.
+/// Fails as `PDB::open` and `PDB::frame_table` do, and with `OutOfMemory` if an allocation fails.
 pub fn frames_at(alloc: Global, bytes: Vec<u8>, address: PdbInternalRva) -> Result<Vec<FrameData>>
     ensures { Answers (λ found. found.items) result (frames_in bytes.items address) }
 {

@@ -10,7 +10,7 @@ use std::alloc::Global;
 ///
 /// # Errors
 /// Fails as `PDB::open` and `PDB::string_table` do, and with `UnexpectedEof` if no name ends at the
-/// offset or after it. Fails with `OutOfMemory` if memory is refused.
+/// offset or after it. Fails with `OutOfMemory` if an allocation fails.
 pub fn name_at(alloc: Global, bytes: Vec<u8>, offset: StringRef) -> Result<Vec<u8>>
     ensures { Answers (λ name. name.items) result (name_in bytes.items offset) }
 {

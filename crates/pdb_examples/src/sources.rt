@@ -28,7 +28,7 @@ impl Source for Counting {
 /// A stream of a file, and how often bytes of the file were viewed for it.
 ///
 /// # Errors
-/// What `open_msf` and `Msf::get` refuse.
+/// The errors of `open_msf` and `Msf::get`.
 pub fn stream_and_views(alloc: Global, bytes: Vec<u8>, number: u32) -> Result<(Stream, u64)>
     ensures { Answers (λ given. given.0) result (stream_in bytes.items number) }
 {

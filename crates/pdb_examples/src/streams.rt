@@ -7,14 +7,15 @@ ghost use Rattle.pdb_examples.specs.Uses.{sizes_of};
 use pdb_container::{Error, Msf, Result, open_msf};
 use std::alloc::Global;
 
-/// How many numbers a stream can have that a table names: of the 16-bit numbers, 65535 is no stream.
+/// How many numbers a stream can have that a table names: of the 16-bit numbers, 65535 is no
+/// stream.
 const STREAM_NUMBERS: u32 = 65535;
 
 /// The number of each stream that a file holds, and its size in bytes.
 ///
 /// # Errors
-/// What `open_msf` refuses, and then what `Msf::get` refuses of the first stream that the directory holds
-/// but the file does not. `OutOfMemory` if memory is refused.
+/// The errors of `open_msf`, and then that of `Msf::get` for the first stream that the directory
+/// holds but the file does not. `OutOfMemory` if an allocation fails.
 pub fn stream_sizes(alloc: Global, bytes: Vec<u8>) -> Result<Vec<(u32, usize)>>
     ensures { IfOk result (λ sizes.
         (head : Head) × (opened bytes.items ≡ Ok head) × (sizes.items ≡ sizes_of 65535 bytes.items head)) }

@@ -38,8 +38,8 @@ fn those_named(alloc: Global, types: &TypeInformation, name: &[u8]) -> Result<Ve
 /// The indexes of all types of a name.
 ///
 /// # Errors
-/// What `open_msf` refuses, what `Msf::get` refuses of stream 2, what `TypeInformation::parse` refuses,
-/// and then the first fault along the types. `OutOfMemory` if memory is refused.
+/// The errors of `open_msf`, of `Msf::get` for stream 2 and of `TypeInformation::parse`, and then
+/// the first error along the types. `OutOfMemory` if an allocation fails.
 pub fn types_named(alloc: Global, bytes: Vec<u8>, name: &[u8]) -> Result<Vec<TypeIndex>>
     ensures { IfOk result (λ found. types_of name.now bytes.items ≡ Ok (map (λ index. index.0) found.items)) }
 {

@@ -7,7 +7,7 @@ ghost use Rattle.pdb_file.specs.DbiHeader.{dbi_header, dbi_header_of};
 use crate::fields::{u16_in, u32_in};
 use pdb_base::{Error, ParseBuffer, Result, Stream, StreamIndex};
 
-/// The signature at the front of every header except those of the oldest format.
+/// The signature at the start of every header except those of the oldest format.
 const SIGNATURE: u32 = 0xffff_ffff;
 
 /// The size of a header in bytes.
@@ -79,7 +79,7 @@ pub struct DBIHeader {
 }
 
 impl DBIHeader {
-    /// Parses the header at the front of stream 3: its fields in order, each number little-endian.
+    /// Parses the header at the start of stream 3: its fields in order, each number little-endian.
     ///
     /// # Errors
     /// Fails with the first of these that applies:
@@ -92,7 +92,7 @@ impl DBIHeader {
         DBIHeader::read(stream.as_slice())
     }
 
-    /// Reads the header at the front of bytes, and fails as `parse` does.
+    /// Reads the header at the start of bytes, and fails as `parse` does.
     #[tactic(auto, unfolding(crate::specs::DbiHeader::dbi_header_of))]
     pub(crate) fn read(bytes: &[u8]) -> Result<Self>
         ensures { Gives (λ header. header) result (dbi_header_of bytes.now) }

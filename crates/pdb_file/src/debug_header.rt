@@ -94,7 +94,7 @@ impl DBIExtraStreams {
     /// Reads the roles from the debug header in stream 3. If the stream is empty, no role has a
     /// stream.
     ///
-    /// The parts of the stream stand in this order: the header, modules, section contributions, the
+    /// The parts of the stream are in this order: the header, modules, section contributions, the
     /// section map, file info, the type server map, names for edit and continue, the debug header.
     /// The header says the sizes of the parts after it.
     ///

@@ -236,7 +236,7 @@ impl<S: Source> PDB<S> {
     /// - for OMAP to source, and then for OMAP from source: the errors of `get` for their stream,
     ///   and then `InvalidStreamLength` if a record is cut short.
     ///
-    /// Fails with `OutOfMemory` if memory is refused.
+    /// Fails with `OutOfMemory` if an allocation fails.
     #[tactic(auto, unfolding(crate::specs::File::file_address_map))]
     pub fn address_map(&mut self, alloc: Global) -> Result<AddressMap>
         ensures { ReadsFile S.state self.old self.new (λ map. map) result file_address_map }

@@ -8,14 +8,14 @@ ghost use Rattle.pdb_file.specs.Laws.{FindsHeader, FindsDebugHeader, FindsNamed,
 pub mod derived;
 
 /// The header of stream 3 is the one that the stream begins with, whose first field is the
-/// signature. Any other stream is refused by the first of three faults.
+/// signature. Any other stream gives the first of three errors.
 #[tactic(auto, using(crate::proofs::DbiLaws::finds_header))]
 pub fn headers()
     ensures { (stream : List ℕ) → FindsHeader stream }
 {}
 
 /// The debug header of stream 3 comes after parts of the sizes that the header says, in their
-/// order. A stream that holds none is refused as its header is, or because it ends too soon.
+/// order. For a stream without one, the error is that of its header, or that it ends too soon.
 #[tactic(auto, using(crate::proofs::DbiLaws::finds_debug_header))]
 pub fn debug_headers()
     ensures { (stream : List ℕ) → FindsDebugHeader stream }

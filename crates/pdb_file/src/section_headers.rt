@@ -15,7 +15,7 @@ const HEADER_SIZE: usize = 40;
 ///
 /// # Errors
 /// Fails with `UnexpectedEof` if the last header is cut short, before memory is requested, and with
-/// `OutOfMemory` if memory is refused.
+/// `OutOfMemory` if an allocation fails.
 #[tactic(auto, unfolding(crate::specs::SectionHeaders::section_headers_of))]
 pub fn section_headers(alloc: Global, stream: &Stream) -> Result<Vec<ImageSectionHeader>>
     ensures { Answers (λ headers. headers.items) result (section_headers_of stream.now) }

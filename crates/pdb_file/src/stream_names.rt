@@ -166,8 +166,8 @@ impl PDBInformation {
     ///
     /// # Errors
     /// Fails with `UnexpectedEof` if the stream ends before the entries do, or if there is no NUL
-    /// among the names at or after an offset. Fails with `OutOfMemory` if memory is refused, which
-    /// is requested only after all entries are known to be in the stream.
+    /// among the names at or after an offset. Fails with `OutOfMemory` if an allocation fails.
+    /// Memory is allocated only after all entries are known to be in the stream.
     #[tactic(auto, unfolding(crate::specs::StreamNames::stream_names_of))]
     pub fn stream_names(&self, alloc: Global) -> Result<StreamNames<'_>>
         ensures names { Answers (λ names. names) result (stream_names_of self.now) }

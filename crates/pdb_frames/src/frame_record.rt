@@ -18,7 +18,8 @@ pub(crate) trait FrameRecord: AddrRange + Copy {
     // The record that so many bytes spell.
     ghost value: { List ℕ → Self };
 
-    /// Returns the record in these bytes, which are as many as a record has.
+    /// Returns the record in these bytes, which are as many as a record has. The function takes the
+    /// bytes and not a buffer, so that one definition states it and `Parse`.
     fn read(bytes: &[u8]) -> Self
         requires { length bytes.now ≡ SIZE }
         ensures { result ≡ value bytes.now };

@@ -19,7 +19,7 @@ use std::marker::Model;
 /// The frames of a program, from two streams: one of records of the older format, one of the newer.
 /// A program can have both, one or none.
 ///
-/// The streams are kept as they are, and records are read as they are asked for.
+/// The streams are kept as they are, and records are read when they are used.
 #[derive(Debug, Drop)]
 pub struct FrameTable {
     old: Option<Stream>,

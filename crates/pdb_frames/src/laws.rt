@@ -42,7 +42,8 @@ pub fn woven()
     ensures { (old : List OldFrameData) (new : List NewFrameData) → IsWoven old new (by_heads old new) }
 {}
 
-/// Each step that gives a frame leaves fewer, and None comes only at the end, and then for good.
+/// Each step that yields a frame has fewer frames after it, and None comes only at the end, and
+/// then for good.
 #[tactic(auto, using(crate::proofs::LawLemmas::ends_for_good))]
 pub fn steps()
     ensures { (left others : List FrameData) (result : Result (Option FrameData) Error) →

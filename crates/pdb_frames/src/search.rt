@@ -49,10 +49,10 @@ fn most_near(records: usize) -> usize
 /// Searches for the last record that starts at or below an address.
 ///
 /// As long as more records are left than lie near one another, each step halves them with a branch:
-/// a processor that predicts it reads on before it knows which half counts. Then they are split into
-/// eight parts by the starts of seven records, which are read without waiting for one another, and
-/// the last few are halved. These steps don't branch: the distance of the address from the start is
-/// kept beside the index, since one subtraction both compares and gives the distance.
+/// a processor that predicts it reads on before it knows which half counts. Then they are split
+/// into eight parts by the starts of seven records, which are read without waiting for one another,
+/// and the last few are halved. These steps don't branch: the distance of the address from the
+/// start is kept beside the index, since one subtraction both compares and gives the distance.
 #[tactic(auto, using(pdb_base::proofs::lemmas::Halving::halving_begins, pdb_base::proofs::lemmas::Halving::halving_takes, pdb_base::proofs::lemmas::Halving::halving_passes, pdb_base::proofs::lemmas::Halving::halving_ends, crate::proofs::SplitLemmas::first_part, crate::proofs::SplitLemmas::second_part, crate::proofs::SplitLemmas::known_by_distance, crate::proofs::SplitLemmas::split_begins, crate::proofs::SplitLemmas::part_inside))]
 fn search<R: FrameRecord>(bytes: &[u8], address: u32) -> Found
     ensures { IsFound (start_at R.span (spelled R.SIZE R.value bytes.now)) (length bytes.now / R.SIZE) address

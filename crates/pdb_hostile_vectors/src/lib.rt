@@ -1,4 +1,4 @@
-//! False claims, refused memory and failing sources, as tests.
+//! Counts that the bytes don't bear out, failed allocations and failing sources, as tests.
 #![tactic(auto)]
 
 #[cfg(test)]

@@ -1,6 +1,6 @@
 //! What a file of a stranger, or a machine without memory, may do to a reader.
 
-/// What a call answers; where memory is refused, what it answers when it is asked once more.
+/// The result of a call, which is repeated once if it is `OutOfMemory`.
 macro_rules! settled {
     ($call:expr) => {
         match $call {

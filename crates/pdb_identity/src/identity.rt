@@ -77,8 +77,8 @@ impl Identity {
         }
     }
 
-    /// Returns the number of the machine for which the program is, as the header of an image has it,
-    /// for example 0x8664 for x86-64; or None if there is no debug information.
+    /// Returns the number of the machine for which the program is, as the header of an image has
+    /// it, for example 0x8664 for x86-64; or None if there is no debug information.
     pub fn machine(&self) -> Option<u16>
         ensures { result ≡ machine_of self.now }
     {
@@ -141,7 +141,7 @@ fn stripped_in(header: DBIHeader) -> bool
     is_bit_set(header.flags as u32, STRIPPED)
 }
 
-/// Reads the header at the front of the stream of debug information, or returns None if the stream
+/// Reads the header at the start of the stream of debug information, or returns None if the stream
 /// is empty.
 fn header_in(stream: &Stream) -> Result<Option<DBIHeader>>
     ensures { Gives (λ header. header) result (header_in (Some stream.now)) }

@@ -30,14 +30,15 @@ fn list_ids<W: Write>(
     Ok(())
 }
 
-/// Writes a line for each id of the table in a stream, in the order of the table. A record that is
-/// refused has a line that says why. At most one parsed record and its line are held in memory.
+/// Writes a line for each id of the table in a stream, in the order of the table. A record that
+/// can't be parsed has a line with the error. At most one parsed record and its line are held in
+/// memory.
 ///
 /// # Errors
-/// Fails with what `IdInformation::parse` refuses, before anything is written; with the fault at
-/// which the table stops, after the lines of the ids before it; with `IoError` if the writer fails,
-/// after a prefix of what is meant to be written; and with `OutOfMemory` if memory is refused,
-/// after the lines so far.
+/// Fails as `IdInformation::parse` does, before anything is written; with the error at which the
+/// table stops, after the lines of the ids before it; with `IoError` if the writer fails, after a
+/// prefix of what is meant to be written; and with `OutOfMemory` if an allocation fails, after the
+/// lines so far.
 pub fn ids<W: Write>(alloc: Global, stream: Stream, form: Form, out: &mut Output<W>) -> Result<()>
     ensures { IsListed (id_line form) stream out.old out.new result }
 {
@@ -67,8 +68,8 @@ fn show_id<W: Write>(
 /// Looks up the id of an index in the table in a stream and writes it in full.
 ///
 /// # Errors
-/// Fails with what the table, the look-up or the record refuses, before anything is written; with
-/// `OutOfMemory` if memory is refused; and with `IoError` if the writer fails, after a prefix of
+/// Fails with the error of the table, the look-up or the record, before anything is written; with
+/// `OutOfMemory` if an allocation fails; and with `IoError` if the writer fails, after a prefix of
 /// what is meant to be written.
 pub fn id_at<W: Write>(
     alloc: Global,

@@ -14,7 +14,7 @@ use std::alloc::Global;
 /// Appends the line of a type.
 ///
 /// # Errors
-/// Fails with `OutOfMemory` if memory is refused.
+/// Fails with `OutOfMemory` if an allocation fails.
 #[tactic(auto, unfolding(crate::specs::Lines::type_line))]
 pub(crate) fn push_type(
     alloc: Global,
@@ -41,7 +41,7 @@ pub(crate) fn push_type(
 /// Appends the line of an id.
 ///
 /// # Errors
-/// Fails with `OutOfMemory` if memory is refused.
+/// Fails with `OutOfMemory` if an allocation fails.
 #[tactic(auto, unfolding(crate::specs::Lines::id_line))]
 pub(crate) fn push_id(
     alloc: Global,

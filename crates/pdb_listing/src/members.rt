@@ -1,5 +1,5 @@
-//! The members of a type: the fields of a class, a union or an enumeration, through all lists in
-//! which they stand, and the methods of a list.
+//! The members of a type: the fields of a class, a union or an enumeration, through all lists that
+//! hold them, and the methods of a list.
 
 ghost use Rattle.std.specs.Prelude.{◌≡◌, ◌++◌, OnOk};
 ghost use Rattle.std.specs.List.{flat_map};
@@ -89,7 +89,7 @@ pub(crate) fn list_of_fields(index: TypeIndex, value: &TypeData<'_>) -> Option<T
 /// Appends a line for each member of a type.
 ///
 /// # Errors
-/// Fails with what the lists of fields refuse, or with `OutOfMemory` if memory is refused.
+/// Fails with the error of the lists of fields, or with `OutOfMemory` if an allocation fails.
 pub(crate) fn push_members(
     alloc: Global,
     form: Form,

@@ -1,4 +1,4 @@
-//! The row of a record that is refused.
+//! The line of a record that can't be parsed.
 
 ghost use Rattle.std.specs.Prelude.{◌≡◌, ◌++◌, OnOk};
 ghost use Rattle.pdb_base.specs.Memory.{FailsOnlyForMemory};
@@ -10,10 +10,10 @@ use pdb_base::{Error, Result};
 use pdb_rows::{Form, Row, Value, error_field, error_text, field, push_row};
 use std::alloc::Global;
 
-/// Appends the line of a record that is refused: its index, its leaf, and why.
+/// Appends the line of a record that can't be parsed: its index, its kind, and the error.
 ///
 /// # Errors
-/// Fails with `OutOfMemory` if memory is refused.
+/// Fails with `OutOfMemory` if an allocation fails.
 #[tactic(auto, unfolding(crate::specs::Lines::refused_row))]
 pub(crate) fn push_refused(
     alloc: Global,

@@ -34,13 +34,14 @@ fn list_types<W: Write>(
 }
 
 /// Writes a line for each type of the table in a stream, in the order of the table. A record that
-/// is refused has a line that says why. At most one parsed record and its line are held in memory.
+/// can't be parsed has a line with the error. At most one parsed record and its line are held in
+/// memory.
 ///
 /// # Errors
-/// Fails with what `TypeInformation::parse` refuses, before anything is written; with the fault at
-/// which the table stops, after the lines of the types before it; with `IoError` if the writer
-/// fails, after a prefix of what is meant to be written; and with `OutOfMemory` if memory is
-/// refused, after the lines so far.
+/// Fails as `TypeInformation::parse` does, before anything is written; with the error at which the
+/// table stops, after the lines of the types before it; with `IoError` if the writer fails, after a
+/// prefix of what is meant to be written; and with `OutOfMemory` if an allocation fails, after the
+/// lines so far.
 pub fn types<W: Write>(alloc: Global, stream: Stream, form: Form, out: &mut Output<W>) -> Result<()>
     ensures { IsListed (type_line form) stream out.old out.new result }
 {
@@ -51,7 +52,8 @@ pub fn types<W: Write>(alloc: Global, stream: Stream, form: Form, out: &mut Outp
 /// Returns the list in which the fields of the type of an index begin.
 ///
 /// # Errors
-/// Fails with what the look-up or the record refuses, and with `OutOfMemory` if memory is refused.
+/// Fails with the error of the look-up or the record, and with `OutOfMemory` if an allocation
+/// fails.
 fn list_at(
     alloc: Global,
     types: &OpenTable<TypeIndex>,
@@ -99,12 +101,12 @@ fn show_type<W: Write>(
 
 /// Looks up the type of an index in the table in a stream and writes it in full, and then a line
 /// for each of its members: the fields of a class, a union, an enumeration or a list of fields,
-/// through all lists in which they stand, or the methods of a list.
+/// through all lists that hold them, or the methods of a list.
 ///
 /// # Errors
-/// Fails with what the table, the look-up or the record refuses, before anything is written; with
-/// what the lists of fields refuse, after the type itself; with `IoError` if the writer fails,
-/// after a prefix of what is meant to be written; and with `OutOfMemory` if memory is refused.
+/// Fails with the error of the table, the look-up or the record, before anything is written; with
+/// the error of the lists of fields, after the type itself; with `IoError` if the writer fails,
+/// after a prefix of what is meant to be written; and with `OutOfMemory` if an allocation fails.
 pub fn type_at<W: Write>(
     alloc: Global,
     stream: Stream,

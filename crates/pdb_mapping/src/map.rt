@@ -39,7 +39,7 @@ fn write_map<W: Write>(
 /// If no stream is given, fails as `address_map` does. Otherwise, for each given stream in the
 /// order of the fields of `MapStreams`, fails as `Msf::get` does, and then with `UnexpectedEof` if
 /// a section header is cut short, or with `InvalidStreamLength` if an OMAP record is. Fails with
-/// `IoError` if the writer fails, and with `OutOfMemory` if memory is refused.
+/// `IoError` if the writer fails, and with `OutOfMemory` if an allocation fails.
 pub fn list_map<W: Write>(
     alloc: Global,
     mut file: PDB<Vec<u8>>,

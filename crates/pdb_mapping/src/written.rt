@@ -47,7 +47,7 @@ fn offset_value<'t>(place: Option<SectionOffset>) -> Value<'t>
     }
 }
 
-/// Returns the row of an address that is made of another.
+/// Returns the `Row` of an address that is made of another.
 fn address_row<'t>(
     alloc: Global,
     from: &'static str,
@@ -66,7 +66,7 @@ fn address_row<'t>(
     Ok(Row { fields })
 }
 
-/// Returns the row of a place in a section that is made of an address.
+/// Returns the `Row` of a place in a section that is made of an address.
 fn place_row<'t>(
     alloc: Global,
     from: &'static str,
@@ -114,7 +114,7 @@ fn numbers_of(place: Option<PdbInternalSectionOffset>) -> Option<SectionOffset>
     Some(SectionOffset::new(place.section, place.offset))
 }
 
-/// Writes the row of an address that is made of another.
+/// Writes the `Row` of an address that is made of another.
 #[tactic(auto)]
 fn write_address<W: Write>(
     alloc: Global,
@@ -131,7 +131,7 @@ fn write_address<W: Write>(
     write_row(form, &row, &mut Vec::new(alloc), out)
 }
 
-/// Writes the row of a place in a section that is made of an address.
+/// Writes the `Row` of a place in a section that is made of an address.
 #[tactic(auto)]
 fn write_place<W: Write>(
     alloc: Global,

@@ -23,14 +23,14 @@ const ABSENT: u32 = 0xffffffff;
 /// The directory of a file, with the places of the streams in it.
 #[derive(Debug, Drop)]
 pub struct Directory {
-    /// The directory as it stands in the file.
+    /// The bytes of the directory, as in the file.
     pub bytes: Vec<u8>,
     /// The offset in the directory at which the page numbers of a stream begin, in bytes, for each
     /// stream whose size is in the directory.
     pub starts: Vec<u64>,
 }
 
-/// Where a stream stands in the directory.
+/// The place of a stream in the directory.
 #[derive(Clone, Copy, Debug)]
 pub struct StreamPlace {
     /// The size of the stream in bytes.
@@ -88,7 +88,7 @@ impl Geometry {
 }
 
 /// Returns the offset at which the page numbers of a stream begin, for each stream whose size is in
-/// the directory. Memory is asked for once, for at most as many streams as the directory has sizes.
+/// the directory. Memory is allocated once, for at most as many streams as the directory has sizes.
 fn starts_of(alloc: Global, geometry: Geometry, directory: &[u8]) -> Result<Vec<u64>>
     requires sized { 256 ≤ geometry.page_size }
     requires short { length directory.now < 2 ^ 32 }
@@ -141,7 +141,7 @@ impl Directory {
         Ok(count)
     }
 
-    /// Returns where a stream stands in the directory.
+    /// Returns the place of a stream in the directory.
     #[tactic(auto, unfolding(crate::specs::Directory::place_in))]
     pub fn place(&self, page_size: u32, stream_number: u32) -> Result<StreamPlace>
         requires { HasStarts page_size self.now }
@@ -168,8 +168,8 @@ impl Directory {
         })
     }
 
-    /// Returns a stream as the directory describes it: how many of its bytes are to be read, and all
-    /// of its page numbers.
+    /// Returns a stream as the directory describes it: how many of its bytes are to be read, and
+    /// all of its page numbers.
     #[tactic(auto, unfolding(crate::specs::Directory::entry_of))]
     pub fn entry(
         &self,

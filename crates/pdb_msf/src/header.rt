@@ -29,7 +29,7 @@ pub struct Geometry {
 #[derive(Debug, Drop)]
 pub struct Header {
     pub geometry: Geometry,
-    /// The pages in which the directory's page numbers stand.
+    /// The pages that hold the directory's page numbers.
     pub location: Vec<u32>,
 }
 
@@ -81,7 +81,7 @@ impl Geometry {
         ensures numbers { Answers (λ v. v.items) result (page_numbers self.pages_used count (words (left buffer.old))) }
         ensures count { IfOk result (λ v. vec_len v ≡ count) }
         ensures rest { OnOk result (words (left buffer.new) ≡ drop count (words (left buffer.old))) }
-        // The first number is judged before any memory is asked for.
+        // The first number is checked before anything is allocated.
         ensures exact { RefusesExactly result (page_numbers self.pages_used (min 1 count) (words (left buffer.old))) }
     {
         let mut numbers = Vec::new(alloc);
@@ -136,8 +136,8 @@ fn read_fields(buffer: &mut ParseBuffer<'_>) -> Result<Geometry>
     })
 }
 
-/// Reads and checks the fields at the front of a file, and returns them with a buffer that stands
-/// behind them.
+/// Reads and checks the fields at the start of a file, and returns them with a buffer of the bytes
+/// that follow them.
 #[tactic(auto, unfolding(crate::specs::Header::geometry_of))]
 fn read_geometry(view: &[u8]) -> Result<(Geometry, ParseBuffer<'_>)>
     ensures { Gives (λ read. (read.0, left read.1)) result (geometry_of view.now) }
@@ -151,7 +151,7 @@ fn read_geometry(view: &[u8]) -> Result<(Geometry, ParseBuffer<'_>)>
     Ok((geometry, buffer))
 }
 
-/// Reads the header at the front of a file.
+/// Reads the header at the start of a file.
 #[tactic(auto, unfolding(crate::specs::Header::head_of, crate::specs::Header::geometry_of))]
 pub fn read_header(alloc: Global, view: &[u8]) -> Result<Header>
     ensures head { Answers header_view result (head_of view.now) }

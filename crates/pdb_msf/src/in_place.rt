@@ -1,4 +1,4 @@
-//! Bytes of a file that are joined where they stand, in the file's own memory.
+//! Slices of a file that are joined in the file's own memory.
 
 ghost use Rattle.std.specs.Prelude.{◌≡◌, ◌+◌, ◌≤◌, IsTrue, length, map, slice_index, take};
 ghost use Rattle.pdb_msf.specs.Source.{positions};
@@ -6,7 +6,7 @@ ghost use Rattle.pdb_msf.specs.InPlace.{IsMoved, can_be_joined};
 
 use crate::source::SourceSlice;
 
-/// Returns whether the bytes that the slices name can be joined at the front of a file of this
+/// Returns whether the bytes that the slices name can be joined at the start of a file of this
 /// length, slice after slice: each slice is within the file, and none begins before the place to
 /// which it is moved, so that no byte is overwritten that is still to be moved.
 ///
@@ -25,9 +25,9 @@ pub fn can_be_joined(len: usize, slices: &[SourceSlice]) -> bool
     true
 }
 
-/// Joins the bytes that the slices name at the front of the file, cuts off what is behind them, and
-/// gives back the memory in which that stood. If the system refuses the smaller block, the bytes stay
-/// in the larger one.
+/// Joins the bytes that the slices name at the start of the file, truncates the file to them, and
+/// frees the memory behind them. If the system can't shrink the block, the bytes stay in the larger
+/// one.
 pub fn joined(mut file: Vec<u8>, slices: &[SourceSlice]) -> Vec<u8>
     requires { IsTrue (can_be_joined (length file.items) 0 slices.now) }
     ensures { result.items ≡ map (slice_index file.items) (positions slices.now) }
@@ -38,7 +38,7 @@ pub fn joined(mut file: Vec<u8>, slices: &[SourceSlice]) -> Vec<u8>
     file
 }
 
-// Joins the bytes that the slices name at the front of the file, and returns how many there are.
+// Joins the bytes that the slices name at the start of the file, and returns how many there are.
 fn join(file: &mut [u8], slices: &[SourceSlice]) -> usize
     requires { IsTrue (can_be_joined (length file.old) 0 slices.now) }
     ensures joined { take result file.new ≡ map (slice_index file.old) (positions slices.now) }

@@ -47,7 +47,8 @@ pub fn header()
     ensures { (view : List ℕ) → StandAtOffsets view }
 {}
 
-/// Page numbers are read as they stand if all are good, and otherwise refused for the first fault.
+/// Page numbers are read as they are in the bytes if all are good, and otherwise the error is that
+/// of the first bad one.
 pub fn page_numbers()
     ensures good { (pages_used count : ℕ) (words numbers : List ℕ) →
         page_numbers pages_used count words ≡ Ok numbers → AreGood pages_used count words numbers }
@@ -72,8 +73,8 @@ pub fn streams()
         IsStream file head n limit bytes → stream_of file head n limit ≡ Ok bytes }
 {}
 
-/// A layout that was read from a file's bytes has the header with which that file opens. Each stream
-/// read by it from those bytes is the file's stream, or fails as that does.
+/// A layout that was read from a file's bytes has the header with which that file opens. Each
+/// stream read by it from those bytes is the file's stream, or fails as that does.
 #[tactic(auto, using(crate::proofs::LayoutLemmas::head_read, crate::proofs::LayoutLemmas::same_stream))]
 pub fn layouts()
     ensures head { (file : List ℕ) (layout : LayoutValue) → layout_of file ≡ Ok layout → opened file ≡ Ok layout.head }
@@ -81,8 +82,8 @@ pub fn layouts()
         layout_of file ≡ Ok layout → stream_by layout file n limit ≡ stream_of file layout.head n limit }
 {}
 
-/// A stream has one answer, whatever was asked before: each call of `get` leads to a later moment
-/// of the file, and so do any calls one after another.
+/// A stream has one answer, whatever was read before: each call of `get` leads to a later moment of
+/// the file, and so do any calls one after another.
 #[tactic(auto, using(crate::proofs::StreamLaws::later_here, crate::proofs::StreamLaws::later_then, crate::proofs::StreamLaws::alike))]
 pub fn answers()
     ensures here { (moment : Moment) → IsLater moment moment }

@@ -39,9 +39,9 @@ impl Layout {
     /// Reads the header and the directory of a file.
     ///
     /// # Errors
-    /// Fails as `open_msf` does if the header is refused, and then with `IoError` or
-    /// `PageReferenceOutOfRange` if the directory can't be read. Fails with `OutOfMemory` if memory
-    /// is asked for and refused.
+    /// Fails as `open_msf` does if the header is bad, and with `IoError` or
+    /// `PageReferenceOutOfRange` if the directory can't be read. Fails with `OutOfMemory` if an
+    /// allocation fails.
     #[tactic(auto, unfolding(crate::specs::Header::opened, crate::specs::Layout::layout_of))]
     pub fn read(alloc: Global, file: &[u8]) -> Result<Layout>
         ensures { Answers (λ layout. layout) result (layout_of file.now) }
@@ -95,8 +95,8 @@ impl Layout {
     /// that is missing or bad; `IoError` if one of the stream's bytes below the limit is past the
     /// end of the file.
     ///
-    /// Fails with `OutOfMemory` if memory is asked for and refused, but never in place of an error
-    /// of `stream_size`.
+    /// Fails with `OutOfMemory` if an allocation fails, but never in place of an error of
+    /// `stream_size`.
     #[tactic(auto, unfolding(crate::specs::Layout::stream_by))]
     pub fn stream(
         &self,

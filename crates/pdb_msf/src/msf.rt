@@ -18,19 +18,20 @@ use std::alloc::Global;
 use std::io::ErrorKind;
 use std::marker::Model;
 
-/// How many bytes at the front of a file are viewed to open it.
+/// How many bytes at the start of a file are viewed to open it.
 pub(crate) const OPENING_SIZE: usize = 4096;
 
 /// A file of streams.
 pub trait Msf<S: Source> {
-    // The source, what the header says, how many bytes were asked for, and whether the directory is kept.
+    // The source, what the header says, how many bytes were requested, and whether the directory is
+    // kept.
     ghost file: { Self → Opened S };
 
     /// Returns the bytes of a stream, at most as many as the limit.
     ///
-    /// The answer depends on the file's bytes and its header alone, whatever was asked before. A
+    /// The answer depends on the file's bytes and its header alone, whatever was read before. A
     /// call that fails leaves the file usable. The first call that reads the directory keeps it,
-    /// even if that call then fails; a later call asks the source only for the bytes of its stream.
+    /// even if that call then fails; a later call requests only the bytes of its stream.
     ///
     /// # Errors
     /// Fails with the first of these, in this order: `IoError` or `PageReferenceOutOfRange` if the
@@ -42,22 +43,24 @@ pub trait Msf<S: Source> {
     /// whatever the limit, that is missing or bad; `IoError` if one of the stream's bytes below the
     /// limit is past the end of the source, or if the source fails otherwise.
     ///
-    /// Fails with `OutOfMemory` if memory is asked for and refused. Once the directory is kept,
-    /// that is never in place of an error that comes before those of the stream's own page numbers.
+    /// Fails with `OutOfMemory` if an allocation fails. Once the directory is kept, that is never
+    /// in place of an error that comes before those of the stream's own page numbers.
     fn get(&mut self, alloc: Global, stream_number: u32, limit: Option<usize>) -> Result<Stream>
         ensures answer { AnswersUnless (HasFailed (S.state (file self.old).source) (S.state (file self.new).source))
             (λ stream. stream) result
             (stream_of (S.state (file self.old).source).bytes (file self.old).head stream_number limit) }
         ensures source { IsKept (S.state (file self.old).source) (S.state (file self.new).source) }
         ensures head { (file self.new).head ≡ (file self.old).head }
-        // An error of the source that is neither its end nor want of memory keeps its kind.
+        // An error of the source that is neither its end nor `OutOfMemory` keeps its kind.
         ensures kind { KeepsKind (S.state (file self.new).source) result }
-        // The directory is asked for where it is not kept yet, and of the stream what is answered.
+        // A call requests the directory unless it is kept, and of the stream the bytes that it
+        // returns.
         ensures asked { Asks (file self.old).asked (file self.new).asked
             (locating (file self.old).located (file self.old).head.geometry
             + wanted (described (S.state (file self.old).source).bytes (file self.old).head stream_number limit))
             result }
-        // The directory stays where it is kept, and is kept but where reading or keeping it is refused.
+        // The directory stays kept, and after the call it is kept unless reading or keeping it
+        // failed.
         ensures stays { IsTrue (file self.old).located → IsTrue (file self.new).located }
         ensures located { MatchResult result (λ _. IsTrue (file self.new).located)
             (λ e. (file self.new).located ≡ false →
@@ -96,7 +99,7 @@ impl<S: Source> Model for BigMSF<S> {
 }
 
 impl<S: Source + Drop> BigMSF<S> {
-    /// Opens the file whose header is at the front of a view. If that fails, the source is dropped.
+    /// Opens the file whose header is at the start of a view. If that fails, the source is dropped.
     ///
     /// # Errors
     /// Fails with the first of these, in this order: `UnexpectedEof` if the view has fewer than 52
@@ -105,8 +108,7 @@ impl<S: Source + Drop> BigMSF<S> {
     /// of two from 256 to 8,388,608; `UnexpectedEof` or `PageReferenceOutOfRange` for the first
     /// number of the pages that locate the directory that is missing or bad.
     ///
-    /// Fails with `OutOfMemory` if memory is asked for and refused, which is asked for only to hold
-    /// these numbers.
+    /// Fails with `OutOfMemory` if the allocation that holds these numbers fails.
     pub fn new(alloc: Global, source: S, header_view: ReadView) -> Result<BigMSF<S>>
         ensures head { Answers (λ m. m.head) result (head_of header_view) }
         ensures exact { RefusesExactly result (geometry_of header_view) }
@@ -130,7 +132,7 @@ impl<S: Source> BigMSF<S> {
         self.source.source()
     }
 
-    /// Returns how many bytes `get` has asked of the source in all calls so far, at most
+    /// Returns how many bytes `get` has requested from the source in all calls so far, at most
     /// `u64::MAX`. The bytes that are viewed to open the file do not count.
     pub fn asked(&self) -> u64
         ensures { result ≡ self.now.asked }
@@ -180,8 +182,8 @@ impl<S: Source> BigMSF<S> {
     /// Fails with the first of these, in this order: `IoError` or `PageReferenceOutOfRange` if the
     /// directory can't be read; `UnexpectedEof` if the directory ends before its count of streams.
     ///
-    /// Fails with `OutOfMemory` if memory is asked for and refused, which is asked for only to read
-    /// the directory.
+    /// Fails with `OutOfMemory` if an allocation fails. Memory is allocated only to read the
+    /// directory.
     pub fn stream_count(&mut self, alloc: Global) -> Result<u32>
         ensures answer { AnswersUnless (HasFailed (S.state self.old.source) (S.state self.new.source)) (λ count. count)
             result (stream_count_of (S.state self.old.source).bytes self.old.head) }
@@ -207,8 +209,8 @@ impl<S: Source> BigMSF<S> {
     /// of the stream or of one before it is missing; `StreamNotFound` if the stream is absent;
     /// `UnexpectedEof` if the size of a later stream or a page number of an earlier one is missing.
     ///
-    /// Fails with `OutOfMemory` if memory is asked for and refused, which is asked for only to read
-    /// the directory.
+    /// Fails with `OutOfMemory` if an allocation fails. Memory is allocated only to read the
+    /// directory.
     pub fn stream_size(&mut self, alloc: Global, stream_number: u32) -> Result<u32>
         ensures answer { AnswersUnless (HasFailed (S.state self.old.source) (S.state self.new.source)) (λ size. size)
             result (stream_size_of (S.state self.old.source).bytes self.old.head stream_number) }
@@ -251,8 +253,8 @@ impl<S: Source + Drop> BigMSF<S> {
     /// Returns the bytes of a stream as `get` does, and consumes the file.
     ///
     /// If the file is a `Vec<u8>` in which the stream's pages have increasing numbers, as most
-    /// programs write them, the stream's bytes are moved together in the file's own memory, and no
-    /// memory is asked for to hold them.
+    /// programs write them, the stream's bytes are moved together in the file's own memory, and
+    /// nothing is allocated to hold them.
     ///
     /// # Errors
     /// Fails as `get` does.
@@ -284,8 +286,8 @@ impl<S: Source + Drop> BigMSF<S> {
     }
 }
 
-/// Views the first `size` bytes of a file. A file with fewer bytes is refused as
-/// `UnrecognizedFileFormat`.
+/// Views the first `size` bytes of a file. Fails with `UnrecognizedFileFormat` if the file has
+/// fewer bytes.
 #[tactic(auto, unfolding(crate::specs::Header::opening), using(crate::proofs::PositionLemmas::front_there, crate::proofs::PositionLemmas::front_cut))]
 pub(crate) fn view_front<S: Source>(source: &mut S, alloc: Global, size: usize) -> Result<ReadView>
     ensures bytes { AnswersUnless (HasFailed (S.state source.old) (S.state source.new)) (λ v. v) result
@@ -313,7 +315,7 @@ pub(crate) fn view_front<S: Source>(source: &mut S, alloc: Global, size: usize) 
 /// to 8,388,608; `UnexpectedEof` or `PageReferenceOutOfRange` for the first number of the pages
 /// that locate the directory that is missing or bad.
 ///
-/// Fails with `OutOfMemory` if memory is asked for and refused.
+/// Fails with `OutOfMemory` if an allocation fails.
 #[tactic(auto, unfolding(crate::specs::Header::opened), using(crate::proofs::lemmas::Kept::unsound))]
 pub fn open_msf<S: Source + Drop>(alloc: Global, mut source: S) -> Result<BigMSF<S>>
     ensures head { AnswersUnless (¬ IsTrue (S.state source).is_sound)

@@ -53,8 +53,8 @@ impl PageList {
     /// below 2^64.
     ///
     /// # Errors
-    /// Returns `OutOfMemory` if memory is refused, which is asked for only if the page begins a new
-    /// slice. The list then stays as it was.
+    /// Returns `OutOfMemory` if an allocation fails, and leaves the list unchanged. Memory is
+    /// allocated only if the page begins a new slice.
     pub fn push(&mut self, page: u32) -> Result<()>
         requires whole { self.old.is_truncated ≡ false }
         requires room { length (positions self.old.slices) + self.old.page_size < 2 ^ 64 }

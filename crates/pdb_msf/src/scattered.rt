@@ -15,8 +15,8 @@ use std::alloc::Global;
 use std::io;
 use std::io::ErrorKind;
 
-/// Returns the error that stands for one of a source: `OutOfMemory` for the kind `OutOfMemory`, and
-/// for any other kind an `IoError` that holds the source's own error.
+/// Converts an error of a source: the kind `OutOfMemory` becomes `OutOfMemory`, and any other kind
+/// an `IoError` that holds the source's own error.
 pub fn source_error(error: io::Error) -> Error
     ensures memory { error_kind error ≡ ErrorKind.OutOfMemory → result ≡ Error.OutOfMemory }
     ensures kind { error_kind error ≢ ErrorKind.OutOfMemory → result ≡ Error.IoError error }
@@ -62,8 +62,8 @@ fn page_list(alloc: Global, page_size: u32, numbers: &[u32], size: usize) -> Res
     Ok(list)
 }
 
-/// A source, and how many bytes were asked of it. Every read goes through `read_scattered`, which
-/// counts them.
+/// A source, and how many bytes were requested from it. Every read goes through `read_scattered`,
+/// which counts them.
 #[derive(Drop)]
 pub struct CountedSource<S: Source> {
     source: S,
@@ -72,7 +72,7 @@ pub struct CountedSource<S: Source> {
 }
 
 impl<S: Source> CountedSource<S> {
-    /// Wraps a source of which nothing was asked yet.
+    /// Wraps a source from which nothing was requested yet.
     pub fn new(source: S) -> Self
         ensures source { result.source ≡ source }
         ensures asked { result.asked ≡ 0 }
@@ -87,7 +87,7 @@ impl<S: Source> CountedSource<S> {
         &self.source
     }
 
-    /// Returns how many bytes were asked of the source, at most `u64::MAX`.
+    /// Returns how many bytes were requested from the source, at most `u64::MAX`.
     pub fn asked(&self) -> u64
         ensures { result ≡ self.now.asked }
     {
@@ -120,8 +120,8 @@ impl<S: Source> CountedSource<S> {
 }
 
 impl<S: Source + Drop> CountedSource<S> {
-    /// Reads the first `size` bytes of what is scattered over these pages, as `read_scattered` does,
-    /// and consumes the source.
+    /// Reads the first `size` bytes of what is scattered over these pages, as `read_scattered`
+    /// does, and consumes the source.
     #[tactic(auto, unfolding(crate::specs::Pages::scatter), using(crate::proofs::PageLemmas::length_found))]
     pub fn into_scattered(
         self,

@@ -26,7 +26,7 @@ pub trait SourceView {
     // The bytes that are shown.
     ghost shown: { Self → List ℕ };
 
-    /// Returns the bytes, slice after slice in the order in which they were asked for.
+    /// Returns the bytes, slice after slice in the order in which they were requested.
     fn as_slice(&self) -> &[u8]
         ensures { result.now ≡ shown self.now };
 }
@@ -72,17 +72,18 @@ impl SourceView for ReadView {
 
 /// A source of the bytes of a file.
 ///
-/// A source stands for fixed bytes. It may fail for other reasons than that its bytes end or that
-/// memory is refused, and counts these faults; a sound source does not fail so.
+/// A source has fixed bytes. It may fail for other reasons than that its bytes end or that an
+/// allocation fails, and counts these faults; a sound source does not fail so.
 pub trait Source {
-    // The bytes, the count of faults so far and the kind of the last one, and whether the source is sound.
+    // The bytes, the count of faults so far and the kind of the last one, and whether the source is
+    // sound.
     ghost state: { Self → State };
 
     /// Returns the bytes that the slices name, slice after slice.
     ///
     /// # Errors
     /// The error has kind `UnexpectedEof` only if a slice of one or more bytes passes the end of
-    /// the bytes, kind `OutOfMemory` only if memory is lacking, and any other kind only if the
+    /// the bytes, kind `OutOfMemory` only if an allocation fails, and any other kind only if the
     /// source's count of faults rises.
     fn view(&mut self, alloc: Global, slices: &[SourceSlice]) -> Result<ReadView, io::Error>
         ensures view { Shows (HasFailed (state self.old) (state self.new)) (λ v. v) result
@@ -111,8 +112,8 @@ impl Source for Vec<u8> {
     ///
     /// # Errors
     /// The error has kind `UnexpectedEof` if a slice of one or more bytes passes the end, which is
-    /// checked before memory is asked for. It has kind `OutOfMemory` if memory is refused, or if
-    /// the sum of the sizes is above `usize::MAX`.
+    /// checked before anything is allocated. It has kind `OutOfMemory` if an allocation fails, or
+    /// if the sum of the sizes is above `usize::MAX`.
     fn view(&mut self, alloc: Global, slices: &[SourceSlice]) -> Result<ReadView, io::Error>
         ensures view { Shows ⊥ (λ v. v) result (bytes_at self.old.items (positions slices.now)) }
         ensures exact { bytes_at self.old.items (positions slices.now) ≡ None →
@@ -123,7 +124,7 @@ impl Source for Vec<u8> {
     }
 
     /// Returns the bytes that the slices name. If they can be joined in place, the view keeps the
-    /// file's own memory, and no memory is asked for.
+    /// file's own memory, and nothing is allocated.
     fn into_view(self, alloc: Global, slices: &[SourceSlice]) -> Result<ReadView, io::Error> {
         into_view_of(self, alloc, slices)
     }
@@ -150,7 +151,7 @@ impl<'b> Source for &'b [u8] {
     }
 }
 
-// A view of bytes in memory. The slices are judged before memory is asked for.
+// A view of bytes in memory. The slices are checked before anything is allocated.
 #[tactic(auto, using(crate::proofs::PositionLemmas::bytes_within, crate::proofs::PositionLemmas::bytes_past))]
 fn view_of(file: &[u8], alloc: Global, slices: &[SourceSlice]) -> Result<ReadView, io::Error>
     ensures view { Shows ⊥ (λ v. v) result (bytes_at file.now (positions slices.now)) }
@@ -197,7 +198,7 @@ fn total_size(slices: &[SourceSlice]) -> Option<usize>
     Some(total)
 }
 
-// The bytes of slices that are all within the file, into memory that is asked for once.
+// The bytes of slices that are all within the file, copied into a single allocation.
 fn copied(
     alloc: Global,
     file: &[u8],

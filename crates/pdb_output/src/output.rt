@@ -80,8 +80,8 @@ impl<W: Write> Output<W> {
     /// Writes all bytes. Nothing is written to an output that has failed.
     ///
     /// # Errors
-    /// Fails with `IoError` if the writer fails or takes no bytes, or has failed before. It may then
-    /// have got a prefix of the bytes.
+    /// Fails with `IoError` if the writer fails or takes no bytes, or has failed before. It may
+    /// then have got a prefix of the bytes.
     pub fn write(&mut self, bytes: &[u8]) -> Result<()>
         ensures bytes { Writes bytes.now self.old self.new result }
         ensures good { OnOk result (self.new.has_failed ≡ false) }
@@ -100,7 +100,7 @@ impl<W: Write> Output<W> {
         }
     }
 
-    /// Writes a message of which no caller is told whether it was written. `has_failed` tells it.
+    /// Writes a message without returning whether it was written. `has_failed` says so.
     pub fn report(&mut self, message: &[u8])
         ensures { GetsUnlessFailed self.old self.new message.now }
     {

@@ -1,5 +1,5 @@
-//! What the programs print, and what the short uses answer, as tests: rows of records, tables as lines, and questions
-//! about a file.
+//! Test cases of what the programs print, and of what the short uses answer: records as `Row`s,
+//! tables as lines, and questions about a file.
 #![tactic(auto)]
 
 #[cfg(test)]

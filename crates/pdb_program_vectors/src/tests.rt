@@ -1,4 +1,4 @@
-//! The worked rows of the programs, a file a topic, and the short uses of the library.
+//! Test cases of the programs, a file a topic, and the short uses of the library.
 
 mod asked;
 mod channels;

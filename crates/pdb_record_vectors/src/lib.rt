@@ -1,4 +1,5 @@
-//! The worked rows of flag words, tables of items and primitive types, and of the records of types and ids, as tests.
+//! Test cases of flag words, tables of items and primitive types, and of the records of types and
+//! ids.
 #![tactic(auto)]
 
 #[cfg(test)]

@@ -1,4 +1,4 @@
-//! The worked rows, a file a topic.
+//! Test cases, a file a topic.
 
 mod changed;
 mod equal;
@@ -29,7 +29,8 @@ fn stream(alloc: Global, bytes: &[u8]) -> Result<Stream, Fail> {
     Ok(Stream::new(Vec::from_slice(alloc, bytes)?))
 }
 
-/// Whether an error is the same as another, by its variant and what is in it. Those of sources are not among them.
+/// Whether an error is the same as another, by its variant and what is in it. Those of sources are
+/// not among them.
 fn is_error(found: &Error, want: &Error) -> bool {
     match (found, want) {
         (Error::UnexpectedEof, Error::UnexpectedEof) => true,

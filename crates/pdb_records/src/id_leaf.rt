@@ -1,11 +1,11 @@
-//! The leaves of id records.
+//! The kinds of id records.
 
 ghost use Rattle.std.specs.Prelude.{◌≡◌};
 
 use crate::parse::id_plain::PlainIdLeaf;
 use pdb_values::constants::{LF_BUILDINFO, LF_SUBSTR_LIST};
 
-/// The kind of record that stands behind a leaf in the table of ids.
+/// The kind of a record in the table of ids.
 #[derive(Clone, Copy, Debug, PartialEq, Eq)]
 pub enum IdLeaf {
     /// A record without a list.
@@ -21,8 +21,7 @@ pub enum IdLeaf {
 impl IdLeaf {
     ghost use Rattle.pdb_records.specs.Ids.{id_leaf_of};
 
-    /// Returns the kind of record that stands behind the leaf with this number, or None if it has
-    /// no record here.
+    /// Returns the id record kind with this number, or None if it is not read here.
     pub(crate) fn from_number(number: u16) -> Option<Self>
         ensures { result ≡ id_leaf_of number }
     {

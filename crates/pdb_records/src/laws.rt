@@ -17,19 +17,19 @@ ghost use Rattle.pdb_records.specs.Short.{IsShort};
 ghost use Rattle.pdb_records.specs.ToEnd.{TakesBytes, Fills, FailsBehind, to_end};
 ghost use Rattle.pdb_values.specs.TypeValue.{TypeValue};
 
-/// For each shape, what is read is what the front of the bytes spells, and bytes are refused as the
-/// first fault says.
+/// For each shape, what is read is what a prefix of the bytes spells, and otherwise the error is
+/// that of the first fault.
 pub fn shapes()
     ensures { (shape : Shape) → Agrees (read_shape shape) (Begins (Spells shape)) (Refuses shape) }
 {}
 
-/// For each row, what is read is what the row assigns to the bytes. Bytes are refused as the first
-/// shape says that they don't begin with.
+/// For each layout, what is read is what the layout assigns to the bytes. Otherwise the error is
+/// that of the first shape that the bytes don't begin with.
 pub fn rows<A>()
     ensures { (r : Row A) → Agrees (row r) (Assigns r) (Stops r) }
 {}
 
-/// Bytes are refused for what they are, and so never for lack of memory.
+/// An error of bytes depends on the bytes alone, and so is never `OutOfMemory`.
 #[tactic(auto, using(crate::proofs::NoWant::stops_fault))]
 pub fn refusals<A>()
     ensures faults { (r : Row A) (bytes : List ℕ) (refusal : Refusal) → Stops r bytes refusal → IsFaultOfBytes refusal }
@@ -37,42 +37,43 @@ pub fn refusals<A>()
 {}
 
 /// What is skipped as padding is pads, one after another, up to the end or to a byte that begins no
-/// pad. Bytes that end within a pad are refused.
+/// pad. Bytes that end within a pad are an error.
 #[tactic(auto, using(crate::proofs::PaddingLaws::padding_agrees))]
 pub fn padding()
     ensures { Agrees padding_at IsPadded IsPaddedShort }
 {}
 
-/// Dimensions of arrays are read as they stand, and refused as the first fault says.
+/// Dimensions of arrays are read as they are in the bytes, or the error is that of the first fault.
 #[tactic(auto, using(crate::proofs::DimensionLaws::dimensions_agree))]
 pub fn dimensions()
     ensures { Agrees dimensions_at AreDimensions NoDimensions }
 {}
 
-/// Rows that reach to the end of the bytes, each of which takes at least one byte, are read as they
-/// fill the bytes. The first that can't be read is refused as its row says.
+/// Records that reach to the end of the bytes, each of which takes at least one byte, are read as
+/// they fill the bytes. If one can't be read, the error is that of the first such record.
 pub fn lists<A>()
     ensures { (r : Row A) → TakesBytes (Assigns r) →
         Agrees (to_end (row r)) (Fills (Assigns r)) (FailsBehind (Assigns r) (Stops r)) }
 {}
 
-/// What is read of bytes is the one record that the grammar assigns to them, and bytes to which it
-/// assigns none are refused by their first fault. No bytes have two values.
+/// What is read of bytes is the one record that the grammar assigns to them, and for bytes to which
+/// it assigns none, the error is that of their first fault. No bytes have two values.
 #[tactic(auto, using(crate::proofs::GrammarLaws::record_agrees))]
 pub fn records()
     ensures agrees { Agrees record_at IsRecord NoRecord }
     ensures one { NoTwoValues IsRecord }
 {}
 
-/// The same for id records.
+/// What is read of bytes is the one id record that the grammar assigns to them, and for bytes to
+/// which it assigns none, the error is that of their first fault. No bytes have two values.
 #[tactic(auto, using(crate::proofs::IdLaws::ids_agree))]
 pub fn ids()
     ensures agrees { Agrees id_at IsId NoId }
     ensures one { NoTwoValues IsId }
 {}
 
-/// Type records are refused for what their bytes are: the bytes end too soon, a number has an
-/// unknown prefix, a leaf has no record here, or what they say is not read here.
+/// A type record has an error because of its bytes: they end too soon, a number has an unknown
+/// prefix, the record kind is not read here, or what they say is not read here.
 pub fn faults()
     ensures { (bytes : List ℕ) (refusal : Refusal) → NoRecord bytes refusal → IsFaultOfBytes refusal }
 {}

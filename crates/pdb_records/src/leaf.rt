@@ -1,11 +1,11 @@
-//! The leaves of type records.
+//! The kinds of type records.
 
 ghost use Rattle.std.specs.Prelude.{◌≡◌};
 
 use crate::parse::plain::PlainLeaf;
 use pdb_values::constants::{LF_ARGLIST, LF_ARRAY, LF_ARRAY_ST, LF_METHODLIST, LF_STRIDED_ARRAY};
 
-/// The kind of record that stands behind a leaf.
+/// The kind of a type record.
 #[derive(Clone, Copy, Debug, PartialEq, Eq)]
 pub enum Leaf {
     /// A record without a list.
@@ -24,8 +24,8 @@ pub enum Leaf {
 impl Leaf {
     ghost use Rattle.pdb_records.specs.Leaves.{leaf_of};
 
-    /// Returns the kind of record that stands behind the leaf with this number. Returns None for a
-    /// leaf that has no record here, and for a list of fields.
+    /// Returns the type record kind with this number, or None if it is not read here or is a list
+    /// of fields.
     pub(crate) fn from_number(number: u16) -> Option<Self>
         ensures { result ≡ leaf_of number }
     {

@@ -1,4 +1,7 @@
 //! Parsers for the parts of a record.
+//!
+//! The parser of a type record returns a `TypeData` and not the struct of its kind, since the
+//! prover has no rule for `?` on a result that holds a flag word.
 
 pub(crate) mod array;
 pub(crate) mod class;

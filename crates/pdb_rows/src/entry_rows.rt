@@ -1,4 +1,4 @@
-//! The entries of lists as rows, which have no index.
+//! The entries of lists as `Row`s, which have no index.
 
 ghost use Rattle.std.specs.Prelude.{◌≡◌, IfOk};
 ghost use Rattle.pdb_base.specs.Memory.{FailsOnlyForMemory};
@@ -20,7 +20,7 @@ use pdb_values::constants::{
 use pdb_values::{BaseClassType, ClassKind, MethodListEntry, TypeData, VirtualBaseClassType};
 use std::alloc::Global;
 
-/// Returns the leaf of a class of this kind.
+/// Returns the record kind of a class of this kind.
 fn class_leaf(kind: ClassKind) -> u16
     ensures { result ≡ class_leaf kind }
 {
@@ -31,7 +31,7 @@ fn class_leaf(kind: ClassKind) -> u16
     }
 }
 
-/// Returns the leaf of a base class.
+/// Returns the record kind of a base class.
 fn base_class_leaf(base: BaseClassType) -> u16
     ensures { result ≡ base_class_leaf base.kind }
 {
@@ -41,14 +41,14 @@ fn base_class_leaf(base: BaseClassType) -> u16
     }
 }
 
-/// Returns the leaf of a virtual base class.
+/// Returns the record kind of a virtual base class.
 fn virtual_base_leaf(base: VirtualBaseClassType) -> u16
     ensures { result ≡ virtual_base_leaf base.direct }
 {
     if base.direct { LF_VBCLASS } else { LF_IVBCLASS }
 }
 
-/// Returns the leaf that records of today have for a type like this.
+/// Returns the record kind that today's compilers write for a type like this.
 fn leaf_of(data: &TypeData<'_>) -> u16
     ensures { result ≡ leaf_of (type_value «data».now) }
 {
@@ -79,11 +79,11 @@ fn leaf_of(data: &TypeData<'_>) -> u16
     }
 }
 
-/// Returns the row of an entry of a list of fields. Its kind is the leaf that records of today have
-/// for it.
+/// Returns the `Row` of an entry of a list of fields. Its kind is the record kind that today's
+/// compilers write for it.
 ///
 /// # Errors
-/// Fails with `OutOfMemory` if memory is refused.
+/// Fails with `OutOfMemory` if an allocation fails.
 #[tactic(auto, unfolding(crate::specs::EntryRows::field_row))]
 pub fn field_row<'t>(alloc: Global, data: &TypeData<'t>) -> Result<Row<'t>>
     ensures ok { IfOk result (λ row. row_shown row ≡ field_row (type_value «data».now)) }
@@ -93,10 +93,10 @@ pub fn field_row<'t>(alloc: Global, data: &TypeData<'t>) -> Result<Row<'t>>
     headed_row(alloc, Head { index: None, leaf }, data)
 }
 
-/// Returns the row of an entry of a list of methods.
+/// Returns the `Row` of an entry of a list of methods.
 ///
 /// # Errors
-/// Fails with `OutOfMemory` if memory is refused.
+/// Fails with `OutOfMemory` if an allocation fails.
 pub fn method_row<'t>(alloc: Global, method: MethodListEntry) -> Result<Row<'t>>
     ensures ok { IfOk result (λ row. row_shown row ≡ listed_method_fields method) }
     ensures memory { FailsOnlyForMemory result }

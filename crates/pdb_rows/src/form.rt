@@ -1,6 +1,6 @@
-//! The forms in which rows are written.
+//! The forms in which a `Row` is written.
 
-/// How rows are written.
+/// How a `Row` is written.
 #[derive(Clone, Copy, Debug, PartialEq, Eq)]
 pub enum Form {
     /// A line to be read by people.

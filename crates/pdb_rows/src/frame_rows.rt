@@ -1,4 +1,4 @@
-//! Frames as rows.
+//! Frames as `Row`s.
 
 ghost use Rattle.std.specs.Prelude.{◌≡◌, IfOk};
 ghost use Rattle.pdb_base.specs.Memory.{FailsOnlyForMemory};
@@ -38,10 +38,10 @@ fn program<'t>(place: Option<StringRef>) -> Value<'t>
     }
 }
 
-/// Returns the row of a frame.
+/// Returns the `Row` of a frame.
 ///
 /// # Errors
-/// Fails with `OutOfMemory` if memory is refused.
+/// Fails with `OutOfMemory` if an allocation fails.
 #[tactic(auto, unfolding(crate::specs::TableRows::frame_row))]
 pub fn frame_row<'t>(alloc: Global, frame: &FrameData) -> Result<Row<'t>>
     ensures ok { IfOk result (λ row. row_shown row ≡ frame_row frame.now) }

@@ -1,4 +1,4 @@
-//! What the row of each record begins with, and the values of its fields.
+//! The fields that the `Row` of each record begins with, and the values of fields.
 
 ghost use Rattle.std.specs.Prelude.{◌≡◌, codes};
 ghost use Rattle.std.specs.Option.{option_map};
@@ -9,13 +9,13 @@ ghost use Rattle.pdb_rows.specs.Row.{field_shown, kind, value_shown};
 use crate::row::{Field, Value};
 use pdb_base::{IdIndex, RawString, TypeIndex};
 
-/// What a row begins with: the index and the leaf of its record.
+/// What a `Row` begins with: the index of its record, and the record kind.
 #[derive(Clone, Copy, Debug)]
 pub(crate) struct Head {
     /// The index of the record, or None for an entry of a list.
     pub(crate) index: Option<u32>,
 
-    /// The leaf of the record.
+    /// The record kind.
     pub(crate) leaf: u16,
 }
 
@@ -27,7 +27,7 @@ impl Head {
         field("index", optional_hexadecimal(self.index))
     }
 
-    /// Returns the field of the leaf.
+    /// Returns the field of the record kind.
     pub(crate) fn kind<'t>(self) -> Field<'t>
         ensures { field_shown result ≡ (codes "kind", kind self.leaf) }
     {

@@ -1,4 +1,4 @@
-//! Ids as rows.
+//! Ids as `Row`s.
 
 ghost use Rattle.std.specs.Prelude.{◌≡◌, IfOk};
 ghost use Rattle.pdb_base.specs.Memory.{FailsOnlyForMemory};
@@ -17,7 +17,7 @@ use pdb_values::{
 };
 use std::alloc::Global;
 
-/// Returns the row of a function.
+/// Returns the `Row` of a function.
 #[tactic(auto, unfolding(crate::specs::IdRows::function_fields))]
 fn function_row<'t>(alloc: Global, head: Head, id: &FunctionId<'t>) -> Result<Row<'t>>
     ensures ok { IfOk result (λ row. row_shown row ≡
@@ -34,7 +34,7 @@ fn function_row<'t>(alloc: Global, head: Head, id: &FunctionId<'t>) -> Result<Ro
     Ok(Row { fields })
 }
 
-/// Returns the row of a method.
+/// Returns the `Row` of a method.
 #[tactic(auto, unfolding(crate::specs::IdRows::member_function_fields))]
 fn member_function_row<'t>(alloc: Global, head: Head, id: &MemberFunctionId<'t>) -> Result<Row<'t>>
     ensures ok { IfOk result (λ row. row_shown row ≡
@@ -51,7 +51,7 @@ fn member_function_row<'t>(alloc: Global, head: Head, id: &MemberFunctionId<'t>)
     Ok(Row { fields })
 }
 
-/// Returns the row of what a module was built with.
+/// Returns the `Row` of what a module was built with.
 #[tactic(auto, unfolding(crate::specs::IdRows::build_info_fields))]
 fn build_info_row<'t>(alloc: Global, head: Head, id: &BuildInfoId) -> Result<Row<'t>>
     ensures ok { IfOk result (λ row. row_shown row ≡
@@ -67,7 +67,7 @@ fn build_info_row<'t>(alloc: Global, head: Head, id: &BuildInfoId) -> Result<Row
     Ok(Row { fields })
 }
 
-/// Returns the row of the parts of a text.
+/// Returns the `Row` of the parts of a text.
 #[tactic(auto, unfolding(crate::specs::IdRows::string_list_fields))]
 fn string_list_row<'t>(alloc: Global, head: Head, id: &StringListId) -> Result<Row<'t>>
     ensures ok { IfOk result (λ row. row_shown row ≡
@@ -83,7 +83,7 @@ fn string_list_row<'t>(alloc: Global, head: Head, id: &StringListId) -> Result<R
     Ok(Row { fields })
 }
 
-/// Returns the row of a text.
+/// Returns the `Row` of a text.
 #[tactic(auto, unfolding(crate::specs::IdRows::string_fields))]
 fn string_row<'t>(alloc: Global, head: Head, id: &StringId<'t>) -> Result<Row<'t>>
     ensures ok { IfOk result (λ row. row_shown row ≡
@@ -120,7 +120,7 @@ fn source_file<'t>(file: UserDefinedTypeSourceFileRef) -> Value<'t>
     }
 }
 
-/// Returns the row of the place where a type is declared.
+/// Returns the `Row` of the place where a type is declared.
 #[tactic(auto, unfolding(crate::specs::IdRows::source_fields))]
 fn source_row<'t>(alloc: Global, head: Head, id: &UserDefinedTypeSourceId) -> Result<Row<'t>>
     ensures ok { IfOk result (λ row. row_shown row ≡ headed head.index head.leaf (source_fields id.now)) }
@@ -137,10 +137,10 @@ fn source_row<'t>(alloc: Global, head: Head, id: &UserDefinedTypeSourceId) -> Re
     Ok(Row { fields })
 }
 
-/// Returns the row of the id of this index, whose record has this leaf.
+/// Returns the `Row` of the id of this index, whose record is of this kind.
 ///
 /// # Errors
-/// Fails with `OutOfMemory` if memory is refused.
+/// Fails with `OutOfMemory` if an allocation fails.
 #[tactic(auto, unfolding(crate::specs::IdRows::id_row))]
 pub fn id_row<'t>(alloc: Global, index: u32, leaf: u16, data: &IdData<'t>) -> Result<Row<'t>>
     ensures ok { IfOk result (λ row. row_shown row ≡ id_row index leaf (id_value «data».now)) }

@@ -7,8 +7,8 @@ ghost use Rattle.pdb_rows.specs.Lines.{field_line, row_text};
 ghost use Rattle.pdb_rows.specs.Row.{ShownField, ShownRow};
 ghost use Rattle.pdb_rows.specs.Text.{quoted};
 
-/// A row is one line in either form, and so is a field of its own, whatever bytes names hold: the
-/// only control character is the line feed at its end.
+/// A `Row` is one line in either form, and so is a field alone, whatever bytes names hold: the only
+/// control character is the line feed at its end.
 #[tactic(auto, using(crate::proofs::LineLaws::row_is_line, crate::proofs::LineLaws::field_is_line))]
 pub fn lines()
     ensures rows { (form : Form) (row : ShownRow) → IsLine (row_text form row) }

@@ -1,4 +1,4 @@
-//! What is shown of each record: a row of named fields, from which both a line of text and a line
+//! What is shown of each record: a `Row` of named fields, from which both a line of text and a line
 //! of JSON are written, so that a field is named once.
 #![tactic(auto)]
 

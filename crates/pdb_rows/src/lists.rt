@@ -1,4 +1,4 @@
-//! Lists of numbers that rows show.
+//! Lists of numbers that a `Row` shows.
 
 ghost use Rattle.std.specs.Prelude.{◌≡◌, map, IfOk};
 ghost use Rattle.pdb_base.specs.Memory.{FailsOnlyForMemory};

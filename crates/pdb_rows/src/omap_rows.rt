@@ -1,4 +1,4 @@
-//! Records of OMAP tables as rows.
+//! Records of OMAP tables as `Row`s.
 
 ghost use Rattle.std.specs.Prelude.{◌≡◌, IfOk};
 ghost use Rattle.pdb_base.specs.Memory.{FailsOnlyForMemory};
@@ -11,10 +11,10 @@ use pdb_base::{Error, Result};
 use pdb_space::OMAPRecord;
 use std::alloc::Global;
 
-/// Returns the row of a record of an OMAP table.
+/// Returns the `Row` of a record of an OMAP table.
 ///
 /// # Errors
-/// Fails with `OutOfMemory` if memory is refused.
+/// Fails with `OutOfMemory` if an allocation fails.
 #[tactic(auto, unfolding(crate::specs::TableRows::omap_row))]
 pub fn omap_row<'t>(alloc: Global, mapping: OMAPRecord) -> Result<Row<'t>>
     ensures ok { IfOk result (λ row. row_shown row ≡ omap_row mapping) }

@@ -1,4 +1,4 @@
-//! Rows as lines.
+//! `Row`s as lines.
 
 ghost use Rattle.std.specs.Prelude.{◌≡◌, ◌++◌, if◌then◌else◌, [], map, codes, OnOk};
 ghost use Rattle.pdb_base.specs.Memory.{FailsOnlyForMemory};
@@ -24,7 +24,7 @@ fn push_index(form: Form, number: u32, out: &mut Vec<u8>) -> Result<()>
     }
 }
 
-/// Appends a leaf by its name, or in hexadecimal if it has none.
+/// Appends a record kind by its name, or in hexadecimal if it has none.
 #[tactic(auto, unfolding(crate::specs::Lines::kind_text))]
 fn push_kind(form: Form, leaf: u16, out: &mut Vec<u8>) -> Result<()>
     ensures ok { OnOk result (out.new.items ≡ out.old.items ++ quoted form (kind_text leaf)) }
@@ -189,14 +189,14 @@ fn push_joined(form: Form, fields: &[Field<'_>], out: &mut Vec<u8>) -> Result<()
     Ok(())
 }
 
-/// Appends a row as one line with its line feed: in text one such as
-/// `0x1000 LF_STRUCTURE S count=1 size=4`, where the fields that are called index, number, kind and
-/// name stand without their names, or in JSON one object with a member for each field.
+/// Appends a `Row` as one line with its line feed: in text one such as `0x1000 LF_STRUCTURE S
+/// count=1 size=4`, where the fields that are called index, number, kind and name are written
+/// without their names, or in JSON one object with a member for each field.
 ///
 /// A field whose value is absent is left out, and in text also one that holds no words.
 ///
 /// # Errors
-/// Fails with `OutOfMemory` if memory is refused. A part of the line may then stand in `out`.
+/// Fails with `OutOfMemory` if an allocation fails. A part of the line may then be in `out`.
 #[tactic(auto, unfolding(crate::specs::Lines::row_text))]
 pub fn push_row(form: Form, row: &Row<'_>, out: &mut Vec<u8>) -> Result<()>
     ensures ok { OnOk result (out.new.items ≡ out.old.items ++ row_text form (row_shown row.now)) }
@@ -244,11 +244,11 @@ fn push_lines(fields: &[Field<'_>], out: &mut Vec<u8>) -> Result<()>
     Ok(())
 }
 
-/// Appends a row in full: in text a line `name: value` for each field that is shown, or in JSON the
-/// line of `push_row`.
+/// Appends a `Row` in full: in text a line `name: value` for each field that is shown, or in JSON
+/// the line of `push_row`.
 ///
 /// # Errors
-/// Fails with `OutOfMemory` if memory is refused. A part of the lines may then stand in `out`.
+/// Fails with `OutOfMemory` if an allocation fails. A part of the lines may then be in `out`.
 #[tactic(auto, unfolding(crate::specs::Lines::full_text))]
 pub fn push_fields(form: Form, row: &Row<'_>, out: &mut Vec<u8>) -> Result<()>
     ensures ok { OnOk result (out.new.items ≡ out.old.items ++ full_text form (row_shown row.now)) }

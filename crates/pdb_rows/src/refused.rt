@@ -1,4 +1,4 @@
-//! Why a record or another part of a file is refused.
+//! The error of a record or of another part of a file, as a field.
 
 ghost use Rattle.std.specs.Prelude.{◌≡◌, codes, IfOk};
 ghost use Rattle.pdb_base.specs.Memory.{FailsOnlyForMemory};
@@ -14,7 +14,7 @@ use std::alloc::Global;
 /// Returns the text of an error. The text of an I/O error says only that it is one.
 ///
 /// # Errors
-/// Fails with `OutOfMemory` if memory is refused.
+/// Fails with `OutOfMemory` if an allocation fails.
 #[tactic(auto, unfolding(crate::specs::Refused::refusal_text))]
 pub fn error_text(alloc: Global, error: &Error) -> Result<Vec<u8>>
     ensures ok { IfOk result (λ text. text.items ≡ refusal_text (refusal_of error.now)) }
@@ -26,7 +26,7 @@ pub fn error_text(alloc: Global, error: &Error) -> Result<Vec<u8>>
     }
 }
 
-/// Returns the field that tells why something is refused, with the text of the error.
+/// Returns the field with the text of an error.
 pub fn error_field(text: &[u8]) -> Field<'_>
     ensures { field_shown result ≡ (codes "error", shown_text text.now) }
 {

@@ -1,4 +1,4 @@
-//! Rows: what is shown of a record.
+//! A `Row`: what is shown of a record.
 
 use pdb_base::RawString;
 
@@ -14,7 +14,7 @@ pub enum Value<'t> {
     /// An index or an address: shown in hexadecimal in text, and as a number in JSON.
     Hexadecimal(u32),
 
-    /// The leaf of a record: shown by its name, or as `0x` and four hexadecimal digits if it has
+    /// The kind of a record: shown by its name, or as `0x` and four hexadecimal digits if it has
     /// none.
     Kind(u16),
 
@@ -41,7 +41,7 @@ pub enum Value<'t> {
     Absent,
 }
 
-/// A field of a row.
+/// A field of a `Row`.
 #[derive(Debug, PartialEq, Eq, Drop)]
 pub struct Field<'t> {
     /// What the field is called.

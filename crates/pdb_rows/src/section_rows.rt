@@ -1,4 +1,4 @@
-//! Section headers as rows.
+//! Section headers as `Row`s.
 
 ghost use Rattle.std.specs.Prelude.{◌≡◌, IfOk};
 ghost use Rattle.pdb_base.specs.Memory.{FailsOnlyForMemory};
@@ -34,10 +34,10 @@ fn alignment<'t>(multiple: Option<u16>) -> Value<'t>
     }
 }
 
-/// Returns the row of the section header with this number.
+/// Returns the `Row` of the section header with this number.
 ///
 /// # Errors
-/// Fails with `OutOfMemory` if memory is refused.
+/// Fails with `OutOfMemory` if an allocation fails.
 #[tactic(auto, unfolding(crate::specs::TableRows::section_row))]
 pub fn section_row(alloc: Global, number: u32, header: &ImageSectionHeader) -> Result<Row<'_>>
     ensures ok { IfOk result (λ row. row_shown row ≡ section_row number header.now) }

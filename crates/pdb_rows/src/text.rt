@@ -10,7 +10,7 @@ use crate::number::four_digits;
 use bstr::{ByteSlice, ByteVec};
 use pdb_base::{Error, Result};
 
-/// Returns whether a byte is a character that stands for itself in every form.
+/// Returns whether a byte is a character that is written unescaped in every form.
 fn is_plain(byte: u8) -> bool
     ensures { result ≡ is_plain byte }
 {

@@ -1,4 +1,4 @@
-//! Types as rows.
+//! Types as `Row`s.
 
 ghost use Rattle.std.specs.Prelude.{◌≡◌, IfOk};
 ghost use Rattle.pdb_base.specs.Memory.{FailsOnlyForMemory};
@@ -35,7 +35,7 @@ use pdb_base::{Error, Result};
 use pdb_values::TypeData;
 use std::alloc::Global;
 
-/// Returns the row of a type, which begins with this head.
+/// Returns the `Row` of a type, which begins with this head.
 pub(crate) fn headed_row<'t>(alloc: Global, head: Head, data: &TypeData<'t>) -> Result<Row<'t>>
     ensures ok { IfOk result (λ row. row_shown row ≡
         headed head.index head.leaf (type_fields (type_value «data».now))) }
@@ -68,10 +68,10 @@ pub(crate) fn headed_row<'t>(alloc: Global, head: Head, data: &TypeData<'t>) -> 
     }
 }
 
-/// Returns the row of the type of this index, whose record has this leaf.
+/// Returns the `Row` of the type of this index, whose record is of this kind.
 ///
 /// # Errors
-/// Fails with `OutOfMemory` if memory is refused.
+/// Fails with `OutOfMemory` if an allocation fails.
 #[tactic(auto, unfolding(crate::specs::TypeRows::type_row))]
 pub fn type_row<'t>(alloc: Global, index: u32, leaf: u16, data: &TypeData<'t>) -> Result<Row<'t>>
     ensures ok { IfOk result (λ row. row_shown row ≡ type_row index leaf (type_value «data».now)) }

@@ -1,4 +1,4 @@
-//! Rows that are written.
+//! `Row`s that are written.
 
 ghost use Rattle.std.specs.Prelude.{◌≡◌};
 ghost use Rattle.pdb_output.specs.Output.{Writes};
@@ -12,11 +12,11 @@ use pdb_base::Result;
 use pdb_output::Output;
 use std::io::Write;
 
-/// Writes a row as a line, which is assembled in the buffer `line`. The buffer is cleared first.
+/// Writes a `Row` as a line, which is assembled in the buffer `line`. The buffer is cleared first.
 ///
 /// # Errors
-/// Fails with `OutOfMemory` if memory is refused, and with `IoError` if the output fails, which may
-/// then have got a prefix of the line.
+/// Fails with `OutOfMemory` if an allocation fails, and with `IoError` if the output fails, which
+/// may then have got a prefix of the line.
 #[tactic(auto, using(pdb_output::proofs::lemmas::Written::writing))]
 pub fn write_row<W: Write>(
     form: Form,

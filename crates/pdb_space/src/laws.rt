@@ -59,7 +59,7 @@ pub fn conversions()
         ⟦<u32 as From<PdbInternalRva>>⟧.from_gives }
 {}
 
-/// References to names are their numbers: they compare as these do, and turn into them and back.
+/// References to names are their numbers: they compare as these do, and convert into them and back.
 /// Equal ones hash alike, which the trait `Hash` demands of each type.
 pub fn string_refs()
     ensures equal { TellsApart ⟦<StringRef as PartialEq>⟧.eq }
@@ -69,8 +69,8 @@ pub fn string_refs()
         ⟦<u32 as From<StringRef>>⟧.from_gives }
 {}
 
-/// The names of a stream are those that stand after a good header in it, as many bytes as the
-/// header says. Any other stream is refused by the first of four faults.
+/// The names of a stream are those that follow a good header in it, as many bytes as the header
+/// says. Any other stream gives the first of four errors.
 #[tactic(auto, using(crate::proofs::StringTableLemmas::finds_names, crate::proofs::StringTableLemmas::refuses_by_first_fault))]
 pub fn string_tables()
     ensures found { (stream : List ℕ) → FindsNames stream }

@@ -80,7 +80,7 @@ impl OMAPRecord {
         self.target.checked_add(address - self.source)
     }
 
-    /// Returns the range to which the record moves its part of the asked range, cut to end at
+    /// Returns the range to which the record moves its part of the given range, cut to end at
     /// 0xffffffff at most, or None if that is empty or the target is 0. `next` is the address at
     /// which the record's part ends.
     #[tactic(auto, unfolding(crate::specs::Ranges::part, crate::specs::Ranges::unless_empty))]

@@ -21,8 +21,8 @@ pub(crate) struct Found {
 
 /// Searches for the last record whose source is at or below an address, and counts the comparisons.
 ///
-/// Each comparison halves the part of the table that is left to search, whichever way it turns out.
-/// The distance of the address from the source is kept beside the index, since one subtraction both
+/// Each comparison halves the part of the table that is left to search, whatever its result. The
+/// distance of the address from the source is kept beside the index, since one subtraction both
 /// compares and gives the distance. So a step needs no branch.
 #[tactic(auto, using(pdb_base::proofs::lemmas::Halving::halving_begins, pdb_base::proofs::lemmas::Halving::halving_takes, pdb_base::proofs::lemmas::Halving::halving_passes, pdb_base::proofs::lemmas::Halving::halving_ends, pdb_base::proofs::lemmas::Halving::halving_counts, pdb_base::proofs::lemmas::Halving::halving_counted))]
 pub(crate) fn search(bytes: &[u8], address: u32, count: &mut Count) -> Found

@@ -49,7 +49,7 @@ impl StringRef {
     ///
     /// # Errors
     /// Fails with `UnexpectedEof` if there is no NUL among the table's names at or after this
-    /// offset, and with `OutOfMemory` if the name isn't UTF-8 and memory is refused.
+    /// offset, and with `OutOfMemory` if the name isn't UTF-8 and an allocation fails.
     #[tactic(auto, unfolding(crate::specs::StringTable::lossy_name_of), using(crate::proofs::NameLemmas::no_want))]
     pub fn to_string_lossy(self, alloc: Global, strings: &StringTable) -> Result<CowStr<'_>>
         ensures text { Answers cow_str_bytes result (lossy_name_of strings.now self) }

@@ -9,7 +9,7 @@ use crate::string_ref::StringRef;
 use pdb_base::{Error, ParseBuffer, RawString, Result, Stream};
 use std::marker::Model;
 
-/// The signature at the front of every string table.
+/// The signature at the start of every string table.
 const SIGNATURE: u32 = 0xeffe_effe;
 
 /// The size of the header in bytes.

@@ -186,12 +186,12 @@ fn part_of(bytes: &[u8], skip: u32, limit: Option<u32>) -> &[u8]
     }
 }
 
-/// Writes the bytes of a stream after the first `skip`, and of these at most `limit`. Nothing else is
-/// written.
+/// Writes the bytes of a stream after the first `skip`, and of these at most `limit`. Nothing else
+/// is written.
 ///
 /// # Errors
 /// Fails as `Msf::get` does for the number, with `IoError` if the writer fails, and with
-/// `OutOfMemory` if memory is refused.
+/// `OutOfMemory` if an allocation fails.
 #[tactic(auto, unfolding(crate::specs::Extracted::extraction), using(pdb_tables::proofs::ListedLemmas::refused_listed, pdb_tables::proofs::ListedLemmas::writes_listed))]
 pub fn extract<W: Write>(
     alloc: Global,

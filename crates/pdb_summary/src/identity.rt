@@ -22,7 +22,7 @@ pub enum KeyStyle {
     /// The path of the file in a symbol store: `NAME/KEY/NAME`.
     Key,
 
-    /// The same in lower case, the name too, as the conventions for SSQP have it.
+    /// That path in lower case, the name too, as the conventions for SSQP have it.
     Ssqp,
 
     /// The first line of a symbol file of Breakpad: `MODULE windows CPU KEY NAME`.
@@ -146,7 +146,7 @@ fn optional_flag<'t>(flag: Option<bool>) -> Value<'t>
     }
 }
 
-/// Returns the row of all that identifies a file, with the texts of its GUID and of its key.
+/// Returns the `Row` of all that identifies a file, with the texts of its GUID and of its key.
 fn identity_row<'t>(
     alloc: Global,
     name: &'t str,
@@ -212,11 +212,11 @@ fn write_line<W: Write>(
     out.write(&line)
 }
 
-/// Writes the identity of a file of this name: a line in the style, or an object of JSON with all of
-/// it.
+/// Writes the identity of a file of this name: a line in the style, or an object of JSON with all
+/// of it.
 ///
 /// # Errors
-/// Fails with `IoError` if the writer fails, and with `OutOfMemory` if memory is refused.
+/// Fails with `IoError` if the writer fails, and with `OutOfMemory` if an allocation fails.
 pub fn write_identity<W: Write>(
     alloc: Global,
     style: KeyStyle,
@@ -236,7 +236,7 @@ pub fn write_identity<W: Write>(
 /// Returns whether a word is the key of a file, in upper or in lower case.
 ///
 /// # Errors
-/// Fails with `OutOfMemory` if memory is refused.
+/// Fails with `OutOfMemory` if an allocation fails.
 pub fn is_key(alloc: Global, word: &str, identity: &Identity) -> Result<bool>
     ensures ok { IfOk result (λ is_key. IsTrue is_key ↔ IsKey word.now identity.now) }
     ensures memory { FailsOnlyForMemory result }

@@ -20,13 +20,13 @@ const KINDS: usize = 0x10000;
 /// A kind of records, and how many there are.
 #[derive(Clone, Copy, Debug, PartialEq, Eq)]
 pub struct KindCount {
-    /// The leaf that is the kind.
+    /// The number of the record kind.
     pub leaf: u16,
     /// How many records of the kind there are.
     pub count: u64,
 }
 
-/// Returns the kinds that have records, the lowest leaf first.
+/// Returns the kinds that have records, the lowest number first.
 fn present(alloc: Global, counts: &[u64]) -> Result<Vec<KindCount>>
     requires { length counts.now ≡ 0x10000 }
     ensures present { IfOk result (λ kinds. kinds.items ≡

@@ -1,4 +1,4 @@
-//! Parts of a file that are refused.
+//! Parts of a file that have an error.
 
 ghost use Rattle.std.specs.Prelude.{◌≡◌, [], ◌∷◌, codes, IfOk};
 ghost use Rattle.pdb_base.specs.Memory.{FailsOnlyForMemory};
@@ -31,7 +31,7 @@ pub enum Part {
     Table(u32),
 }
 
-/// Returns the field of a row that names a part.
+/// Returns the field that names a part.
 fn part_field<'t>(part: Part) -> Field<'t>
     ensures { field_shown result ≡ part_shown part }
 {
@@ -45,7 +45,7 @@ fn part_field<'t>(part: Part) -> Field<'t>
     }
 }
 
-/// Returns the row of a part that is refused, with the text that says why.
+/// Returns the `Row` of a part that has an error, with the text of the error.
 fn refused_row<'t>(alloc: Global, part: Part, text: &'t [u8]) -> Result<Row<'t>>
     ensures ok { IfOk result (λ row. row_shown row ≡ part_shown part ∷ (codes "error", shown_text text.now) ∷ []) }
     ensures memory { FailsOnlyForMemory result }
@@ -54,7 +54,7 @@ fn refused_row<'t>(alloc: Global, part: Part, text: &'t [u8]) -> Result<Row<'t>>
     Ok(Row { fields })
 }
 
-/// Writes which part is refused, and why.
+/// Writes which part has an error, and which error.
 #[tactic(auto, unfolding(crate::specs::Refused::refused_line), using(pdb_output::proofs::lemmas::Written::writing))]
 pub fn write_refused<W: Write>(
     alloc: Global,

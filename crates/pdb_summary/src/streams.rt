@@ -56,8 +56,8 @@ fn pages_held<'t>(page_size: u32, size: u32) -> Value<'t>
     Value::Number((size as u64).div_ceil(page_size as u64))
 }
 
-/// Returns the row of a stream: its number, its size in bytes, how many pages hold it, its role and
-/// its name.
+/// Returns the `Row` of a stream: its number, its size in bytes, how many pages hold it, its role
+/// and its name.
 fn stream_row<'t>(
     alloc: Global,
     page_size: u32,
@@ -100,8 +100,8 @@ fn write_size<W: Write>(
     write_row(form, &row, &mut Vec::new(alloc), out)
 }
 
-/// Writes the line of the stream with this number, if there is one. If its size is refused, the
-/// line says so.
+/// Writes the line of the stream with this number, if there is one. If its size can't be read, the
+/// line has the error.
 #[tactic(auto, unfolding(crate::specs::Streams::stream_line), using(pdb_output::proofs::lemmas::Written::writing))]
 fn write_stream<W: Write>(
     alloc: Global,

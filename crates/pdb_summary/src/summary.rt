@@ -42,7 +42,7 @@ fn pages_of(file: &[u8]) -> Result<(u32, u32)>
     Ok((page_size, pages_used))
 }
 
-/// Returns the row of a file: the size of its pages in bytes, how many pages it uses, and its own
+/// Returns the `Row` of a file: the size of its pages in bytes, how many pages it uses, and its own
 /// size in bytes.
 fn pages_row<'t>(alloc: Global, page_size: u32, pages: u32, size: usize) -> Result<Row<'t>>
     ensures ok { IfOk result (λ row. row_shown row ≡ pages_shown (page_size, pages) size) }
@@ -67,7 +67,7 @@ fn unnamed<'k>(layout: &'k Layout, roles: DBIExtraStreams) -> Known<'k, 'static>
     }
 }
 
-/// Reads the layout of a file, and fails if its directory or the count of streams is refused.
+/// Reads the layout of a file, and fails if its directory or the count of streams can't be read.
 #[tactic(auto, unfolding(crate::specs::Summary::counted_layout))]
 fn counted_layout(alloc: Global, file: &[u8]) -> Result<Layout>
     ensures { Answers (λ layout. layout) result (counted_layout file.now) }
@@ -77,8 +77,8 @@ fn counted_layout(alloc: Global, file: &[u8]) -> Result<Layout>
     Ok(layout)
 }
 
-/// Returns the roles of streams that stream 3 gives. If these are refused, writes that, and returns
-/// that no stream has a role.
+/// Returns the roles of streams that stream 3 gives. If these can't be read, writes the error, and
+/// returns that no stream has a role.
 #[tactic(auto, using(pdb_output::proofs::lemmas::Written::writing))]
 fn known_roles<W: Write>(
     alloc: Global,
@@ -102,7 +102,7 @@ fn known_roles<W: Write>(
     }
 }
 
-/// Writes that the names of streams are refused, and then the streams as `known` describes them.
+/// Writes the error of the names of streams, and then the streams as `known` describes them.
 #[tactic(auto, using(pdb_output::proofs::lemmas::Written::writing))]
 fn write_unnamed<W: Write>(
     alloc: Global,
@@ -118,8 +118,8 @@ fn write_unnamed<W: Write>(
     write_streams(alloc, known, form, out)
 }
 
-/// Writes the streams of a file, with the names that stream 1 gives. If these are refused, writes
-/// that, and then the streams without names.
+/// Writes the streams of a file, with the names that stream 1 gives. If these can't be read, writes
+/// the error, and then the streams without names.
 #[tactic(auto, using(pdb_output::proofs::lemmas::Written::writing))]
 fn write_named<W: Write>(
     alloc: Global,
@@ -145,8 +145,8 @@ fn write_named<W: Write>(
     }
 }
 
-/// Writes the streams of a file. If their names are refused, writes that first, and no stream has a
-/// name.
+/// Writes the streams of a file. If their names can't be read, writes the error first, and no
+/// stream has a name.
 #[tactic(auto, unfolding(crate::specs::Summary::names_of), using(pdb_output::proofs::lemmas::Written::writing))]
 fn write_all_streams<W: Write>(
     alloc: Global,
@@ -168,7 +168,7 @@ fn write_all_streams<W: Write>(
     }
 }
 
-/// Writes the streams of a file, and what is refused of their roles and names.
+/// Writes the streams of a file, and the errors of their roles and names.
 #[tactic(auto, unfolding(crate::specs::Summary::streams_part), using(pdb_output::proofs::lemmas::Written::writing))]
 fn write_streams_part<W: Write>(
     alloc: Global,
@@ -218,7 +218,7 @@ fn write_read_parts<W: Write>(
     write_tables(alloc, file, form, out)
 }
 
-/// Writes all parts of a file, or that its directory is refused.
+/// Writes all parts of a file, or the error of its directory.
 #[tactic(auto, unfolding(crate::specs::Summary::parts_lines), using(pdb_output::proofs::lemmas::Written::writing))]
 fn write_parts<W: Write>(
     alloc: Global,
@@ -236,7 +236,7 @@ fn write_parts<W: Write>(
     }
 }
 
-/// Writes the line of a file, or that its header is refused.
+/// Writes the line of a file, or the error of its header.
 #[tactic(auto, unfolding(crate::specs::Summary::pages_line), using(pdb_output::proofs::lemmas::Written::writing))]
 fn write_pages<W: Write>(alloc: Global, file: &[u8], form: Form, out: &mut Output<W>) -> Result<()>
     ensures { Writes (pages_line form file.now) out.old out.new result }
@@ -266,11 +266,11 @@ fn write_summary<W: Write>(
 }
 
 /// Lists what a file is made of: its pages, a line for each stream, and how many records of each
-/// kind the tables of types and ids have. A part that is refused has a line of its own that says
-/// so, among those of the others.
+/// kind the tables of types and ids have. A part that has an error has a line with the error, among
+/// those of the others.
 ///
 /// # Errors
-/// Fails with `IoError` if the writer fails, and with `OutOfMemory` if memory is refused.
+/// Fails with `IoError` if the writer fails, and with `OutOfMemory` if an allocation fails.
 pub fn list_summary<W: Write>(
     alloc: Global,
     file: &mut PDB<Vec<u8>>,

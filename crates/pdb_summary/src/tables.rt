@@ -21,7 +21,7 @@ use pdb_tpi::TypeInformation;
 use std::alloc::Global;
 use std::io::Write;
 
-/// Returns the row of a table: the number of its stream, how many records it has and how many of
+/// Returns the `Row` of a table: the number of its stream, how many records it has and how many of
 /// them are lists of fields that another list continues, and the indexes that its header counts.
 fn table_row<'t>(
     alloc: Global,
@@ -70,7 +70,7 @@ fn write_head<W: Write>(
     write_row(form, &row, &mut Vec::new(alloc), out)
 }
 
-/// Returns the row of a kind of a table's records, and how many there are.
+/// Returns the `Row` of a kind of a table's records, and how many there are.
 fn kind_row<'t>(alloc: Global, number: u32, kind: KindCount) -> Result<Row<'t>>
     ensures ok { IfOk result (λ row. row_shown row ≡ kind_shown number kind) }
     ensures memory { FailsOnlyForMemory result }
@@ -181,7 +181,7 @@ fn table_found(alloc: Global, file: &mut PDB<Vec<u8>>, number: u32) -> Result<Ty
     TypeInformation::parse(stream(alloc, file, number)?)
 }
 
-/// Writes the table in the stream with this number, or that it is refused.
+/// Writes the table in the stream with this number, or its error.
 #[tactic(auto, unfolding(crate::specs::Kinds::table_part), using(pdb_output::proofs::lemmas::Written::writing))]
 pub fn write_table<W: Write>(
     alloc: Global,

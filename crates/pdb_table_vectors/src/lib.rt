@@ -1,5 +1,5 @@
-//! The worked rows of files, pages and buffers, of addresses, translation, names, frames and the roles of streams, as
-//! tests.
+//! Test cases of files, pages and buffers, of addresses, translation, names, frames and the roles
+//! of streams.
 #![tactic(auto)]
 
 #[cfg(test)]

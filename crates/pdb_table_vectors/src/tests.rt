@@ -1,4 +1,8 @@
-//! The worked rows, a file a topic.
+//! Test cases, a file a topic.
+//!
+//! Cases are constants that one loop goes over, since the time to prove a test grows with the
+//! square of the size of its functions. A constant costs little up to some twenty cases; a longer
+//! one, or one with lists in its cases, is split.
 
 mod addresses;
 mod base;
@@ -27,7 +31,8 @@ fn stream(alloc: Global, bytes: &[u8]) -> Result<Stream, Fail> {
     Ok(Stream::new(Vec::from_slice(alloc, bytes)?))
 }
 
-/// Whether an error is the same as another, by its variant and what is in it. Those of sources are not among them.
+/// Whether an error is the same as another, by its variant and what is in it. Those of sources are
+/// not among them.
 fn is_error(found: &Error, want: &Error) -> bool {
     match (found, want) {
         (Error::UnexpectedEof, Error::UnexpectedEof) => true,

@@ -25,7 +25,7 @@ use std::io::Write;
 /// # Errors
 /// If no stream is given, fails as `extra_streams` does. Fails as `Msf::get` does for the stream,
 /// and with `UnexpectedEof`, after the lines of the whole headers, if the last one is cut short.
-/// Fails with `IoError` if the writer fails, and with `OutOfMemory` if memory is refused.
+/// Fails with `IoError` if the writer fails, and with `OutOfMemory` if an allocation fails.
 #[tactic(auto, unfolding(crate::specs::Files::file_sections), using(crate::proofs::ListedLemmas::refused_listed))]
 pub fn list_sections<W: Write>(
     alloc: Global,
@@ -62,7 +62,7 @@ fn names_in<S: Source>(alloc: Global, file: &mut PDB<S>, stream: Option<u32>) ->
 /// # Errors
 /// If no stream is given, fails as `string_table` does; otherwise as `Msf::get` does for the
 /// stream, and then as `StringTable::parse` does for its bytes. Fails with `IoError` if the writer
-/// fails, and with `OutOfMemory` if memory is refused.
+/// fails, and with `OutOfMemory` if an allocation fails.
 #[tactic(auto, unfolding(crate::specs::Files::file_names), using(crate::proofs::ListedLemmas::refused_listed))]
 pub fn list_names<W: Write>(
     alloc: Global,
@@ -81,8 +81,8 @@ pub fn list_names<W: Write>(
 /// Lists the frames of a file, by their starts, as `FrameTable::iter` yields them.
 ///
 /// # Errors
-/// Fails as `frame_table` does, with `IoError` if the writer fails, and with `OutOfMemory` if
-/// memory is refused.
+/// Fails as `frame_table` does, with `IoError` if the writer fails, and with `OutOfMemory` if an
+/// allocation fails.
 #[tactic(auto, unfolding(crate::specs::Files::file_frames), using(crate::proofs::ListedLemmas::refused_listed))]
 pub fn list_frames<W: Write>(
     alloc: Global,
@@ -102,7 +102,7 @@ pub fn list_frames<W: Write>(
 ///
 /// # Errors
 /// Fails as `Msf::get` does for the streams, the older one first, and then as `FrameTable::parse`
-/// does. Fails with `IoError` if the writer fails, and with `OutOfMemory` if memory is refused.
+/// does. Fails with `IoError` if the writer fails, and with `OutOfMemory` if an allocation fails.
 #[tactic(auto, unfolding(crate::specs::Files::frames_in), using(crate::proofs::ListedLemmas::refused_listed))]
 pub fn list_frames_in<W: Write>(
     alloc: Global,

@@ -15,7 +15,7 @@ use std::io::Write;
 /// new record start at the same address, only the new one.
 ///
 /// # Errors
-/// Fails with `IoError` if the writer fails, and with `OutOfMemory` if memory is refused.
+/// Fails with `IoError` if the writer fails, and with `OutOfMemory` if an allocation fails.
 pub fn write_frames<W: Write>(
     alloc: Global,
     table: &FrameTable,

@@ -22,7 +22,7 @@ fn next_place(place: u32, size: usize) -> Option<u32>
     place.checked_add(size)?.checked_add(1)
 }
 
-/// Returns the row of a name: its offset and its text.
+/// Returns the `Row` of a name: its offset and its text.
 fn name_row<'t>(alloc: Global, place: u32, name: RawString<'t>) -> Result<Row<'t>>
     ensures ok { IfOk result (λ row. row_shown row ≡ name_shown (place, name.entry.0.now)) }
     ensures memory { FailsOnlyForMemory result }

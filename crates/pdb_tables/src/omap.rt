@@ -38,7 +38,7 @@ fn is_sorted(table: &OMAPTable) -> bool
     table.is_sorted()
 }
 
-/// Returns the row that says whether a table is sorted.
+/// Returns the `Row` that says whether a table is sorted.
 fn order_row<'t>(alloc: Global, is_sorted: bool) -> Result<Row<'t>>
     ensures ok { IfOk result (λ row. row_shown row ≡ order_shown is_sorted) }
     ensures memory { FailsOnlyForMemory result }
@@ -66,7 +66,7 @@ fn write_table<W: Write>(
 ///
 /// # Errors
 /// Fails with `InvalidStreamLength` if the stream's length isn't a multiple of eight. Fails with
-/// `IoError` if the writer fails, and with `OutOfMemory` if memory is refused.
+/// `IoError` if the writer fails, and with `OutOfMemory` if an allocation fails.
 pub fn write_omap<W: Write>(
     alloc: Global,
     stream: Stream,

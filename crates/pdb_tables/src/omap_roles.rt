@@ -17,7 +17,7 @@ use pdb_rows::{Form, Row, Value, field, write_row};
 use std::alloc::Global;
 use std::io::Write;
 
-/// Returns the row that says the role of the table that follows, and the number of its stream.
+/// Returns the `Row` that says the role of the table that follows, and the number of its stream.
 fn role_row<'t>(alloc: Global, role: &'static str, number: u32) -> Result<Row<'t>>
     ensures ok { IfOk result (λ row. row_shown row ≡ role_shown role.now number) }
     ensures memory { FailsOnlyForMemory result }
@@ -110,7 +110,7 @@ fn list_both<W: Write>(
 /// If no stream is given, fails as `extra_streams` does. Fails as `Msf::get` does for a stream, and
 /// then with `InvalidStreamLength` if its length isn't a multiple of eight; the table before it,
 /// and the line with its own role, have been listed by then. Fails with `IoError` if the writer
-/// fails, and with `OutOfMemory` if memory is refused.
+/// fails, and with `OutOfMemory` if an allocation fails.
 #[tactic(auto, unfolding(crate::specs::Files::file_omap), using(crate::proofs::ListedLemmas::refused_listed))]
 pub fn list_omap<W: Write>(
     alloc: Global,

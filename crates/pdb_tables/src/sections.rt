@@ -18,7 +18,7 @@ const HEADER_SIZE: usize = 40;
 ///
 /// # Errors
 /// Fails with `UnexpectedEof`, after the lines of the whole headers, if the last one is cut short.
-/// Fails with `IoError` if the writer fails, and with `OutOfMemory` if memory is refused.
+/// Fails with `IoError` if the writer fails, and with `OutOfMemory` if an allocation fails.
 #[tactic(auto, unfolding(crate::specs::Tables::sections_listing))]
 pub fn write_sections<W: Write>(
     alloc: Global,

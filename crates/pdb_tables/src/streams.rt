@@ -1,4 +1,4 @@
-//! The streams that are asked for, by their numbers or by their roles.
+//! The streams to list, by their numbers or by their roles.
 
 ghost use Rattle.std.specs.Prelude.{◌≡◌};
 ghost use Rattle.pdb_msf.specs.File.{ReadsFile};

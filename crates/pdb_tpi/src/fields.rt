@@ -97,7 +97,7 @@ impl<'t> ItemFinder<'t, TypeIndex> {
     /// Fails with the first error along the lists, tried in this order for each list: those of
     /// `find`; `UnimplementedTypeKind` with the item's kind if the item is not a list of fields
     /// (LF_FIELDLIST); those of `parse`; and `UnimplementedFeature` if the list continues in one
-    /// whose index is not below its own. Fails with `OutOfMemory` if memory is refused.
+    /// whose index is not below its own. Fails with `OutOfMemory` if an allocation fails.
     pub fn fields(&self, alloc: Global, index: TypeIndex) -> Result<Vec<TypeData<'t>>>
         ensures { Answers (λ fields. map type_value fields.items) result
             (fields_of (find_of self.now.table self.now.known) index.0) }
@@ -108,7 +108,7 @@ impl<'t> ItemFinder<'t, TypeIndex> {
 
 impl OpenTable<TypeIndex> {
     /// Returns the fields of a list and of the lists that continue it, wherever in the table they
-    /// stand.
+    /// are.
     ///
     /// # Errors
     /// Fails as `ItemFinder::fields` does, with the errors of `OpenTable::item` in place of those

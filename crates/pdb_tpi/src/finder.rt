@@ -26,8 +26,8 @@ pub(crate) const PRIMITIVE: &[u8] = b"\xff\xff";
 
 /// A finder of items of a table by their indexes, which does not walk from the first one.
 ///
-/// It knows where some blocks of eight items begin, from the front of the table on, and learns
-/// where more of them begin from iterators that it is shown.
+/// It knows where some blocks of eight items begin, from the first one on, and learns where more of
+/// them begin from the iterators that it is fed.
 #[derive(Debug, Drop)]
 pub struct ItemFinder<'t, I> {
     table: &'t ItemInformation<I>,
@@ -67,11 +67,11 @@ impl<I: ItemIndex> ItemInformation<I> {
 
     /// Returns a finder of this table. It knows the first block if the header counts any index.
     ///
-    /// It asks for memory once: for the positions of as many blocks as the header counts, but no
-    /// more than the table's bytes can hold.
+    /// It allocates once: for the positions of as many blocks as the header counts, but no more
+    /// than the table's bytes can hold.
     ///
     /// # Errors
-    /// Returns `OutOfMemory` if memory is refused, which is never so if the header counts no index.
+    /// Returns `OutOfMemory` if the allocation fails; none is made if the header counts no index.
     pub fn finder(&self, alloc: Global) -> Result<ItemFinder<'_, I>>
         ensures finder { Answers (λ finder. finder) result
             (Ok (record { table = self.now; known = known_when_new self.now })) }
@@ -127,7 +127,7 @@ impl<'t, I: ItemIndex> ItemFinder<'t, I> {
         I::from((end.min(header.maximum_index as u64) - 1) as u32)
     }
 
-    /// Learns where the next block begins, if the iterator stands before the first item of that
+    /// Learns where the next block begins, if the iterator's next item is the first one of that
     /// block and the item's index is below the maximum. The iterator must be one over the finder's
     /// table, or over one with equal bytes and header.
     pub fn update(&mut self, iterator: &ItemIter<'_, I>)

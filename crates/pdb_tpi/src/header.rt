@@ -50,7 +50,7 @@ pub struct Header {
     pub hash_values: Slice,
     /// The positions of some items.
     pub ti_off: Slice,
-    /// The items that were moved to the front of their bucket.
+    /// The items that were moved to the start of their bucket.
     pub hash_adj: Slice,
 }
 
@@ -98,7 +98,7 @@ fn read_fields(buffer: &mut ParseBuffer<'_>) -> Result<Header>
 }
 
 impl Header {
-    /// Refuses a header that no table of `len` bytes has.
+    /// Fails for a header that no table of `len` bytes has.
     #[tactic(auto, unfolding(crate::specs::Header::checked))]
     fn check(self, len: usize) -> Result<()>
         ensures { Gives (λ x. x) result (checked self len) }
@@ -124,7 +124,7 @@ impl Header {
     }
 }
 
-/// Reads the header at the front of a table's bytes. Every field is 0 if the table has no bytes.
+/// Reads the header at the start of a table's bytes. Every field is 0 if the table has no bytes.
 #[tactic(auto, unfolding(crate::specs::Header::header_of, crate::specs::Header::read_header_of))]
 pub fn read_header(bytes: &[u8]) -> Result<Header>
     ensures header { Gives (λ header. header) result (header_of bytes.now) }

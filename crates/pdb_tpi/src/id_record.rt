@@ -25,8 +25,8 @@ impl<'t> Item<'t, IdIndex> {
     /// # Errors
     /// Fails with the first fault of the record: `UnexpectedEof` if its bytes end before a field
     /// does, or hold fewer items than a list's count says; or `UnimplementedTypeKind` with the
-    /// leaf's number for a leaf that has no record here. Fails with `OutOfMemory` if memory for a
-    /// list that the bytes hold is refused.
+    /// number of the record kind if that is not read here. Fails with `OutOfMemory` if the
+    /// allocation for a list that the bytes hold fails.
     #[tactic(auto, unfolding(crate::specs::Record::id_of))]
     pub fn parse(&self, alloc: Global) -> Result<IdData<'t>>
         ensures read { Answers id_value result (id_of (bytes_of self.now)) }

@@ -1,4 +1,8 @@
 //! One item of a table.
+//!
+//! `Item` has no `Model`, and contracts speak of its fields: it can be copied and borrows from its
+//! table, and for such a struct the language allows no model from whose value the fields can be
+//! recovered.
 
 ghost use Rattle.std.specs.Prelude.{◌≡◌, ◌≤◌, ◌↔◌, [], length, IsTrue, ⊤};
 ghost use Rattle.pdb_tpi.specs.Record.{kind_of};
@@ -15,7 +19,7 @@ pub struct Item<'t, I> {
     ghost least: { 2 ≤ length bytes.now },
 }
 
-/// Returns the same item. It takes no memory.
+/// Returns the same item. It allocates nothing.
 impl<'t, I: Copy> Clone for Item<'t, I> {
     ghost is_clone = { λ item other. other ≡ item };
 
@@ -39,14 +43,14 @@ impl<'t, I: Copy> Item<'t, I> {
         self.index
     }
 
-    /// Returns how many bytes the record has, without the length that stands before it.
+    /// Returns how many bytes the record has, without the length before it.
     pub fn len(&self) -> usize
         ensures { result ≡ length self.now.bytes.now }
     {
         self.bytes.len()
     }
 
-    /// Returns the bytes of the record, without the length that stands before it.
+    /// Returns the bytes of the record, without the length before it.
     pub fn as_bytes(&self) -> &'t [u8]
         ensures { result.now ≡ self.now.bytes.now }
     {

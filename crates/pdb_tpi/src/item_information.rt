@@ -76,7 +76,7 @@ impl<I: ItemIndex> ItemInformation<I> {
         self.len() == 0
     }
 
-    /// Returns an iterator that stands before the first item.
+    /// Returns an iterator over all items.
     pub fn iter(&self) -> ItemIter<'_, I>
         ensures { result ≡ record { table = self.now; index = self.now.header.minimum_index } }
     {

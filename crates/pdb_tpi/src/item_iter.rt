@@ -16,7 +16,7 @@ use pdb_base::{Count, Error, FallibleIterator, ItemIndex, ParseBuffer, Result};
 use std::alloc::AllocError;
 use std::marker::Model;
 
-/// An iterator over the items of a table, which stands before one of them or behind the last.
+/// An iterator over the items of a table, from one of them on.
 ///
 /// It yields the items in order, whatever maximum the header says. Behind the last one, it yields
 /// None if no byte is left, and otherwise fails with the same error every time.
@@ -38,7 +38,7 @@ impl<'t, I> Model for ItemIter<'t, I> {
     ghost invariant = { λ i. IsPlace i.table.now i.index i.position };
 }
 
-/// Reads the item at the front of bytes, and counts its length if the bytes hold it.
+/// Reads the item at the start of bytes, and counts its length if the bytes hold it.
 #[tactic(auto, unfolding(crate::specs::Walk::first_item))]
 fn read_item<'t>(bytes: &'t [u8], count: &mut Count) -> Result<&'t [u8]>
     ensures item { Gives (λ item. item.now) result (first_item bytes.now) }
@@ -54,8 +54,8 @@ fn read_item<'t>(bytes: &'t [u8], count: &mut Count) -> Result<&'t [u8]>
 }
 
 impl<'t, I: ItemIndex> ItemIter<'t, I> {
-    /// Returns an iterator before the item of an index, which begins at a position. An iterator
-    /// over the same table stood there once, as its `place` said.
+    /// Returns an iterator from the item of an index on, which begins at a position. Both are what
+    /// `place` of an iterator over the same table returned.
     pub(crate) fn at(table: &'t ItemInformation<I>, index: u64, position: usize) -> Self
         requires { IsPlace table.now index position }
         ensures { result ≡ record { table = table.now; index = index } }
@@ -67,8 +67,7 @@ impl<'t, I: ItemIndex> ItemIter<'t, I> {
         }
     }
 
-    /// Returns the index of the item before which the iterator stands, and the position at which
-    /// that item begins.
+    /// Returns the index of the next item, and the position at which it begins.
     pub fn place(&self) -> (u64, usize)
         ensures index { result.0 ≡ self.now.index }
         ensures place { IsPlace self.now.table self.now.index result.1 }
@@ -100,7 +99,7 @@ impl<'t, I: ItemIndex> ItemIter<'t, I> {
     }
 
     /// Returns the item that is `steps` items behind the next one, or the fault at which the walk
-    /// stops before it. The iterator then stands behind that item.
+    /// stops before it. The iterator continues after that item.
     pub(crate) fn nth(&mut self, steps: u32, count: &mut Count) -> Result<Item<'t, I>>
         ensures item { Gives bytes_of result (nth_item self.old.table (steps_taken self.old + steps)) }
         ensures index { IfOk result (λ item. I.number (index_of item) ≡ self.old.index + steps) }
@@ -133,7 +132,7 @@ impl<'t, I: ItemIndex> FallibleIterator for ItemIter<'t, I> {
     }
 }
 
-/// Returns another iterator that stands where this one does. It takes no memory.
+/// Returns another iterator at the same place. Nothing is allocated.
 impl<'t, I: ItemIndex> Clone for ItemIter<'t, I> {
     ghost is_clone = { λ iterator other. other ≡ iterator };
 

@@ -13,7 +13,7 @@ ghost use Rattle.pdb_tpi.specs.Laws.{AreBytes, StandAtOffsets, WalksOnce, HasFau
 pub mod derived;
 pub mod steps;
 
-/// The fields of a header stand at fixed offsets.
+/// The fields of a header are at fixed offsets.
 pub fn header()
     ensures { (bytes : List ℕ) → StandAtOffsets bytes }
 {}
@@ -42,8 +42,8 @@ pub fn record_places()
         bytes_at table (record_at table n item) ≡ item }
 {}
 
-/// After iterators were shown to a finder, it knows the greatest number of blocks that were shown
-/// in their order, and no other number is the greatest.
+/// After iterators were fed to a finder, it knows the greatest number of blocks that were fed in
+/// their order, and no other number is the greatest.
 pub fn known_blocks()
     ensures is { (table : Table) (known : ℕ) (shown : List ℕ) → IsKnown table known shown (known_of table known shown) }
     ensures only { (table : Table) (known : ℕ) (shown : List ℕ) (most : ℕ) →
@@ -57,8 +57,7 @@ pub fn counts()
 {}
 
 /// Lists of fields form chains. Each index has one chain, whole or broken. The fields of an index
-/// are those of the lists of its chain, joined in order, or the refusal with which the chain
-/// breaks.
+/// are those of the lists of its chain, joined in order, or the error with which the chain breaks.
 #[tactic(auto, using(crate::proofs::ChainLemmas::chain_answer))]
 pub fn chains()
     ensures { (look : LookUp) (index : ℕ) → IsChainAnswer look index }

@@ -15,7 +15,7 @@ use pdb_base::{Count, Error, FallibleIterator, ItemIndex, Result};
 use std::alloc::Global;
 use std::marker::Model;
 
-/// Where a record stands in the stream of its table.
+/// The place of a record in the stream of its table.
 #[derive(Clone, Copy, Debug, PartialEq, Eq)]
 pub struct RecordPlace {
     /// The offset of its first byte in the stream.
@@ -32,9 +32,9 @@ pub struct RecordPlace {
 #[derive(Debug, Drop)]
 pub struct OpenTable<I> {
     items: ItemInformation<I>,
-    /// Where the blocks begin that look-ups know.
+    /// The positions of the blocks that look-ups know.
     positions: Vec<u32>,
-    /// The index of the item before which the walk stands.
+    /// The index of the next item of the walk.
     index: u64,
     /// Where the item of that index begins.
     position: usize,
@@ -52,7 +52,7 @@ impl<I> Model for OpenTable<I> {
     ghost invariant = { λ t. IsOpen t.items t.positions.items (vec_capacity t.positions) t.index t.position };
 }
 
-/// Returns where a record of `len` bytes stands whose item ends at the position `end`.
+/// Returns the place of a record of `len` bytes whose item ends at the position `end`.
 fn record_before(end: usize, len: usize) -> RecordPlace
     requires before { len ≤ end }
     requires short { end < 0xffffffff }
@@ -68,7 +68,7 @@ impl<I: ItemIndex> OpenTable<I> {
     /// Keeps a table open, with its walk before the first item.
     ///
     /// # Errors
-    /// Returns `OutOfMemory` if memory is refused.
+    /// Returns `OutOfMemory` if an allocation fails.
     pub fn new(alloc: Global, items: ItemInformation<I>) -> Result<Self>
         ensures { Answers (λ table. table) result (Ok (first_stand items)) }
     {
@@ -89,15 +89,15 @@ impl<I: ItemIndex> OpenTable<I> {
         &self.items
     }
 
-    /// Returns the index of the item before which the walk stands, or the index behind the last one
-    /// if the walk has ended.
+    /// Returns the index of the next item of the walk, or the index behind the last one if the walk
+    /// has ended.
     pub fn index(&self) -> u64
         ensures { result ≡ self.now.index }
     {
         self.index
     }
 
-    /// Learns where items stand, up to the one of an index, as far as there are any, for later
+    /// Learns where items begin, up to the one of an index, as far as there are any, for later
     /// look-ups.
     pub fn learn(&mut self, index: I)
         ensures { self.new ≡ self.old }
@@ -120,7 +120,7 @@ impl<I: ItemIndex> OpenTable<I> {
         }
     }
 
-    /// Returns where the record of an index stands in the stream of the table. Returns None for an
+    /// Returns the place of the record of an index in the stream of the table. Returns None for an
     /// index below the first one, which is that of a primitive type and has no record there.
     ///
     /// # Errors
@@ -146,8 +146,8 @@ impl<I: ItemIndex> OpenTable<I> {
         Ok(Some(record_before(end, item.len())))
     }
 
-    /// Returns the item of an index, wherever in the table it stands. The bytes of a primitive type
-    /// are ff ff.
+    /// Returns the item of an index, wherever in the table it is. The bytes of a primitive type are
+    /// ff ff.
     ///
     /// # Errors
     /// Fails as `find` does.
@@ -162,7 +162,7 @@ impl<I: ItemIndex> OpenTable<I> {
         Ok(Item { index, bytes })
     }
 
-    /// Returns where the next record of the walk stands in the stream of the table, or None behind
+    /// Returns the place of the next record of the walk in the stream of the table, or None behind
     /// the last one.
     ///
     /// # Errors

@@ -33,13 +33,13 @@ impl<'t> Item<'t, TypeIndex> {
     /// For any other index, fails with the first fault of the record: `UnexpectedEof` if its bytes
     /// end before a field does, or if an array has bytes behind its dimensions and their padding;
     /// `UnexpectedNumericPrefix` if a number of variable width has an unknown prefix;
-    /// `UnimplementedTypeKind` with the leaf's number for a leaf that has no record here, for a
+    /// `UnimplementedTypeKind` with the number of the record kind if that is not read here, for a
     /// list of fields within one, and for a pointer whose kind or mode is unknown; or
     /// `UnimplementedFeature` for an array's dimension above 0xffffffff.
     ///
-    /// Fails with `OutOfMemory` if memory for a list is refused, which is asked for only once the
-    /// bytes are known to hold the list's first item. So an argument list whose count says more
-    /// than the bytes hold gives `UnexpectedEof`, also as the first entry of a list of fields.
+    /// Fails with `OutOfMemory` if the allocation for a list fails. It is made only once the bytes
+    /// are known to hold the list's first item. So an argument list whose count says more than the
+    /// bytes hold gives `UnexpectedEof`, also as the first entry of a list of fields.
     #[inline(always)]
     #[tactic(auto, unfolding(crate::specs::Record::type_of))]
     pub fn parse(&self, alloc: Global) -> Result<TypeData<'t>>

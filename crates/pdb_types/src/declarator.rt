@@ -6,7 +6,7 @@ use crate::qualifiers::Qualifiers;
 use pdb_base::Result;
 use std::alloc::Global;
 
-/// A part of a declaration: a name with what stands around it, such as `*names[4]`.
+/// A part of a declaration: a name with what is around it, such as `*names[4]`.
 #[derive(Debug, Drop)]
 pub(crate) struct Declarator {
     text: Vec<u8>,
@@ -26,7 +26,7 @@ impl Declarator {
         })
     }
 
-    /// Returns the declarator with the sign of a pointer and its qualifiers in front.
+    /// Returns the declarator behind the sign of a pointer and its qualifiers.
     pub(crate) fn pointer(&self, alloc: Global, sign: &[u8], qualifiers: Qualifiers) -> Result<Self>
         ensures { FailsOnlyForMemory result }
     {
@@ -65,7 +65,8 @@ impl Declarator {
         Ok(())
     }
 
-    /// Returns the declaration: the name of a type with its qualifiers, and the declarator behind it.
+    /// Returns the declaration: the name of a type with its qualifiers, and the declarator behind
+    /// it.
     pub(crate) fn declaration(
         &self,
         alloc: Global,

@@ -24,8 +24,8 @@ use std::marker::Model;
 /// names.
 ///
 /// It keeps two entries of eight bytes for each definition, or one if that has no unique name, and
-/// no names: it reads those again from the table. So let the table learn where its items stand
-/// first, up to its last index (`OpenTable::learn`); otherwise each look-up walks along the table.
+/// no names: it reads those again from the table. So let the table first learn where its items
+/// begin, up to its last index (`OpenTable::learn`); otherwise each look-up walks along the table.
 #[derive(Debug, Drop)]
 pub struct Definitions<'t> {
     types: &'t OpenTable<TypeIndex>,
@@ -83,7 +83,7 @@ impl<'t> Definitions<'t> {
     ///
     /// # Errors
     /// Fails with the fault at which the walk stops if that is before the end of the table, and
-    /// with `OutOfMemory` if memory is refused.
+    /// with `OutOfMemory` if an allocation fails.
     pub fn new(alloc: Global, types: &'t OpenTable<TypeIndex>) -> Result<Self>
         ensures { Answers (λ definitions. definitions) result (walked types.now.table) }
     {
@@ -152,8 +152,8 @@ impl<'t> Definitions<'t> {
     /// define, and for any other type.
     ///
     /// # Errors
-    /// Fails as `OpenTable::item` and `Type::parse` do, and with `OutOfMemory` if memory is
-    /// refused.
+    /// Fails as `OpenTable::item` and `Type::parse` do, and with `OutOfMemory` if an allocation
+    /// fails.
     #[tactic(auto, unfolding(crate::specs::Definition::definition_of))]
     pub fn definition_of(&self, alloc: Global, index: TypeIndex) -> Result<Option<TypeIndex>>
         ensures { Answers (option_map (λ index. index.0)) result (definition_of self.now index.0) }
@@ -167,11 +167,11 @@ impl<'t> Definitions<'t> {
     }
 
     /// Returns the indexes of all definitions of a name in increasing order. The name is the one
-    /// that the source gives a class, a union or an enumeration, with the names of the scopes around
-    /// it, as the record has it.
+    /// that the source gives a class, a union or an enumeration, with the names of the scopes
+    /// around it, as the record has it.
     ///
     /// # Errors
-    /// Fails only with `OutOfMemory`, if memory is refused.
+    /// Fails only with `OutOfMemory`, if an allocation fails.
     pub fn all_definitions(&self, alloc: Global, name: &[u8]) -> Result<Vec<TypeIndex>>
         ensures { Answers (λ found. map (λ index. index.0) found.items) result
             (Ok (all_definitions self.now (source_name name.now))) }

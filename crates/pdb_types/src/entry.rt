@@ -59,7 +59,7 @@ fn push_names(index: TypeIndex, names: &Declaration<'_>, entries: &mut Vec<Entry
 /// Appends the entries of a type: one for each name, if it is a definition.
 ///
 /// # Errors
-/// Fails with `OutOfMemory` if memory is refused.
+/// Fails with `OutOfMemory` if an allocation fails.
 pub(crate) fn push_entries(alloc: Global, item: &Type<'_>, entries: &mut Vec<Entry>) -> Result<()>
     ensures ok { OnOk result (entries.new.items ≡
         entries.old.items ++ entries_of (index_of item.now).0 (type_of (index_of item.now).0 (bytes_of item.now))) }

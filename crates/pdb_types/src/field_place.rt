@@ -27,8 +27,8 @@ pub enum FieldKind<'t> {
     /// A base class.
     Base,
 
-    /// A pointer to a table of virtual bases, of which a virtual base class speaks. Each record of a
-    /// virtual base class states its pointer, so one pointer may be several fields.
+    /// A pointer to a table of virtual bases, of which a virtual base class speaks. Each record of
+    /// a virtual base class states its pointer, so one pointer may be several fields.
     VirtualBasePointer(VirtualBase),
 
     /// A pointer to a table of virtual functions.

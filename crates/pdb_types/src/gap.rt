@@ -68,8 +68,8 @@ fn end_of(spans: &[Span]) -> u128
     end
 }
 
-/// Returns the byte where the virtual base classes begin: behind all fields if the class has any, and
-/// else behind the class.
+/// Returns the byte where the virtual base classes begin: behind all fields if the class has any,
+/// and else behind the class.
 #[tactic(auto, using(crate::proofs::GapLemmas::tail_within))]
 fn tail_start(bytes: &[Span], size: u64, is_virtual: bool) -> u128
     ensures is { result ≡ tail_start bytes.now size is_virtual }
@@ -128,7 +128,7 @@ fn push_tail(rows: &mut Vec<Gap>, start: u128, size: u64) -> Result<()>
     Ok(())
 }
 
-/// Returns the gaps between spans that are given up.
+/// Returns the gaps between spans, which are consumed.
 fn gaps_between(alloc: Global, spans: Vec<Span>, end: u128) -> Result<Vec<Span>>
     ensures gaps { IfOk result (λ gaps. AreGaps spans.items end gaps.items) }
     ensures memory { FailsOnlyForMemory result }
@@ -137,7 +137,7 @@ fn gaps_between(alloc: Global, spans: Vec<Span>, end: u128) -> Result<Vec<Span>>
     gaps(alloc, &mut spans, end)
 }
 
-/// Returns spans, followed by the bits of rows.
+/// Returns spans, followed by those of the bits of gaps.
 fn with_bits(spans: Vec<Span>, rows: &[Gap]) -> Result<Vec<Span>>
     ensures ok { IfOk result (λ all. all.items ≡ spans.items ++ map (λ row. row.bits) rows.now) }
     ensures memory { FailsOnlyForMemory result }
@@ -168,7 +168,7 @@ fn push_unused(rows: &mut Vec<Gap>, unused: &[Span]) -> Result<()>
 /// any order and go beyond the size of the class.
 ///
 /// # Errors
-/// Fails with `OutOfMemory` if memory is refused.
+/// Fails with `OutOfMemory` if an allocation fails.
 pub(crate) fn gap_rows(
     alloc: Global,
     spans: Vec<Span>,

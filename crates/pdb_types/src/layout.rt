@@ -65,8 +65,8 @@ pub struct Layout<'t> {
     /// The fields in the order of their records, which is mostly that of their places.
     pub fields: Vec<LayoutField<'t>>,
 
-    /// The bits that no field takes: holes first, then virtual bases, then unused bits, each kind in
-    /// the order of their places.
+    /// The bits that no field takes: holes first, then virtual bases, then unused bits, each kind
+    /// in the order of their places.
     pub gaps: Vec<Gap>,
 }
 
@@ -80,7 +80,7 @@ pub(crate) struct ClassBody {
     list: Option<TypeIndex>,
 }
 
-/// Returns the list of an index, or None for the index 0, which stands for no type.
+/// Returns the list of an index, or None for the index 0, which means no type.
 fn list_there(list: TypeIndex) -> Option<TypeIndex>
     ensures { result ≡ list_there list }
 {
@@ -198,7 +198,7 @@ impl<'t> Definitions<'t> {
     /// # Errors
     /// Fails with the first error along the records: those of `definition_of`, those of
     /// `OpenTable::fields`, and then those of `size_of` for the type of each field. Fails with
-    /// `OutOfMemory` if memory is refused.
+    /// `OutOfMemory` if an allocation fails.
     #[tactic(auto, unfolding(crate::specs::Layout::layout_of))]
     pub fn layout_of(&self, alloc: Global, index: TypeIndex) -> Result<Option<Layout<'t>>>
         ensures fields { Answers (option_map layout_value) result (layout_of self.now index.0) }

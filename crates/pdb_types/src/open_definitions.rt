@@ -11,7 +11,7 @@ use pdb_tpi::OpenTable;
 use std::alloc::Global;
 use std::marker::Model;
 
-/// A table that knows where its items stand, and its definitions, which are found by their names.
+/// A table that knows where its items begin, and its definitions, which are found by their names.
 ///
 /// `Definitions` borrows its table. This type is for a caller that can keep no borrow.
 #[derive(Debug, Drop)]
@@ -33,7 +33,7 @@ impl Model for OpenDefinitions {
 }
 
 impl OpenDefinitions {
-    /// Finds the definitions of a table in one walk along it, and learns where its items stand.
+    /// Finds the definitions of a table in one walk along it, and learns where its items begin.
     ///
     /// # Errors
     /// Fails as `Definitions::new` does.

@@ -36,7 +36,7 @@ impl<'t> Definitions<'t> {
     ///
     /// # Errors
     /// Fails with the first error along the types that it is said to be as large as: those of
-    /// `OpenTable::item` and `Type::parse`. Fails with `OutOfMemory` if memory is refused.
+    /// `OpenTable::item` and `Type::parse`. Fails with `OutOfMemory` if an allocation fails.
     pub fn size_of(&self, alloc: Global, index: TypeIndex) -> Result<Option<u64>>
         ensures { Answers (λ size. size) result (size_of self.now index.0) }
     {

@@ -66,7 +66,7 @@ fn sorted_gaps(alloc: Global, spans: &[Span], end: u128) -> Result<Vec<Span>>
 /// The spans may overlap and come in any order, and may go beyond the end.
 ///
 /// # Errors
-/// Fails with `OutOfMemory` if memory is refused.
+/// Fails with `OutOfMemory` if an allocation fails.
 pub fn gaps(alloc: Global, spans: &mut [Span], end: u128) -> Result<Vec<Span>>
     ensures gaps { IfOk result (λ gaps. AreGaps spans.old end gaps.items) }
     ensures memory { FailsOnlyForMemory result }

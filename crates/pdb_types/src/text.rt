@@ -18,7 +18,7 @@ use std::alloc::Global;
 /// How many types one text reads at most, so that it ends in a damaged table too.
 const MOST_TYPES: u32 = 4096;
 
-/// The index of no type, which stands for any further arguments in a list of arguments.
+/// The index of no type, which in a list of arguments means any further arguments.
 const ANY_ARGUMENTS: u32 = 0;
 
 /// How deep the arguments of functions may be nested.
@@ -214,8 +214,8 @@ impl<'t> Definitions<'t> {
         Ok(())
     }
 
-    /// Puts what a type says of the name around a declarator, and returns the qualifiers of the type
-    /// within.
+    /// Puts what a type says of the name around a declarator, and returns the qualifiers of the
+    /// type within.
     fn push_part(
         &self,
         alloc: Global,
@@ -332,7 +332,7 @@ impl<'t> Definitions<'t> {
     ///
     /// # Errors
     /// Fails as `OpenTable::item`, `Type::parse` and `size_of` do for a type on the way, and with
-    /// `OutOfMemory` if memory is refused.
+    /// `OutOfMemory` if an allocation fails.
     pub fn text_of(&self, alloc: Global, index: TypeIndex, name: &[u8]) -> Result<Vec<u8>>
         ensures { FailsAsTable self.now result }
     {

@@ -20,9 +20,9 @@ pub struct ArrayType {
     /// The distance from one element to the next in bytes, if the record states it.
     pub stride: Option<u32>,
 
-    /// The size of the array in bytes up to each dimension, the innermost first: each size includes
-    /// those before it, so that a `float[4][4]` is `[16, 64]`. Most compilers write one dimension
-    /// only, and an array of arrays.
+    /// For each dimension, the innermost first, the size in bytes of the array up to that
+    /// dimension: a `float[4][4]` has `[16, 64]`. Most compilers write a single dimension, and an
+    /// array of arrays for more.
     pub dimensions: Vec<u32>,
 }
 
@@ -30,7 +30,8 @@ impl ArrayType {
     /// Returns an equal array, in memory of its own.
     ///
     /// # Errors
-    /// Returns `OutOfMemory` if memory is refused, which is asked for only if there is a dimension.
+    /// Returns `OutOfMemory` if an allocation fails. Memory is allocated only if there is a
+    /// dimension.
     pub fn clone(&self, alloc: Global) -> Result<Self>
         ensures copied { Answers array_value result (Ok (array_value self.now)) }
         ensures memory { LacksOnlyIf result (HasItem (array_value self.now).dimensions) }

@@ -1,7 +1,7 @@
-//! The numbers of leaves, which say what a record is, and the prefixes of numbers and of padding.
-//! The names and values are those of `LEAF_ENUM_e` in Microsoft's cvinfo.h. A name that ends in
-//! `_16t` belongs to records whose indexes have 16 bits, and one that ends in `_ST` to records
-//! whose names stand behind a byte that says their length.
+//! The numbers of record kinds, and the prefixes of numbers and of padding. The names and values
+//! are those of `LEAF_ENUM_e` in Microsoft's cvinfo.h. A name that ends in `_16t` belongs to
+//! records whose indexes have 16 bits, and one that ends in `_ST` to records whose names follow a
+//! byte with their length.
 
 pub use pdb_base::numeric_leaf::{
     LF_CHAR, LF_COMPLEX32, LF_COMPLEX64, LF_COMPLEX80, LF_COMPLEX128, LF_DATE, LF_DECIMAL, LF_LONG,

@@ -31,7 +31,7 @@ pub struct EnumerateType<'t> {
     /// Its attributes, which say who may access it.
     pub attributes: FieldAttributes,
 
-    /// The number that it stands for.
+    /// The number of the enumerator.
     pub value: Variant,
 
     /// Its name.

@@ -26,7 +26,7 @@ impl<'t> FieldList<'t> {
     /// Returns an equal list, with memory of its own for its fields and for their lists.
     ///
     /// # Errors
-    /// Returns `OutOfMemory` if memory is refused, which is asked for only if there is a field.
+    /// Returns `OutOfMemory` if an allocation fails. Memory is allocated only if there is a field.
     pub fn clone(&self, alloc: Global) -> Result<Self>
         ensures copied { Answers field_list_value result (Ok (field_list_value self.now)) }
         ensures memory { LacksOnlyIf result (HasListItem (field_list_value self.now)) }

@@ -61,7 +61,8 @@ impl ArgumentList {
     /// Returns an equal list, in memory of its own.
     ///
     /// # Errors
-    /// Returns `OutOfMemory` if memory is refused, which is asked for only if the list has an item.
+    /// Returns `OutOfMemory` if an allocation fails. Memory is allocated only if the list has an
+    /// item.
     pub fn clone(&self, alloc: Global) -> Result<Self>
         ensures copied { Answers argument_types result (Ok (argument_types self.now)) }
         ensures memory { LacksOnlyIf result (HasItem (argument_types self.now)) }

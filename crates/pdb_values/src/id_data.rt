@@ -38,7 +38,8 @@ impl<'t> IdData<'t> {
     /// Returns an equal value, with memory of its own for a list.
     ///
     /// # Errors
-    /// Returns `OutOfMemory` if memory is refused, which is asked for only if a list has an item.
+    /// Returns `OutOfMemory` if an allocation fails. Memory is allocated only if a list has an
+    /// item.
     pub fn clone(&self, alloc: Global) -> Result<Self>
         ensures copied { Answers id_value result (Ok (id_value self.now)) }
         ensures memory { LacksOnlyIf result (HasIdListItem (id_value self.now)) }

@@ -12,8 +12,8 @@ use crate::constants::{LF_ENDOFLEAFRECORD, LF_NUMERIC};
 
 pub mod derived;
 
-/// Each primitive type has one index below 0x1000. An index that stands for none is refused with
-/// `TypeNotFound` and that index.
+/// Each primitive type has one index below 0x1000. For an index that means no primitive type, the
+/// error is `TypeNotFound` with that index.
 #[tactic(auto, using(crate::proofs::PrimitiveLemmas::has_one_index, crate::proofs::PrimitiveLemmas::is_refused_by_index))]
 pub fn primitives()
     ensures one { (type : PrimitiveType) → HasOneIndex type }
@@ -32,8 +32,8 @@ pub fn first_record()
     ensures { FIRST_RECORD ≡ 0x1000 }
 {}
 
-/// The constants are the numbers of `LEAF_ENUM_e` in Microsoft's cvinfo.h: its leaves, prefixes and
-/// pads in their order, which count up by one from these numbers on.
+/// The constants are the numbers of `LEAF_ENUM_e` in Microsoft's cvinfo.h: its record kinds,
+/// prefixes and pads in their order, which count up by one from these numbers on.
 pub fn leaf_numbers()
     ensures old_type_leaves { CountUpFrom 0x0001 old_type_leaves }
     ensures old_inner_leaves { CountUpFrom 0x0200 old_inner_leaves }

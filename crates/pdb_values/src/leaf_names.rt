@@ -1,4 +1,4 @@
-//! The names of leaves.
+//! The names of record kinds.
 
 ghost use Rattle.std.specs.Prelude.{◌≡◌};
 ghost use Rattle.std.specs.Option.{option_map};
@@ -17,7 +17,7 @@ macro_rules! name_among {
     };
 }
 
-/// Returns the name of a leaf whose records have indexes of 16 bits.
+/// Returns the name of a record kind whose records have indexes of 16 bits.
 #[tactic(auto, unfolding(crate::specs::LeafNames::narrow_leafs))]
 fn narrow_leaf(leaf: u16) -> Option<&'static str>
     ensures { option_map (λ name. name.now) result ≡ numbered narrow_leafs leaf }
@@ -35,7 +35,8 @@ fn narrow_leaf(leaf: u16) -> Option<&'static str>
     )
 }
 
-/// Returns the name of a leaf with indexes of 32 bits and, if any, names that follow their length.
+/// Returns the name of a record kind with indexes of 32 bits and, if any, names that follow their
+/// length.
 #[tactic(auto, unfolding(crate::specs::LeafNames::wide_leafs))]
 fn wide_leaf(leaf: u16) -> Option<&'static str>
     ensures { option_map (λ name. name.now) result ≡ numbered wide_leafs leaf }
@@ -50,7 +51,7 @@ fn wide_leaf(leaf: u16) -> Option<&'static str>
     )
 }
 
-/// Returns the name of a leaf whose names end at a NUL, or of an id.
+/// Returns the name of a record kind whose names end at a NUL, or of an id.
 #[tactic(auto, unfolding(crate::specs::LeafNames::later_leafs))]
 fn later_leaf(leaf: u16) -> Option<&'static str>
     ensures { option_map (λ name. name.now) result ≡ numbered later_leafs leaf }
@@ -65,8 +66,8 @@ fn later_leaf(leaf: u16) -> Option<&'static str>
     )
 }
 
-/// Returns the name of a leaf, such as `LF_STRUCTURE`, or None if Microsoft's cvinfo.h has no
-/// record of this number.
+/// Returns the name of a record kind, such as `LF_STRUCTURE`, or None if Microsoft's cvinfo.h has
+/// none of this number.
 #[tactic(auto, unfolding(crate::specs::LeafNames::leaf_text))]
 pub fn leaf_name(leaf: u16) -> Option<&'static str>
     ensures { option_map (λ name. name.now) result ≡ leaf_text leaf }

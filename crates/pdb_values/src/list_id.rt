@@ -37,7 +37,8 @@ impl BuildInfoId {
     /// Returns an equal list, in memory of its own.
     ///
     /// # Errors
-    /// Returns `OutOfMemory` if memory is refused, which is asked for only if the list has an item.
+    /// Returns `OutOfMemory` if an allocation fails. Memory is allocated only if the list has an
+    /// item.
     pub fn clone(&self, alloc: Global) -> Result<Self>
         ensures copied { Answers build_arguments result (Ok (build_arguments self.now)) }
         ensures memory { LacksOnlyIf result (HasItem (build_arguments self.now)) }
@@ -52,7 +53,8 @@ impl StringListId {
     /// Returns an equal list, in memory of its own.
     ///
     /// # Errors
-    /// Returns `OutOfMemory` if memory is refused, which is asked for only if the list has an item.
+    /// Returns `OutOfMemory` if an allocation fails. Memory is allocated only if the list has an
+    /// item.
     pub fn clone(&self, alloc: Global) -> Result<Self>
         ensures copied { Answers text_parts result (Ok (text_parts self.now)) }
         ensures memory { LacksOnlyIf result (HasItem (text_parts self.now)) }

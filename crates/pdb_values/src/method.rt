@@ -63,7 +63,8 @@ impl MethodList {
     /// Returns an equal list, in memory of its own.
     ///
     /// # Errors
-    /// Returns `OutOfMemory` if memory is refused, which is asked for only if the list has an item.
+    /// Returns `OutOfMemory` if an allocation fails. Memory is allocated only if the list has an
+    /// item.
     pub fn clone(&self, alloc: Global) -> Result<Self>
         ensures copied { Answers listed_methods result (Ok (listed_methods self.now)) }
         ensures memory { LacksOnlyIf result (HasItem (listed_methods self.now)) }

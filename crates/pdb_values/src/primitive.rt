@@ -45,8 +45,8 @@ pub enum Indirection {
 }
 
 impl Indirection {
-    /// Returns the indirection with this number: `Some(None)` for 0, which stands for no pointer,
-    /// or None for a number above 7, which stands for nothing.
+    /// Returns the indirection with this number: `Some(None)` for 0, which is no pointer, or None
+    /// for a number above 7, which means nothing.
     fn numbered(number: u32) -> Option<Option<Self>>
         ensures { result ≡ numbered indirections number }
     {
@@ -247,12 +247,11 @@ impl PrimitiveKind {
     }
 }
 
-/// The least index of a type that has a record: those below stand for primitive types.
+/// The least index of a type that has a record: those below it are of primitive types.
 pub const FIRST_RECORD: u32 = 0x1000;
 
-/// Returns the primitive type that an index below 0x1000 stands for. The index's low byte is the
-/// number of the type, and the bits above say whether it is a pointer to that type, and which kind
-/// of pointer.
+/// Returns the primitive type of an index below 0x1000. The index's low byte is the number of the
+/// type, and the bits above say whether it is a pointer to that type, and which kind of pointer.
 ///
 /// # Errors
 /// Returns `TypeNotFound` if the byte or the bits are no number that cvinfo.h has.

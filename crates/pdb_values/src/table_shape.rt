@@ -6,6 +6,6 @@ pub struct VirtualTableShapeType<'t> {
     /// How many functions the table has.
     pub count: u16,
 
-    /// The sort of pointer of each function, half a byte each, as they stand in the record's bytes.
+    /// The sort of pointer of each function, half a byte each, as in the record.
     pub descriptors: &'t [u8],
 }

@@ -101,9 +101,9 @@ pub enum TypeData<'t> {
 }
 
 impl<'t> TypeData<'t> {
-    /// Returns the name of a class, a union or an enumeration, of a data member, of a nested type,
-    /// of overloaded methods, or of a value of an enumeration. Returns None for everything else,
-    /// also for a method that shares its name with no other.
+    /// Returns the name of a class, a union or an enumeration, of a data member, static or not, of
+    /// a nested type, of overloaded methods, or of a value of an enumeration. Returns None for
+    /// everything else, also for a method that shares its name with no other.
     pub fn name(&self) -> Option<RawString<'t>>
         ensures { option_map text_bytes result ≡ name_of (type_value self.now) }
     {
@@ -123,7 +123,8 @@ impl<'t> TypeData<'t> {
     /// Returns an equal value, with memory of its own for each list.
     ///
     /// # Errors
-    /// Returns `OutOfMemory` if memory is refused, which is asked for only if a list has an item.
+    /// Returns `OutOfMemory` if an allocation fails. Memory is allocated only if a list has an
+    /// item.
     pub fn clone(&self, alloc: Global) -> Result<Self>
         ensures copied { Answers type_value result (Ok (type_value self.now)) }
         ensures memory { LacksOnlyIf result (HasListItem (type_value self.now)) }
@@ -198,7 +199,7 @@ pub(crate) fn copy_list<'t>(alloc: Global, list: &FieldList<'t>) -> Result<Field
     })
 }
 
-/// Copies fields into memory of their own. Asks for no memory if there are none.
+/// Copies fields into memory of their own. Allocates nothing if there are none.
 #[cycle(copy)]
 fn copy_fields<'t>(alloc: Global, fields: &[TypeData<'t>]) -> Result<Vec<TypeData<'t>>>
     ensures copied { Answers (λ copies. fields_value copies.items) result (Ok (fields_value fields.now)) }

@@ -80,8 +80,8 @@ fn push_directory(file: &mut Vec<u8>, directory: &[u8]) -> Result<()>
     push_page(file, LOCATION, 0)
 }
 
-/// Adds an empty page and the pages of the streams: the second one of stream 1, its first one, and the
-/// one of stream 3, which has these bytes.
+/// Adds an empty page and the pages of the streams: the second one of stream 1, its first one, and
+/// the one of stream 3, which has these bytes.
 fn push_streams(file: &mut Vec<u8>, stream: &[u8]) -> Result<()>
     requires { length stream.now ≤ 512 }
     ensures pages { OnOk result (file.new.items ≡
@@ -99,7 +99,7 @@ fn push_streams(file: &mut Vec<u8>, stream: &[u8]) -> Result<()>
 /// page holds.
 ///
 /// # Errors
-/// Returns `OutOfMemory` if memory is refused.
+/// Returns `OutOfMemory` if an allocation fails.
 #[tactic(auto, unfolding(crate::specs::Example::s1_of))]
 pub fn s1_with(alloc: Global, stream: &[u8]) -> Result<Vec<u8>>
     ensures bytes { IfOk result (λ file. file.items ≡ s1_of (take 512 stream.now)) }
@@ -118,7 +118,7 @@ pub fn s1_with(alloc: Global, stream: &[u8]) -> Result<Vec<u8>>
 /// and 88 times `b`, stream 2 is absent, and stream 3 is `hello`.
 ///
 /// # Errors
-/// Returns `OutOfMemory` if memory is refused.
+/// Returns `OutOfMemory` if an allocation fails.
 #[tactic(auto, using(crate::proofs::Constants::is_hello))]
 pub fn s1(alloc: Global) -> Result<Vec<u8>>
     ensures bytes { IfOk result (λ file. file.items ≡ s1_bytes) }

@@ -11,7 +11,7 @@ use std::io;
 use std::io::ErrorKind;
 use std::marker::Model;
 
-/// A source of bytes in memory of which one view fails, whatever it asks for. Every other view is
+/// A source of bytes in memory of which one view fails, whatever it requests. Every other view is
 /// that of the bytes.
 #[derive(Debug, Drop)]
 pub struct Failing {

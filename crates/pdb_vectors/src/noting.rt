@@ -1,4 +1,4 @@
-//! A source that notes what is asked of it.
+//! A source that notes the slices that are requested from it.
 
 ghost use Rattle.std.specs.Prelude.{◌≡◌, ◌⊎◌, ◌∷◌, ◌++◌, [], map, IfErr, IsErrAnd};
 ghost use Rattle.std.specs.IoError.{error_kind};
@@ -49,8 +49,8 @@ impl Noting {
 impl Source for Noting {
     ghost state = { state_of };
 
-    /// Notes the slices, and then returns the bytes that they name. If there is no memory for the
-    /// note, the view is refused with kind `OutOfMemory`, and nothing is noted.
+    /// Notes the slices, and then returns the bytes that they name. If the allocation for the note
+    /// fails, the view fails with kind `OutOfMemory`, and nothing is noted.
     fn view(&mut self, alloc: Global, slices: &[SourceSlice]) -> Result<ReadView, io::Error>
         ensures view { Shows (HasFailed (state_of self.old) (state_of self.new)) (λ v. v) result
             (bytes_at self.old.bytes (positions slices.now)) }

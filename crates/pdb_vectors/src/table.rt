@@ -1,4 +1,4 @@
-//! Tables of types or ids, for tests that ask for their items.
+//! Tables of types or ids, for tests that look up their items.
 
 ghost use Rattle.std.specs.Prelude.{◌≡◌, IfOk};
 ghost use Rattle.pdb_base.specs.Memory.{FailsOnlyForMemory};
@@ -14,7 +14,7 @@ const HEADER_SIZE: usize = 56;
 /// and then the items.
 ///
 /// # Errors
-/// Returns `OutOfMemory` if memory is refused.
+/// Returns `OutOfMemory` if an allocation fails.
 #[tactic(auto, unfolding(crate::specs::Tables::table_bytes))]
 pub fn item_table(
     alloc: Global,

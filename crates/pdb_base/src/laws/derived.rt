@@ -73,7 +73,7 @@ pub fn local_indexes<I: ItemIndex + Ord>()
     ensures order { (a b : Local I) → ⟦<Local<I> as Ord>⟧.cmp a b ≡ I.cmp a.0 b.0 }
 {}
 
-/// Numeric leaves are equal exactly if they are the same number in the same width.
+/// Numbers of variable width are equal exactly if they are the same number in the same width.
 pub fn variants()
     ensures { TellsApart ⟦<Variant as PartialEq>⟧.eq }
 {}

@@ -5,12 +5,13 @@ use pdb_container::{Query, Reply, run};
 use std::alloc::Global;
 use std::test::Fail;
 
-/// What a file begins with, and its header up to the directory's size: pages of 256 bytes, the free page
-/// map 1, and 8 pages used.
+/// What a file begins with, and its header up to the directory's size: pages of 256 bytes, the free
+/// page map 1, and 8 pages used.
 const FRONT: &[u8] = b"Microsoft C/C++ MSF 7.00\r\n\x1aDS\0\0\0\0\x01\0\0\x01\0\0\0\x08\0\0\0";
 
-/// A file of 4096 bytes in pages of 256, whose directory has so many bytes and lies, as its location does,
-/// on page 1 all over: each of its words is 1. The word behind the directory's size is 0.
+/// A file of 4096 bytes in pages of 256, whose directory has so many bytes and lies, as its
+/// location does, on page 1 all over: each of its words is 1. The word behind the directory's size
+/// is 0.
 fn claiming(alloc: Global, directory_size: u64) -> Result<Vec<u8>> {
     let mut file = Vec::from_slice(alloc, FRONT)?;
     file.extend_from_slice(&directory_size.to_le_bytes())?;

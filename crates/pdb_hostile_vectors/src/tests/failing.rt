@@ -1,5 +1,5 @@
-//! Sources of which one view fails: the fault is told where it is met, and what is asked again is then
-//! answered.
+//! Sources of which one view fails: the call that makes this view returns the source's error, and
+//! the same call then succeeds.
 
 use super::rows::{ROWS, Row, edited, is_front};
 use pdb_base::{Error, Result, Stream};
@@ -10,12 +10,13 @@ use std::alloc::Global;
 use std::io::ErrorKind;
 use std::test::Fail;
 
-/// Whether a refusal is the fault of the source.
+/// Whether an error is that of the source.
 fn is_fault(error: &Error) -> bool {
     matches!(error, Error::IoError(error) if error.kind() == ErrorKind::Other)
 }
 
-/// Whether a row's stream is answered as ever: none where the answer is the fault of the source.
+/// Whether a case's stream has the expected result, or None if the call returns the error of the
+/// source.
 fn told(row: &Row, answer: Result<Stream>) -> Option<bool> {
     match &answer {
         Err(error) if is_fault(error) => None,
@@ -23,7 +24,8 @@ fn told(row: &Row, answer: Result<Stream>) -> Option<bool> {
     }
 }
 
-/// Whether the row's stream is answered as ever, and how many faults were told before it was.
+/// Whether the case's stream has the expected result, where a call that returns the error of the
+/// source is repeated once; and how many calls returned it.
 fn asked(alloc: Global, file: &mut BigMSF<Failing>, row: &Row) -> (bool, u64) {
     let Row(_, number, limit, ..) = row;
     match told(row, file.get(alloc, *number, *limit)) {
@@ -32,20 +34,22 @@ fn asked(alloc: Global, file: &mut BigMSF<Failing>, row: &Row) -> (bool, u64) {
     }
 }
 
-/// Whether a row is answered as ever, twice, but for so many faults.
+/// Whether two calls, one after the other, have the expected result, apart from so many errors of
+/// the source.
 fn is_asked_twice(alloc: Global, file: &mut BigMSF<Failing>, row: &Row, wanted: u64) -> bool {
     let (once, faults) = asked(alloc, file, row);
     let (again, more) = asked(alloc, file, row);
     once && again && faults.saturating_add(more) == wanted
 }
 
-/// Opens a row's file, of whose views this one fails; none does if the number is 0.
+/// Opens a case's file, of whose views the one of this number fails, or none if the number is 0.
 fn opened(alloc: Global, row: &Row, n: u64) -> Result<BigMSF<Failing>> {
     let Row(edits, ..) = row;
     open_msf(alloc, Failing::new(edited(alloc, edits)?, n))
 }
 
-/// Whether a row is answered as ever, but for one fault where one of its views fails: the first opens the file.
+/// Whether a case has the expected result if the view of this number fails: one error of the source
+/// if the case takes that many views, and none otherwise. The first view opens the file.
 fn is_answered(alloc: Global, row: &Row, n: u64) -> bool {
     let Row(.., views) = row;
     match opened(alloc, row, n) {
@@ -114,9 +118,10 @@ const TYPE_1001: Query = Query::TypeRecord {
 const LISTS: &[u8] =
     b"\0\0\0\0\x38\0\0\0\x00\x10\0\0\x02\x10\0\0\0\0\0\0\0\0\0\0\0\0\0\0\0\0\0\0\0\0\0\0\0\0\0\0\0\0\0\0\0\0\0\0\0\0\0\0\0\0\0\0\x06\0\x01\x12\0\0\0\0\x06\0\x01\x12\0\0\0\0";
 
-/// Stream 3 of S1, the view that fails, what is asked, and what each reply says. No reply: the run is refused by
-/// the fault. A table is read for the first query of it, by the fourth view, and no other view answers the later
-/// ones. Where it is refused, the next query of it reads it again.
+/// Stream 3 of S1, the view that fails, the queries, and what each reply says. Without replies, the
+/// run fails with the error of the source. A table is read for the first query of it, by the fourth
+/// view, and no other view answers the later ones. If reading it fails, the next query of it reads
+/// it again.
 type Replied = (&'static [u8], u64, &'static [Query], &'static [Says]);
 
 const RUNS: &[Replied] = &[
@@ -162,7 +167,7 @@ fn are_said(replies: &[Reply], wanted: &[Says]) -> bool {
             .all(|(reply, says)| says.fits(reply))
 }
 
-/// Whether a run replies so, or is refused by the fault where no reply is wanted.
+/// Whether a run replies so, or fails with the error of the source where no reply is wanted.
 fn is_replied(replies: Result<Vec<Reply>>, wanted: &[Says]) -> bool {
     match &replies {
         Ok(replies) => !wanted.is_empty() && are_said(replies, wanted),
@@ -170,7 +175,7 @@ fn is_replied(replies: Result<Vec<Reply>>, wanted: &[Says]) -> bool {
     }
 }
 
-/// Whether a run over a row's file replies so, if its view of that number fails.
+/// Whether a run over a case's file replies so, if its view of that number fails.
 fn is_run(alloc: Global, row: &Replied) -> Result<bool> {
     let (stream, n, queries, wanted) = row;
     let file = Failing::new(s1_with(alloc, stream)?, *n);

@@ -1,5 +1,5 @@
-//! Refused memory: each row passes whichever single request for memory is refused. What is answered
-//! `OutOfMemory` is asked once more, and then has to be answered as ever.
+//! Failing allocations: each case passes whichever single allocation fails. A call that returns
+//! `OutOfMemory` is repeated, and then has to have its expected result.
 
 ghost use Rattle.std.specs.Prelude.{◌≡◌};
 ghost use Rattle.pdb_msf.specs.Source.{in_memory};
@@ -17,7 +17,7 @@ use std::cell::Cell;
 use std::io;
 use std::test::Fail;
 
-/// Whether an answer is as ever: none where memory is refused.
+/// Whether a result is the expected one, or None if it is `OutOfMemory`.
 fn told(row: &Row, answer: Result<Stream>) -> Option<bool> {
     match &answer {
         Err(Error::OutOfMemory) => None,
@@ -25,7 +25,8 @@ fn told(row: &Row, answer: Result<Stream>) -> Option<bool> {
     }
 }
 
-/// Whether an open file answers a row as ever, and once more where memory is refused.
+/// Whether an open file has the expected result for a case. A call that returns `OutOfMemory` is
+/// repeated once.
 fn told_again(alloc: Global, file: &mut BigMSF<Vec<u8>>, row: &Row) -> Option<bool> {
     let Row(_, number, limit, ..) = row;
     match told(row, file.get(alloc, *number, *limit)) {
@@ -34,7 +35,8 @@ fn told_again(alloc: Global, file: &mut BigMSF<Vec<u8>>, row: &Row) -> Option<bo
     }
 }
 
-/// The same, twice.
+/// Whether an open file has the expected result for a case in two calls, each repeated once if it
+/// returns `OutOfMemory`.
 fn told_twice(alloc: Global, file: &mut BigMSF<Vec<u8>>, row: &Row) -> Option<bool> {
     match told_again(alloc, file, row) {
         Some(true) => told_again(alloc, file, row),
@@ -42,21 +44,22 @@ fn told_twice(alloc: Global, file: &mut BigMSF<Vec<u8>>, row: &Row) -> Option<bo
     }
 }
 
-/// Opens a row's file.
+/// Opens a case's file.
 fn opened(alloc: Global, row: &Row) -> Result<BigMSF<Vec<u8>>> {
     let Row(edits, ..) = row;
     open_msf(alloc, edited(alloc, edits)?)
 }
 
-/// Whether a row is answered as ever, twice: none where memory is refused to the open file again.
+/// Whether a case's file has the expected result twice, or None if an open file returns
+/// `OutOfMemory` again.
 fn told_of(alloc: Global, row: &Row) -> Result<Option<bool>> {
     Ok(told_twice(alloc, &mut opened(alloc, row)?, row))
 }
 
-/// The same, of a file that is opened once more where memory is refused.
+/// Like `told_of`, with a file that is opened again if opening it returns `OutOfMemory`.
 ///
 /// # Errors
-/// `OutOfMemory` if memory is refused again.
+/// `OutOfMemory` if an allocation fails again.
 fn is_told(alloc: Global, row: &Row) -> Result<bool> {
     match settled!(told_of(alloc, row)) {
         Ok(Some(is)) => Ok(is),
@@ -78,8 +81,8 @@ fn streams(rt: HostRuntime) -> std::result::Result<(), Fail> {
     Ok(())
 }
 
-/// Pages of 4096 bytes, and the slices that they are joined into. Where a page comes again it begins a
-/// slice, so that the list grows.
+/// Pages of 4096 bytes, and the slices that they are joined into. Where a page comes again it
+/// begins a slice, so that the list grows.
 const PAGES: &[(&[u32], &[(u64, usize)])] = &[
     (
         &[0, 1, 4, 5, 2, 2],
@@ -116,7 +119,7 @@ const OMAP: &[u8] = b"\x00\x10\x00\x00\x00\x00\x00\x00\x08\x10\x00\x00\x44\x5d\x
 const MODIFIER: &[u8] =
     b"\0\0\0\0\x38\0\0\0\x00\x10\0\0\x01\x10\0\0\0\0\0\0\0\0\0\0\0\0\0\0\0\0\0\0\0\0\0\0\0\0\0\0\0\0\0\0\0\0\0\0\0\0\0\0\0\0\0\0\x0a\x00\x01\x10\x74\x00\x00\x00\x01\x00\xf2\xf1";
 
-/// A table of two lists of fields, of which the second goes on in the first.
+/// A table of two lists of fields, of which the second continues in the first.
 const LISTS: &[u8] =
     b"\0\0\0\0\x38\0\0\0\x00\x10\0\0\x02\x10\0\0\0\0\0\0\0\0\0\0\0\0\0\0\0\0\0\0\0\0\0\0\0\0\0\0\0\0\0\0\0\0\0\0\0\0\0\0\0\0\0\0\x0c\x00\x03\x12\x02\x15\x03\x00\x01\x00B\x00\xf2\xf1\x12\x00\x03\x12\x02\x15\x03\x00\x00\x00A\x00\x04\x14\x00\x00\x00\x10\x00\x00";
 
@@ -136,7 +139,7 @@ enum Says {
     Argument,
     /// Two values of an enumeration.
     Fields,
-    /// No field, and the list of this index that goes on.
+    /// No field, and the index of the list that continues it.
     Continued(u32),
     /// It ends too soon.
     Ended,
@@ -144,17 +147,19 @@ enum Says {
     Unread(u16),
 }
 
-/// What is asked, and what is answered.
+/// A query, and its expected answer.
 enum Asked {
     /// The type of one item: its length and its record, and what it says.
     Type(&'static [u8], Says),
-    /// The id of one item, what a module was built with, and whether it holds the ids that it counts.
+    /// The id of one item, what a module was built with, and whether it holds the ids that it
+    /// counts.
     Build(&'static [u8], bool),
     /// Nine types, by a finder.
     Nine,
     /// Streams 2, 3 and 2 of S1, by a run.
     Run,
-    /// Stream 3 of S1, what the program is asked of it, and the status, the output and the line of a refusal.
+    /// Stream 3 of S1, the words for the program, and its status, its output and the line of its
+    /// error.
     Act(&'static [u8], &'static [&'static str], u8, &'static str, &'static str),
     /// An input of so many bytes, read whole.
     Input(usize),
@@ -278,7 +283,7 @@ const IDS: &[(&str, Asked)] = &[
     ),
 ];
 
-/// What the program is asked, each with a name.
+/// The calls of the program, each with a name.
 const PROGRAMS: &[(&str, Asked)] = &[
     (
         "ranges",
@@ -363,13 +368,13 @@ fn are_fields(list: &FieldList<'_>) -> bool {
         && list.continuation.is_none()
 }
 
-/// Whether a list has no field, and goes on in this list.
+/// Whether a list has no field, and continues in this list.
 fn is_continued(list: &FieldList<'_>, index: u32) -> bool {
     list.fields.is_empty() && list.continuation == Some(TypeIndex(index))
 }
 
 impl Says {
-    /// Whether a record says so. It takes no memory.
+    /// Whether a record says so. Nothing is allocated.
     fn fits(&self, data: &TypeData<'_>) -> bool {
         match (self, data) {
             (Says::Pointer, TypeData::Pointer(pointer)) => is_pointer(pointer),
@@ -386,7 +391,7 @@ impl Says {
         }
     }
 
-    /// Whether a record is refused so.
+    /// Whether a record has this error.
     fn is_refusal(&self, error: &Error) -> bool {
         match (self, error) {
             (Says::Ended, Error::UnexpectedEof) => true,
@@ -441,7 +446,8 @@ fn is_found(finder: &TypeFinder<'_>, index: u32, kind: u16) -> bool {
     matches!(finder.find(TypeIndex(index)), Ok(item) if item.raw_kind() == kind)
 }
 
-/// Whether a finder knows the first eight items, and the ninth once it is shown eight steps.
+/// Whether a finder knows the first eight items, and the ninth once it is fed an iterator after
+/// each of eight steps.
 fn is_learned<'t>(table: &'t TypeInformation, mut finder: TypeFinder<'t>) -> bool
     requires { finder.table ≡ table.now }
 {
@@ -498,7 +504,7 @@ const STREAM_3: Query = Query::Stream {
     limit: None,
 };
 
-/// Whether each reply is as ever or `OutOfMemory`, and whether one is `OutOfMemory`.
+/// Whether each reply is the expected one or `OutOfMemory`, and whether one is `OutOfMemory`.
 fn replies_told(replies: &[Reply]) -> (bool, bool) {
     let mut is = replies.len() == 3;
     let mut refused = false;
@@ -513,11 +519,12 @@ fn replies_told(replies: &[Reply]) -> (bool, bool) {
     (is, refused)
 }
 
-/// Whether a run that has viewed its source so often replied as ever. One that is refused for want of memory
-/// has asked for no stream: the view of the opening is its only one.
+/// Whether a run that has viewed its source so often has the expected replies. A run that fails
+/// with `OutOfMemory` has read no stream: its only view is the one that opens the file.
 ///
 /// # Errors
-/// `OutOfMemory` if the run was refused, or one of its replies was and the others are as ever.
+/// `OutOfMemory` if the run returns it, or if one of its replies is `OutOfMemory` and the others
+/// are the expected ones.
 fn is_replied(replies: Result<Vec<Reply>>, views: u64) -> Result<bool> {
     match &replies {
         Err(Error::OutOfMemory) if views <= 1 => Err(Error::OutOfMemory),
@@ -529,7 +536,7 @@ fn is_replied(replies: Result<Vec<Reply>>, views: u64) -> Result<bool> {
     }
 }
 
-/// Whether a run over these bytes of S1 replies as ever.
+/// Whether a run over these bytes of S1 has the expected replies.
 fn is_run_of(alloc: Global, bytes: &[u8]) -> Result<bool> {
     let views = Cell::new(0);
     let source = Watched {
@@ -546,10 +553,10 @@ fn is_ended(outcome: &Outcome, status: u8, out: &str, err: &str) -> bool {
         && outcome.err.as_slice() == err.as_bytes()
 }
 
-/// The same, unless it ended for want of memory.
+/// Whether the program ended with this status and wrote this, unless it ended with `OutOfMemory`.
 ///
 /// # Errors
-/// `OutOfMemory` if memory is refused, also where the program says so.
+/// `OutOfMemory` if an allocation fails, also where the program prints that.
 fn is_acted_so(outcome: Result<Outcome>, status: u8, out: &str, err: &str) -> Result<bool> {
     match &outcome {
         Ok(outcome) if is_ended(outcome, 1, "", "OutOfMemory\n") => Err(Error::OutOfMemory),
@@ -559,7 +566,8 @@ fn is_acted_so(outcome: Result<Outcome>, status: u8, out: &str, err: &str) -> Re
     }
 }
 
-/// Whether the program, asked of S1 with these bytes as stream 3, ends with this status and writes this.
+/// Whether the program, called with these words for S1 with these bytes as stream 3, ends with this
+/// status and writes this.
 fn is_acted(
     alloc: Global,
     stream: &[u8],
@@ -578,7 +586,8 @@ fn is_read(alloc: Global, mut input: &[u8]) -> Result<bool> {
     Ok(read_all(alloc, &mut input)?.as_slice() == wanted)
 }
 
-/// Whether the one type of a table is read so, and so on. A function each: one that makes all is long in the proof.
+/// Whether the one type of a table is read so. There is a function for each kind of query, since
+/// the proof of a single one takes long.
 fn is_type(alloc: Global, items: &[u8], says: &Says) -> Result<bool> {
     let types = TypeInformation::parse(table_of(alloc, 0x1001, items)?)?;
     is_first_type(alloc, &types, says)
@@ -604,7 +613,7 @@ fn is_input(alloc: Global, count: usize) -> Result<bool> {
     is_read(alloc, &bytes)
 }
 
-/// Whether what is asked is answered as ever.
+/// Whether a query has the expected answer.
 fn is_answered(alloc: Global, asked: &Asked) -> Result<bool> {
     match asked {
         Asked::Type(items, says) => is_type(alloc, items, says),
@@ -618,7 +627,7 @@ fn is_answered(alloc: Global, asked: &Asked) -> Result<bool> {
     }
 }
 
-/// The same, asked once more where memory is refused.
+/// Whether a query has the expected answer. One that returns `OutOfMemory` is repeated once.
 fn is_settled(alloc: Global, asked: &Asked) -> Result<bool> {
     settled!(is_answered(alloc, asked))
 }

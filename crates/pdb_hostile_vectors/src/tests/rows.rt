@@ -1,4 +1,4 @@
-//! Worked rows on streams of S1, for readers that are refused something.
+//! Test cases on streams of S1, for tests in which an allocation or a view fails.
 
 use pdb_base::{Error, Result, Stream};
 use pdb_msf::PageList;
@@ -20,8 +20,9 @@ pub(crate) enum Want {
     OutOfRange(u32),
 }
 
-/// What is asked of S1: the places and the bytes that are set there, the stream that is asked for and the limit;
-/// what is answered; and how many views of a source it takes to open the file and to ask twice.
+/// A query of S1: the positions and the bytes that are set there, the number of the stream and the
+/// limit; the expected result; and how many views of a source it takes to open the file and to read
+/// the stream twice.
 pub(crate) struct Row(
     pub(crate) &'static [(usize, u8)],
     pub(crate) u32,
@@ -30,7 +31,7 @@ pub(crate) struct Row(
     pub(crate) u64,
 );
 
-/// Where stream 3's page number stands in S1.
+/// The position of stream 3's page number in S1.
 const PAGE_OF_3: usize = 1052;
 
 /// Stream 3 in page 8, behind the file's end.
@@ -81,7 +82,7 @@ pub(crate) fn is_front(bytes: &[u8], len: usize) -> bool {
 }
 
 impl Row {
-    /// Whether the row's stream is answered so. It takes no memory.
+    /// Whether the result for the case's stream is the expected one. Nothing is allocated.
     pub(crate) fn fits(&self, answer: &Result<Stream>) -> bool {
         let Row(_, number, _, want, _) = self;
         match (want, answer) {
@@ -103,7 +104,7 @@ pub(crate) fn stream_of(bytes: Vec<u8>) -> Result<Stream> {
     Ok(Stream::new(bytes))
 }
 
-/// A list of pages of 4096 bytes, added in turn, each once more where memory is refused.
+/// A list of pages of 4096 bytes, added in turn, each once more if an allocation fails.
 pub(crate) fn list_of(alloc: Global, pages: &[u32]) -> Result<PageList> {
     let mut list = PageList::new(alloc, 4096);
     for page in pages {

@@ -1,5 +1,5 @@
-//! All files that differ from the example file in one byte, and all its prefixes: a run over each of
-//! them ends, and replies to each query unless the file can't be opened.
+//! All files that differ from the example file in one byte, and all its prefixes: a run over each
+//! of them ends, and replies to each query unless the file can't be opened.
 
 use pdb_base::{Error, Result};
 use pdb_container::{Query, Reply, run};
@@ -15,7 +15,7 @@ fn stream(number: u32) -> Query {
     }
 }
 
-/// Returns whether none of these replies is that memory was refused, of which there is plenty.
+/// Returns whether none of these replies is `OutOfMemory`, since there is plenty of memory.
 fn have_memory(replies: &[Reply]) -> bool {
     for reply in replies {
         if matches!(reply, Reply::Refused(Error::OutOfMemory)) {
@@ -25,8 +25,8 @@ fn have_memory(replies: &[Reply]) -> bool {
     true
 }
 
-/// Returns whether a run over a file, which asks for the streams of the example file and for one that
-/// it lacks, replies to each query, or fails since the file can't be opened.
+/// Returns whether a run over a file, which queries the streams of the example file and one that is
+/// not in it, replies to each query, or fails since the file can't be opened.
 fn ends(alloc: Global, file: Vec<u8>) -> bool {
     let queries = [stream(0), stream(1), stream(2), stream(3), stream(4)];
     match run(alloc, file, &queries) {

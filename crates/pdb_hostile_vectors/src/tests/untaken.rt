@@ -1,5 +1,5 @@
-//! Calls that take no memory. `fixtures` makes what they are called on, and `calls` does the same and
-//! calls them: so both ask for memory as often.
+//! Calls that allocate nothing. `fixtures` makes what they are called on, and `calls` makes it too
+//! and calls them: so both allocate equally often.
 
 ghost use Rattle.std.specs.Prelude.{◌≡◌};
 
@@ -80,7 +80,7 @@ fn is_short(read: Result<u32>) -> bool {
     matches!(read, Err(Error::UnexpectedEof))
 }
 
-/// Whether a buffer's position goes where it is sent, and reads at its end are refused.
+/// Whether a buffer's position moves to a given one, and reads at the end fail.
 fn is_moved(buffer: &mut ParseBuffer<'_>) -> bool {
     buffer.seek(5);
     buffer.align(4).is_ok()
@@ -90,7 +90,7 @@ fn is_moved(buffer: &mut ParseBuffer<'_>) -> bool {
         && is_short(buffer.parse_u32())
 }
 
-/// Whether a number with an unknown prefix is refused.
+/// Whether a number with an unknown prefix is an error.
 fn is_prefix_refused() -> bool {
     matches!(
         ParseBuffer::from(b"\x05\x80".as_slice()).parse_num(),
@@ -98,7 +98,7 @@ fn is_prefix_refused() -> bool {
     )
 }
 
-/// Whether a buffer is read as ever.
+/// Whether a buffer yields the expected values.
 fn is_buffer_read(bytes: &[u8]) -> bool {
     let mut buffer = ParseBuffer::from(bytes);
     are_numbers_read(&mut buffer)
@@ -110,27 +110,27 @@ fn is_buffer_read(bytes: &[u8]) -> bool {
         && StreamIndex(7).msf_number() == Some(7)
 }
 
-/// Whether a stream's bytes are read as ever, and are all in a view.
+/// Whether a stream's bytes have the expected values, and are all in a view.
 fn is_stream_read(stream: Stream) -> bool {
     let read = is_buffer_read(stream.as_slice()) && stream.parse_buffer().len() == BYTES.len();
     let view = ReadView::new(stream.into_bytes());
     read && view.as_slice().len() == BYTES.len()
 }
 
-/// Whether a list of pages is cut as ever.
+/// Whether a list of pages is truncated as expected.
 fn is_list_cut(mut list: PageList) -> bool {
     let whole = list.len() == 24576 && list.source_slices().len() == 4;
     list.truncate(10000);
     whole && list.is_truncated() && list.len() == 10000 && list.source_slices().len() == 2
 }
 
-/// The size of S1's directory, where it stands.
+/// The position of the size of S1's directory.
 const DIRECTORY_SIZE: usize = 44;
 
-/// Asks a file for a stream, which locates its directory.
+/// Reads a stream of a file, which locates its directory.
 ///
 /// # Errors
-/// `OutOfMemory` if memory is refused.
+/// `OutOfMemory` if an allocation fails.
 fn locate(alloc: Global, file: &mut BigMSF<Vec<u8>>) -> Result<()> {
     match file.get(alloc, 9, None) {
         Err(Error::OutOfMemory) => Err(Error::OutOfMemory),
@@ -143,7 +143,8 @@ fn opened(alloc: Global, size: u8) -> Result<BigMSF<Vec<u8>>> {
     open_msf(alloc, edited(alloc, &[(DIRECTORY_SIZE, size)])?)
 }
 
-/// Whether a stream is refused: the file ends too soon for it, or else it is absent.
+/// Whether a stream has an error: the directory ends too soon for it if `is_ended`, and otherwise
+/// it is absent.
 fn is_refused(answer: Result<Stream>, is_ended: bool) -> bool {
     match &answer {
         Err(Error::UnexpectedEof) => is_ended,
@@ -152,7 +153,7 @@ fn is_refused(answer: Result<Stream>, is_ended: bool) -> bool {
     }
 }
 
-/// Whether a located file tells what it is, and refuses streams, as ever.
+/// Whether a located file has the expected size, and the expected error for each of these streams.
 fn is_file(alloc: Global, file: &mut BigMSF<Vec<u8>>, size: u8, refused: &[(u32, bool)]) -> bool {
     let told = file.located() && file.asked() >= u64::from(size) && file.source().len() == 4096;
     for (number, is_ended) in refused {
@@ -163,8 +164,8 @@ fn is_file(alloc: Global, file: &mut BigMSF<Vec<u8>>, size: u8, refused: &[(u32,
     told
 }
 
-/// The same where `calls` says that it is asked, once it is located. Where memory is refused to locate it, the same file
-/// is asked again.
+/// Locates a file's directory, once more if an allocation fails, and returns whether the file is as
+/// expected. Without `calls`, nothing else is called.
 fn is_located(
     alloc: Global,
     file: &mut BigMSF<Vec<u8>>,
@@ -189,7 +190,8 @@ fn is_h_size(name: Option<RawString<'_>>) -> bool {
     name == Some(RawString::from("H_size"))
 }
 
-/// Whether a type is as ever: at 0x1000 the pointer, at 0x74 a primitive type, and at 0x1002 the structure.
+/// Whether a type is the expected one: at 0x1000 the pointer, at 0x74 a primitive type, and at
+/// 0x1002 the structure.
 fn is_so(data: &TypeData<'_>, index: u32) -> bool {
     match data {
         TypeData::Pointer(_) => index == 0x1000,
@@ -198,7 +200,7 @@ fn is_so(data: &TypeData<'_>, index: u32) -> bool {
     }
 }
 
-/// Whether a type was read as ever: the list at 0x1001 ends too soon.
+/// Whether parsing a type has the expected result: the list at 0x1001 ends too soon.
 fn is_read_so(read: Result<TypeData<'_>>, index: u32) -> bool {
     match &read {
         Ok(data) => is_so(data, index),
@@ -207,7 +209,7 @@ fn is_read_so(read: Result<TypeData<'_>>, index: u32) -> bool {
     }
 }
 
-/// Whether a type's place, length and kind are told as ever.
+/// Whether a type's index, length and kind are the expected ones.
 fn is_told(item: &Type<'_>, index: u32) -> bool {
     item.index() == TypeIndex(index)
         && !item.is_empty()
@@ -215,7 +217,8 @@ fn is_told(item: &Type<'_>, index: u32) -> bool {
         && (index != 0x1002 || item.raw_kind() == 0x1609)
 }
 
-/// Whether a type without a list, or with a false count, is told and read as ever.
+/// Whether a type without a list, or with a false count, has the expected index and the expected
+/// result of parsing.
 fn is_type_read(alloc: Global, step: Result<Option<Type<'_>>>, index: u32) -> bool {
     match &step {
         Ok(Some(item)) => is_told(item, index) && is_read_so(item.parse(alloc), index),
@@ -223,8 +226,8 @@ fn is_type_read(alloc: Global, step: Result<Option<Type<'_>>>, index: u32) -> bo
     }
 }
 
-/// Whether types without a list, and a false count, are read as ever; and whether a primitive type, and a flag,
-/// are told so.
+/// Whether types without a list, and one with a false count, have the expected results; and whether
+/// a primitive type and a flag have them.
 fn are_types_read(alloc: Global, table: &TypeInformation) -> bool {
     let mut walk = table.iter();
     for index in 0x1000..0x1003u32 {
@@ -245,7 +248,7 @@ fn is_known(found: Result<Type<'_>>, is_there: bool) -> bool {
     }
 }
 
-/// Whether a finder that was shown the table finds as ever.
+/// Whether a finder that was fed the table finds the expected types.
 fn is_finding(finder: &TypeFinder<'_>) -> bool {
     let mut count = Count::new();
     is_known(finder.find_counted(TypeIndex(0x1002), &mut count), true)
@@ -254,7 +257,7 @@ fn is_finding(finder: &TypeFinder<'_>) -> bool {
         && finder.max_index() == TypeIndex(0x1002)
 }
 
-/// Whether a finder finds as ever.
+/// Whether a finder that is fed the table finds the expected types.
 fn is_found<'t>(table: &'t TypeInformation, finder: &mut TypeFinder<'t>) -> bool
     requires { finder.old.table ≡ table.now }
 {
@@ -265,12 +268,12 @@ fn is_found<'t>(table: &'t TypeInformation, finder: &mut TypeFinder<'t>) -> bool
     stepped && is_finding(finder)
 }
 
-/// Whether a table's parts are told as ever.
+/// Whether a table has the expected length and header.
 fn is_header_told(table: &TypeInformation) -> bool {
     table.len() == 3 && !table.is_empty() && table.header().header_size == 56
 }
 
-/// Whether a table of types answers as ever, where `calls` says that it is asked.
+/// Whether a table of types has the expected results. Without `calls`, only its finder is made.
 fn are_types(alloc: Global, table: &TypeInformation, calls: bool) -> Result<bool> {
     let mut finder = settled!(table.finder(alloc))?;
     Ok(
@@ -290,7 +293,7 @@ fn is_id_read(read: Result<IdData<'_>>, is_whole: bool) -> bool {
     }
 }
 
-/// Whether an id without a list, or with a false count, is read as ever.
+/// Whether parsing an id without a list, or with a false count, has the expected result.
 fn is_id(alloc: Global, step: Result<Option<Id<'_>>>, index: u32, is_whole: bool) -> bool {
     match &step {
         Ok(Some(item)) => item.index() == IdIndex(index) && is_id_read(item.parse(alloc), is_whole),
@@ -298,7 +301,7 @@ fn is_id(alloc: Global, step: Result<Option<Id<'_>>>, index: u32, is_whole: bool
     }
 }
 
-/// Whether an id without a list, and a false count, are read as ever.
+/// Whether parsing an id without a list, and one with a false count, has the expected results.
 fn are_ids_read(alloc: Global, table: &IdInformation) -> bool {
     let mut walk = table.iter();
     is_id(alloc, walk.next(), 0x1000, true) && is_id(alloc, walk.next(), 0x1001, false)
@@ -325,12 +328,12 @@ fn is_name(name: Result<RawString<'_>>, wanted: Option<usize>) -> bool {
     }
 }
 
-/// Whether names are found as ever.
+/// Whether names are found as expected.
 fn is_named(names: &StringTable) -> bool {
     is_name(names.get(StringRef(1)), Some(3)) && is_name(StringRef(5).to_raw_string(names), None)
 }
 
-/// Whether addresses are moved as ever.
+/// Whether addresses are moved as expected.
 fn is_moved_so(omap: &OMAPTable) -> bool {
     let mut count = Count::new();
     let looked = omap.lookup_counted(0x1008, &mut count) == omap.lookup(0x1008);
@@ -338,7 +341,7 @@ fn is_moved_so(omap: &OMAPTable) -> bool {
     looked && moved && omap.is_sorted() && omap.records().next() == Some(OMAPRecord::new(0x1000, 0))
 }
 
-/// Whether places are found as ever.
+/// Whether places are found as expected.
 fn is_placed(map: &AddressMap) -> bool {
     let place = Rva(0x1005).to_section_offset(map);
     place == Some(SectionOffset::new(1, 5))
@@ -355,14 +358,14 @@ fn has_next(frames: &mut FrameDataIter<'_>) -> bool {
     matches!(frames.next(), Ok(Some(_)))
 }
 
-/// Whether frames come as ever.
+/// Whether an iterator over all frames yields one, and one from behind the last frame yields none.
 fn are_frames(frames: &FrameTable) -> bool {
     let mut all = frames.iter();
     let mut behind = frames.iter_at_rva(PdbInternalRva(0x40));
     has_next(&mut all) && !has_next(&mut behind) && !frames.is_empty()
 }
 
-/// Whether a section is named, and places in it are found, as ever.
+/// Whether a section has the expected name, and places in it are found as expected.
 fn are_sections(sections: Vec<ImageSectionHeader>) -> bool {
     let is_section = matches!(sections.as_slice(), [section] if section.name() == ".data");
     is_section && is_placed(&AddressMap::new(sections, None, None, None))
@@ -378,11 +381,11 @@ enum Kind {
     Frames,
 }
 
-/// What is made, and asked where `calls` says so.
+/// What is made, and what is called on it with `calls`.
 enum Fixture {
-    /// S1 with a directory of so many bytes, located; and streams that it refuses, with whether the directory
-    /// ends too soon for them: it has no count of streams, too few sizes, or too few page numbers. Others are
-    /// absent.
+    /// S1 with a directory of so many bytes, located; and streams that have an error, with whether
+    /// the directory ends too soon for them: it has no count of streams, too few sizes, or too few
+    /// page numbers. Others are absent.
     Directory(u8, &'static [(u32, bool)]),
     /// A list of these pages.
     Pages(&'static [u32]),
@@ -414,7 +417,8 @@ const FIXTURES: &[(&str, Fixture)] = &[
     ("frames", Fixture::Stream(FRAMES, Kind::Frames)),
 ];
 
-/// Whether ids answer as ever, where `calls` says that they are asked; and so on.
+/// Whether ids have the expected results. Without `calls`, nothing is called on them. The functions
+/// below are the same for names, OMAP tables, frames and types.
 fn are_ids(alloc: Global, ids: Result<IdInformation>, calls: bool) -> bool {
     match &ids {
         Ok(ids) => !calls || are_ids_read(alloc, ids),
@@ -450,7 +454,7 @@ fn are_typed(alloc: Global, types: Result<TypeInformation>, calls: bool) -> Resu
     }
 }
 
-/// Whether a stream answers as ever, where `calls` says that it is asked.
+/// Whether a stream has the expected results. Without `calls`, nothing is called on it.
 fn is_stream(alloc: Global, stream: Stream, kind: &Kind, calls: bool) -> Result<bool> {
     match kind {
         Kind::Bytes => Ok(!calls || is_stream_read(stream)),
@@ -462,8 +466,8 @@ fn is_stream(alloc: Global, stream: Stream, kind: &Kind, calls: bool) -> Result<
     }
 }
 
-/// Whether each is made, and answers as ever where `calls` says that it is asked. A function each: one that makes
-/// all is long in the proof.
+/// Whether a fixture can be made and has the expected results. There is a function for each kind of
+/// fixture, since the proof of a single one takes long.
 fn has_directory(alloc: Global, size: u8, refused: &[(u32, bool)], calls: bool) -> Result<bool> {
     is_located(alloc, &mut opened(alloc, size)?, size, refused, calls)
 }
@@ -484,7 +488,8 @@ fn has_stream(alloc: Global, bytes: &[u8], kind: &Kind, calls: bool) -> Result<b
     is_stream(alloc, stream, kind, calls)
 }
 
-/// Whether a fixture is made, and answers as ever where `calls` says that it is asked.
+/// Whether a fixture can be made and has the expected results. Without `calls`, nothing is called
+/// on it.
 fn has(alloc: Global, fixture: &Fixture, calls: bool) -> Result<bool> {
     match fixture {
         Fixture::Directory(size, refused) => has_directory(alloc, *size, refused, calls),
@@ -494,7 +499,7 @@ fn has(alloc: Global, fixture: &Fixture, calls: bool) -> Result<bool> {
     }
 }
 
-/// The same of a fixture that is made once more where memory is refused.
+/// Whether a fixture has the expected results. It is made again if an allocation fails.
 fn is_settled(alloc: Global, fixture: &Fixture, calls: bool) -> Result<bool> {
     settled!(has(alloc, fixture, calls))
 }

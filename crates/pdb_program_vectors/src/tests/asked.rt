@@ -1,4 +1,4 @@
-//! What S1 answers to questions, row by row.
+//! What S1 answers to questions, case by case.
 
 use pdb_asking::ask;
 use pdb_container::Result;
@@ -8,7 +8,7 @@ use pdb_vectors::{s1, s1_with};
 use std::alloc::Global;
 use std::test::Fail;
 
-/// A row: the questions, the form, what is written, and whether all are answered.
+/// A case: the questions, the form, what is written, and whether all are answered.
 type Asked = (&'static [u8], Form, &'static str, bool);
 
 const ASKED: &[Asked] = &[

@@ -1,4 +1,5 @@
-//! Channels: inputs that are slow, interrupted, refused or too long, and outputs that are slow or refused.
+//! Channels: inputs that are slow, interrupted, failing or too long, and outputs that are slow or
+//! failing.
 
 use super::printed::{ABSENT_2, EXAMPLE};
 use pdb_base::{Error, Result};
@@ -11,7 +12,7 @@ use std::io;
 use std::io::{ErrorKind, Read, Write};
 use std::test::Fail;
 
-/// An input of so many sevens, a few of them a read, of which one read is refused.
+/// An input of so many sevens, a few of them a read, of which one read fails.
 #[derive(Drop)]
 struct Sevens {
     left: usize,
@@ -44,8 +45,8 @@ impl Sevens {
     }
 }
 
-/// How many sevens stand in an input, how many come at once, and with how many left a read is refused, and how; the
-/// most reads, if they are bounded; and how the input is refused, if it isn't read whole.
+/// How many sevens an input has, how many come at once, and with how many left a read fails, and
+/// how; the most reads, if they are bounded; and the error of the input, if it isn't read whole.
 type Input = (
     usize,
     usize,
@@ -54,7 +55,7 @@ type Input = (
     Option<ErrorKind>,
 );
 
-/// The kinds of refused reads.
+/// The kinds of failed reads.
 const INTERRUPTED: ErrorKind = ErrorKind::Interrupted;
 
 const DENIED: ErrorKind = ErrorKind::PermissionDenied;
@@ -98,7 +99,8 @@ fn are_sevens(bytes: &[u8], count: usize) -> bool {
     bytes.len() == count
 }
 
-/// Whether an input was refused by an `IoError` of a kind, or is so many sevens if it wasn't to be refused.
+/// Whether reading an input fails with an `IoError` of a kind, or gives so many sevens if it isn't
+/// to fail.
 fn is_read(read: Result<Vec<u8>>, count: usize, refused: Option<ErrorKind>) -> bool {
     match (&read, refused) {
         (Ok(bytes), None) => are_sevens(bytes, count),
@@ -107,7 +109,7 @@ fn is_read(read: Result<Vec<u8>>, count: usize, refused: Option<ErrorKind>) -> b
     }
 }
 
-/// Whether an input is read as its row says.
+/// Whether an input is read as its case says.
 fn is_input(alloc: Global, row: &Input) -> bool {
     let (left, at_once, fault, most, refused) = *row;
     let mut input = Sevens::new(left, at_once, fault);
@@ -172,7 +174,7 @@ fn call(alloc: Global, words: &[&str]) -> pdb_base::Result<Vec<String>> {
 
 const IO_ERROR: &str = "IO error while reading PDB: ";
 
-/// What the system hands over: words, or how it refuses them.
+/// What the system hands over: words, or an error.
 type Words = std::result::Result<&'static [&'static str], ErrorKind>;
 
 /// What is read.
@@ -181,14 +183,15 @@ enum Source {
     Empty,
     /// S1.
     Example,
-    /// A hundred sevens, of which a read is refused.
+    /// A hundred sevens, of which a read fails.
     Hundred(Option<(usize, ErrorKind)>),
 }
 
 use Source::{Empty, Example, Hundred};
 
-/// The words, and the input. The output: how many bytes it takes at once, how many it has room for, and what it gets.
-/// The channel of errors: the same, and how begins what it gets. And the status.
+/// The words, and the input. The output: how many bytes it takes at once, how many it has room for,
+/// and what it gets. The channel of errors: these two numbers, and the beginning of what it gets.
+/// And the status.
 type Call = (
     Words,
     Source,
@@ -292,7 +295,7 @@ fn begins(got: &[u8], wanted: &str) -> bool {
     got.starts_with(wanted.as_bytes()) && got.is_empty() == wanted.is_empty()
 }
 
-/// Whether a call over an input ends, and writes, as its row says.
+/// Whether a call over an input ends, and writes, as its case says.
 fn is_served<I: Read>(alloc: Global, row: &Call, input: &mut I) -> Result<bool> {
     let (words, _, (out_at_once, out_room, wanted), (at_once, room, told), status) = row;
     let words = arguments(alloc, words)?;
@@ -325,7 +328,7 @@ fn is_served_of_sevens(
     Ok(is_served && (input.left == 100) == matches!(row.0, Ok([])))
 }
 
-/// Whether a call ends as its row says.
+/// Whether a call ends as its case says.
 fn is_called(alloc: Global, row: &Call) -> Result<bool> {
     match row.1 {
         Empty => is_served(alloc, row, &mut b"".as_slice()),

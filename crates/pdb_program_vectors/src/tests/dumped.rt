@@ -1,4 +1,4 @@
-//! What is listed of small files, row by row: S1 with other bytes as its stream 3.
+//! What is listed of small files, case by case: S1 with other bytes as its stream 3.
 
 use pdb_container::Result;
 use pdb_dump::{Call, Command, Task, any_is, call_of, list, plain_words};
@@ -9,7 +9,8 @@ use std::alloc::Global;
 use std::io::Cursor;
 use std::test::Fail;
 
-/// A row: the words behind the file, the bytes of stream 3, what is listed, and the text of the refusal.
+/// A case: the words behind the file, the bytes of stream 3, what is listed, and the text of the
+/// error.
 type Listed = (
     &'static [&'static str],
     &'static [u8],
@@ -34,7 +35,8 @@ const MOVED: &[u8] = b"\0\x20\0\0\0\x10\0\0";
 /// A string table of two names, the first of which is empty, with a byte behind the last NUL.
 const NAMES: &[u8] = b"\xfe\xef\xfe\xef\x01\0\0\0\x05\0\0\0\0a\"\0b";
 
-/// A record of the older frame format: 16 bytes of code at 0x1000, a local variable, two parameters.
+/// A record of the older frame format: 16 bytes of code at 0x1000, a local variable, two
+/// parameters.
 const FRAME: &[u8] = b"\0\x10\0\0\x10\0\0\0\x01\0\0\0\x02\0\x05\x13";
 
 const LISTED: &[Listed] = &[
@@ -148,7 +150,7 @@ const LISTED: &[Listed] = &[
     ),
 ];
 
-/// The form that words ask for.
+/// The form that words select.
 fn form_of(words: &[&str]) -> Form {
     if any_is(words, "--json") {
         Form::Json
@@ -157,7 +159,7 @@ fn form_of(words: &[&str]) -> Form {
     }
 }
 
-/// Whether nothing is refused, where the text is empty, or what is refused has this text.
+/// Whether nothing fails, where the text is empty, or the error has this text.
 fn is_told(alloc: Global, answer: Result<()>, refusal: &str) -> Result<bool> {
     match answer {
         Ok(()) => Ok(refusal.is_empty()),
@@ -165,7 +167,7 @@ fn is_told(alloc: Global, answer: Result<()>, refusal: &str) -> Result<bool> {
     }
 }
 
-/// Whether a command lists this of S1 with these bytes as its stream 3, up to this refusal.
+/// Whether a command lists this of S1 with these bytes as its stream 3, up to this error.
 fn is_listed(alloc: Global, command: Command, form: Form, row: &Listed) -> Result<bool> {
     let (_, stream, lines, refusal) = *row;
     let mut out = Output::new(Vec::new(alloc));
@@ -173,7 +175,7 @@ fn is_listed(alloc: Global, command: Command, form: Form, row: &Listed) -> Resul
     Ok(is_told(alloc, answer, refusal)? && out.into_inner().as_slice() == lines.as_bytes())
 }
 
-/// Whether the words of a row ask for what it lists.
+/// Whether the words of a case select the command that lists what it has.
 fn lists(alloc: Global, row: &Listed) -> Result<bool> {
     let (words, ..) = *row;
     let plain = plain_words(alloc, words)?;
@@ -202,8 +204,8 @@ const SECTION_LINE: &str =
     pointer_to_relocations=0x0 number_of_relocations=0 pointer_to_line_numbers=0x0 number_of_line_numbers=0 \
     characteristics=[executable,execute,read]\n";
 
-/// Whether a writer of which so much is taken has got the front of a line that it has room for, and the listing is
-/// refused; or the whole line, and the listing isn't refused.
+/// Whether a writer has got the prefix of a line that it has room for, and the listing fails; or
+/// the whole line, and the listing doesn't fail.
 fn is_front(line: &[u8], taken: &[u8], count: usize, is_refused: bool) -> bool {
     if is_refused {
         count == taken.len() && line.starts_with(taken)
@@ -212,7 +214,7 @@ fn is_front(line: &[u8], taken: &[u8], count: usize, is_refused: bool) -> bool {
     }
 }
 
-/// Whether a writer with so much room gets the front of the line that it has room for.
+/// Whether a writer with so much room gets the prefix of the line that it has room for.
 fn is_cut(alloc: Global, room: usize) -> Result<bool> {
     let mut taken = vec![in alloc; 0; room]?;
     let file = s1_with(alloc, &SECTION_ALONE)?;

@@ -121,7 +121,8 @@ struct Ended {
     err_failed: bool,
 }
 
-/// The calls at which the input, the output and the channel of errors fail, and how the output does.
+/// The calls at which the input, the output and the channel of errors fail, and how the output
+/// does.
 type Calls = (usize, usize, usize, ErrorKind);
 
 /// Runs a program with these calls.
@@ -141,7 +142,7 @@ fn end_of(alloc: Global, served: Served, calls: Calls) -> Result<Ended> {
     })
 }
 
-/// Whether a run is told of a fault, with status 1.
+/// Whether a run reports an error, with status 1.
 fn is_told(ended: &Ended) -> bool {
     ended.status == 1 && ended.err.starts_with(IO_ERROR)
 }

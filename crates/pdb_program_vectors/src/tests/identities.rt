@@ -8,8 +8,8 @@ use std::alloc::Global;
 use std::io::Cursor;
 use std::test::Fail;
 
-/// The header of the file: page size 512, free page map 1, 8 pages used, a directory of 28 bytes, and
-/// page 3 with the number of its page.
+/// The header of the file: page size 512, free page map 1, 8 pages used, a directory of 28 bytes,
+/// and page 3 with the number of its page.
 const HEADER: &[u8] =
     b"Microsoft C/C++ MSF 7.00\r\n\x1a\x44\x53\x00\x00\x00\x00\x02\0\0\x01\0\0\0\x08\0\0\0\x1c\0\0\0\0\0\0\0\x03\0\0\0";
 
@@ -28,7 +28,8 @@ const INFORMATION_SIZE: u32 = 63;
 /// Stream 3 up to its age: the signature, and version 19990903.
 const DEBUG_FRONT: &[u8] = b"\xff\xff\xff\xff\x77\x09\x31\x01";
 
-/// Stream 3 after its age: 44 bytes, the flag of a file that is stripped, the machine, and four bytes.
+/// Stream 3 after its age: 44 bytes, the flag of a file that is stripped, the machine, and four
+/// bytes.
 const DEBUG_BACK: &[u8] =
     b"\0\0\0\0\0\0\0\0\0\0\0\0\0\0\0\0\0\0\0\0\0\0\0\0\0\0\0\0\0\0\0\0\0\0\0\0\0\0\0\0\0\0\0\0\x02\0\x64\x86\0\0\0\0";
 
@@ -94,7 +95,8 @@ fn file_with(alloc: Global, age: u32, debug: Debug) -> Result<Vec<u8>> {
     Ok(file)
 }
 
-/// A row: the age in stream 1, stream 3, the words behind `id`, and what is written, with the status.
+/// A case: the age in stream 1, stream 3, the words behind `id`, and what is written, with the
+/// status.
 type Identified = (
     u32,
     Debug,
@@ -171,7 +173,7 @@ const IDENTIFIED: &[Identified] = &[
     ),
 ];
 
-/// Returns whether `id` writes of a file what a row has.
+/// Returns whether `id` writes of a file what a case has.
 fn is_identified(alloc: Global, row: &Identified) -> Result<bool> {
     let (age, debug, words, line, told, wanted) = *row;
     let Some(asked) = identify_of(words) else {
@@ -195,7 +197,7 @@ fn identified(rt: HostRuntime) -> std::result::Result<(), Fail> {
     Ok(())
 }
 
-/// A row: the words behind `extract`, and what is written to the output and to the error channel.
+/// A case: the words behind `extract`, and what is written to the output and to the error channel.
 type Extracted = (&'static [&'static str], &'static [u8], &'static str);
 
 const EXTRACTED: &[Extracted] = &[
@@ -232,7 +234,7 @@ const EXTRACTED: &[Extracted] = &[
     (&["a.pdb", "/y"], b"", "StreamNameNotFound\n"),
 ];
 
-/// Returns whether `extract` writes what a row has.
+/// Returns whether `extract` writes what a case has.
 fn is_extracted(alloc: Global, row: &Extracted) -> Result<bool> {
     let (words, bytes, told) = *row;
     let Some(asked) = extract_of(words) else {

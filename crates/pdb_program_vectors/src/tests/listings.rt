@@ -36,9 +36,9 @@ const TYPES: &[&[u8]] = &[
     b"\x05\x12u\x00\x00\x00\x03\x05",
     // the shape of a table
     b"\x0a\x00\x03\x00U\x05",
-    // a leaf that is not read
+    // a record kind that is not read
     b"\x0e\x00\x00\x00",
-    // a number that is no leaf
+    // a number that is no record kind
     b"4\x12",
     // a structure that is cut
     b"\x05\x15\x01\x00",
@@ -58,9 +58,9 @@ const IDS: &[&[u8]] = &[
     b"\x05\x16\x00\x00\x00\x00C:\\a.c\x00",
     // where a type is declared
     b"\x06\x16\x00\x10\x00\x00\x04\x10\x00\x00\x07\x00\x00\x00",
-    // the same with its module
+    // where a type is declared, with its module
     b"\x07\x16\x00\x10\x00\x00 \x00\x00\x00\x08\x00\x00\x00\x02\x00",
-    // a leaf of types
+    // a record kind of types
     b"\x05\x15\x00\x00",
 ];
 
@@ -148,7 +148,7 @@ const SHORT: &[&[u8]] = &[&[1, 0x10, 0, 0x10, 0, 0, 3, 0], &[7]];
 /// The line of the first.
 const MODIFIER: &str = "0x1000 LF_MODIFIER underlying_type=0x1000 modifiers=[constant,volatile]\n";
 
-/// What is asked of a table of these records.
+/// A query of a table of these records.
 enum Asked {
     /// The lines of all types.
     Types,
@@ -162,7 +162,7 @@ enum Asked {
 
 /// How a listing ends.
 enum End {
-    /// With all that is asked.
+    /// After all that is to be listed.
     Whole,
     /// With a fault.
     Refused,
@@ -170,8 +170,8 @@ enum End {
     TooShort,
 }
 
-/// The records, what is asked of them, and in which form; what is written, and how it ends. A fault of the walk ends
-/// it behind the lines that came before, and one of the list of a type's fields behind the type.
+/// The records, the query, and the form; what is written, and how it ends. An error of the walk
+/// ends it after the lines that came before, and one of the list of a type's fields after the type.
 type Listed = (&'static [&'static [u8]], Asked, Form, &'static str, End);
 
 const LISTED: &[Listed] = &[
@@ -210,7 +210,7 @@ fn stream_of(alloc: Global, records: &[&[u8]]) -> Result<Stream> {
     Ok(Stream::new(bytes))
 }
 
-/// Writes what is asked.
+/// Writes the answer to a query.
 fn write(
     alloc: Global,
     stream: Stream,
@@ -236,7 +236,7 @@ fn ends(answer: Result<()>, end: &End) -> bool {
     }
 }
 
-/// Whether what is written, and how it ends, is as the row says.
+/// Whether what is written, and how it ends, is as the case says.
 fn is_listed(alloc: Global, row: &Listed) -> Result<bool> {
     let (records, asked, form, wanted, end) = row;
     let stream = stream_of(alloc, records)?;

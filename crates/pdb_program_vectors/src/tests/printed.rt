@@ -1,4 +1,4 @@
-//! What the program prints of S1, row by row.
+//! What the program prints of S1, case by case.
 
 use pdb_base::Result;
 use pdb_cli::{Outcome, act};
@@ -15,7 +15,7 @@ const ABSENT_4: &str = "The requested stream (4) is not stored in this file\n";
 
 const NO_OMAP: &str = "OMAP stream has an invalid length or alignment for its records\n";
 
-/// How the line of a fault of the source begins. What the system says of it stands behind.
+/// How the line of an error of the source begins. The system's own text follows it.
 const IO_ERROR: &str = "IO error while reading PDB: ";
 
 /// The lines that are printed without words.
@@ -75,31 +75,32 @@ const BUILD_INFO: &[u8] = b"\x0c\x00\x03\x16\x02\x00\x01\x10\x00\x00\x02\x10\x00
 const SHORT: &[u8] =
     b"\x02\x00\x01\x10\x02\x00\x01\x10\x02\x00\x01\x10\x02\x00\x01\x10\x02\x00\x01\x10\x02\x00\x01\x10\x02\x00\x01\x10\x02\x00\x01\x10\x02\x00\x01\x10";
 
-/// The same but for a length of 1 of the third.
+/// Nine items of two bytes, of which the third has a length of 1.
 const SHORT_LENGTH: &[u8] =
     b"\x02\x00\x01\x10\x02\x00\x01\x10\x01\x00\x01\x10\x02\x00\x01\x10\x02\x00\x01\x10\x02\x00\x01\x10\x02\x00\x01\x10\x02\x00\x01\x10\x02\x00\x01\x10";
 
-/// A list of the field B, and one of the field A that goes on in the list 0x1000.
+/// A list of the field B, and one of the field A that continues in the list 0x1000.
 const LISTS: &[u8] =
     b"\x0c\x00\x03\x12\x02\x15\x03\x00\x01\x00B\x00\xf2\xf1\x12\x00\x03\x12\x02\x15\x03\x00\x00\x00A\x00\x04\x14\x00\x00\x00\x10\x00\x00";
 
-/// The same, and behind them a list of the field C that goes on in the list 0x1001.
+/// The two lists, and after them a list of the field C that continues in the list 0x1001.
 const THREE_LISTS: &[u8] =
     b"\x0c\x00\x03\x12\x02\x15\x03\x00\x01\x00B\x00\xf2\xf1\x12\x00\x03\x12\x02\x15\x03\x00\x00\x00A\x00\x04\x14\x00\x00\x00\x10\x00\x00\x12\x00\x03\x12\x02\x15\x03\x00\x02\x00C\x00\x04\x14\x00\x00\x01\x10\x00\x00";
 
-/// The two lists, where the second goes on in itself.
+/// The two lists, where the second continues in itself.
 const OWN_LIST: &[u8] =
     b"\x0c\x00\x03\x12\x02\x15\x03\x00\x01\x00B\x00\xf2\xf1\x12\x00\x03\x12\x02\x15\x03\x00\x00\x00A\x00\x04\x14\x00\x00\x01\x10\x00\x00";
 
-/// The two lists, where the second goes on in a primitive type.
+/// The two lists, where the second continues in a primitive type.
 const NO_LIST: &[u8] =
     b"\x0c\x00\x03\x12\x02\x15\x03\x00\x01\x00B\x00\xf2\xf1\x12\x00\x03\x12\x02\x15\x03\x00\x00\x00A\x00\x04\x14\x00\x00\xff\x0f\x00\x00";
 
-/// The two lists, where behind the continuation of the second an entry has a leaf without a record.
+/// The two lists, with an entry after the continuation of the second whose record kind is not read.
 const FAULT_BEHIND: &[u8] =
     b"\x0c\x00\x03\x12\x02\x15\x03\x00\x01\x00B\x00\xf2\xf1\x14\x00\x03\x12\x02\x15\x03\x00\x00\x00A\x00\x04\x14\x00\x00\x00\x10\x00\x00\x34\x12";
 
-/// The list of B, seven empty lists, and in another block of the table one of A that goes on in the first.
+/// The list of B, seven empty lists, and in another block of the table one of A that continues in
+/// the first.
 const FAR_LISTS: &[u8] =
     b"\x0c\x00\x03\x12\x02\x15\x03\x00\x01\x00B\x00\xf2\xf1\x02\x00\x03\x12\x02\x00\x03\x12\x02\x00\x03\x12\x02\x00\x03\x12\x02\x00\x03\x12\x02\x00\x03\x12\x02\x00\x03\x12\x12\x00\x03\x12\x02\x15\x03\x00\x00\x00A\x00\x04\x14\x00\x00\x00\x10\x00\x00";
 
@@ -134,7 +135,7 @@ enum File {
 
 use File::{Cut, Example, Table, With};
 
-/// A file and what is asked of it; and what is answered: the status and both outputs.
+/// A file and the words for it; and the answer: the status and both outputs.
 type Row = (
     File,
     &'static [&'static str],
@@ -143,7 +144,8 @@ type Row = (
     &'static str,
 );
 
-/// Streams, and words that ask nothing. A table each for like rows: one of all is long in the proof.
+/// Streams, and words that are no query. There is a table for each group of like cases, since the
+/// proof of a single one takes long.
 const STREAMS: &[Row] = &[
     (Example, &["stream", "0"], 0, "", ""),
     (Example, &["stream", "0000000003", "0x2"], 0, "6865\n", ""),
@@ -367,7 +369,7 @@ const NAMES_AND_RANGES: &[Row] = &[
     ),
 ];
 
-/// Where the page number of the last stream of S1 stands.
+/// The position of the page number of the last stream of S1.
 const LAST_PAGE: usize = 1052;
 
 /// S1 whose last stream lies behind its end.
@@ -395,7 +397,7 @@ fn bytes_of(alloc: Global, file: &File) -> Result<Vec<u8>> {
     }
 }
 
-/// Whether the line of a refusal is this; what the system says of a fault is left open.
+/// Whether the line of an error is this; the system's own text of an error is left open.
 fn is_line(line: &[u8], wanted: &str) -> bool {
     if wanted == IO_ERROR {
         return line.starts_with(IO_ERROR.as_bytes()) && line.ends_with(b"\n");
@@ -403,7 +405,7 @@ fn is_line(line: &[u8], wanted: &str) -> bool {
     line == wanted.as_bytes()
 }
 
-/// Whether the program ended with a row's status and wrote what the row says.
+/// Whether the program ended with a case's status and wrote what the case says.
 fn is_written(outcome: &Outcome, row: &Row) -> bool {
     let (.., status, out, line) = row;
     outcome.status == *status
@@ -411,7 +413,7 @@ fn is_written(outcome: &Outcome, row: &Row) -> bool {
         && is_line(&outcome.err, line)
 }
 
-/// Whether the program answers a row so.
+/// Whether the program answers a case so.
 fn is_printed(alloc: Global, row: &Row) -> Result<bool> {
     let (file, words, ..) = row;
     let outcome = act(alloc, words, bytes_of(alloc, file)?)?;

@@ -1,5 +1,5 @@
-//! Rows of section headers, of records of OMAP tables, of frames and of a class. Each expected text is written from
-//! the definitions.
+//! `Row`s of section headers, of records of OMAP tables, of frames and of a class. Each expected
+//! text is written from the definitions.
 
 use pdb_base::{RawString, Result, TypeIndex};
 use pdb_flags::TypeProperties;
@@ -89,7 +89,7 @@ fn structure() -> TypeData<'static> {
     })
 }
 
-/// Whether a row has these lines of text and of JSON, and then these in full if that is asked.
+/// Whether a `Row` has these lines of text and of JSON, and then these in full with `is_full`.
 fn has_lines(alloc: Global, row: &Row<'_>, is_full: bool, wanted: &str) -> Result<bool> {
     let mut out = Vec::new(alloc);
     push_row(Form::Text, row, &mut out)?;
@@ -100,12 +100,12 @@ fn has_lines(alloc: Global, row: &Row<'_>, is_full: bool, wanted: &str) -> Resul
     Ok(out.as_slice() == wanted.as_bytes())
 }
 
-/// The same of a row that is made.
+/// Whether a `Row` is made, and has these lines.
 fn is_shown(alloc: Global, row: Result<Row<'_>>, is_full: bool, wanted: &str) -> bool {
     matches!(&row, Ok(row) if matches!(has_lines(alloc, row, is_full, wanted), Ok(true)))
 }
 
-/// Whether the row of that structure has its lines.
+/// Whether the `Row` of that structure has its lines.
 fn is_structure_shown(alloc: Global) -> bool {
     let row = type_row(alloc, 0x1000, 0x1505, &structure());
     is_shown(alloc, row, true, STRUCTURE)

@@ -1,5 +1,5 @@
-//! Runs: a file, and all that is asked of it, at once or one query at a time. What each other query is replied stands in the
-//! printed rows.
+//! Runs: a file, and all its queries, at once or one at a time. The other queries have their
+//! replies in the test cases of what is printed.
 
 use pdb_container::{Query, Reply, Result, run};
 use pdb_vectors::s1;

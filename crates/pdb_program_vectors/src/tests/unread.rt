@@ -1,5 +1,6 @@
-//! Inputs and outputs that fail with an error that has a text of its own, which is told as it stands. The input is
-//! read before the words are looked at, so that where it fails, bad words are not told of.
+//! Inputs and outputs that fail with an error that has a text of its own, which is printed
+//! unchanged. The input is read before the words are looked at, so that where it fails, bad words
+//! are not reported.
 
 use pdb_base::Result;
 use pdb_cli::serve;
@@ -35,7 +36,7 @@ impl Write for Broken {
     }
 }
 
-/// The line that is told of the error.
+/// The line of the error.
 const TOLD: &[u8] = b"IO error while reading PDB: the disk is gone\n";
 
 /// What the system hands over: words behind the program's name, or that one of them is not UTF-8.
@@ -65,12 +66,12 @@ fn arguments(alloc: Global, words: &Words) -> Result<io::Result<Args>> {
     Ok(Ok(call.into_iter()))
 }
 
-/// Whether a call ended with status 1, and told the error.
+/// Whether a call ended with status 1, and printed the error.
 fn is_told(status: u8, err: Output<Vec<u8>>) -> bool {
     status == 1 && !err.has_failed() && err.into_inner().as_slice() == TOLD
 }
 
-/// Whether a call over an input that fails tells its error, and writes nothing else.
+/// Whether a call over an input that fails prints its error, and writes nothing else.
 fn is_unread(alloc: Global, words: &Words) -> Result<bool> {
     let words = arguments(alloc, words)?;
     let mut out = Output::new(Vec::new(alloc));
@@ -79,7 +80,7 @@ fn is_unread(alloc: Global, words: &Words) -> Result<bool> {
     Ok(is_told(status, err) && out.into_inner().is_empty())
 }
 
-/// Whether a call without words, which reads no input, tells the error of its output.
+/// Whether a call without words, which reads no input, prints the error of its output.
 fn is_unwritten(alloc: Global) -> Result<bool> {
     let words = arguments(alloc, &Some(&[]))?;
     let mut out = Output::new(Broken);

@@ -44,7 +44,7 @@ fn has_x(alloc: Global, finder: &TypeFinder<'_>) -> bool {
     matches!(&fields, Ok(fields) if matches!(fields.as_slice(), [field] if is_x(field)))
 }
 
-/// The same of a finder that knows all types.
+/// Whether the member `x` is the one field of the class that a finder of all types knows.
 fn is_found(alloc: Global, finder: Result<TypeFinder<'_>>) -> bool {
     match &finder {
         Ok(finder) => has_x(alloc, finder),
@@ -52,7 +52,7 @@ fn is_found(alloc: Global, finder: Result<TypeFinder<'_>>) -> bool {
     }
 }
 
-/// The same of types.
+/// Whether the member `x` is the one field of the class in these types.
 fn is_class_of_x(alloc: Global, types: Result<TypeInformation>) -> bool {
     match &types {
         Ok(types) => is_found(alloc, finder_of(alloc, types)),
@@ -147,7 +147,7 @@ fn is_answered(alloc: Global, asked: &Use, file: Vec<u8>) -> bool {
     }
 }
 
-/// The same of the file that is built.
+/// Whether a use answers so over the file that is built.
 fn is_used(alloc: Global, asked: &Use) -> Result<bool> {
     Ok(is_answered(alloc, asked, built(alloc)?))
 }

@@ -1,5 +1,6 @@
-//! Which values of types and ids are equal, and whether their clones are. The first value of each kind is followed by
-//! one for each of its fields, in which that field alone differs, so that no two of them are equal.
+//! Which values of types and ids are equal, and whether their clones are. The first value of each
+//! kind is followed by one for each of its fields, in which that field alone differs, so that no
+//! two of them are equal.
 
 use pdb_base::{IdIndex, RawString, Result, TypeIndex, Variant};
 use pdb_flags::{FieldAttributes, FunctionAttributes, PointerAttributes};
@@ -16,7 +17,8 @@ use pdb_values::{
 use std::alloc::Global;
 use std::test::Fail;
 
-/// Whether each value is equal to the one at its place among the others, which are made anew, and to no other one.
+/// Whether each value is equal to the one at its place among the others, which are made anew, and
+/// to no other one.
 fn are_told_apart<T: PartialEq>(values: &[T], others: &[T]) -> bool {
     for (place, value) in values.iter().enumerate() {
         for (other_place, other) in others.iter().enumerate() {
@@ -39,7 +41,7 @@ fn are_cloned<T: Clone + PartialEq + Drop>(values: &[T]) -> bool {
     true
 }
 
-/// Whether values are told apart, and cloned.
+/// Whether each of these values is unequal to the others, and equal to its clone.
 fn are_values<T: Clone + PartialEq + Drop>(values: &[T], others: &[T]) -> bool {
     are_told_apart(values, others) && are_cloned(values)
 }
@@ -128,7 +130,8 @@ fn sources(alloc: Global) -> Result<Vec<UserDefinedTypeSourceId>> {
     )?)
 }
 
-/// Whether what a function makes is told apart, and cloned.
+/// Whether each of the values that a function makes is unequal to the others, and equal to its
+/// clone.
 macro_rules! are_values_of {
     ($alloc:expr, $values:ident) => {
         are_values(&$values($alloc)?, &$values($alloc)?)
@@ -172,7 +175,7 @@ const SHAPES: &[VirtualTableShapeType<'static>] = &[
     },
 ];
 
-/// The same shapes, whose bytes stand elsewhere.
+/// Equal shapes, whose bytes are elsewhere in memory.
 const SAME_SHAPES: &[VirtualTableShapeType<'static>] = &[
     VirtualTableShapeType {
         count: 3,
@@ -363,7 +366,8 @@ fn one_field(
     })
 }
 
-/// Lists that differ in their fields, in the number of them, in the list within them, and in what they go on in.
+/// Lists that differ in their fields, in the number of them, in the list within them, and in the
+/// list that continues them.
 fn field_lists(alloc: Global) -> Result<Vec<FieldList<'static>>> {
     Ok(vec![in alloc;
         FieldList {
@@ -424,7 +428,8 @@ fn add_lists(alloc: Global, data: &mut Vec<TypeData<'static>>) -> Result<()> {
     Ok(())
 }
 
-/// Types without a name: a primitive type, a modifier and a bit field, each followed by another one.
+/// Types without a name: a primitive type, a modifier and a bit field, each followed by another
+/// one.
 fn unnamed(alloc: Global) -> Result<Vec<TypeData<'static>>> {
     Ok(vec![in alloc;
         TypeData::Primitive(PrimitiveType {

@@ -118,7 +118,8 @@ fn says_field(bits: u16, access: u8, method: [bool; 4]) -> bool {
     (word.access(), word.bits(), method_of(word)) == (access, bits, method)
 }
 
-/// Whether a word of a function, which keeps its bits, says this calling convention and these marks.
+/// Whether a word of a function, which keeps its bits, says this calling convention and these
+/// marks.
 fn says_function(bits: u16, convention: u8, marks: [bool; 3]) -> bool {
     let word = FunctionAttributes::new(bits);
     (word.calling_convention(), word.bits(), marks_of(word)) == (convention, bits, marks)

@@ -1,4 +1,5 @@
-//! Records of ids. Each field has a value of its own, so that one read in the place of another shows.
+//! Records of ids. Each field has a value of its own, so that one read in the place of another
+//! shows.
 
 use super::is_error;
 use super::read::table_of;
@@ -23,7 +24,8 @@ enum Said {
     Text(Option<IdIndex>),
     /// Where the type 0x1000 is declared: the id of the file, and the line.
     Local(u32, u32),
-    /// The same by a module and the offset of the file's name in it.
+    /// Where the type 0x1000 is declared: a module, the offset of the file's name in it, and the
+    /// line.
     Remote(u16, u32, u32),
     /// What a module was built with.
     BuildInfo(&'static [IdIndex]),
@@ -62,7 +64,7 @@ const ROWS: &[(&[u8], Said)] = &[
         Said::Text(Some(IdIndex(0xffff))),
     ),
 
-    // Where a type is declared. The last stands in the line 0x0102_0304 of a file of module 0xfeff.
+    // Where a type is declared. The last is in line 0x0102_0304 of a file of module 0xfeff.
     (
         b"\x06\x16\x00\x10\x00\x00\x05\x10\x00\x00\x2a\x00\x00\x00",
         Said::Local(0x1005, 42),
@@ -104,7 +106,8 @@ fn source_id(source_file: UserDefinedTypeSourceFileRef, line: u32) -> IdData<'st
     })
 }
 
-/// A function or a method, or where a type is declared; or the text `a`, with no first parts where nothing is said of them.
+/// A function or a method, or where a type is declared; or the text `a`, with no first parts where
+/// nothing is said of them.
 fn plain_id(said: &Said) -> IdData<'static> {
     match said {
         Said::Function(scope, function_type, name) => IdData::Function(FunctionId {
@@ -188,7 +191,7 @@ fn is_read(alloc: Global, record: &[u8], want: Want<'_>) -> std::result::Result<
     Ok(is_first(alloc, &table, want)?)
 }
 
-/// The same of a record with more bytes behind it.
+/// Whether the id of a record with more bytes behind it is what is wanted.
 fn is_read_with(
     alloc: Global,
     record: &[u8],
@@ -200,7 +203,7 @@ fn is_read_with(
     is_read(alloc, &longer, want)
 }
 
-/// Whether each front of a record, the whole not among them, ends too soon.
+/// Whether each proper prefix of a record ends too soon.
 fn ends_soon(alloc: Global, record: &[u8]) -> bool {
     for length in 0..record.len() {
         let read = parse_id_data(alloc, &record[..length]);
@@ -225,19 +228,21 @@ fn is_copied(alloc: Global, data: &IdData<'_>) -> bool {
     matches!(data.clone(alloc), Ok(copy) if copy == *data) && is_list_copied(alloc, data)
 }
 
-/// Whether an id is the one that is wanted and the one that its record says when it is read again, and is copied.
+/// Whether an id is the one that is wanted and the one that its record says when it is read again,
+/// and is copied.
 fn is_id(alloc: Global, data: &IdData<'_>, again: &IdData<'_>, want: &IdData<'_>) -> bool {
     *data == *want && *data == *again && is_copied(alloc, data)
 }
 
-/// The same of what a record says that stands in no table.
+/// Whether a record that is in no table says what is wanted, and does so again, and a copy is
+/// equal.
 fn is_parsed(alloc: Global, record: &[u8], want: &IdData<'_>) -> Result<bool> {
     let data = parse_id_data(alloc, record)?;
     Ok(is_id(alloc, &data, &parse_id_data(alloc, record)?, want))
 }
 
 /// Whether a record says this with padding behind it too, and with another byte behind that, and
-/// no front of it says anything.
+/// each proper prefix of it ends too soon.
 fn is_told(alloc: Global, record: &[u8], want: &IdData<'_>) -> std::result::Result<bool, Fail> {
     let want = Want::Value(want);
     let is_padded = is_read_with(alloc, record, b"\xf2\xf1", want)?;
@@ -245,7 +250,7 @@ fn is_told(alloc: Global, record: &[u8], want: &IdData<'_>) -> std::result::Resu
     Ok(is_padded && is_longer && is_read(alloc, record, want)? && ends_soon(alloc, record))
 }
 
-/// Whether a record says its row, and what it says is copied.
+/// Whether a record says what its case has, and what it says is copied.
 fn is_row(alloc: Global, record: &[u8], said: &Said) -> std::result::Result<bool, Fail> {
     let want = wanted(alloc, said)?;
     Ok(is_told(alloc, record, &want)? && is_parsed(alloc, record, &want)?)

@@ -6,7 +6,7 @@ use pdb_values::{TypeData, type_data_for_primitive};
 use std::alloc::Global;
 use std::test::Fail;
 
-/// An index, and what its type is, or the text of its refusal.
+/// An index, and what its type is, or the text of its error.
 const ROWS: &[(u32, &str)] = &[
     (
         0x74,

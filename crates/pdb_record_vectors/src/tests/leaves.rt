@@ -1,11 +1,11 @@
-//! Which numbers are leaves.
+//! Which numbers are record kinds.
 
 use pdb_base::Error;
 use pdb_records::{parse_id_data, parse_type_data};
 use pdb_tpi::constants::{LF_LABEL, LF_VFTABLE, LF_VTSHAPE};
 use std::alloc::Global;
 
-/// The leaves of types that have a record.
+/// The record kinds of types that are read.
 const TYPE_LEAVES: [u16; 41] = [
     0x000a, 0x0403, 0x1001, 0x1002, 0x1003, 0x1004, 0x1005, 0x1006, 0x1007, 0x1008, 0x1009, 0x1201,
     0x1203, 0x1205, 0x1206, 0x1400, 0x1401, 0x1402, 0x1405, 0x1406, 0x1407, 0x1408, 0x1409, 0x140b,
@@ -13,31 +13,31 @@ const TYPE_LEAVES: [u16; 41] = [
     0x1512, 0x1516, 0x1519, 0x151a, 0x1609,
 ];
 
-/// The leaves of ids that have a record.
+/// The record kinds of ids that are read.
 const ID_LEAVES: [u16; 7] = [0x1601, 0x1602, 0x1603, 0x1604, 0x1605, 0x1606, 0x1607];
 
-/// Whether a number is refused by itself as the leaf of a type.
+/// Whether the error of a type record is that a record of this kind is not read.
 fn is_refused_type(alloc: Global, number: u16) -> bool {
     let bytes = number.to_le_bytes();
     let read = parse_type_data(alloc, &bytes);
     matches!(read, Err(Error::UnimplementedTypeKind(kind)) if kind == number)
 }
 
-/// Whether a number is refused by itself as the leaf of an id.
+/// Whether the error of an id record is that a record of this kind is not read.
 fn is_refused_id(alloc: Global, number: u16) -> bool {
     let bytes = number.to_le_bytes();
     let read = parse_id_data(alloc, &bytes);
     matches!(read, Err(Error::UnimplementedTypeKind(kind)) if kind == number)
 }
 
-/// Whether a number is refused by itself as the leaf of a type, and as that of an id, but where it has a
-/// record.
+/// Whether a type record and an id record of a kind have this error exactly if the kind is not in
+/// the lists above.
 fn is_judged(alloc: Global, number: u16) -> bool {
     is_refused_type(alloc, number) != TYPE_LEAVES.contains(&number)
         && is_refused_id(alloc, number) != ID_LEAVES.contains(&number)
 }
 
-/// Any other number is refused by itself.
+/// The error of any other number names the number.
 #[test]
 fn leaves(rt: HostRuntime) {
     assert!(rt; [LF_VTSHAPE, LF_LABEL, LF_VFTABLE] == [0x000a, 0x000e, 0x151d]);

@@ -12,26 +12,26 @@ enum Also {
     /// Nothing more.
     Nothing,
 
-    /// It says the same with padding behind it, and is refused with another byte behind that, or where
-    /// it is cut.
+    /// It says the same with padding behind it, and is an error with another byte behind that, or
+    /// where it is cut.
     Padded,
 
     /// So many bytes are left behind its arguments, once they are skipped.
     Left(usize),
 
-    /// The list that it goes on in is found where its fields are skipped.
+    /// The list that continues it is found where its fields are skipped.
     GoesOn(Option<TypeIndex>),
 }
 
 /// The bytes of a record, what they say as `Debug` writes it, and what else holds of them.
 type Row = (&'static [u8], &'static str, Also);
 
-/// The bytes of a list of a class's members, each of another kind and padded or not: a base class, a
-/// table pointer, a data member, a nested type and the value of an enumeration.
+/// The bytes of a list of a class's members, each of another kind and padded or not: a base class,
+/// a table pointer, a data member, a nested type and the value of an enumeration.
 const MEMBERS: &[u8] =
     b"\x03\x12\x00\x14\x02\x01\x27\x10\x00\x00\x04\x00\x09\x14\xcd\xab\x2a\x10\x00\x00\x0d\x15\x02\x01\x74\x00\x00\x00\x08\x00m\x00\xf2\xf1\x10\x15\xcd\xab\x2b\x10\x00\x00N\x00\xf0\x02\x15\x03\x00\x00\x80\x05A\x00\xf3\xf2\xf1\xf4\xff\xff\xff";
 
-/// A list of one field that goes on in another, as LLVM writes it.
+/// A list of one field that continues in another, as LLVM writes it.
 const CONTINUED: &[u8] = b"\x03\x12\x02\x15\x03\x00\x00\x00A\x00\x04\x14\x00\x00\x00\x10\x00\x00";
 
 /// Records of lists.
@@ -53,8 +53,8 @@ const ROWS: &[Row] = &[
         Also::Nothing,
     ),
 
-    // Arrays without padding: of the dimensions 0xdabd and 0x40, with a stride of 0x118, of the dimension
-    // 0xffff_ffff, and of three dimensions.
+    // Arrays without padding: of the dimensions 0xdabd and 0x40, with a stride of 0x118, of the
+    // dimension 0xffff_ffff, and of three dimensions.
     (
         b"\x03\x15\x77\x13\x00\x00\x23\x00\x00\x00\x02\x80\xbd\xda\x00",
         "Array(ArrayType { element_type: TypeIndex(0x1377), indexing_type: TypeIndex(0x23), stride: None, dimensions: [55997] })",
@@ -103,8 +103,8 @@ const ROWS: &[Row] = &[
         Also::Left(1),
     ),
 
-    // Lists of no method, of one that introduces a place in the table of virtual functions, and of that one
-    // and one that is not virtual.
+    // Lists of no method, of one that introduces a place in the table of virtual functions, and of
+    // that one and one that is not virtual.
     (
         b"\x06\x12",
         "MethodList(MethodList { methods: [] })",
@@ -217,8 +217,8 @@ fn is_copied(alloc: Global, data: &TypeData<'_>) -> Result<bool> {
     Ok(is_list_copied(alloc, data) && is_value_copied(alloc, data)?)
 }
 
-/// Whether this text is what `Debug` writes of a list, the list is equal to what its record says when it is read
-/// again, and is copied.
+/// Whether this text is what `Debug` writes of a list, the list is equal to what its record says
+/// when it is read again, and is copied.
 fn is_list<'t>(
     alloc: Global,
     data: &TypeData<'t>,
@@ -229,13 +229,14 @@ fn is_list<'t>(
     Ok(text.as_str() == want && *data == *again && is_copied(alloc, data)?)
 }
 
-/// The same of what a record says that stands in no table.
+/// Whether a record that is in no table says what is wanted, and does so again, and a copy is
+/// equal.
 fn is_read(alloc: Global, record: &[u8], want: &str) -> Result<bool> {
     let data = parse_type_data(alloc, record)?;
     is_list(alloc, &data, &parse_type_data(alloc, record)?, want)
 }
 
-/// Whether a record says the same with padding behind it, and is refused with another byte behind
+/// Whether a record says the same with padding behind it, and is an error with another byte behind
 /// that, or where it is cut.
 fn is_padded(alloc: Global, record: &[u8], want: &str) -> std::result::Result<bool, Fail> {
     let is_padded = is_said_with(alloc, record, b"\xf3\xf2\xf1\xf0", want)?;
@@ -273,7 +274,7 @@ fn does_hold(
     }
 }
 
-/// Whether a record says its row, in a table and by itself, and what it says is copied.
+/// Whether a record says what its case has, in a table and alone, and what it says is copied.
 fn is_row(alloc: Global, row: &Row) -> std::result::Result<bool, Fail> {
     let (record, want, also) = row;
     let is_said = is_said(alloc, record, want)? && is_read(alloc, record, want)?;

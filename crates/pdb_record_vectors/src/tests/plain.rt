@@ -1,5 +1,5 @@
-//! Records without a list: the fields of each leaf. Each field has a value of its own, so that one
-//! read in the place of another shows.
+//! Records without a list: the fields of each record kind. Each field has a value of its own, so
+//! that one read in the place of another shows.
 
 use super::read::{ends_soon, is_said, is_said_with, is_value_copied, record_of, text_of};
 use pdb_base::{RawString, TypeIndex, Variant};
@@ -73,7 +73,7 @@ enum Want {
     TableShape(VirtualTableShapeType<'static>),
 }
 
-/// The number of a leaf, the bytes behind it, and what they say.
+/// The number of a record kind, the bytes behind it, and what they say.
 type Row = (u16, &'static [u8], Want);
 
 const CLASS: &[u8] =
@@ -96,7 +96,7 @@ const VIRTUAL_BASE: &[u8] =
 
 const UNIQUE: Option<&str> = Some("unique");
 
-/// Records of each leaf that has no list, but of pointers.
+/// Records of each kind that has no list, except pointers.
 const ROWS: &[Row] = &[
     // Classes, structs and interfaces.
     (0x1504, CLASS, Want::Class(ClassKind::Class)),
@@ -302,7 +302,8 @@ const ROWS: &[Row] = &[
         Want::Procedure(None),
     ),
 
-    // Base classes, of whose offsets the low 32 bits are kept, and a pointer to a table of virtual functions.
+    // Base classes, of whose offsets the low 32 bits are kept, and a pointer to a table of virtual
+    // functions.
     (
         0x1400,
         b"\x02\x01\x27\x10\x00\x00\x0a\x80\x04\x00\x00\x00\x01\x00\x00\x00",
@@ -645,20 +646,21 @@ fn wanted(want: &Want) -> TypeData<'static> {
     }
 }
 
-/// Whether a record says this with a byte behind it too, and no front of it says anything.
+/// Whether a record says this with a byte behind it too, and each proper prefix of it ends too
+/// soon.
 fn is_record_of(alloc: Global, record: &[u8], want: &str) -> Result<bool, Fail> {
     let is_whole = is_said(alloc, record, want)? && is_said_with(alloc, record, b"\x41", want)?;
     Ok(is_whole && ends_soon(alloc, record))
 }
 
-/// Whether the record of this leaf says this, and a copy of that is equal.
+/// Whether the record of this kind says this, and a copy of that is equal.
 fn is_told(alloc: Global, leaf: u16, fields: &[u8], want: &TypeData<'_>) -> Result<bool, Fail> {
     let record = record_of(alloc, leaf, fields)?;
     let text = text_of(alloc, want)?;
     Ok(is_record_of(alloc, &record, text.as_str())? && is_value_copied(alloc, want)?)
 }
 
-/// Whether a record says its row.
+/// Whether a record says what its case has.
 fn is_row(alloc: Global, row: &Row) -> Result<bool, Fail> {
     let (leaf, fields, want) = row;
     is_told(alloc, *leaf, fields, &wanted(want))
@@ -681,7 +683,8 @@ fn padded_table_shape(rt: HostRuntime) -> Result<(), Fail> {
     Ok(())
 }
 
-/// The bytes of a pointer behind its leaf, the type that it points to, its attributes and its class.
+/// The bytes of a pointer behind its record kind, the type that it points to, its attributes and
+/// its class.
 type PointerRow = (&'static [u8], u32, u32, Option<TypeIndex>);
 
 /// The class of pointers to its members.
@@ -726,7 +729,7 @@ fn pointer(
     }))
 }
 
-/// Whether the record of a pointer says its row.
+/// Whether the record of a pointer says what its case has.
 fn is_pointer(alloc: Global, row: &PointerRow) -> Result<bool, Fail> {
     let (fields, underlying, word, containing_class) = row;
     match pointer(*underlying, *word, *containing_class) {

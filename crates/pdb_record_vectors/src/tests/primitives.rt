@@ -50,8 +50,7 @@ const PRIMITIVES: &[(u32, PrimitiveKind, Option<Indirection>)] = &[
     (0x33, PrimitiveKind::Bool64, None),
 ];
 
-/// The primitive type that is read, or the number that the refusal names, which is 0 where it names
-/// none.
+/// The primitive type that is read, or the number in the error, which is 0 if it has none.
 fn told(read: &pdb_base::Result<TypeData<'_>>) -> Result<PrimitiveType, u32> {
     match read {
         Ok(TypeData::Primitive(primitive)) => Ok(*primitive),
@@ -60,7 +59,7 @@ fn told(read: &pdb_base::Result<TypeData<'_>>) -> Result<PrimitiveType, u32> {
     }
 }
 
-/// The same of the type of an index.
+/// The primitive type of an index, or the number in the error, which is 0 if it has none.
 fn primitive(index: u32) -> Result<PrimitiveType, u32> {
     if index >= 0x1000 {
         return Err(0);

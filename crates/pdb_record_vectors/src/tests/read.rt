@@ -18,15 +18,15 @@ fn item_of(alloc: Global, record: &[u8]) -> Result<Vec<u8>, Fail> {
     Ok(item)
 }
 
-/// A table of at most 512 bytes, whose header has 56 bytes, and whose one item, of index 0x1000, is this
-/// record.
+/// A table of at most 512 bytes, whose header has 56 bytes, and whose one item, of index 0x1000, is
+/// this record.
 pub(crate) fn table_of(alloc: Global, record: &[u8]) -> Result<Stream, Fail> {
     let item = item_of(alloc, record)?;
     let bytes = item_table(alloc, 56, 0x1000, 0x1001, &item)?;
     stream(alloc, &bytes)
 }
 
-/// The bytes of a record: the number of its leaf, and what stands behind it.
+/// The bytes of a record: the number of its kind, and what follows it.
 pub(crate) fn record_of(alloc: Global, leaf: u16, fields: &[u8]) -> Result<Vec<u8>, Fail> {
     let mut record = Vec::new(alloc);
     record.extend_from_slice(&leaf.to_le_bytes())?;
@@ -39,7 +39,7 @@ pub(crate) fn text_of<T: Debug>(alloc: Global, value: &T) -> pdb_base::Result<St
     Ok(format!(in alloc; "{value:?}")?)
 }
 
-/// What was read, as `Debug` writes it, or the text of its refusal.
+/// What was read, as `Debug` writes it, or the text of the error.
 pub(crate) fn said_of<T: Debug>(
     alloc: Global,
     read: &pdb_base::Result<T>,
@@ -50,30 +50,30 @@ pub(crate) fn said_of<T: Debug>(
     }
 }
 
-/// What a type is, or the text of its refusal.
+/// What a type is, or the text of its error.
 fn item_said(alloc: Global, item: Type<'_>) -> pdb_base::Result<String> {
     said_of(alloc, &item.parse(alloc))
 }
 
-/// What the type of an index is, or the text of its refusal.
+/// What the type of an index is, or the text of its error.
 fn found(alloc: Global, finder: &TypeFinder<'_>, index: u32) -> pdb_base::Result<String> {
     item_said(alloc, finder.find(TypeIndex(index))?)
 }
 
-/// The same of a table.
+/// What the type of an index in a table is, or the text of its error.
 fn found_in(alloc: Global, table: &TypeInformation, index: u32) -> pdb_base::Result<String> {
     found(alloc, &table.finder(alloc)?, index)
 }
 
-/// What the type of an index is, as `Debug` writes it, or the text of its refusal, in a table whose
+/// What the type of an index is, as `Debug` writes it, or the text of its error, in a table whose
 /// one item is this record.
 fn said_at(alloc: Global, record: &[u8], index: u32) -> Result<String, Fail> {
     let table = TypeInformation::parse(table_of(alloc, record)?)?;
     Ok(found_in(alloc, &table, index)?)
 }
 
-/// Whether this is what the type of an index is, or the text of its refusal, in a table whose one item
-/// is this record.
+/// Whether this is what the type of an index is, or the text of its error, in a table whose one
+/// item is this record.
 pub(crate) fn is_said_at(
     alloc: Global,
     record: &[u8],
@@ -84,12 +84,13 @@ pub(crate) fn is_said_at(
     Ok(said.as_str() == want)
 }
 
-/// The same of the type of the record.
+/// Whether this is what the type of the record is, or the text of its error.
 pub(crate) fn is_said(alloc: Global, record: &[u8], want: &str) -> Result<bool, Fail> {
     is_said_at(alloc, record, 0x1000, want)
 }
 
-/// The same of the type of the record with more bytes behind it.
+/// Whether this is what the type of the record with more bytes behind it is, or the text of its
+/// error.
 pub(crate) fn is_said_with(
     alloc: Global,
     record: &[u8],
@@ -101,12 +102,12 @@ pub(crate) fn is_said_with(
     is_said(alloc, &longer, want)
 }
 
-/// Whether the front of a record ends too soon.
+/// Whether a prefix of a record ends too soon.
 fn is_cut(alloc: Global, front: &[u8]) -> bool {
     matches!(parse_type_data(alloc, front), Err(Error::UnexpectedEof))
 }
 
-/// Whether each front of a record, the whole not among them, ends too soon.
+/// Whether each proper prefix of a record ends too soon.
 pub(crate) fn ends_soon(alloc: Global, record: &[u8]) -> bool {
     for length in 0..record.len() {
         if !is_cut(alloc, &record[..length]) {

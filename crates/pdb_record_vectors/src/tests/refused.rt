@@ -1,4 +1,4 @@
-//! Records of types that are refused.
+//! Records of types that have an error.
 
 use super::read::is_said;
 use std::test::Fail;
@@ -9,7 +9,7 @@ const POINTER: &str = "Support for types of kind 0x1002 is not implemented";
 
 const PREFIX: &str = "Variable-length numeric parsing encountered an unexpected prefix (0x8005)";
 
-/// What is wrong with a record, its bytes, and the text of its refusal.
+/// What is wrong with a record, its bytes, and the text of its error.
 const REFUSED: &[(&str, &[u8], &str)] = &[
     (
         "an array with cut padding",

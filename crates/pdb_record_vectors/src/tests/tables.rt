@@ -45,9 +45,9 @@ enum Fields {
     Error(Error),
 }
 
-/// What is asked of a table, and its answer.
+/// A query of a table, and its answer.
 enum Ask {
-    /// What it is refused with.
+    /// The error of the table.
     Refusal(Error),
     /// The size that its header says.
     HeaderSize(u32),
@@ -55,21 +55,21 @@ enum Ask {
     Header(Header, usize, bool),
     /// What each step of a walk gives, and each step of a clone of its iterator.
     Walk(&'static [Step]),
-    /// What a new finder is shown and asked.
+    /// What a new finder is fed, and its look-ups.
     Finder(&'static [FinderAsk]),
     /// How many finders are made that are kept at once.
     Finders(usize),
-    /// What the table is asked while it stays open.
+    /// The calls of the table while it stays open.
     Open(&'static [OpenAsk]),
 }
 
-/// What a finder is shown, or asked, with its answer.
+/// What a finder is fed, or a look-up with its answer.
 enum FinderAsk {
-    /// It is shown an iterator of its table after each of these numbers of steps.
+    /// It is fed an iterator of its table after each of these numbers of steps.
     Shown(&'static [usize]),
-    /// It is shown no iterator.
+    /// It is fed no iterator.
     ShownNone,
-    /// It is shown two iterators at once, after so many steps each.
+    /// It is fed two iterators at once, after so many steps each.
     ShownBoth(usize, usize),
     /// The last index that it covers.
     Last(u32),
@@ -85,7 +85,7 @@ enum FinderAsk {
     Fields(u32, Fields),
 }
 
-/// What is done with an open table, or what it is asked, with its answer.
+/// A call of an open table, with its answer.
 enum OpenAsk {
     /// The place that the next step of its walk gives.
     Step(Option<RecordPlace>),
@@ -93,7 +93,7 @@ enum OpenAsk {
     Rewind,
     /// It learns an index.
     Learn(u32),
-    /// The index at which its walk stands, and how many indexes it counts.
+    /// The index of the next item of its walk, and how many indexes it counts.
     Index(u64, usize),
     /// An index: the place of its record.
     Find(u32, Option<RecordPlace>),
@@ -148,7 +148,7 @@ const NINE: &[u8] = &[
     6, 0x10, 2, 0, 7, 0x10, 2, 0, 8, 0x10,
 ];
 
-/// The same, but for a length of 1 of the third.
+/// Nine items of two bytes, of which the third has a length of 1.
 const NINE_SHORT: &[u8] = &[
     2, 0, 0, 0x10, 2, 0, 1, 0x10, 1, 0, 2, 0x10, 2, 0, 3, 0x10, 2, 0, 4, 0x10, 2, 0, 5, 0x10, 2, 0,
     6, 0x10, 2, 0, 7, 0x10, 2, 0, 8, 0x10,
@@ -168,16 +168,16 @@ const TWENTY: &[u8] = &[
     0x10, 2, 0, 19, 0x10,
 ];
 
-/// The list of the field B at 0x1000, and one of the field A at 0x1001 that goes on in the first.
+/// The list of the field B at 0x1000, and one of the field A at 0x1001 that continues in the first.
 const TWO_LISTS: &[u8] =
     b"\x0c\x00\x03\x12\x02\x15\x03\x00\x01\x00B\x00\xf2\xf1\x12\x00\x03\x12\x02\x15\x03\x00\x00\x00A\x00\x04\x14\x00\x00\x00\x10\x00\x00";
 
-/// The list of the field B at 0x1000, seven empty lists, and at 0x1008 a list of the field A that goes on in
-/// the first.
+/// The list of the field B at 0x1000, seven empty lists, and at 0x1008 a list of the field A that
+/// continues in the first.
 const LISTS: &[u8] =
     b"\x0c\x00\x03\x12\x02\x15\x03\x00\x01\x00B\x00\xf2\xf1\x02\x00\x03\x12\x02\x00\x03\x12\x02\x00\x03\x12\x02\x00\x03\x12\x02\x00\x03\x12\x02\x00\x03\x12\x02\x00\x03\x12\x12\x00\x03\x12\x02\x15\x03\x00\x00\x00A\x00\x04\x14\x00\x00\x00\x10\x00\x00";
 
-/// Where the records of the two lists stand in their table.
+/// The places of the records of the two lists in their table.
 const LIST_OF_B: RecordPlace = RecordPlace {
     offset: 58,
     length: 12,
@@ -196,7 +196,7 @@ const SHORT: Step = Step::Error(Error::TypeTooShort);
 /// That the finder, which covers the indexes up to 0x1007, doesn't cover 0x1008.
 const NOT_INDEXED: Step = Step::Error(Error::TypeNotIndexed(0x1008, 0x1007));
 
-/// Tables, and what is asked of each.
+/// Tables, and the query of each.
 const TABLES: &[(&str, Source, Ask)] = &[
     (
         "56 bytes",
@@ -513,7 +513,7 @@ fn iterator_at(table: &TypeInformation, steps: usize) -> Result<TypeIter<'_>, Fa
     Ok(walk)
 }
 
-/// Shows a finder an iterator of its table after each of these numbers of steps.
+/// Feeds a finder an iterator of its table after each of these numbers of steps.
 fn show_each(
     table: &TypeInformation,
     finder: &mut TypeFinder<'_>,
@@ -528,7 +528,7 @@ fn show_each(
     Ok(true)
 }
 
-/// Shows a finder two iterators of its table at once, after so many steps each.
+/// Feeds a finder two iterators of its table at once, after so many steps each.
 fn show_both(
     table: &TypeInformation,
     finder: &mut TypeFinder<'_>,
@@ -544,8 +544,8 @@ fn show_both(
     Ok(true)
 }
 
-/// Whether both look-ups of an index answer so, and the one that counts reads so many lengths, which it adds to
-/// those of the look-ups before.
+/// Whether both look-ups of an index answer so, and the one that counts reads so many lengths,
+/// which it adds to those of the look-ups before.
 fn finds(finder: &TypeFinder<'_>, count: &mut Count, index: u32, want: &Step, reads: u64) -> bool {
     let before = count.get();
     let counted = finder.find_counted(TypeIndex(index), count).map(Some);
@@ -619,7 +619,7 @@ fn finder_answers(
     }
 }
 
-/// Whether a finder of a table answers so, once it is shown what it is to be shown.
+/// Whether a finder of a table answers so, once it is fed what it is to be fed.
 fn finder_does(
     alloc: Global,
     table: &TypeInformation,
@@ -659,7 +659,7 @@ fn finder_tells(
     Ok(true)
 }
 
-/// The same of a new finder.
+/// Whether a new finder answers each of these so, one after the other.
 fn new_finder_tells(
     alloc: Global,
     table: &TypeInformation,
@@ -732,7 +732,7 @@ fn open_tells(
     Ok(true)
 }
 
-/// The same of a table that is opened.
+/// Whether a table that is opened answers each of these so, one after the other.
 fn opened_tells(alloc: Global, table: TypeInformation, asks: &[OpenAsk]) -> Result<bool, Fail> {
     let mut open = OpenTable::new(alloc, table)?;
     open_tells(alloc, &mut open, asks)
@@ -763,12 +763,12 @@ fn owned_answers(alloc: Global, table: TypeInformation, ask: &Ask) -> Result<boo
     }
 }
 
-/// Whether a table is to be refused with this error.
+/// Whether this error is the expected one of a table.
 fn is_refusal(error: &Error, ask: &Ask) -> bool {
     matches!(ask, Ask::Refusal(want) if is_error(error, want))
 }
 
-/// Whether the table of a stream answers so, or is refused with the error that is wanted.
+/// Whether the table of a stream answers so, or has the expected error.
 fn is_row(alloc: Global, source: &Source, ask: &Ask) -> Result<bool, Fail> {
     match parsed(alloc, source) {
         Ok(table) => owned_answers(alloc, table, ask),
@@ -784,12 +784,12 @@ fn tables(rt: HostRuntime) -> Result<(), Fail> {
     Ok(())
 }
 
-/// Whether a look-up is refused with its index.
+/// Whether a look-up fails with an error that has its index.
 fn is_refused(ids: &IdFinder<'_>, index: u32) -> bool {
     matches!(ids.find(IdIndex(index)), Err(Error::TypeNotFound(bad)) if bad == index)
 }
 
-/// Whether a finder covers the index 0 at the last, and refuses to look up 0 and 4097.
+/// Whether the last index that a finder covers is 0, and look-ups of 0 and 4097 fail.
 fn finds_none(ids: &IdFinder<'_>) -> bool {
     ids.max_index() == IdIndex(0) && is_refused(ids, 0) && is_refused(ids, 4097)
 }

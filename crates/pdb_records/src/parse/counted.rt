@@ -1,4 +1,4 @@
-//! Lists of indexes that stand behind their count.
+//! Lists of indexes that follow their count.
 
 ghost use Rattle.std.specs.Prelude.{◌*◌, ◌<◌, ◌≤◌, length, IsOkAnd};
 ghost use Rattle.pdb_base.specs.Answer.{Answers, Gives};
@@ -54,8 +54,8 @@ fn parse_held_indexes<I: Index>(
 /// Reads `count` indexes.
 ///
 /// # Errors
-/// Fails with `UnexpectedEof` if the bytes don't hold that many, before memory is asked for, and
-/// with `OutOfMemory` if memory is refused.
+/// Fails with `UnexpectedEof` if the bytes don't hold that many, before anything is allocated, and
+/// with `OutOfMemory` if the allocation fails.
 fn parse_indexes<I: Index>(
     alloc: Global,
     buffer: &mut ParseBuffer<'_>,
@@ -76,7 +76,7 @@ fn parse_indexes<I: Index>(
 ///
 /// # Errors
 /// Fails with `UnexpectedEof` if the bytes end before the count does or don't hold as many indexes
-/// as it says, before memory is asked for, and with `OutOfMemory` if memory is refused.
+/// as it says, before anything is allocated, and with `OutOfMemory` if the allocation fails.
 pub(crate) fn parse_counted<I: Index>(
     alloc: Global,
     buffer: &mut ParseBuffer<'_>,

@@ -20,7 +20,7 @@ use pdb_values::{FieldList, TypeData};
 use std::alloc::Global;
 
 /// Reads the index of the list that continues a list of fields. Two bytes of padding, whatever they
-/// are, stand before it.
+/// are, come before it.
 #[inline(always)]
 #[tactic(auto, unfolding(crate::specs::Row::row, crate::specs::Rows::continuation_row))]
 pub(crate) fn parse_continuation(buffer: &mut ParseBuffer<'_>) -> Result<TypeIndex>

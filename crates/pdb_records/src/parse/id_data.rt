@@ -18,7 +18,7 @@ use pdb_base::{Error, ParseBuffer, Result};
 use pdb_values::{BuildInfoId, IdData, StringListId};
 use std::alloc::Global;
 
-/// Reads the id record behind a leaf, whose number is `number`.
+/// Reads what follows the kind in an id record of this kind, whose number is `number`.
 fn parse_id_leaf<'t>(
     alloc: Global,
     buffer: &mut ParseBuffer<'t>,
@@ -41,11 +41,11 @@ fn parse_id_leaf<'t>(
     }
 }
 
-/// Reads the id record behind the leaf with this number.
+/// Reads what follows the kind in an id record of the kind with this number.
 ///
 /// # Errors
-/// Returns `UnimplementedTypeKind` if the leaf has no id record here, and otherwise fails as
-/// reading the record does.
+/// Returns `UnimplementedTypeKind` if no id record of this kind is read here, and otherwise fails
+/// as reading the record does.
 #[tactic(auto, unfolding(crate::specs::Ids::behind_id_leaf))]
 fn parse_behind_id_leaf<'t>(
     alloc: Global,
@@ -61,7 +61,7 @@ fn parse_behind_id_leaf<'t>(
     }
 }
 
-/// Reads the id record at the front of a buffer.
+/// Reads the id record at the start of a buffer.
 #[tactic(auto, unfolding(crate::specs::Ids::id_at))]
 fn parse_id_record<'t>(alloc: Global, buffer: &mut ParseBuffer<'t>) -> Result<IdData<'t>>
     ensures read { Answers (λ id. (id_value id, left buffer.new)) result (id_at (left buffer.old)) }
@@ -71,18 +71,18 @@ fn parse_id_record<'t>(alloc: Global, buffer: &mut ParseBuffer<'t>) -> Result<Id
     parse_behind_id_leaf(alloc, buffer, number)
 }
 
-/// Reads an id record: the bytes of an item of the table of ids, from its leaf on. Names borrow
+/// Reads an id record: the bytes of an item of the table of ids, from its kind on. Names borrow
 /// from the bytes; memory is taken for lists alone.
 ///
-/// The layouts are those of Microsoft's cvinfo.h, behind the leaves that it names `LF_FUNC_ID` and
-/// so on. A scope, or the list of a text's first parts, is None if its number is 0. Bytes behind
-/// the last field of a record are ignored.
+/// The layouts are those of Microsoft's cvinfo.h, of the record kinds that it names `LF_FUNC_ID`
+/// and so on. A scope, or the list of a text's first parts, is None if its number is 0. Bytes
+/// behind the last field of a record are ignored.
 ///
 /// # Errors
 /// Fails with the first fault of the record: `UnexpectedEof` if the bytes end before a field does,
-/// or hold fewer items than a list's count says; or `UnimplementedTypeKind` with the leaf's number
-/// for a leaf that has no record here. Fails with `OutOfMemory` if memory for a list that the bytes
-/// hold is refused.
+/// or hold fewer items than a list's count says; or `UnimplementedTypeKind` with the number of the
+/// record kind if that is not read here. Fails with `OutOfMemory` if the allocation for a list that
+/// the bytes hold fails.
 pub fn parse_id_data<'t>(alloc: Global, bytes: &'t [u8]) -> Result<IdData<'t>>
     ensures read { Answers id_value result (id_record bytes.now) }
     ensures answers { SaysAssigned id_value (IsId bytes.now) (NoId bytes.now) result }

@@ -18,7 +18,7 @@ use pdb_values::{
     UserDefinedTypeSourceId,
 };
 
-/// The kind of id record without a list that stands behind a leaf.
+/// The kind of an id record without a list.
 #[derive(Clone, Copy, Debug, PartialEq, Eq)]
 pub enum PlainIdLeaf {
     /// A function.
@@ -38,8 +38,7 @@ pub enum PlainIdLeaf {
 }
 
 impl PlainIdLeaf {
-    /// Returns the kind of id record without a list that stands behind the leaf with this number,
-    /// or None if there is none.
+    /// Returns the kind of id record without a list that has this number, or None if there is none.
     pub(crate) fn from_number(number: u16) -> Option<Self>
         ensures { result ≡ plain_id_leaf number }
     {
@@ -54,7 +53,7 @@ impl PlainIdLeaf {
     }
 }
 
-/// Reads an id record without a list, behind its leaf.
+/// Reads what follows the kind in an id record without a list.
 pub(crate) fn parse_plain_id<'t>(
     buffer: &mut ParseBuffer<'t>,
     number: u16,

@@ -1,4 +1,4 @@
-//! Indexes that stand in records.
+//! Indexes in records.
 
 ghost use Rattle.std.specs.Prelude.{◌≡◌, ℕ};
 ghost use Rattle.pdb_base.specs.Answer.{Gives};
@@ -7,7 +7,7 @@ ghost use Rattle.pdb_records.specs.Shape.{as_id, as_type, index_at};
 
 use pdb_base::{IdIndex, ParseBuffer, Result, TypeIndex};
 
-/// An index that stands in records as a number of four bytes.
+/// An index that records hold as a number of four bytes.
 pub(crate) trait Index: Copy {
     // The index that a number says.
     ghost said: { ℕ → Self };

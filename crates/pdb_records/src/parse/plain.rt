@@ -29,7 +29,7 @@ use pdb_values::constants::{
 };
 use pdb_values::{ClassKind, TypeData};
 
-/// The kind of record without a list that stands behind a leaf.
+/// The kind of a record without a list.
 #[derive(Clone, Copy, Debug, PartialEq, Eq)]
 pub enum PlainLeaf {
     /// A class, a struct or an interface.
@@ -91,8 +91,7 @@ pub enum PlainLeaf {
 }
 
 impl PlainLeaf {
-    /// Returns the kind of record without a list that stands behind the leaf with this number, or
-    /// None if there is none.
+    /// Returns the kind of record without a list that has this number, or None if there is none.
     pub(crate) fn from_number(number: u16) -> Option<Self>
         ensures { result ≡ plain_leaf number }
     {
@@ -126,7 +125,7 @@ impl PlainLeaf {
     }
 }
 
-/// Reads a record without a list, behind its leaf.
+/// Reads what follows the kind in a record without a list.
 pub(crate) fn parse_plain<'t>(
     buffer: &mut ParseBuffer<'t>,
     number: u16,

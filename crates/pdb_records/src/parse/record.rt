@@ -1,4 +1,4 @@
-//! Parsers for what stands behind a leaf.
+//! Parsers for what follows the kind of a record.
 
 ghost use Rattle.pdb_base.specs.Answer.{Answers};
 ghost use Rattle.pdb_base.specs.Memory.{LacksOnlyIf};
@@ -16,7 +16,7 @@ use pdb_base::{Error, ParseBuffer, Result};
 use pdb_values::{ArgumentList, TypeData};
 use std::alloc::Global;
 
-/// Reads the record behind a leaf, whose number is `number`.
+/// Reads what follows the kind in a record of this kind, whose number is `number`.
 #[inline(always)]
 fn parse_leaf<'t>(
     alloc: Global,
@@ -38,11 +38,12 @@ fn parse_leaf<'t>(
     }
 }
 
-/// Reads the record behind the leaf with this number, but for a list of fields.
+/// Reads what follows the kind in a record of the kind with this number, except for a list of
+/// fields.
 ///
 /// # Errors
-/// Returns `UnimplementedTypeKind` if the leaf has no record here or is that of a list of fields,
-/// and otherwise fails as reading the record does.
+/// Returns `UnimplementedTypeKind` if the record kind is not read here or is a list of fields, and
+/// otherwise fails as reading the record does.
 #[inline(never)]
 #[tactic(auto, unfolding(crate::specs::Records::behind_leaf))]
 pub fn parse_behind_leaf<'t>(

@@ -1,4 +1,4 @@
-//! Parsers for the fields that stand in records.
+//! Parsers for the fields of records.
 
 ghost use Rattle.std.specs.Prelude.{◌≡◌};
 ghost use Rattle.std.specs.Option.{option_map};
@@ -19,7 +19,7 @@ pub(crate) fn parse_type_index(buffer: &mut ParseBuffer<'_>) -> Result<TypeIndex
     parse_index(buffer)
 }
 
-/// Reads the index of a type, or None, for which 0 and 0xffff stand.
+/// Reads the index of a type, or None for 0 and 0xffff.
 #[inline(always)]
 pub(crate) fn parse_some_type(buffer: &mut ParseBuffer<'_>) -> Result<Option<TypeIndex>>
     ensures { Gives (λ index. (index, left buffer.new)) result (read_shape some_type (left buffer.old)) }
@@ -38,7 +38,7 @@ pub(crate) fn parse_id_index(buffer: &mut ParseBuffer<'_>) -> Result<IdIndex>
     parse_index(buffer)
 }
 
-/// Reads the index of an id, or None, for which 0 stands.
+/// Reads the index of an id, or None for 0.
 #[inline(always)]
 pub(crate) fn parse_some_id(buffer: &mut ParseBuffer<'_>) -> Result<Option<IdIndex>>
     ensures { Gives (λ index. (index, left buffer.new)) result (read_shape some_id (left buffer.old)) }
@@ -49,8 +49,8 @@ pub(crate) fn parse_some_id(buffer: &mut ParseBuffer<'_>) -> Result<Option<IdInd
     }
 }
 
-/// Reads a text in a record of a leaf. It ends with a NUL if the leaf is above `LF_ST_MAX`, and
-/// otherwise stands behind a byte that says its length.
+/// Reads a text in a record of the kind `leaf`. It ends with a NUL if the kind is above
+/// `LF_ST_MAX`, and otherwise follows a byte with its length.
 #[inline(always)]
 pub(crate) fn parse_text<'t>(buffer: &mut ParseBuffer<'t>, leaf: u16) -> Result<RawString<'t>>
     ensures { Gives (λ name. (name.0.now, left buffer.new)) result (read_shape (text leaf) (left buffer.old)) }
@@ -62,7 +62,7 @@ pub(crate) fn parse_text<'t>(buffer: &mut ParseBuffer<'t>, leaf: u16) -> Result<
     }
 }
 
-/// Reads a text in a record of a leaf, if `is_there` says that the record has one.
+/// Reads a text in a record of the kind `leaf`, if `is_there` says that the record has one.
 #[inline(always)]
 pub(crate) fn parse_some_text<'t>(
     buffer: &mut ParseBuffer<'t>,

@@ -25,7 +25,7 @@ pub fn skip_field_list(alloc: Global, buffer: &mut ParseBuffer<'_>) -> Result<Op
     parse_entries(alloc, buffer, &mut Vec::new(alloc), false)
 }
 
-/// Skips a count and as many indexes of types behind it, which is what stands behind LF_ARGLIST.
+/// Skips a count and as many indexes of types after it, which is what follows the kind LF_ARGLIST.
 ///
 /// # Errors
 /// Fails with `UnexpectedEof` if the bytes end before the count does or don't hold as many indexes

@@ -9,8 +9,7 @@ ghost use Rattle.pdb_records.specs.Rows.{table_shape_row};
 use pdb_base::{ParseBuffer, Result};
 use pdb_values::{TypeData, VirtualTableShapeType};
 
-/// Reads the shape of a table of virtual functions. Its descriptors borrow from the bytes as they
-/// stand.
+/// Reads the shape of a table of virtual functions. Its descriptors borrow from the bytes.
 #[tactic(auto, unfolding(crate::specs::Row::row, crate::specs::Rows::table_shape_row))]
 pub(crate) fn parse_table_shape<'t>(buffer: &mut ParseBuffer<'t>) -> Result<TypeData<'t>>
     ensures { Gives (λ t. (type_value t, left buffer.new)) result (plain_at table_shape_row (left buffer.old)) }

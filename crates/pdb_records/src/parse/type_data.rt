@@ -21,7 +21,7 @@ use pdb_values::TypeData;
 use pdb_values::constants::LF_FIELDLIST;
 use std::alloc::Global;
 
-/// Reads the type record at the front of a buffer.
+/// Reads the type record at the start of a buffer.
 #[inline(always)]
 #[tactic(auto, unfolding(crate::specs::Fields::record_at))]
 fn parse_record<'t>(alloc: Global, buffer: &mut ParseBuffer<'t>) -> Result<TypeData<'t>>
@@ -36,25 +36,25 @@ fn parse_record<'t>(alloc: Global, buffer: &mut ParseBuffer<'t>) -> Result<TypeD
     }
 }
 
-/// Reads a type record: the bytes of an item of the table of types, from its leaf on. Names and the
+/// Reads a type record: the bytes of an item of the table of types, from its kind on. Names and the
 /// descriptors of a virtual table's shape borrow from the bytes, also those of records within it;
 /// memory is taken for lists alone.
 ///
-/// The layouts are those of Microsoft's cvinfo.h, behind the leaves that it names `LF_CLASS` and so
-/// on. The records within a list of fields are read one level deep. Bytes behind the last field of
-/// a record are ignored, except in arrays, lists of methods and lists of fields, which reach to the
-/// end.
+/// The layouts are those of Microsoft's cvinfo.h, of the record kinds that it names `LF_CLASS` and
+/// so on. The records within a list of fields are read one level deep. Bytes behind the last field
+/// of a record are ignored, except in arrays, lists of methods and lists of fields, which reach to
+/// the end.
 ///
 /// # Errors
 /// Fails with the first fault of the record: `UnexpectedEof` if the bytes end before a field does,
 /// or if an array has bytes behind its dimensions and their padding; `UnexpectedNumericPrefix` if a
-/// number of variable width has an unknown prefix; `UnimplementedTypeKind` with the leaf's number
-/// for a leaf that has no record here, for a list of fields within one, and for a pointer whose
+/// number of variable width has an unknown prefix; `UnimplementedTypeKind` with the number of the
+/// record kind if that is not read here, for a list of fields within one, and for a pointer whose
 /// kind or mode is unknown; or `UnimplementedFeature` for an array's dimension above 0xffffffff.
 ///
-/// Fails with `OutOfMemory` if memory for a list is refused, which is asked for only once the bytes
-/// are known to hold the list's first item. So an argument list whose count says more than the
-/// bytes hold gives `UnexpectedEof`, also as the first entry of a list of fields.
+/// Fails with `OutOfMemory` if the allocation for a list fails. It is made only once the bytes are
+/// known to hold the list's first item. So an argument list whose count says more than the bytes
+/// hold gives `UnexpectedEof`, also as the first entry of a list of fields.
 #[inline(always)]
 pub fn parse_type_data<'t>(alloc: Global, bytes: &'t [u8]) -> Result<TypeData<'t>>
     ensures read { Answers type_value result (type_record bytes.now) }

@@ -1,4 +1,4 @@
-//! Base classes and pointers to tables of virtual functions as rows.
+//! Base classes and pointers to tables of virtual functions as `Row`s.
 
 ghost use Rattle.std.specs.Prelude.{◌≡◌, IfOk};
 ghost use Rattle.pdb_base.specs.Memory.{FailsOnlyForMemory};
@@ -13,7 +13,7 @@ use pdb_base::{Error, Result};
 use pdb_values::{BaseClassType, VirtualBaseClassType, VirtualFunctionTablePointerType};
 use std::alloc::Global;
 
-/// Returns the row of a base class.
+/// Returns the `Row` of a base class.
 #[tactic(auto, unfolding(crate::specs::TypeRows::base_class_fields))]
 pub(crate) fn base_class_row<'t>(alloc: Global, head: Head, base: BaseClassType) -> Result<Row<'t>>
     ensures ok { IfOk result (λ row. row_shown row ≡ headed head.index head.leaf (base_class_fields base)) }
@@ -31,7 +31,7 @@ pub(crate) fn base_class_row<'t>(alloc: Global, head: Head, base: BaseClassType)
     Ok(Row { fields })
 }
 
-/// Returns the row of a virtual base class.
+/// Returns the `Row` of a virtual base class.
 #[tactic(auto, unfolding(crate::specs::TypeRows::virtual_base_fields))]
 pub(crate) fn virtual_base_row<'t>(
     alloc: Global,
@@ -62,7 +62,7 @@ pub(crate) fn virtual_base_row<'t>(
     Ok(Row { fields })
 }
 
-/// Returns the row of the pointer to a table of virtual functions.
+/// Returns the `Row` of the pointer to a table of virtual functions.
 #[tactic(auto, unfolding(crate::specs::TypeRows::table_pointer_fields))]
 pub(crate) fn table_pointer_row<'t>(
     alloc: Global,

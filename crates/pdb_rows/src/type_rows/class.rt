@@ -1,4 +1,4 @@
-//! Classes and unions as rows.
+//! Classes and unions as `Row`s.
 
 ghost use Rattle.std.specs.Prelude.{◌≡◌, IfOk};
 ghost use Rattle.pdb_base.specs.Memory.{FailsOnlyForMemory};
@@ -15,7 +15,7 @@ use pdb_base::{Error, Result};
 use pdb_values::{ClassType, UnionType};
 use std::alloc::Global;
 
-/// Returns the row of a class, a structure or an interface.
+/// Returns the `Row` of a class, a structure or an interface.
 #[tactic(auto, unfolding(crate::specs::TypeRows::class_fields))]
 pub(crate) fn class_row<'t>(alloc: Global, head: Head, class: &ClassType<'t>) -> Result<Row<'t>>
     ensures ok { IfOk result (λ row. row_shown row ≡
@@ -40,7 +40,7 @@ pub(crate) fn class_row<'t>(alloc: Global, head: Head, class: &ClassType<'t>) ->
     Ok(Row { fields })
 }
 
-/// Returns the row of a union.
+/// Returns the `Row` of a union.
 #[tactic(auto, unfolding(crate::specs::TypeRows::union_fields))]
 pub(crate) fn union_row<'t>(
     alloc: Global,

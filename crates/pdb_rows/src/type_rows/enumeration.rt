@@ -1,4 +1,4 @@
-//! Enumerations and their values as rows.
+//! Enumerations and their values as `Row`s.
 
 ghost use Rattle.std.specs.Prelude.{◌≡◌, IfOk};
 ghost use Rattle.pdb_base.specs.Memory.{FailsOnlyForMemory};
@@ -14,7 +14,7 @@ use pdb_base::{Error, Result, Variant};
 use pdb_values::{EnumerateType, EnumerationType};
 use std::alloc::Global;
 
-/// Returns the row of an enumeration.
+/// Returns the `Row` of an enumeration.
 #[tactic(auto, unfolding(crate::specs::TypeRows::enumeration_fields))]
 pub(crate) fn enumeration_row<'t>(
     alloc: Global,
@@ -57,7 +57,7 @@ fn variant<'t>(number: Variant) -> Value<'t>
     }
 }
 
-/// Returns the row of a value of an enumeration.
+/// Returns the `Row` of a value of an enumeration.
 #[tactic(auto, unfolding(crate::specs::TypeRows::enumerate_fields))]
 pub(crate) fn enumerate_row<'t>(
     alloc: Global,

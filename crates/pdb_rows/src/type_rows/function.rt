@@ -1,4 +1,4 @@
-//! Types of functions as rows.
+//! Types of functions as `Row`s.
 
 ghost use Rattle.std.specs.Prelude.{◌≡◌, IfOk};
 ghost use Rattle.pdb_base.specs.Memory.{FailsOnlyForMemory};
@@ -13,7 +13,7 @@ use pdb_base::{Error, Result};
 use pdb_values::{MemberFunctionType, ProcedureType};
 use std::alloc::Global;
 
-/// Returns the row of the type of a function.
+/// Returns the `Row` of the type of a function.
 #[tactic(auto, unfolding(crate::specs::TypeRows::procedure_fields))]
 pub(crate) fn procedure_row<'t>(
     alloc: Global,
@@ -42,7 +42,7 @@ pub(crate) fn procedure_row<'t>(
     Ok(Row { fields })
 }
 
-/// Returns the row of the type of a method.
+/// Returns the `Row` of the type of a method.
 #[tactic(auto, unfolding(crate::specs::TypeRows::member_function_fields))]
 pub(crate) fn member_function_row<'t>(
     alloc: Global,

@@ -1,4 +1,4 @@
-//! Records with a list as rows.
+//! Records with a list as `Row`s.
 
 ghost use Rattle.std.specs.Prelude.{◌≡◌, IfOk};
 ghost use Rattle.pdb_base.specs.Memory.{FailsOnlyForMemory};
@@ -18,7 +18,7 @@ use pdb_base::{Error, Result};
 use pdb_values::{ArgumentList, ArrayType, FieldList, MethodList, VirtualTableShapeType};
 use std::alloc::Global;
 
-/// Returns the row of an array.
+/// Returns the `Row` of an array.
 #[tactic(auto, unfolding(crate::specs::TypeRows::array_fields))]
 pub(crate) fn array_row<'t>(alloc: Global, head: Head, array: &ArrayType) -> Result<Row<'t>>
     ensures ok { IfOk result (λ row. row_shown row ≡
@@ -37,7 +37,7 @@ pub(crate) fn array_row<'t>(alloc: Global, head: Head, array: &ArrayType) -> Res
     Ok(Row { fields })
 }
 
-/// Returns the row of a list of fields.
+/// Returns the `Row` of a list of fields.
 #[tactic(auto, unfolding(crate::specs::TypeRows::field_list_fields))]
 pub(crate) fn field_list_row<'t>(alloc: Global, head: Head, list: &FieldList<'_>) -> Result<Row<'t>>
     ensures ok { IfOk result (λ row. row_shown row ≡
@@ -53,7 +53,7 @@ pub(crate) fn field_list_row<'t>(alloc: Global, head: Head, list: &FieldList<'_>
     Ok(Row { fields })
 }
 
-/// Returns the row of the types of a function's arguments.
+/// Returns the `Row` of the types of a function's arguments.
 #[tactic(auto, unfolding(crate::specs::TypeRows::argument_list_fields))]
 pub(crate) fn argument_list_row<'t>(
     alloc: Global,
@@ -73,7 +73,7 @@ pub(crate) fn argument_list_row<'t>(
     Ok(Row { fields })
 }
 
-/// Returns the row of a list of methods.
+/// Returns the `Row` of a list of methods.
 #[tactic(auto, unfolding(crate::specs::TypeRows::method_list_fields))]
 pub(crate) fn method_list_row<'t>(alloc: Global, head: Head, list: &MethodList) -> Result<Row<'t>>
     ensures ok { IfOk result (λ row. row_shown row ≡
@@ -91,7 +91,7 @@ pub(crate) fn method_list_row<'t>(alloc: Global, head: Head, list: &MethodList) 
     Ok(Row { fields })
 }
 
-/// Returns the row of the shape of a table of virtual functions.
+/// Returns the `Row` of the shape of a table of virtual functions.
 #[tactic(auto, unfolding(crate::specs::TypeRows::table_shape_fields))]
 pub(crate) fn table_shape_row<'t>(
     alloc: Global,

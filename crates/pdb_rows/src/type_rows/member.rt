@@ -1,4 +1,4 @@
-//! Data members and nested types as rows.
+//! Data members and nested types as `Row`s.
 
 ghost use Rattle.std.specs.Prelude.{◌≡◌, IfOk};
 ghost use Rattle.pdb_base.specs.Memory.{FailsOnlyForMemory};
@@ -14,7 +14,7 @@ use pdb_base::{Error, Result};
 use pdb_values::{MemberType, NestedType, StaticMemberType};
 use std::alloc::Global;
 
-/// Returns the row of a data member.
+/// Returns the `Row` of a data member.
 #[tactic(auto, unfolding(crate::specs::TypeRows::member_fields))]
 pub(crate) fn member_row<'t>(alloc: Global, head: Head, member: &MemberType<'t>) -> Result<Row<'t>>
     ensures ok { IfOk result (λ row. row_shown row ≡
@@ -34,7 +34,7 @@ pub(crate) fn member_row<'t>(alloc: Global, head: Head, member: &MemberType<'t>)
     Ok(Row { fields })
 }
 
-/// Returns the row of a static data member.
+/// Returns the `Row` of a static data member.
 #[tactic(auto, unfolding(crate::specs::TypeRows::static_member_fields))]
 pub(crate) fn static_member_row<'t>(
     alloc: Global,
@@ -57,7 +57,7 @@ pub(crate) fn static_member_row<'t>(
     Ok(Row { fields })
 }
 
-/// Returns the row of a type that is declared in a class.
+/// Returns the `Row` of a type that is declared in a class.
 #[tactic(auto, unfolding(crate::specs::TypeRows::nested_fields))]
 pub(crate) fn nested_row<'t>(alloc: Global, head: Head, nested: &NestedType<'t>) -> Result<Row<'t>>
     ensures ok { IfOk result (λ row. row_shown row ≡

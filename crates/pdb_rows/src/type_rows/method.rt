@@ -1,4 +1,4 @@
-//! Methods as rows.
+//! Methods as `Row`s.
 
 ghost use Rattle.std.specs.Prelude.{◌≡◌, IfOk};
 ghost use Rattle.pdb_base.specs.Memory.{FailsOnlyForMemory};
@@ -14,7 +14,7 @@ use pdb_base::{Error, Result};
 use pdb_values::{MethodListEntry, MethodType, OverloadedMethodType};
 use std::alloc::Global;
 
-/// Returns the row of the methods of one name.
+/// Returns the `Row` of the methods of one name.
 #[tactic(auto, unfolding(crate::specs::TypeRows::overloaded_method_fields))]
 pub(crate) fn overloaded_method_row<'t>(
     alloc: Global,
@@ -35,7 +35,7 @@ pub(crate) fn overloaded_method_row<'t>(
     Ok(Row { fields })
 }
 
-/// Returns the row of a method that shares its name with no other.
+/// Returns the `Row` of a method that shares its name with no other.
 #[tactic(auto, unfolding(crate::specs::TypeRows::method_fields))]
 pub(crate) fn method_row<'t>(alloc: Global, head: Head, method: &MethodType<'t>) -> Result<Row<'t>>
     ensures ok { IfOk result (λ row. row_shown row ≡
@@ -55,7 +55,7 @@ pub(crate) fn method_row<'t>(alloc: Global, head: Head, method: &MethodType<'t>)
     Ok(Row { fields })
 }
 
-/// Returns the row of one of the methods of a name.
+/// Returns the `Row` of one of the methods of a name.
 #[tactic(auto, unfolding(crate::specs::TypeRows::listed_method_fields))]
 pub(crate) fn listed_method_row<'t>(alloc: Global, method: MethodListEntry) -> Result<Row<'t>>
     ensures ok { IfOk result (λ row. row_shown row ≡ listed_method_fields method) }

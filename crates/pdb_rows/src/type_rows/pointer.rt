@@ -1,4 +1,4 @@
-//! Pointers, modified types and bit fields as rows.
+//! Pointers, modified types and bit fields as `Row`s.
 
 ghost use Rattle.std.specs.Prelude.{◌≡◌, IfOk};
 ghost use Rattle.pdb_base.specs.Memory.{FailsOnlyForMemory};
@@ -13,7 +13,7 @@ use pdb_base::{Error, Result};
 use pdb_values::{BitfieldType, ModifierType, PointerType};
 use std::alloc::Global;
 
-/// Returns the row of a pointer.
+/// Returns the `Row` of a pointer.
 #[tactic(auto, unfolding(crate::specs::TypeRows::pointer_fields))]
 pub(crate) fn pointer_row<'t>(alloc: Global, head: Head, pointer: PointerType) -> Result<Row<'t>>
     ensures ok { IfOk result (λ row. row_shown row ≡ headed head.index head.leaf (pointer_fields pointer)) }
@@ -34,7 +34,7 @@ pub(crate) fn pointer_row<'t>(alloc: Global, head: Head, pointer: PointerType) -
     Ok(Row { fields })
 }
 
-/// Returns the row of a type with modifiers.
+/// Returns the `Row` of a type with modifiers.
 #[tactic(auto, unfolding(crate::specs::TypeRows::modifier_fields))]
 pub(crate) fn modifier_row<'t>(alloc: Global, head: Head, modifier: ModifierType) -> Result<Row<'t>>
     ensures ok { IfOk result (λ row. row_shown row ≡ headed head.index head.leaf (modifier_fields modifier)) }
@@ -50,7 +50,7 @@ pub(crate) fn modifier_row<'t>(alloc: Global, head: Head, modifier: ModifierType
     Ok(Row { fields })
 }
 
-/// Returns the row of a bit field, a member that takes some bits of its type.
+/// Returns the `Row` of a bit field, a member that takes some bits of its type.
 #[tactic(auto, unfolding(crate::specs::TypeRows::bitfield_fields))]
 pub(crate) fn bitfield_row<'t>(alloc: Global, head: Head, bitfield: BitfieldType) -> Result<Row<'t>>
     ensures ok { IfOk result (λ row. row_shown row ≡ headed head.index head.leaf (bitfield_fields bitfield)) }

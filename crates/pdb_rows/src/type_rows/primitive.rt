@@ -1,4 +1,4 @@
-//! Types without a record as rows.
+//! Types without a record as `Row`s.
 
 ghost use Rattle.std.specs.Prelude.{◌≡◌, IfOk};
 ghost use Rattle.std.specs.Option.{option_map};
@@ -25,7 +25,7 @@ fn indirection<'t>(pointer: Option<Indirection>) -> Value<'t>
     }
 }
 
-/// Returns the row of a type that has no record.
+/// Returns the `Row` of a type that has no record.
 pub(crate) fn primitive_row<'t>(
     alloc: Global,
     head: Head,

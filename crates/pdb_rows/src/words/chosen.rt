@@ -7,10 +7,10 @@ ghost use Rattle.pdb_rows.specs.Words.{chosen};
 use pdb_base::{Error, Result};
 use std::alloc::Global;
 
-/// Returns the words that stand beside true, in their order.
+/// Returns the words that are paired with true, in their order.
 ///
 /// # Errors
-/// Fails with `OutOfMemory` if memory is refused, which is asked for only if a word is chosen.
+/// Fails with `OutOfMemory` if an allocation fails. Memory is allocated only if a word is chosen.
 #[tactic(auto, using(crate::proofs::WordLemmas::chosen_more), unfolding(crate::specs::Words::chosen))]
 pub(crate) fn chosen(alloc: Global, flags: &[(bool, &'static str)]) -> Result<Vec<&'static str>>
     ensures ok { IfOk result (λ words. map (λ name. name.now) words.items ≡

@@ -18,7 +18,8 @@ enum Answer {
     Differences(Option<u32>, u32, u32),
     /// How they lie as offsets in section 1, and whether they are equal.
     InOneSection(Option<Ordering>, bool),
-    /// The same of the first in section 1, and the second in section 2.
+    /// How they lie as offsets, the first in section 1 and the second in section 2, and whether
+    /// they are equal.
     InTwoSections(Option<Ordering>, bool),
 }
 
@@ -79,7 +80,7 @@ fn are_place_sums(from: u32, offset: u32, (checked, saturating, wrapping): Three
         && place(from).wrapping_add(offset) == place(wrapping)
 }
 
-/// The same of the internal place.
+/// Whether these are the three sums of an internal offset in section 3.
 fn are_internal_place_sums(from: u32, offset: u32, (checked, saturating, wrapping): Three) -> bool {
     internal_place(from).checked_add(offset) == checked.map(internal_place)
         && internal_place(from).saturating_add(offset) == internal_place(saturating)
@@ -127,7 +128,7 @@ fn compared(offset: u32, other: SectionOffset) -> Order {
     (place.partial_cmp(&other), place == other)
 }
 
-/// The same of internal places.
+/// How an internal offset in section 1 and another internal place lie, and whether they are equal.
 fn internal_compared(offset: u32, other: PdbInternalSectionOffset) -> Order {
     let place = PdbInternalSectionOffset::new(1, offset);
     (place.partial_cmp(&other), place == other)

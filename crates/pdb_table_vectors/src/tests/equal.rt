@@ -1,5 +1,5 @@
-//! Which indexes, addresses, names and places are equal, and which of them hash alike. No two values of a table are
-//! equal.
+//! Which indexes, addresses, names and places are equal, and which of them hash alike. No two
+//! values of a table are equal.
 
 use pdb_base::{
     FileIndex, IdIndex, Local, ParseBuffer, RawString, Register, StreamIndex, SymbolIndex,
@@ -29,8 +29,8 @@ fn is_same<T: Hash>(value: &T, other: &T) -> Option<bool> {
     }
 }
 
-/// Whether each value is equal to the one at its place among the others, which are made anew, and to no other one, and
-/// hashes like that one alone.
+/// Whether each value is equal to the one at its place among the others, which are made anew, and
+/// to no other one, and hashes like that one alone.
 fn are_told_apart<T: Hash>(values: &[T], others: &[T]) -> bool {
     for (place, value) in values.iter().enumerate() {
         for (other_place, other) in others.iter().enumerate() {
@@ -87,7 +87,8 @@ fn indexes(rt: HostRuntime) {
     assert!(rt; are_told_apart(&local!(IdIndex), &local!(IdIndex)));
 }
 
-/// Places in sections: the first, others of its offset or its section, and the first with both changed over.
+/// Places in sections: the first, others of its offset or its section, and the first with both
+/// changed over.
 macro_rules! placed {
     ($kind:path) => {
         [
@@ -114,10 +115,10 @@ fn addresses(rt: HostRuntime) {
     );
 }
 
-/// Names, of which each but the first two has another's front.
+/// Names, of which each but the first two has another as its prefix.
 const NAMES: [&str; 6] = ["", "n", "na", "nam", "name", "namf"];
 
-/// The same names as bytes.
+/// These names as bytes.
 const SAME_NAMES: [&[u8]; 6] = [b"", b"n", b"na", b"nam", b"name", b"namf"];
 
 #[test]
@@ -184,7 +185,8 @@ fn slices(rt: HostRuntime) {
     }
 }
 
-/// Whether a clone of a buffer that has read a number stands where it does, and each reads on by itself.
+/// Whether a clone of a buffer that has read a number is at the same position, and each reads on by
+/// itself.
 fn is_cloned() -> Result<bool, Fail> {
     let mut buffer = ParseBuffer::from(b"\x01\x02\x03\x04".as_slice());
     let first = buffer.parse_u8()?;

@@ -72,7 +72,8 @@ fn bytes_of(alloc: Global, file: &Made) -> pdb_base::Result<Vec<u8>> {
     }
 }
 
-/// What is answered for a stream: bytes, bytes with others behind them, an error, or that the source ends too soon.
+/// What is answered for a stream: bytes, bytes with others behind them, an error, or that the
+/// source ends too soon.
 enum Answer {
     Bytes(&'static [u8]),
     Joined(&'static [u8], &'static [u8]),

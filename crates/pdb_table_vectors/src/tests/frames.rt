@@ -9,11 +9,11 @@ use pdb_space::{PdbInternalRva, StringRef};
 use std::alloc::Global;
 use std::test::Fail;
 
-/// What is asked, and its answer.
+/// A query, and its answer.
 enum Ask {
-    /// What a table is refused with whose streams of old frames and of new ones have these bytes.
+    /// The error of a table whose streams of old frames and of new ones have these bytes.
     Refusal(Option<&'static [u8]>, Option<&'static [u8]>, Error),
-    /// That the table of such streams is not refused.
+    /// That such streams are a table.
     Table(Option<&'static [u8]>, Option<&'static [u8]>),
     /// The formats and starts of the frames that an iterator of such a table gives, and whether the
     /// table is empty.
@@ -55,7 +55,7 @@ const SECOND: Option<&[u8]> = Some(
     b"\x10\0\0\0\x08\0\0\0\0\0\0\0\0\0\0\0\0\0\0\0\0\0\0\0\0\0\0\0\0\0\0\0\x30\0\0\0\x08\0\0\0\0\0\0\0\0\0\0\0\0\0\0\0\0\0\0\0\0\0\0\0\0\0\0\0",
 );
 
-/// The same, but for the first, which has 1 byte.
+/// The stream of new frames from 0x10 on, of 1 byte, and from 0x30 on, of 8 bytes.
 const SHORT: Option<&[u8]> = Some(
     b"\x10\0\0\0\x01\0\0\0\0\0\0\0\0\0\0\0\0\0\0\0\0\0\0\0\0\0\0\0\0\0\0\0\x30\0\0\0\x08\0\0\0\0\0\0\0\0\0\0\0\0\0\0\0\0\0\0\0\0\0\0\0\0\0\0\0",
 );
@@ -65,7 +65,7 @@ const NESTED_OLD: Option<&[u8]> = Some(
     b"\0\0\0\0\x64\0\0\0\0\0\0\0\0\0\0\0\x0a\0\0\0\x01\0\0\0\0\0\0\0\0\0\0\0",
 );
 
-/// The same as new frames.
+/// The stream of new frames from 0 on, of 0x64 bytes, and from 10 on, of 1 byte.
 const NESTED_NEW: Option<&[u8]> = Some(
     b"\0\0\0\0\x64\0\0\0\0\0\0\0\0\0\0\0\0\0\0\0\0\0\0\0\0\0\0\0\0\0\0\0\x0a\0\0\0\x01\0\0\0\0\0\0\0\0\0\0\0\0\0\0\0\0\0\0\0\0\0\0\0\0\0\0\0",
 );
@@ -84,7 +84,7 @@ const EMPTY: Option<&[u8]> = Some(b"");
 /// The frames of the first stream and the second one, and of the first one and the short one.
 const MERGED: Frames = &[(NEW, 0x10), (OLD, 0x20), (NEW, 0x30)];
 
-/// What tables are refused with whose streams have no whole number of frames.
+/// The errors of tables whose streams have no whole number of frames.
 const BAD_OLD: Error = Error::InvalidStreamLength("FPO");
 
 const BAD_NEW: Error = Error::InvalidStreamLength("FrameData");
@@ -136,7 +136,7 @@ const NEW_FRAME: FrameData = FrameData {
     program: Some(StringRef(42)),
 };
 
-/// What is asked, by a name.
+/// The queries, each with a name.
 const ROWS: &[(&str, Ask)] = &[
     (
         "all",
@@ -289,12 +289,12 @@ fn is_told(table: &FrameTable, ask: &Ask) -> bool {
     }
 }
 
-/// Whether a table is to be refused with this error.
+/// Whether this error is the expected one of a table.
 fn is_refusal(error: &Error, ask: &Ask) -> bool {
     matches!(ask, Ask::Refusal(_, _, want) if is_error(error, want))
 }
 
-/// Whether a table answers so, or is refused with the error that is wanted.
+/// Whether a table answers so, or has the expected error.
 fn is_parsed(table: Answer<FrameTable>, ask: &Ask) -> bool {
     match table {
         Ok(table) => is_told(&table, ask),

@@ -1,4 +1,5 @@
-//! Iterators that give nothing more once they have given None, which the trait `FusedIterator` says of them.
+//! Iterators that give nothing more once they have given None, which the trait `FusedIterator` says
+//! of them.
 
 use super::stream;
 use pdb_space::{
@@ -14,7 +15,8 @@ fn is_fused<I: FusedIterator>(_iterator: &I) -> bool {
     true
 }
 
-/// How many items an iterator gives, if these are at most ten, and None comes three times behind them.
+/// How many items an iterator gives, if these are at most ten, and None comes three times behind
+/// them.
 macro_rules! counted {
     ($iterator:ident) => {{
         let is_fused = is_fused(&$iterator);
@@ -29,22 +31,22 @@ macro_rules! counted {
     }};
 }
 
-/// The same of the records of a table.
+/// How many records of a table an iterator gives.
 fn count_records(mut records: OMAPRecords<'_>) -> usize {
     counted!(records)
 }
 
-/// The same of ranges through a table.
+/// How many ranges through a table an iterator gives.
 fn count_parts(mut parts: RangeIter<'_>) -> usize {
     counted!(parts)
 }
 
-/// The same of ranges of the image as it is loaded.
+/// How many ranges of the image as it is loaded an iterator gives.
 fn count_loaded(mut ranges: RvaRangeIter<'_>) -> usize {
     counted!(ranges)
 }
 
-/// The same of internal ranges.
+/// How many internal ranges an iterator gives.
 fn count_internal(mut ranges: PdbInternalRvaRangeIter<'_>) -> usize {
     counted!(ranges)
 }
@@ -57,7 +59,8 @@ fn table(alloc: Global) -> Result<OMAPTable, Fail> {
     Ok(OMAPTable::parse(stream(alloc, RECORDS)?)?)
 }
 
-/// Whether the iterators of a table end for good behind two items, and the others behind one and none.
+/// Whether the iterators of a table end for good behind two items, and the others behind one and
+/// none.
 fn end_for_good(table: &OMAPTable) -> bool {
     count_records(table.records()) == 2
         && count_parts(table.lookup_range(0x1008..0x1018)) == 2

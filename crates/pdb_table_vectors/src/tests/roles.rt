@@ -1,4 +1,4 @@
-//! The worked rows of the roles and the names of streams, a file a topic.
+//! Test cases of the roles and the names of streams, a file a topic.
 
 mod files;
 mod headers;

@@ -1,5 +1,5 @@
-//! Searches by halving, each compared with a search from the front: over all small tables, and over
-//! tables of frames as long as each way to search them takes.
+//! Searches by halving, each compared with a search that looks at all records in their order: over
+//! all small tables, and over tables of frames as long as each way to search them takes.
 
 use pdb_base::{Count, FallibleIterator, Stream};
 use pdb_frames::{FrameDataIter, FrameTable};
@@ -8,7 +8,7 @@ use std::alloc::Global;
 use std::ops::Range;
 use std::test::Fail;
 
-/// The stream of pairs of numbers, behind each of which stand the same bytes.
+/// The stream of pairs of numbers, each followed by the same bytes.
 fn stream(alloc: Global, pairs: &[(u32, u32)], others: &[u8]) -> Result<Stream, Fail> {
     let mut bytes = Vec::new(alloc);
     for (first, second) in pairs {
@@ -40,11 +40,11 @@ fn counted(table: &OMAPTable, address: u32) -> (Option<u32>, u64) {
 /// The numbers of which small tables are made.
 const NUMBERS: [u32; 4] = [0, 1, 2, 0xffff_ffff];
 
-/// The addresses of which small tables are asked.
+/// The addresses that are looked up in small tables.
 const ADDRESSES: [u32; 6] = [0, 1, 2, 3, 0xffff_fffe, 0xffff_ffff];
 
 /// A table of so many records, each the pair of numbers that a digit of the code, to the base 16,
-/// stands for.
+/// encodes.
 fn numbered(alloc: Global, len: usize, code: usize) -> Result<Vec<(u32, u32)>, Fail> {
     let mut records = Vec::new(alloc);
     let mut left = code;
@@ -67,7 +67,7 @@ fn is_sorted(records: &[(u32, u32)]) -> bool {
     true
 }
 
-/// Where records move an address, by a look at each of them from the front.
+/// Where records move an address, by a look at each of them in their order.
 fn plain_lookup(records: &[(u32, u32)], address: u32) -> Option<u32> {
     let mut moved = None;
     for (source, target) in records {
@@ -94,7 +94,7 @@ fn plain_part(source: u32, target: u32, next: u32, asked: &Range<u32>) -> Option
     if start < end { Some(start..end) } else { None }
 }
 
-/// Where records move a range, by a look at each of them from the front.
+/// Where records move a range, by a look at each of them in their order.
 fn plain_ranges(
     alloc: Global,
     records: &[(u32, u32)],
@@ -113,8 +113,8 @@ fn plain_ranges(
     Ok(ranges)
 }
 
-/// Whether a table answers as its records do from the front: of each address, by at most three
-/// comparisons, and of each range between two.
+/// Whether a table answers as a search that looks at all records in their order: for each address,
+/// by at most three comparisons, and for each range between two.
 fn answers_alike(alloc: Global, records: &[(u32, u32)]) -> Result<bool, Fail> {
     let table = omap(alloc, records)?;
     for start in ADDRESSES {
@@ -149,8 +149,8 @@ fn small_tables(rt: HostRuntime) -> Result<(), Fail> {
     Ok(())
 }
 
-/// Frames whose starts increase: to each of the four numbers, a digit of the code, to the base 5, says
-/// that no frame starts there, or the size of the one that does.
+/// Frames whose starts increase: to each of the four numbers, a digit of the code, to the base 5,
+/// says that no frame starts there, or the size of the one that does.
 fn increasing(alloc: Global, code: usize) -> Result<Vec<(u32, u32)>, Fail> {
     let mut frames = Vec::new(alloc);
     let mut left = code;
@@ -163,7 +163,7 @@ fn increasing(alloc: Global, code: usize) -> Result<Vec<(u32, u32)>, Fail> {
     Ok(frames)
 }
 
-/// The frames from an address on, by a look at each of them from the front.
+/// The frames from an address on, by a look at each of them in their order.
 fn plain_frames(frames: &[(u32, u32)], address: u32) -> &[(u32, u32)] {
     let mut from = 0;
     for (place, (start, size)) in frames.iter().enumerate() {
@@ -217,7 +217,8 @@ fn small_frame_tables(rt: HostRuntime) -> Result<(), Fail> {
     Ok(())
 }
 
-/// Frames that begin eight bytes apart, of 0 to 10 bytes: some end before the next begins, and some overlap with it.
+/// Frames that begin eight bytes apart, of 0 to 10 bytes: some end before the next begins, and some
+/// overlap with it.
 fn regular(alloc: Global, len: u32) -> Result<Vec<(u32, u32)>, Fail> {
     let mut frames = Vec::new(alloc);
     for place in 0..len {
@@ -234,8 +235,8 @@ fn begins(table: &FrameTable, address: u32, want: &[(u32, u32)]) -> Result<bool,
     Ok(first == want.first().copied() && second == want.get(1).copied())
 }
 
-/// Whether frames are found alike in either format around a frame: at its start, at its last byte, behind it, and
-/// before the next one.
+/// Whether frames are found alike in either format around a frame: at its start, at its last byte,
+/// behind it, and before the next one.
 fn around_alike(
     old: &FrameTable,
     new: &FrameTable,
@@ -257,8 +258,8 @@ fn around_alike(
     Ok(true)
 }
 
-/// Whether a long table of frames is searched alike in either format: around 128 frames all along it, among which are
-/// those that halve it, halve a half of it, and so on.
+/// Whether a long table of frames is searched alike in either format: around 128 frames all along
+/// it, among which are those that halve it, halve a half of it, and so on.
 fn long_table_alike(alloc: Global, len: u32) -> Result<bool, Fail> {
     let frames = regular(alloc, len)?;
     let old = FrameTable::parse(Some(stream(alloc, &frames, &[0; 8])?), None)?;

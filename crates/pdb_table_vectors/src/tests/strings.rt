@@ -19,15 +19,15 @@ const OTHER_SIGNATURE: Error = Error::UnimplementedFeature("invalid string table
 
 const OTHER_VERSION: Error = Error::UnimplementedFeature("unknown string table hash version");
 
-/// What the table of some bytes is asked, and what is answered.
+/// A query of the table of some bytes, and its answer.
 enum Answer {
     /// That it is a table.
     Parsed,
     /// That it is none: the error.
     Refused(Error),
-    /// The name at an offset, and the same as text.
+    /// The name at an offset, as bytes and as text.
     Name(u32, &'static [u8], &'static str),
-    /// That no NUL stands at an offset or behind it among the names: `UnexpectedEof`.
+    /// That there is no NUL at an offset or behind it among the names: `UnexpectedEof`.
     Ends(u32),
 }
 
@@ -102,7 +102,7 @@ fn each_gives(
         && reads(&name.to_string_lossy(alloc, table), text)
 }
 
-/// Whether each look-up of a name is refused, since it ends too soon.
+/// Whether each look-up of a name fails with `UnexpectedEof`.
 fn each_ends(alloc: Global, table: &StringTable, name: StringRef) -> bool {
     matches!(table.get(name), Err(Error::UnexpectedEof))
         && matches!(name.to_raw_string(table), Err(Error::UnexpectedEof))

@@ -28,7 +28,7 @@ const NAMED: &[(Error, &str)] = &[
     (Error::OutOfMemory, "OutOfMemory"),
 ];
 
-/// Errors that say a number or a text as it stands, and their texts.
+/// Errors with a number or a text, and their texts.
 const TOLD: &[(Error, &str)] = &[
     (
         Error::PageReferenceOutOfRange(0),
@@ -101,7 +101,8 @@ const TOLD: &[(Error, &str)] = &[
     ),
 ];
 
-/// Errors that say a number in hexadecimal, of at least four digits but for the last, and their texts.
+/// Errors that say a number in hexadecimal, of at least four digits but for the last, and their
+/// texts.
 const IN_HEXADECIMAL: &[(Error, &str)] = &[
     (
         Error::UnimplementedSymbolKind(0),
@@ -288,7 +289,8 @@ fn is_shown(alloc: Global, name: &[u8], text: &str) -> bool {
     is_text && shows(alloc, &name, text)
 }
 
-/// Whether a name of 5,000 bytes is shown whole, and also with a last byte and a byte amid that are of no text.
+/// Whether a name of 5,000 bytes is shown whole, and also with a last byte and a byte amid that are
+/// of no text.
 fn are_long_names_shown(alloc: Global) -> pdb_base::Result<bool> {
     let mut name = vec![in alloc; b'n'; 5000]?;
     let mut text = String::new(alloc);

@@ -19,7 +19,7 @@ enum Table {
     Thousand,
 }
 
-/// What a table is asked, and what it answers.
+/// A query of a table, and its answer.
 enum TableRow {
     /// Whether it is sorted.
     Sorted(bool),
@@ -190,7 +190,7 @@ fn orders_records() -> bool {
         && first > OMAPRecord::new(1, 8)
 }
 
-/// Whether twelve bytes are refused as an OMAP table.
+/// Whether an OMAP table of twelve bytes is an error.
 fn refuses_odd_length(alloc: Global) -> Result<bool, Fail> {
     let odd = OMAPTable::parse(stream(alloc, b"twelve bytes")?);
     Ok(matches!(odd, Err(Error::InvalidStreamLength("OMAP"))))
@@ -236,7 +236,7 @@ fn says(read: &pdb_base::Result<ImageSectionHeader>, want: &ImageSectionHeader) 
     matches!(read, Ok(header) if header == want)
 }
 
-/// Whether the header at the front of bytes says this, and has so many of them.
+/// Whether the header at the start of bytes says this, and has so many of them.
 fn is_header(bytes: &[u8], want: &ImageSectionHeader, length: usize) -> bool {
     let mut buffer = ParseBuffer::from(bytes);
     let is = says(&ImageSectionHeader::parse(&mut buffer), want);
@@ -285,7 +285,7 @@ fn characteristics(rt: HostRuntime) {
     assert!(rt; SectionCharacteristics::new(WORD.bits()) == WORD);
 }
 
-/// What a section or its characteristics are asked, and what they answer.
+/// A query of a section or its characteristics, and its answer.
 enum SectionRow {
     /// A name as it is stored: as it reads.
     Name([u8; 8], &'static str),
@@ -416,8 +416,8 @@ fn is_place(
     Ok(Rva(address).to_section_offset(&map) == want.map(place_at))
 }
 
-/// Whether this is the internal address of the offset 0x1234 in a section, where the one section lies
-/// at 0x10000000.
+/// Whether this is the internal address of the offset 0x1234 in a section, where the one section
+/// lies at 0x10000000.
 fn is_address(alloc: Global, number: u16, want: Option<u32>) -> Result<bool, Fail> {
     let map = map_of(alloc, section(0x1000_0000, 0))?;
     Ok(

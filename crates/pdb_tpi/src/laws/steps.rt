@@ -8,7 +8,7 @@ ghost use Rattle.pdb_tpi.specs.Header.{header_of};
 ghost use Rattle.pdb_tpi.specs.StepLaws.{AreSteps, IsAnswerAt, first_stand};
 ghost use Rattle.pdb_tpi.specs.Table.{Table};
 
-/// A table that has bytes, but fewer than the 56 that the fields of a header take, is refused.
+/// A table that has bytes, but fewer than the 56 that the fields of a header take, is an error.
 #[tactic(auto, using(crate::proofs::HeaderFaults::too_short))]
 pub fn cut_headers()
     ensures { (bytes : List ℕ) → 0 < length bytes → length bytes < 56 → header_of bytes ≡ Err unexpected_eof }

@@ -1,4 +1,4 @@
-//! What a buffer reads, and where it stands.
+//! What a buffer reads, and its position after that.
 
 use super::shows;
 use pdb_base::{Error, ParseBuffer, RawString, Stream, SymbolIndex, Variant};
@@ -18,12 +18,12 @@ enum Call {
     I16(Option<i16>),
     I32(Option<i32>),
     I64(Option<i64>),
-    /// A number of variable width and its text, one whose bytes end too soon, and one that is
-    /// refused by this prefix.
+    /// A number of variable width and its text, one whose bytes end too soon, and one with this
+    /// unknown prefix.
     Variant(Variant, &'static str),
     CutVariant,
     RefusedVariant(u16),
-    /// The same without a sign.
+    /// A number of variable width without a sign, or one with an unknown prefix.
     Num(Option<u64>),
     RefusedNum(u16),
     /// What is read by the rule that its type says.
@@ -37,15 +37,16 @@ enum Call {
     Take(usize, Option<&'static [u8]>),
     /// A place to go to.
     Seek(usize),
-    /// A length to cut to, and whether that is done; and whether the next multiple of four is reached.
+    /// A length to cut to, and whether that is done; and whether the next multiple of four is
+    /// reached.
     Truncate(usize, bool),
     AlignTo4(bool),
     /// The buffer in hexadecimal.
     Printed(&'static str),
 }
 
-/// The name of a row, its bytes, and one call after another, with where the buffer stands behind it
-/// and how many bytes are left.
+/// The name of a case, its bytes, and one call after another, each with the buffer's position after
+/// it and how many bytes are left.
 type Row = (&'static str, &'static [u8], &'static [(Call, usize, usize)]);
 
 /// Numbers of so many bytes, and whole ones of variable width without a sign.
@@ -368,12 +369,12 @@ const PLACES: &[Row] = &[
     ),
 ];
 
-/// Whether a call is refused, since bytes end too soon.
+/// Whether a call fails with `UnexpectedEof`.
 fn ends<T: Drop>(answer: pdb_base::Result<T>) -> bool {
     matches!(answer, Err(Error::UnexpectedEof))
 }
 
-/// Whether a call answers this value, or is refused without one, since bytes end too soon.
+/// Whether a call returns this value, or fails with `UnexpectedEof` if there is none.
 fn reads<T: Copy + PartialEq + Drop>(answer: pdb_base::Result<T>, want: Option<T>) -> bool {
     match want {
         Some(value) => matches!(answer, Ok(found) if found == value),
@@ -381,12 +382,12 @@ fn reads<T: Copy + PartialEq + Drop>(answer: pdb_base::Result<T>, want: Option<T
     }
 }
 
-/// The same of a call that answers nothing but that it is done.
+/// Whether a call that returns no value succeeds, or fails with `UnexpectedEof` if it isn't `done`.
 fn is_done(answer: pdb_base::Result<()>, done: bool) -> bool {
     if done { answer.is_ok() } else { ends(answer) }
 }
 
-/// The same of a text.
+/// Whether a call returns this text, or fails with `UnexpectedEof` if there is none.
 fn reads_text(answer: pdb_base::Result<RawString<'_>>, want: Option<&str>) -> bool {
     match want {
         Some(text) => matches!(answer, Ok(found) if found.as_bytes() == text.as_bytes()),
@@ -399,7 +400,7 @@ fn is_variant(alloc: Global, answer: pdb_base::Result<Variant>, want: Variant, t
     reads(answer, Some(want)) && shows(alloc, &want, text)
 }
 
-/// Whether a number is refused by this prefix.
+/// Whether a number has the error of this unknown prefix.
 fn names<T: Drop>(answer: pdb_base::Result<T>, prefix: u16) -> bool {
     matches!(answer, Err(Error::UnexpectedNumericPrefix(found)) if found == prefix)
 }
@@ -414,7 +415,7 @@ impl fmt::Display for InHexadecimal<'_, '_> {
     }
 }
 
-/// Whether a buffer stands at this place, with so many bytes left.
+/// Whether a buffer is at this position, with so many bytes left.
 fn stands(buffer: &ParseBuffer<'_>, pos: usize, left: usize) -> bool {
     buffer.pos() == pos && buffer.len() == left && buffer.is_empty() == (left == 0)
 }
@@ -432,7 +433,7 @@ fn is_answered(alloc: Global, buffer: &mut ParseBuffer<'_>, call: &Call) -> bool
     }
 }
 
-/// The same of numbers with a sign and of variable width.
+/// Whether a call for a number with a sign or of variable width answers as it says.
 fn is_signed_answered(alloc: Global, buffer: &mut ParseBuffer<'_>, call: &Call) -> bool {
     match call {
         Call::I16(want) => reads(buffer.parse_i16(), *want),
@@ -445,7 +446,8 @@ fn is_signed_answered(alloc: Global, buffer: &mut ParseBuffer<'_>, call: &Call) 
     }
 }
 
-/// The same of numbers of variable width without a sign, and by the rule that a type says.
+/// Whether a call for a number of variable width without a sign, or for one by the rule of its
+/// type, answers as it says.
 fn is_parsed(alloc: Global, buffer: &mut ParseBuffer<'_>, call: &Call) -> bool {
     match call {
         Call::Num(want) => reads(buffer.parse_num(), *want),
@@ -457,7 +459,7 @@ fn is_parsed(alloc: Global, buffer: &mut ParseBuffer<'_>, call: &Call) -> bool {
     }
 }
 
-/// The same of texts and places.
+/// Whether a call for a text, for bytes or for a place answers as it says.
 fn is_placed(alloc: Global, buffer: &mut ParseBuffer<'_>, call: &Call) -> bool {
     match call {
         Call::Text(want) => reads_text(buffer.parse_cstring(), *want),
@@ -488,7 +490,7 @@ fn are_answered(
     true
 }
 
-/// The same of these bytes, and of a stream of them.
+/// Whether each of these calls answers as it says over these bytes, and over a stream of them.
 fn is_row(alloc: Global, bytes: &[u8], calls: &[(Call, usize, usize)]) -> Result<bool, Fail> {
     let stream = Stream::new(Vec::from_slice(alloc, &bytes[..bytes.len().min(16)])?);
     Ok(
@@ -523,8 +525,8 @@ fn places(rt: HostRuntime) -> Result<(), Fail> {
     Ok(())
 }
 
-/// How many NULs stand before a text, how many bytes from there on, and how many letters are among
-/// them at first.
+/// How many NULs come before a text, how many bytes there are from there on, and with how many
+/// letters these begin.
 const BEFORE: &[usize] = &[0, 3, 20];
 
 const LEFT: &[usize] = &[1, 15, 16, 17, 40, 41];

@@ -1,4 +1,4 @@
-//! Indexes, the count of calls, and steps that can be refused.
+//! Indexes, the count of calls, and steps that can fail.
 
 ghost use Rattle.std.specs.Prelude.{⊤};
 
@@ -68,7 +68,7 @@ fn prints<T: fmt::Display + fmt::Debug>(alloc: Global, value: &T, text: &str, de
     shows(alloc, value, text) && shows_debug(alloc, value, debug)
 }
 
-/// The same of an index.
+/// Whether an index is shown so, and has this `Debug` text.
 fn is_printed(alloc: Global, index: &Index, text: &str, debug: &str) -> bool {
     match index {
         Index::Stream(index) => prints(alloc, index, text, debug),
@@ -113,11 +113,11 @@ fn stream_indexes(rt: HostRuntime) {
     }
 }
 
-/// Numbers of indexes, and whether the item stands in another module.
+/// Numbers of indexes, and whether the item is in another module.
 const ITEMS: &[(u32, bool)] = &[(0x1000, false), (0x7fff_ffff, false), (0x8000_0001, true)];
 
-/// Whether an index has this number, also when it is made anew of it, and whether its item stands in
-/// another module.
+/// Whether an index has this number, also when it is made of that number again, and whether its
+/// item is in another module.
 fn is_item<I: ItemIndex>(index: I, number: u32, elsewhere: bool) -> bool {
     let found: u32 = index.into();
     let again: u32 = I::from(found).into();
@@ -192,7 +192,7 @@ fn gives(bytes: &[u8], count: &mut Count, numbers: &[Option<u32>]) -> bool {
     true
 }
 
-/// Whether the first step over these bytes is refused, since they end too soon.
+/// Whether the first step over these bytes fails with `UnexpectedEof`.
 fn ends(bytes: &[u8], count: &mut Count) -> bool {
     let mut words = Words(ParseBuffer::from(bytes));
     matches!(step(&mut words, count), Err(Error::UnexpectedEof))

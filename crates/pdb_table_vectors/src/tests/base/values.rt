@@ -10,13 +10,13 @@ use pdb_space::{
 /// Eight bytes, of which no number of their first ones reads the same in another order or sign.
 const BYTES: &[u8] = b"\xfe\xff\x01\x80\x05\x00\x07\xf8";
 
-/// Whether bytes are refused as too few, and move nothing.
+/// Whether reading a value fails for too few bytes, and leaves the position unchanged.
 fn ends<T: Parse<Le> + Drop>(bytes: &[u8]) -> bool {
     let mut buffer = ParseBuffer::from(bytes);
     matches!(buffer.parse::<T>(), Err(Error::UnexpectedEof)) && buffer.pos() == 0
 }
 
-/// What stands in the first so many bytes, where one byte less is too little.
+/// The value of the first so many bytes, if one byte less is too little.
 fn first<T: Parse<Le> + Drop>(len: usize) -> Option<T> {
     let bytes = &BYTES[..len.min(BYTES.len())];
     let mut buffer = ParseBuffer::from(bytes);
@@ -30,7 +30,7 @@ fn first<T: Parse<Le> + Drop>(len: usize) -> Option<T> {
     }
 }
 
-/// Whether this value stands in the first so many bytes.
+/// Whether the first so many bytes are this value.
 fn begins<T: Parse<Le> + PartialEq + Drop>(len: usize, want: T) -> bool {
     matches!(first::<T>(len), Some(value) if value == want)
 }

@@ -72,8 +72,8 @@ fn joins(
     Ok(is_list(&list, len, slices, false))
 }
 
-/// To how many bytes pages 0, 1, 4, 5, 2 and 2 are cut, one cut after another, how many are left, and
-/// in which slices.
+/// To how many bytes pages 0, 1, 4, 5, 2 and 2 are cut, one cut after another, how many are left,
+/// and in which slices.
 const CUTS: &[(usize, usize, &[(u64, usize)])] = &[
     (
         25000,

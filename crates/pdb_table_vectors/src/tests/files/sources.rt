@@ -10,8 +10,8 @@ use std::io;
 use std::io::ErrorKind;
 use std::test::Fail;
 
-/// Slices that are asked of a source, and the bytes that a view of them shows, or none where it is
-/// refused, since the source ends too soon.
+/// Slices that are requested from a source, and the bytes of a view of them, or None if the view
+/// fails because the source ends too soon.
 type Views = &'static [(&'static [SourceSlice], Option<&'static [u8]>)];
 
 const OF_SIX_BYTES: Views = &[
@@ -95,7 +95,7 @@ const SOURCES: &[(&str, Made, Views)] = &[
     ),
 ];
 
-/// Whether a view shows these bytes, or is refused without them, since the source ends too soon.
+/// Whether a view has these bytes, or fails because the source ends too soon if there are none.
 fn is_view(view: io::Result<ReadView>, want: Option<&[u8]>) -> bool {
     match want {
         Some(bytes) => matches!(view, Ok(view) if view.as_slice() == bytes),
@@ -135,9 +135,9 @@ fn views(rt: HostRuntime) -> Result<(), Fail> {
     Ok(())
 }
 
-/// The stream and the limit of one call after another, and what the file has then asked of its source:
-/// of S1 36 bytes to locate the directory and 600 of stream 1, then 5, none of an absent stream, 2, and
-/// none of an empty stream.
+/// The stream and the limit of one call after another, and how many bytes the file has then
+/// requested from its source: of S1 36 bytes to locate the directory and 600 of stream 1, then 5,
+/// none of an absent stream, 2, and none of an empty stream.
 const ASKED: &[(u32, Option<usize>, u64)] = &[
     (1, None, 636),
     (3, None, 641),
@@ -157,7 +157,8 @@ fn noted_bytes(notes: &[Vec<SourceSlice>]) -> u64 {
     sum
 }
 
-/// Whether a call locates the directory, and so many bytes are asked of the source then.
+/// Whether a call locates the directory, and so many bytes have then been requested from the
+/// source.
 fn asks(
     alloc: Global,
     file: &mut BigMSF<Noting>,
@@ -169,7 +170,7 @@ fn asks(
     file.located() && file.asked() == asked && noted_bytes(file.source().notes()) == asked
 }
 
-/// Whether each of the calls does so, where nothing was asked before them.
+/// Whether each of the calls does so, where nothing was requested before them.
 fn asks_in_turn(alloc: Global, file: &mut BigMSF<Noting>) -> bool {
     if file.located() || file.asked() != 0 {
         return false;
@@ -223,13 +224,13 @@ fn failing(alloc: Global, n: u64, kind: ErrorKind) -> pdb_base::Result<Failing> 
     })
 }
 
-/// Whether a call is refused by a fault of this kind.
+/// Whether a call fails with an error of the source of this kind.
 fn is_fault<T: Drop>(answer: pdb_base::Result<T>, kind: ErrorKind) -> bool {
     matches!(answer, Err(Error::IoError(error)) if error.kind() == kind)
 }
 
-/// Whether stream 1 is refused by a fault of this kind, which leaves the file located or not, and is
-/// read in whole when asked for again.
+/// Whether reading stream 1 fails with an error of the source of this kind, which leaves the file
+/// located or not, and the next call reads the whole stream.
 fn recovers(alloc: Global, mut file: BigMSF<Failing>, kind: ErrorKind, located: bool) -> bool {
     let refused = is_fault(file.get(alloc, 1, None), kind);
     let stays = file.located() == located;

@@ -28,7 +28,7 @@ const BYTES_END: Answer = Answer::Error(Error::UnexpectedEof);
 
 const NO_BYTES: Answer = Answer::Bytes(b"");
 
-/// Bytes of S1 that are set to others, the stream and the limit that are asked for, and what is answered.
+/// Bytes of S1 that are set to others, the stream and the limit of a call, and its answer.
 const ASKED: &[(&[(usize, u8)], u32, Option<usize>, Answer)] = &[
     (&[], 0, None, NO_BYTES),
     (&[], 1, None, STREAM_1),
@@ -45,7 +45,8 @@ const ASKED: &[(&[(usize, u8)], u32, Option<usize>, Answer)] = &[
     (&[(PAGE_OF_3, 9)], 3, Some(0), OUT_OF_RANGE),
     (&[(DIRECTORY_SIZE, 0)], 0, None, BYTES_END),
     (&[(DIRECTORY_SIZE, 0)], 1, Some(1), BYTES_END),
-    // The directory ends behind the size of stream 1, behind that of stream 2, and within that of stream 3.
+    // The directory ends behind the size of stream 1, behind that of stream 2, and within that of
+    // stream 3.
     (&[(DIRECTORY_SIZE, 12)], 2, None, BYTES_END),
     (&[(DIRECTORY_SIZE, 12)], 0, None, BYTES_END),
     (&[(DIRECTORY_SIZE, 16)], 2, None, STREAM_2_ABSENT),
@@ -65,7 +66,7 @@ fn opened(alloc: Global, edits: &[(usize, u8)]) -> pdb_base::Result<BigMSF<Vec<u
     open_msf(alloc, edited(alloc, edits)?)
 }
 
-/// Whether a file answers so for a stream, does so again, and does so when it is given up for the
+/// Whether a file answers so for a stream, does so again, and does so when it is consumed for the
 /// stream.
 fn answers_twice(
     alloc: Global,
@@ -83,7 +84,7 @@ fn answers_twice(
 /// The edits by which S1 claims 0xffffffff streams.
 const CLAIMED: &[(usize, u8)] = &[(1024, 0xff), (1025, 0xff), (1026, 0xff), (1027, 0xff)];
 
-/// Streams of that file, in the order in which they are asked for, and what is answered.
+/// Streams of that file, in the order in which they are read, and the answers.
 const OF_THE_CLAIMED: &[(u32, Answer)] = &[
     (0, BYTES_END),
     (2, STREAM_2_ABSENT),

@@ -1,5 +1,5 @@
-//! What is asked of a source, view by view, of a file whose streams lie in many places; and errors of a source that
-//! have a text of their own.
+//! The slices that are requested from a source, view by view, of a file whose streams are in many
+//! places; and errors of a source that have a text of their own.
 
 ghost use Rattle.pdb_vectors.specs.Failing.{state_of};
 
@@ -14,11 +14,11 @@ use std::test::Fail;
 /// The text of each error of a source.
 const GONE: &str = "the disk is gone";
 
-/// A view: the slices that are asked for.
+/// A view: the requested slices.
 type Note = Vec<SourceSlice>;
 
-/// A source of which one view fails, and which notes each view, the failed one too. Its errors have a text of their
-/// own.
+/// A source of which one view fails, and which notes each view, the failed one too. Its errors have
+/// a text of their own.
 #[derive(Drop)]
 struct Watched<'n> {
     source: Failing,
@@ -41,12 +41,12 @@ impl<'n> Source for Watched<'n> {
 /// Bytes in a page.
 const PAGE_SIZE: usize = 512;
 
-/// The header of a file of 32 pages: a directory of 80 bytes, whose page stands in page 3.
+/// The header of a file of 32 pages: a directory of 80 bytes, whose page number is in page 3.
 const HEADER: &[u8] =
     b"Microsoft C/C++ MSF 7.00\r\n\x1a\x44\x53\0\0\0\0\x02\0\0\x01\0\0\0\x20\0\0\0\x50\0\0\0\0\0\0\0\x03\0\0\0";
 
-/// The directory: stream 0 has no bytes; stream 1 has 5000, in pages 31, 29 and so on, down to 13; stream 2 has 2600,
-/// in pages 5, 6, 9, 10, 12 and 11.
+/// The directory: stream 0 has no bytes; stream 1 has 5000, in pages 31, 29 and so on, down to 13;
+/// stream 2 has 2600, in pages 5, 6, 9, 10, 12 and 11.
 const DIRECTORY: &[u8] =
     b"\x03\0\0\0\0\0\0\0\x88\x13\0\0\x28\x0a\0\0\x1f\0\0\0\x1d\0\0\0\x1b\0\0\0\x19\0\0\0\x17\0\0\0\x15\0\0\0\x13\0\0\0\x11\0\0\0\x0f\0\0\0\x0d\0\0\0\x05\0\0\0\x06\0\0\0\x09\0\0\0\x0a\0\0\0\x0c\0\0\0\x0b\0\0\0";
 
@@ -66,7 +66,8 @@ fn file(alloc: Global) -> pdb_base::Result<Vec<u8>> {
     Ok(bytes)
 }
 
-/// The view that opens the file, those that read where its directory is and the directory, and those of streams 1 and 2.
+/// The view that opens the file, those that read where its directory is and the directory, and
+/// those of streams 1 and 2.
 const OPENING: &[(u64, usize)] = &[(0, 4096)];
 
 const LOCATION: &[(u64, usize)] = &[(1536, 4)];
@@ -93,14 +94,15 @@ const OF_STREAM_2: &[(u64, usize)] = &[
     (11 * 512, 40),
 ];
 
-/// A call for a stream and up to so many bytes of it, and how many bytes it answers, or none where the source fails.
+/// A call for a stream and up to so many bytes of it, and how many bytes it answers, or none where
+/// the source fails.
 type Call = (u32, Option<usize>, Option<usize>);
 
 /// The view that fails, or 0; the calls; and all views, the failed one among them.
 type Row = (u64, &'static [Call], &'static [&'static [(u64, usize)]]);
 
-/// What is asked. The view that opens the file is the first, and no view is asked again after it failed unless there
-/// is another call.
+/// The calls of each case. The view that opens the file is the first, and no view is repeated after
+/// it failed unless there is another call.
 const ROWS: &[Row] = &[
     (
         0,
@@ -215,8 +217,8 @@ fn are_views(notes: &[Note], want: &[&[(u64, usize)]]) -> bool {
     notes.len() == want.len()
 }
 
-/// Whether the calls of a row answer so over a file, with how many bytes the file counts then. The error of the first
-/// view is that of opening.
+/// Whether the calls of a case answer so over a file, with how many bytes the file counts then. The
+/// error of the first view is that of opening.
 fn asked(alloc: Global, row: &Row, notes: &mut Vec<Note>) -> pdb_base::Result<Option<u64>> {
     let (n, calls, _) = row;
     let source = Watched {
@@ -237,7 +239,8 @@ fn asked(alloc: Global, row: &Row, notes: &mut Vec<Note>) -> pdb_base::Result<Op
     }
 }
 
-/// Whether the calls of a row answer so, by these views alone, whose bytes the file counts, but for those of the first.
+/// Whether the calls of a case answer so, by these views alone, and the file counts the bytes of
+/// all views but the first.
 fn is_row(alloc: Global, row: &Row) -> pdb_base::Result<bool> {
     let mut notes = Vec::new(alloc);
     let counted = asked(alloc, row, &mut notes)?;
@@ -253,7 +256,8 @@ fn watched_views(rt: HostRuntime) -> Result<(), Fail> {
     Ok(())
 }
 
-/// The view that fails, or 0, and the views where a file is opened and consumed for all of stream 2.
+/// The view that fails, or 0, and the views where a file is opened and consumed for all of stream
+/// 2.
 const CONSUMED: &[(u64, &[&[(u64, usize)]])] = &[
     (0, &[OPENING, LOCATION, OF_DIRECTORY, OF_STREAM_2]),
     (2, &[OPENING, LOCATION]),

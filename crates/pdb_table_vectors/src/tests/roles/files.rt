@@ -11,7 +11,7 @@ use std::test::Fail;
 /// Bytes in a page.
 const PAGE_SIZE: usize = 512;
 
-/// The header of a file of 16 pages: a directory of 84 bytes, whose page stands in page 3.
+/// The header of a file of 16 pages: a directory of 84 bytes, whose page number is in page 3.
 const HEADER: &[u8] =
     b"Microsoft C/C++ MSF 7.00\r\n\x1a\x44\x53\0\0\0\0\x02\0\0\x01\0\0\0\x10\0\0\0\x54\0\0\0\0\0\0\0\x03\0\0\0";
 
@@ -49,12 +49,12 @@ const OLD_FRAME: &[u8] = b"\x10\0\0\0\x04\0\0\0\0\0\0\0\0\0\0\0";
 /// Stream 10: a frame of the newer format, from 0x20 on.
 const NEW_FRAME: &[u8] = b"\x20\0\0\0\x04\0\0\0\0\0\0\0\0\0\0\0\0\0\0\0\0\0\0\0\0\0\0\0\0\0\0\0";
 
-/// Stream 3 as far as the debug header: its header, by which that has 22 bytes and no other part has
-/// any.
+/// Stream 3 as far as the debug header: its header, by which that has 22 bytes and no other part
+/// has any.
 const DEBUG: &[u8] =
     b"\xff\xff\xff\xffw\x091\x01\x01\0\0\0\0\0\0\0\0\0\0\0\0\0\0\0\0\0\0\0\0\0\0\0\0\0\0\0\0\0\0\0\0\0\0\0\0\0\0\0\x16\0\0\0\0\0\0\0\0\0\0\0\0\0\0\0";
 
-/// What stands in the pages of the file before that of stream 3, which is the last.
+/// The pages of the file before that of stream 3, which is the last.
 const PAGES: [&[u8]; 15] = [
     HEADER,
     b"",
@@ -73,28 +73,29 @@ const PAGES: [&[u8]; 15] = [
     OLD_FRAME,
 ];
 
-/// The number that stands for no stream.
+/// The number that means no stream.
 pub(crate) const NONE: u16 = 0xffff;
 
 /// The streams of some roles. The others have none.
 pub(crate) enum Roles {
-    /// Of an address map: the section headers, the original ones, OMAP to source and OMAP from source.
+    /// Of an address map: the section headers, the original ones, OMAP to source and OMAP from
+    /// source.
     Map([u16; 4]),
     /// Of a frame table: the FPO stream and the frame data.
     Frames([u16; 2]),
 }
 
-/// What is asked of a file, and its answer.
+/// A query of a file, and its answer.
 enum Ask {
     /// That it has an address map.
     Map,
-    /// What its address map is refused with.
+    /// The error of its address map.
     NoMap(Error),
     /// What its address map answers.
     Translation(Translation),
     /// The starts of the first two frames of its frame table.
     Frames(Option<u32>, Option<u32>),
-    /// What its frame table is refused with.
+    /// The error of its frame table.
     NoFrames(Error),
     /// A name: the bytes of the stream.
     Stream(&'static [u8], &'static [u8]),
@@ -114,8 +115,8 @@ struct Translation {
     there: u32,
     /// Where the address 0x5010 of the image as it is loaded came from.
     back: u32,
-    /// Whether the original address 0x1010 is in a section, and whether the addresses 0x1010 and 0x5010
-    /// of the image as it is loaded are.
+    /// Whether the original address 0x1010 is in a section, and whether the addresses 0x1010 and
+    /// 0x5010 of the image as it is loaded are.
     lie: (bool, bool, bool),
 }
 
@@ -125,7 +126,7 @@ const NOT_STORED_99: Error = Error::StreamNotFound(99);
 
 const BAD_OMAP: Error = Error::InvalidStreamLength("OMAP");
 
-/// Files by the streams of their roles, and what is asked of each.
+/// Files by the streams of their roles, and the query of each.
 const ROWS: &[(&str, Roles, Ask)] = &[
     (
         "a map without a role",
@@ -268,7 +269,7 @@ const ROWS: &[(&str, Roles, Ask)] = &[
     ),
 ];
 
-/// What one file without roles is asked in turn. The first two refusals leave it as it is.
+/// The queries of one file without roles, in turn. The first two fail and leave it unchanged.
 const IN_TURN: &[(&str, Ask)] = &[
     (
         "an absent stream's name",
@@ -359,7 +360,7 @@ fn is_mapped(map: &AddressMap, ask: &Ask) -> bool {
     }
 }
 
-/// Whether an address map answers so, or is refused so.
+/// Whether an address map answers so, or has this error.
 fn map_answers(map: Answer<AddressMap>, ask: &Ask) -> bool {
     match map {
         Ok(map) => is_mapped(&map, ask),
@@ -381,7 +382,7 @@ fn start(mut frames: FrameDataIter<'_>, first: Option<u32>, second: Option<u32>)
     steps_to(&mut frames, first) && steps_to(&mut frames, second)
 }
 
-/// Whether a frame table answers so, or is refused so.
+/// Whether a frame table answers so, or has this error.
 fn frames_answer(table: Answer<FrameTable>, ask: &Ask) -> bool {
     match table {
         Ok(table) => {

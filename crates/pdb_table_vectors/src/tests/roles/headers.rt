@@ -10,11 +10,11 @@ use std::test::Fail;
 /// The numbers 100 to 111, and half a number more.
 const LIST: &[u8] = b"\x64\0\x65\0\x66\0\x67\0\x68\0\x69\0\x6a\0\x6b\0\x6c\0\x6d\0\x6e\0\x6f\0\x70";
 
-/// A stream 3. Its header has 64 bytes, in which no two fields are equal but by their sizes: 8 bytes of
-/// modules, 4 of section contributions, 12 of the section map, 16 of file info, 20 of the type server
-/// map, 6 of the debug header, 24 of names for edit and continue. Between the header and the debug
-/// header stand 84 bytes of other numbers. The debug header is three numbers, and a byte stands behind
-/// them.
+/// A stream 3. Its header has 64 bytes, in which no two fields are equal but by their sizes: 8
+/// bytes of modules, 4 of section contributions, 12 of the section map, 16 of file info, 20 of the
+/// type server map, 6 of the debug header, 24 of names for edit and continue. Between the header
+/// and the debug header are 84 bytes of other numbers. The debug header is three numbers, and a
+/// byte follows them.
 const STREAM: &[u8] =
     b"\xff\xff\xff\xff\x77\x09\x31\x01\x03\0\0\0\x11\x01\x12\x02\x13\x03\x14\x04\x15\x05\x16\x06\x08\0\0\0\x04\0\0\0\x0c\0\0\0\x10\0\0\0\x14\0\0\0\x17\0\0\x07\x06\0\0\0\x18\0\0\0\x19\x08\x64\x86\x1a\0\0\x09\xee\xee\xee\xee\xee\xee\xee\xee\xee\xee\xee\xee\xee\xee\xee\xee\xee\xee\xee\xee\xee\xee\xee\xee\xee\xee\xee\xee\xee\xee\xee\xee\xee\xee\xee\xee\xee\xee\xee\xee\xee\xee\xee\xee\xee\xee\xee\xee\xee\xee\xee\xee\xee\xee\xee\xee\xee\xee\xee\xee\xee\xee\xee\xee\xee\xee\xee\xee\xee\xee\xee\xee\xee\xee\xee\xee\xee\xee\xee\xee\xee\xee\xee\xee\x64\0\x65\0\x66\0\x67";
 
@@ -72,7 +72,7 @@ fn has_first(roles: &DBIExtraStreams, count: usize) -> bool {
     numbers[..count] == STREAMS[..count] && numbers[count..] == NO_STREAMS[count..]
 }
 
-/// Whether that many roles are told, or, where no number is wanted, the list ends too soon.
+/// Whether that many roles are listed, or, where no number is wanted, the list ends too soon.
 fn are_roles(answer: Answer<DBIExtraStreams>, want: Option<usize>) -> bool {
     match answer {
         Ok(roles) => matches!(want, Some(count) if has_first(&roles, count)),
@@ -80,8 +80,8 @@ fn are_roles(answer: Answer<DBIExtraStreams>, want: Option<usize>) -> bool {
     }
 }
 
-/// How many roles the list tells if it has so many bytes: half a number is refused only among the first
-/// eleven.
+/// How many roles the list has if it has so many bytes: half a number is an error only among the
+/// first eleven.
 fn listed(len: usize) -> Option<usize> {
     if len < 22 && len % 2 == 1 {
         None
@@ -90,7 +90,7 @@ fn listed(len: usize) -> Option<usize> {
     }
 }
 
-/// How many roles the stream tells if it has so many bytes: an empty one has none, one that is cut
+/// How many roles the stream has if it has so many bytes: an empty one has none, one that is cut
 /// before the third number's end ends too soon.
 fn told(len: usize) -> Option<usize> {
     match len {
@@ -119,7 +119,7 @@ fn is_front(alloc: Global, len: usize) -> Result<bool, Fail> {
     Ok(list && is_stream(&stream(alloc, front(STREAM, len))?, len))
 }
 
-/// Whether a list tells no stream in the first role, and 65534 in the second.
+/// Whether a list has no stream in the first role, and 65534 in the second.
 fn has_second() -> bool {
     let answer = DBIExtraStreams::parse(b"\xff\xff\xfe\xff");
     matches!(answer, Ok(roles) if roles.fpo.is_none() && roles.exception == StreamIndex(0xfffe))
@@ -139,7 +139,7 @@ fn is_ancient(error: &Error) -> bool {
     matches!(error, Error::UnimplementedFeature(feature) if *feature == "ancient DBI header")
 }
 
-/// Whether a stream is refused as one of the oldest format.
+/// Whether the error of a stream is that it is of the oldest format.
 fn is_refused(stream: &Stream) -> bool {
     let header = matches!(DBIHeader::parse(stream), Err(error) if is_ancient(&error));
     header && matches!(DBIExtraStreams::new(stream), Err(error) if is_ancient(&error))

@@ -7,7 +7,7 @@ use pdb_file::{PDBInformation, StreamName, StreamNames};
 use std::alloc::Global;
 use std::test::Fail;
 
-/// What stands before the names, of which there are 12 bytes.
+/// The bytes before the names. There are 12 bytes of names.
 const HEADER: &[u8] =
     b"\x94\x2e\x31\x01\x01\x02\x03\x04\x05\0\0\0\xa0\xa1\xa2\xa3\xa4\xa5\xa6\xa7\xa8\xa9\xaa\xab\xac\xad\xae\xaf\x0c\0\0\0";
 
@@ -32,17 +32,17 @@ enum Listed {
 
 const ENDS: Listed = Listed::Error(Error::UnexpectedEof);
 
-/// What is asked of a stream 1.
+/// A query of a stream 1.
 enum Ask {
     /// Of one with such a table and its entries: its names.
     Names(&'static [u8], &'static [u8], Listed),
     /// Of the one with two names: that it ends too soon if it has fewer bytes than these.
     Fronts(usize),
-    /// Of the same: its fields, and the numbers of its names.
+    /// Of the one with two names: its fields, and the numbers of its names.
     Fields,
 }
 
-/// What is asked, by a name.
+/// The queries, each with a name.
 const ROWS: &[(&str, Ask)] = &[
     (
         "two names",
@@ -171,7 +171,7 @@ fn lists(alloc: Global, information: &PDBInformation, want: &Listed) -> bool {
     }
 }
 
-/// The same of a stream 1 of these bytes.
+/// Whether the names and the streams of a stream 1 of these bytes are these, or there is the error.
 fn is_shown(alloc: Global, bytes: &[u8], want: &Listed) -> Result<bool, Fail> {
     match PDBInformation::parse(stream(alloc, bytes)?) {
         Ok(information) => Ok(lists(alloc, &information, want)),
@@ -179,13 +179,14 @@ fn is_shown(alloc: Global, bytes: &[u8], want: &Listed) -> Result<bool, Fail> {
     }
 }
 
-/// The same of a stream 1 with such a table and its entries.
+/// Whether the names and the streams of a stream 1 with such a table and its entries are these, or
+/// there is the error.
 fn is_listed(alloc: Global, table: &[u8], entries: &[u8], want: &Listed) -> Result<bool, Fail> {
     let bytes = information(alloc, table, entries)?;
     is_shown(alloc, &bytes, want)
 }
 
-/// Whether each front of stream 1 of fewer bytes than these ends too soon.
+/// Whether each prefix of stream 1 of fewer bytes than these ends too soon.
 fn end_soon(alloc: Global, len: usize) -> Result<bool, Fail> {
     for len in 0..len {
         if !is_shown(alloc, front(WHOLE, len), &ENDS)? {

@@ -1,5 +1,5 @@
-//! Calls that fail over a file of which a stream is absent, cut or of another format: each error is that of the first
-//! fault, and never that memory was refused, of which there is plenty.
+//! Calls that fail over a file of which a stream is absent, cut or of another format: each error is
+//! that of the first fault, and never `OutOfMemory`, since there is plenty of memory.
 
 use super::super::is_error;
 use super::files::{NONE, Roles, bytes_of};
@@ -20,8 +20,8 @@ enum Call {
     Frames,
 }
 
-/// The offsets in the file of the sizes of streams 1 and 3, of a letter of the name `/names`, and of the first byte of
-/// stream 3.
+/// The offsets in the file of the sizes of streams 1 and 3, of a letter of the name `/names`, and
+/// of the first byte of stream 3.
 const SIZE_OF_1: usize = 2056;
 
 const SIZE_OF_3: usize = 2064;
@@ -68,7 +68,7 @@ fn fails<T: Drop>(answer: Answer<T>, want: &Error) -> bool {
     matches!(answer, Err(error) if is_error(&error, want))
 }
 
-/// The same of a call for a file.
+/// Whether a call for a file fails with this error.
 fn is_refused(alloc: Global, file: &mut PDB<Vec<u8>>, call: &Call, want: &Error) -> bool {
     match call {
         Call::Information => fails(file.pdb_information(alloc), want),
