@@ -1,5 +1,6 @@
 -- The names of a string table.
-use Rattle.std.proofs.Common.{◌≡◌, inl, inr, ℕ, zero, suc, ◌+◌, ◌-◌, ◌<◌, ◌≤◌, ◌==◌, List, [], ◌∷◌, length, drop, refl, sym, ap, ◌∙◌, arith, Ok, Err}
+use Rattle.std.proofs.Common.{◌≡◌, inl, inr, ℕ, zero, suc, ◌+◌, ◌-◌, ◌<◌, ◌≤◌, ◌==◌, List, [], ◌∷◌, length, drop, refl}
+use Rattle.std.proofs.Common.{sym, ap, ◌∙◌, arith, Ok, Err}
 use Rattle.std.specs.Prelude.{IsOk}
 use Rattle.std.proofs.lemmas.Bool.{cases_Bool, false≢true}
 use Rattle.std.proofs.lemmas.List.{drop-drop}
@@ -10,16 +11,19 @@ use Rattle.pdb_space.proofs.StringTableLemmas.{finds_names}
 use Rattle.pdb_validation.specs.IsWhole.{HasWholeNames}
 use Rattle.pdb_validation.specs.Names.{last_name, whole_names}
 
-pub names_sized : (stream names : List ℕ) (size : ℕ) → names_of stream ≡ Ok names → (12 ≤ length stream → size ≡ word_at 8 stream) → length names ≡ size
+pub names_sized : (stream names : List ℕ) (size : ℕ) → names_of stream ≡ Ok names
+    → (12 ≤ length stream → size ≡ word_at 8 stream) → length names ≡ size
 names_sized stream names size is says =
     let holds = (finds_names stream).found names is in
     sym holds.size ∙ sym (says (omega (arith, holds.fits)))
 
-ok_more : {A B : Type 0} (answer : Answer A) (f : A → B) → IsOk answer → IsOk (answer >>= λ x. let r : Answer B = Ok (f x) in r)
+ok_more : {A B : Type 0} (answer : Answer A) (f : A → B) → IsOk answer
+    → IsOk (answer >>= λ x. let r : Answer B = Ok (f x) in r)
 ok_more (Ok x) f is = refl
 ok_more (Err refusal) f is = absurd (false≢true is)
 
-more_ok : {A B : Type 0} (answer : Answer A) (f : A → B) → IsOk (answer >>= λ x. let r : Answer B = Ok (f x) in r) → IsOk answer
+more_ok : {A B : Type 0} (answer : Answer A) (f : A → B) → IsOk (answer >>= λ x. let r : Answer B = Ok (f x) in r)
+    → IsOk answer
 more_ok (Ok x) f is = refl
 more_ok (Err refusal) f is = absurd (false≢true is)
 
@@ -43,7 +47,8 @@ name_of_text : (names : List ℕ) (offset : ℕ) → IsOk (text_at (drop offset 
 unfolding name_of
 name_of_text names offset is = ok_more (text_at (drop offset names)) (λ text. text.0) is
 
-name_before : (names : List ℕ) (offset last : ℕ) → offset ≤ last → IsOk (name_of names last) → IsOk (name_of names offset)
+name_before : (names : List ℕ) (offset last : ℕ) → offset ≤ last → IsOk (name_of names last)
+    → IsOk (name_of names offset)
 name_before names offset last up is =
     let there : IsOk (text_at (drop last names)) = text_of_name names last is in
     let place : offset + (last - offset) ≡ last = omega (arith, up) in
@@ -55,14 +60,18 @@ abbrev nothing : List ℕ → Unit {0}
 nothing name = tt
 
 -- there is a name at each byte exactly if there is one at the last
-names_all : (names : List ℕ) → IsOk (last_name names) → (offset : ℕ) → offset < length names → IsOk (name_of names offset)
+names_all : (names : List ℕ) → IsOk (last_name names) → (offset : ℕ) → offset < length names
+    → IsOk (name_of names offset)
 names_all [] is offset below = absurd (omega (arith, below))
 names_all (byte ∷ names) is offset below =
-    name_before (byte ∷ names) offset (length names) (omega (arith, below)) (more_ok (name_of (byte ∷ names) (length names)) nothing is)
+    name_before (byte ∷ names) offset (length names) (omega (arith, below))
+    (more_ok (name_of (byte ∷ names) (length names)) nothing is)
 
-all_names : (names : List ℕ) → ((offset : ℕ) → offset < length names → IsOk (name_of names offset)) → IsOk (last_name names)
+all_names : (names : List ℕ) → ((offset : ℕ) → offset < length names → IsOk (name_of names offset))
+    → IsOk (last_name names)
 all_names [] each = refl
-all_names (byte ∷ names) each = ok_more (name_of (byte ∷ names) (length names)) nothing (each (length names) (omega arith))
+all_names (byte ∷ names) each = ok_more (name_of (byte ∷ names) (length names)) nothing
+    (each (length names) (omega arith))
 
 held_all : (answer : Answer (List ℕ)) → IsOk (answer >>= last_name) → HasWholeNames answer
 held_all (Ok names) is = names_all names is

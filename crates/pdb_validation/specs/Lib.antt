@@ -2,6 +2,7 @@ pub mod Finding
 pub mod Outside
 pub mod Tables
 pub mod Streams
+pub mod Sizes
 pub mod Names
 pub mod Roles
 pub mod Whole

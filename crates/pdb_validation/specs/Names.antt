@@ -37,7 +37,8 @@ whole_names stream = names_of stream >>= last_name
 -- the fault of the string table in the stream of that number
 unfoldable pub string_table_fault : List ℕ → Head → ℕ → Option Fault
 string_table_fault file head number =
-    fault_there parts.StringTable number (λ stream. fault_of_answer parts.StringTable number (whole_names stream)) (stream_of file head number None)
+    fault_there parts.StringTable number (λ stream. fault_of_answer parts.StringTable number (whole_names stream))
+    (stream_of file head number None)
 
 -- the fault of the names of streams, or that of the string table if there is one
 abbrev pub named_fault : List ℕ → Head → Answer (Option ℕ) → Option Fault
@@ -47,4 +48,5 @@ named_fault file head (Err refusal) = Some (stream_fault parts.Names 1 refusal)
 
 -- the fault of stream 1, of its names, or of the string table
 unfoldable pub names_fault : List ℕ → Head → Option Fault
-names_fault file head = fault_there parts.Names 1 (λ stream. named_fault file head (string_table_number stream)) (stream_of file head 1 None)
+names_fault file head = fault_there parts.Names 1 (λ stream. named_fault file head (string_table_number stream))
+    (stream_of file head 1 None)

@@ -74,7 +74,9 @@ role_index other roles = no_stream
 -- the fault of the stream with a number; none, if there is no number
 abbrev pub numbered_fault : List ℕ → Head → Part → Option ℕ → Option Fault
 numbered_fault file head part None = None
-numbered_fault file head part (Some number) = fault_there part number (λ stream. fault_of_answer part number (role_answer part stream)) (stream_of file head number None)
+numbered_fault file head part (Some number) =
+    fault_there part number (λ stream. fault_of_answer part number (role_answer part stream))
+    (stream_of file head number None)
 
 -- the fault of the stream of a role, if the roles are known
 abbrev pub role_fault : List ℕ → Head → Part → Option DBIExtraStreams → Option Fault
@@ -91,4 +93,5 @@ known_roles file head = roles_in (stream_of file head 3 None)
 
 -- the fault of stream 3, whose header or roles are refused
 unfoldable pub roles_fault : List ℕ → Head → Option Fault
-roles_fault file head = fault_within (λ stream. fault_of_answer parts.Roles 3 (extra_streams_of stream)) (stream_of file head 3 None)
+roles_fault file head = fault_within (λ stream. fault_of_answer parts.Roles 3 (extra_streams_of stream))
+    (stream_of file head 3 None)

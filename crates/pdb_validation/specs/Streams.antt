@@ -45,6 +45,6 @@ abbrev pub first_fault : (ℕ → Option Fault) → List ℕ → Option Fault
 first_fault fault [] = None
 first_fault fault (n ∷ numbers) = fault_before (fault n) (first_fault fault numbers)
 
--- the fault of the first stream whose bytes can't be read, among all that a number of 16 bits can name
-unfoldable pub streams_fault : List ℕ → Head → Option Fault
-streams_fault file head = first_fault (bytes_fault file head) (range_with_len 0 0xffff)
+-- the fault of the first of some streams whose bytes can't be read
+unfoldable pub streams_fault : List ℕ → Head → ℕ → Option Fault
+streams_fault file head count = first_fault (bytes_fault file head) (range_with_len 0 count)

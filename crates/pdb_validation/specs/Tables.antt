@@ -1,10 +1,13 @@
 -- The records of the tables of types and of ids: which of them is refused first.
-use Rattle.std.specs.Prelude.{ℕ, ◌+◌, ◌==◌, nat_lt, if◌then◌else◌, List, [], ◌∷◌, length, Option, Some, None, Ok, Err}
+use Rattle.std.specs.Prelude.{ℕ, ◌+◌, ◌-◌, ◌==◌, Bool, false, ◌&&◌, not, nat_lt, if◌then◌else◌, List, [], ◌∷◌, length}
+use Rattle.std.specs.Prelude.{Option, Some, None, Ok, Err}
 use Rattle.pdb_base.specs.Answer.{Answer, ◌>>=◌, required}
 use Rattle.pdb_base.specs.Refusal.{Refusal, unexpected_eof, unimplemented_type_kind}
 use Rattle.pdb_records.specs.Fields.{field_list_leaf}
+use Rattle.pdb_records.specs.Shape.{pointer_leaf}
 use Rattle.pdb_tpi.specs.Chain.{not_below}
 use Rattle.pdb_tpi.specs.Finder.{item_of}
+use Rattle.pdb_tpi.specs.OpenTable.{position_of}
 use Rattle.pdb_tpi.specs.Record.{id_of, kind_of, type_of}
 use Rattle.pdb_tpi.specs.StepLaws.{first_stand}
 use Rattle.pdb_tpi.specs.Steps.{WalkPosition, walk, walk_rest}
@@ -35,8 +38,32 @@ continued_in table index (field_list fields (Some next)) = continues_at table in
 continued_in table index other = Ok tt
 
 -- The record of a type is one, and the list that continues it is below it, if there is one.
+unfoldable pub read_in : Table → ℕ → List ℕ → Answer (Unit {0})
+read_in table index item = type_of index item >>= continued_in table index
+
+-- the answer that is a refusal
+abbrev pub refused : Refusal → Answer (Unit {0})
+refused refusal = Err refusal
+
+-- A record is refused for its kind alone. The kinds of pointers and of field lists are read, and so such a refusal of
+-- one of these is that of what it holds.
+abbrev pub is_for_kind : ℕ → Refusal → Bool
+is_for_kind kind (unimplemented_type_kind other) =
+    (other == kind && not (kind == pointer_leaf)) && not (kind == field_list_leaf)
+is_for_kind kind refusal = false
+
+-- an answer for a record, or success if the kind of the record is not read by this library
+abbrev pub unless_unread : {A : Type 0} → ℕ → Answer A → Answer (Unit {0})
+unless_unread kind (Ok x) = Ok tt
+unless_unread kind (Err refusal) = if is_for_kind kind refusal then Ok tt else Err refusal
+
+-- The record of a type is one, and the list that continues it is below it, if there is one; or its kind is not read.
 unfoldable pub type_in : Table → ℕ → List ℕ → Answer (Unit {0})
-type_in table index item = type_of index item >>= continued_in table index
+type_in table index item = unless_unread (kind_of item) (read_in table index item)
+
+-- The record of an id is one, or its kind is not read.
+unfoldable pub id_in : ℕ → List ℕ → Answer (Unit {0})
+id_in index item = unless_unread (kind_of item) (id_of item)
 
 -- ---- all records
 
@@ -46,9 +73,19 @@ fault_or fault (Ok x) others = others
 fault_or fault (Err refusal) others = Some (fault refusal)
 
 -- The fault of the first item that is refused, or else the fault behind the items. The first item has that index.
-abbrev pub first_refused : {A : Type 0} → (ℕ → Refusal → Fault) → (ℕ → List ℕ → Answer A) → ℕ → List (List ℕ) → Option Fault → Option Fault
+abbrev pub first_refused : {A : Type 0} → (ℕ → Refusal → Fault) → (ℕ → List ℕ → Answer A) → ℕ → List (List ℕ)
+    → Option Fault → Option Fault
 first_refused fault means index [] behind = behind
-first_refused fault means index (item ∷ items) behind = fault_or (fault index) (means index item) (first_refused fault means (index + 1) items behind)
+first_refused fault means index (item ∷ items) behind =
+    fault_or (fault index) (means index item) (first_refused fault means (index + 1) items behind)
+
+-- the byte of its stream at which the item of an index begins, behind the header and the items before it
+abbrev pub byte_of : Table → ℕ → ℕ
+byte_of table index = position_of table (index - table.header.minimum_index)
+
+-- the fault of the record of an index
+abbrev pub item_fault : Part → ℕ → Table → ℕ → Refusal → Fault
+item_fault part stream table index refusal = record_fault part stream index (byte_of table index) refusal
 
 -- the fault that a table has no item of an index that its header counts
 abbrev pub missing_fault : (ℕ → Refusal → Fault) → ℕ → ℕ → Option Fault
@@ -78,8 +115,11 @@ table_fault part number within (Err refusal) = Some (stream_fault part number re
 
 -- the first fault of the table of types in a stream
 unfoldable pub types_fault : List ℕ → Option Fault
-types_fault stream = table_fault parts.Types 2 (λ table. records_fault (record_fault parts.Types 2) (type_in table) table) (table_of stream)
+types_fault stream =
+    table_fault parts.Types 2 (λ table. records_fault (item_fault parts.Types 2 table) (type_in table) table)
+    (table_of stream)
 
 -- the first fault of the table of ids in a stream
 unfoldable pub ids_fault : List ℕ → Option Fault
-ids_fault stream = table_fault parts.Ids 4 (λ table. records_fault (record_fault parts.Ids 4) (λ index. id_of) table) (table_of stream)
+ids_fault stream =
+    table_fault parts.Ids 4 (λ table. records_fault (item_fault parts.Ids 4 table) id_in table) (table_of stream)

@@ -1,5 +1,5 @@
-//! Whether a program database is whole: which parts of a file the definitions of this library
-//! refuse, and why.
+//! Whether a program database is whole: which parts of a file break the definitions of this
+//! library, and how.
 #![tactic(auto)]
 
 mod checks;
@@ -7,6 +7,7 @@ mod finding;
 mod names;
 mod read;
 mod roles;
+mod sizes;
 mod streams;
 mod tables;
 #[cfg(test)]

@@ -6,7 +6,8 @@ ghost use Rattle.std.specs.Option.{option_map};
 ghost use Rattle.pdb_base.specs.Answer.{Answers, Gives};
 ghost use Rattle.pdb_msf.specs.File.{ReadsFile};
 ghost use Rattle.pdb_validation.specs.Finding.{finding_view};
-ghost use Rattle.pdb_validation.specs.Names.{last_name, named_fault, names_fault, string_table_fault, string_table_number, whole_names};
+ghost use Rattle.pdb_validation.specs.Names.{last_name, named_fault, names_fault, string_table_fault};
+ghost use Rattle.pdb_validation.specs.Names.{string_table_number, whole_names};
 
 use crate::finding::{Finding, Part, in_stream};
 use crate::read::read;
@@ -68,7 +69,7 @@ fn check_names_in(stream: Stream) -> Result<()>
     check_last(&names, size)
 }
 
-/// Returns the finding of the string table in the stream of a number, if it is refused.
+/// Returns the finding of the string table in the stream of a number, if it has an error.
 #[tactic(auto, unfolding(crate::specs::Names::string_table_fault))]
 fn check_string_table<S: Source>(
     alloc: Global,
@@ -92,7 +93,7 @@ fn check_string_table<S: Source>(
     }
 }
 
-/// Returns the finding of the string table in the stream that stream 1 names, if it is refused.
+/// Returns the finding of the string table in the stream that stream 1 names, if it has an error.
 fn check_named<S: Source>(
     alloc: Global,
     pdb: &mut PDB<S>,
@@ -109,7 +110,7 @@ fn check_named<S: Source>(
     }
 }
 
-/// Returns the finding of stream 1, of its names, or of the string table, if one is refused.
+/// Returns the finding of stream 1, of its names, or of the string table, if one has an error.
 #[tactic(auto, unfolding(crate::specs::Names::names_fault))]
 pub(crate) fn check_names<S: Source>(alloc: Global, pdb: &mut PDB<S>) -> Result<Option<Finding>>
     ensures { ReadsFile S.state pdb.old pdb.new (option_map finding_view) result

@@ -1,4 +1,4 @@
-//! Streams of a file, or the errors with which they are refused.
+//! Streams of a file, or the errors with which reading them fails.
 
 ghost use Rattle.std.specs.Prelude.{◌≡◌, ◌↔◌, IsTrue, MatchResult, Ok, Err};
 ghost use Rattle.pdb_msf.specs.File.{ReadsFile, stream_of};
@@ -10,7 +10,7 @@ use pdb_msf::{Msf, Source};
 use std::alloc::Global;
 use std::io::ErrorKind;
 
-/// Returns whether an error comes from outside the file: memory was refused, or the source failed
+/// Returns whether an error comes from outside the file: an allocation failed, or the source failed
 /// in another way than by its end.
 fn is_from_outside(error: &Error) -> bool
     ensures { IsTrue result ↔ IsFromOutside error.now }
@@ -36,10 +36,10 @@ pub(crate) fn refused<T>(error: Error) -> Result<Result<T>>
     Ok(Err(error))
 }
 
-/// Reads a stream: its bytes, or the error with which the file refuses it.
+/// Reads a stream: returns its bytes, or the error in the file that keeps it from being read.
 ///
 /// # Errors
-/// Fails with `OutOfMemory` if memory is refused, and with the source's own error if the source
+/// Fails with `OutOfMemory` if an allocation fails, and with the source's own error if the source
 /// fails.
 pub(crate) fn read<S: Source>(
     alloc: Global,

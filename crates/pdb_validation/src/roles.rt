@@ -7,8 +7,9 @@ ghost use Rattle.pdb_msf.specs.File.{ReadsFile};
 ghost use Rattle.pdb_file.specs.DebugHeader.{extra_streams_of};
 ghost use Rattle.pdb_validation.specs.Finding.{finding_view};
 ghost use Rattle.pdb_validation.specs.Names.{fault_of_answer};
-ghost use Rattle.pdb_validation.specs.Roles.{frames_answer, known_roles, numbered_fault, omap_answer, role_answer, role_fault, role_index};
-ghost use Rattle.pdb_validation.specs.Roles.{roles_fault, sections_answer, sources_rise, starts_rise};
+ghost use Rattle.pdb_validation.specs.Roles.{frames_answer, known_roles, numbered_fault, omap_answer, role_answer};
+ghost use Rattle.pdb_validation.specs.Roles.{role_fault, role_index, roles_fault, sections_answer, sources_rise};
+ghost use Rattle.pdb_validation.specs.Roles.{starts_rise};
 ghost use Rattle.pdb_validation.specs.declared.finding.Part.TheVariants as parts;
 
 use crate::finding::{Finding, Part, in_stream};
@@ -79,8 +80,8 @@ fn starts_rise(mut frames: FrameDataIter<'_>) -> bool
     }
 }
 
-/// Checks that a stream of frames holds whole records, and that each starts above the one before it.
-/// One of the streams is absent.
+/// Checks that a stream of frames holds whole records, and that each starts above the one before
+/// it. One of the streams is absent.
 #[tactic(auto, unfolding(crate::specs::Roles::frames_answer))]
 fn check_frames(old: Option<Stream>, new: Option<Stream>) -> Result<()>
     ensures { Gives (λ done. done) result (frames_answer old new) }
@@ -124,7 +125,7 @@ fn role_index(part: Part, roles: &DBIExtraStreams) -> StreamIndex
     }
 }
 
-/// Returns the finding of the bytes of a stream that has a role, if they are refused.
+/// Returns the finding of the bytes of a stream that has a role, if they have an error.
 fn check_bytes_of(alloc: Global, part: Part, number: u32, stream: Stream) -> Result<Option<Finding>>
     ensures { Answers (option_map finding_view) result
         (Ok (fault_of_answer part number (role_answer part stream))) }
@@ -136,7 +137,7 @@ fn check_bytes_of(alloc: Global, part: Part, number: u32, stream: Stream) -> Res
     }
 }
 
-/// Returns the finding of the stream with a number, if it is refused.
+/// Returns the finding of the stream with a number, if it has an error.
 fn check_numbered<S: Source>(
     alloc: Global,
     pdb: &mut PDB<S>,
@@ -157,7 +158,7 @@ fn check_numbered<S: Source>(
     }
 }
 
-/// Returns the finding of the stream of a role, if it is refused.
+/// Returns the finding of the stream of a role, if it has an error.
 pub(crate) fn check_role<S: Source>(
     alloc: Global,
     pdb: &mut PDB<S>,
@@ -201,7 +202,7 @@ fn check_debug_stream(stream: &Stream) -> Option<Finding>
     }
 }
 
-/// Returns the finding of stream 3, if its header or its roles are refused.
+/// Returns the finding of stream 3, if its header or its roles have an error.
 #[tactic(auto, unfolding(crate::specs::Roles::roles_fault))]
 pub(crate) fn check_roles<S: Source>(alloc: Global, pdb: &mut PDB<S>) -> Result<Option<Finding>>
     ensures { ReadsFile S.state pdb.old pdb.new (option_map finding_view) result

@@ -14,9 +14,6 @@ use pdb_file::PDB;
 use pdb_msf::{Msf, Source};
 use std::alloc::Global;
 
-/// The numbers of streams are below this one, which has 16 bits and names no stream.
-const NO_STREAM: u32 = 0xffff;
-
 /// Returns the error of a read as the answer of the directory, unless the directory is kept and so
 /// was read.
 fn unless_kept(kept: bool, error: Error) -> Result<Result<()>>
@@ -31,7 +28,7 @@ fn unless_kept(kept: bool, error: Error) -> Result<Result<()>>
     refused(error)
 }
 
-/// Reads the directory, or returns the error with which the file refuses it.
+/// Reads the directory, or returns the error in the file that keeps it from being read.
 #[tactic(auto, using(crate::proofs::ReadLemmas::directory_kept))]
 pub(crate) fn read_directory<S: Source>(alloc: Global, pdb: &mut PDB<S>) -> Result<Result<()>>
     ensures { ReadsFile S.state pdb.old pdb.new answered result (λ file head. Ok (directory_answer file head)) }
@@ -55,12 +52,16 @@ fn check_bytes<S: Source>(alloc: Global, pdb: &mut PDB<S>, number: u32) -> Resul
     }
 }
 
-/// Returns the finding of the first stream whose bytes can't be read, if there is one.
-pub(crate) fn check_streams<S: Source>(alloc: Global, pdb: &mut PDB<S>) -> Result<Option<Finding>>
+/// Returns the finding of the first of some streams whose bytes can't be read, if there is one.
+pub(crate) fn check_streams<S: Source>(
+    alloc: Global,
+    pdb: &mut PDB<S>,
+    count: u32,
+) -> Result<Option<Finding>>
     ensures { ReadsFile S.state pdb.old pdb.new (option_map finding_view) result
-        (λ file head. Ok (streams_fault file head)) }
+        (λ file head. Ok (streams_fault file head count)) }
 {
-    for number in 0..NO_STREAM {
+    for number in 0..count {
         if let Some(finding) = check_bytes(alloc, pdb, number)? {
             return Ok(Some(finding));
         }

@@ -1,21 +1,21 @@
 //! The records of the tables of types and of ids.
 
-ghost use Rattle.std.specs.Prelude.{◌≡◌, Ok};
+ghost use Rattle.std.specs.Prelude.{◌≡◌, Ok, Err};
 ghost use Rattle.std.specs.Option.{option_map};
 ghost use Rattle.pdb_base.specs.Answer.{Answers, Gives};
 ghost use Rattle.pdb_base.specs.Refusal.{refusal_of};
 ghost use Rattle.pdb_tpi.specs.Item.{bytes_of, index_of};
-ghost use Rattle.pdb_tpi.specs.Record.{id_of};
 ghost use Rattle.pdb_values.specs.TypeView.{type_value};
 ghost use Rattle.pdb_validation.specs.Finding.{finding_view, record_fault};
-ghost use Rattle.pdb_validation.specs.Tables.{continued_in, continues_at, ids_fault, missing_fault, opened_table, records_fault, refusal_in};
-ghost use Rattle.pdb_validation.specs.Tables.{types_fault, type_in};
+ghost use Rattle.pdb_validation.specs.Tables.{continued_in, continues_at, id_in, ids_fault, is_for_kind, item_fault};
+ghost use Rattle.pdb_validation.specs.Tables.{missing_fault, opened_table, read_in, records_fault, refusal_in, refused};
+ghost use Rattle.pdb_validation.specs.Tables.{type_in, types_fault, unless_unread};
 ghost use Rattle.pdb_validation.specs.declared.finding.Part.TheVariants as parts;
 
 use crate::finding::{Finding, Part, at_record, in_stream};
 use pdb_base::{Error, FallibleIterator, IdIndex, Result, Stream, TypeIndex};
 use pdb_file::{ID_STREAM, TYPE_STREAM};
-use pdb_tpi::constants::LF_FIELDLIST;
+use pdb_tpi::constants::{LF_FIELDLIST, LF_POINTER};
 use pdb_tpi::{IdInformation, Item, OpenTable, TypeInformation};
 use pdb_values::TypeData;
 use std::alloc::Global;
@@ -49,15 +49,38 @@ fn check_value(types: &OpenTable<TypeIndex>, index: TypeIndex, value: &TypeData<
 }
 
 /// Reads the record of a type, and checks its continuation.
-#[tactic(auto, unfolding(crate::specs::Tables::type_in))]
+#[tactic(auto, unfolding(crate::specs::Tables::read_in))]
 fn read_type(alloc: Global, types: &OpenTable<TypeIndex>, item: &Item<'_, TypeIndex>) -> Result<()>
-    ensures { Answers (λ done. done) result (type_in types.now.table (index_of item.now).0 (bytes_of item.now)) }
+    ensures { Answers (λ done. done) result (read_in types.now.table (index_of item.now).0 (bytes_of item.now)) }
 {
     let value = item.parse(alloc)?;
     check_value(types, item.index(), &value)
 }
 
-/// Returns the error of the record of a type, if it is refused.
+/// Returns whether an error is for the kind of a record alone, which is then not read.
+fn is_for_kind(kind: u16, error: &Error) -> bool
+    ensures { result ≡ is_for_kind kind (refusal_of error.now) }
+{
+    match error {
+        Error::UnimplementedTypeKind(other) => {
+            *other == kind && kind != LF_POINTER && kind != LF_FIELDLIST
+        }
+        _ => false,
+    }
+}
+
+/// Returns an error of a record of a kind, unless that kind is not read.
+fn unless_unread(kind: u16, error: Error) -> Option<Error>
+    ensures { option_map refusal_of result ≡ refusal_in (unless_unread kind (refused (refusal_of error))) }
+{
+    if is_for_kind(kind, &error) {
+        return None;
+    }
+    Some(error)
+}
+
+/// Returns the error of the record of a type, if it has one.
+#[tactic(auto, unfolding(crate::specs::Tables::type_in))]
 fn type_error(
     alloc: Global,
     types: &OpenTable<TypeIndex>,
@@ -69,73 +92,78 @@ fn type_error(
     match read_type(alloc, types, item) {
         Ok(()) => Ok(None),
         Err(Error::OutOfMemory) => Err(Error::OutOfMemory),
-        Err(error) => Ok(Some(error)),
+        Err(error) => Ok(unless_unread(item.raw_kind(), error)),
     }
 }
 
-/// Returns the error of the record of an id, if it is refused.
+/// Returns the error of the record of an id, if it has one.
+#[tactic(auto, unfolding(crate::specs::Tables::id_in))]
 fn id_error(alloc: Global, item: &Item<'_, IdIndex>) -> Result<Option<Error>>
-    ensures { Answers (option_map refusal_of) result (Ok (refusal_in (id_of (bytes_of item.now)))) }
+    ensures { Answers (option_map refusal_of) result
+        (Ok (refusal_in (id_in (index_of item.now).0 (bytes_of item.now)))) }
 {
     match item.parse(alloc) {
         Ok(_) => Ok(None),
         Err(Error::OutOfMemory) => Err(Error::OutOfMemory),
-        Err(error) => Ok(Some(error)),
+        Err(error) => Ok(unless_unread(item.raw_kind(), error)),
     }
 }
 
-/// Returns the finding that a table ends before an index that its header counts, if it does.
-fn missing(part: Part, stream: u32, index: u64, maximum: u32) -> Option<Finding>
-    ensures { option_map finding_view result ≡ missing_fault (record_fault part stream) index maximum }
+/// Returns the finding that a table ends at a byte before an index that its header counts, if it
+/// does.
+fn missing(part: Part, stream: u32, index: u64, byte: u64, maximum: u32) -> Option<Finding>
+    ensures { option_map finding_view result ≡ missing_fault (λ i. record_fault part stream i byte) index maximum }
 {
     if index < maximum as u64 {
-        return Some(at_record(part, stream, index, Error::UnexpectedEof));
+        return Some(at_record(part, stream, index, byte, Error::UnexpectedEof));
     }
     None
 }
 
-/// Returns the finding of the first record of a table of types that is refused, if there is one.
+/// Returns the finding of the first record of a table of types that has an error, if there is one.
 fn check_type_records(alloc: Global, types: &OpenTable<TypeIndex>) -> Result<Option<Finding>>
     ensures { Answers (option_map finding_view) result
-        (Ok (records_fault (record_fault parts.Types 2) (type_in types.now.table) types.now.table)) }
+        (Ok (records_fault (item_fault parts.Types 2 types.now.table) (type_in types.now.table) types.now.table)) }
 {
     let mut items = types.items().iter();
     loop {
-        let (index, _) = items.place();
+        let (index, position) = items.place();
+        let byte = position as u64;
         match items.next() {
             Ok(Some(item)) => {
                 if let Some(error) = type_error(alloc, types, &item)? {
-                    return Ok(Some(at_record(Part::Types, TYPE_STREAM, index, error)));
+                    return Ok(Some(at_record(Part::Types, TYPE_STREAM, index, byte, error)));
                 }
             }
             Ok(None) => {
                 let maximum = types.items().header().maximum_index;
-                return Ok(missing(Part::Types, TYPE_STREAM, index, maximum));
+                return Ok(missing(Part::Types, TYPE_STREAM, index, byte, maximum));
             }
-            Err(error) => return Ok(Some(at_record(Part::Types, TYPE_STREAM, index, error))),
+            Err(error) => return Ok(Some(at_record(Part::Types, TYPE_STREAM, index, byte, error))),
         }
     }
 }
 
-/// Returns the finding of the first record of a table of ids that is refused, if there is one.
+/// Returns the finding of the first record of a table of ids that has an error, if there is one.
 fn check_id_records(alloc: Global, ids: &IdInformation) -> Result<Option<Finding>>
     ensures { Answers (option_map finding_view) result
-        (Ok (records_fault (record_fault parts.Ids 4) (λ index. id_of) ids.now)) }
+        (Ok (records_fault (item_fault parts.Ids 4 ids.now) id_in ids.now)) }
 {
     let mut items = ids.iter();
     loop {
-        let (index, _) = items.place();
+        let (index, position) = items.place();
+        let byte = position as u64;
         match items.next() {
             Ok(Some(item)) => {
                 if let Some(error) = id_error(alloc, &item)? {
-                    return Ok(Some(at_record(Part::Ids, ID_STREAM, index, error)));
+                    return Ok(Some(at_record(Part::Ids, ID_STREAM, index, byte, error)));
                 }
             }
             Ok(None) => {
                 let maximum = ids.header().maximum_index;
-                return Ok(missing(Part::Ids, ID_STREAM, index, maximum));
+                return Ok(missing(Part::Ids, ID_STREAM, index, byte, maximum));
             }
-            Err(error) => return Ok(Some(at_record(Part::Ids, ID_STREAM, index, error))),
+            Err(error) => return Ok(Some(at_record(Part::Ids, ID_STREAM, index, byte, error))),
         }
     }
 }

@@ -1,7 +1,6 @@
 //! A small file that is whole, and damages of each of its parts. The bytes are written by hand.
 
 use crate::{Part, validate};
-use pdb_file::PDB;
 use std::alloc::Global;
 use std::test::Fail;
 
@@ -47,10 +46,18 @@ const NEW_FRAMES: &[u8] =
 /// Stream 9: two frames in the older format.
 const OLD_FRAMES: &[u8] = b"\x01\0\0\0\0\0\0\0\0\0\0\0\0\0\0\0\x02\0\0\0";
 
-/// Offsets in the file, the byte that is written there, and the part that is then refused first.
-const DAMAGES: [(usize, u8, Part); 13] = [
+/// Offsets in the file, the byte that is written there, and the first part that then has an error.
+const DAMAGES: [(usize, u8, Part); 17] = [
+    // The size of a page.
+    (0x21, 0x03, Part::Header),
+    // The size of the directory.
+    (0x2d, 0x20, Part::Sizes),
     // The page of the directory.
     (0x600, 0x00, Part::Directory),
+    // The size of stream 9, which becomes larger than the file.
+    (0x429, 0x80, Part::Sizes),
+    // The size of stream 9, which then ends within a frame.
+    (0x428, 0xff, Part::OldFrames),
     // The page of stream 9.
     (0x44c, 0x00, Part::Stream),
     // The size of the names in stream 1.
@@ -59,14 +66,14 @@ const DAMAGES: [(usize, u8, Part); 13] = [
     (0x1000, 0x00, Part::StringTable),
     // The signature of stream 3.
     (0xc00, 0x00, Part::Roles),
-    // The kind of type 0x1000.
-    (0xa3a, 0xff, Part::Types),
+    // The length of type 0x1000.
+    (0xa38, 0x01, Part::Types),
     // The list that continues type 0x1002, which becomes that list itself.
     (0xa4e, 0x02, Part::Types),
     // The end of the indexes of types.
     (0xa0c, 0x04, Part::Types),
-    // The kind of id 0x1000.
-    (0xe3a, 0xff, Part::Ids),
+    // The length of id 0x1000.
+    (0xe38, 0x01, Part::Ids),
     // The size of the section headers.
     (0x41c, 0x27, Part::SectionHeaders),
     // The first source of the OMAP table.
@@ -74,6 +81,19 @@ const DAMAGES: [(usize, u8, Part); 13] = [
     // The starts of the first frames.
     (0x1600, 0x02, Part::NewFrames),
     (0x1800, 0x02, Part::OldFrames),
+];
+
+/// Offsets in the file, the byte that is written there, and the stream, the index and the place in
+/// that stream of the record that then has an error.
+const DAMAGED_RECORDS: [(usize, u8, u32, u64, u64); 4] = [
+    // The length of type 0x1000.
+    (0xa38, 0x01, 2, 0x1000, 0x38),
+    // The list that continues type 0x1002, which becomes that list itself.
+    (0xa4e, 0x02, 2, 0x1002, 0x46),
+    // The end of the indexes of types, behind which there is no record.
+    (0xa0c, 0x04, 2, 0x1003, 0x52),
+    // The length of id 0x1000.
+    (0xe38, 0x01, 4, 0x1000, 0x38),
 ];
 
 /// Adds a page that begins with these bytes.
@@ -110,8 +130,7 @@ fn small_file(alloc: Global) -> Result<Vec<u8>, Fail> {
 
 #[test]
 fn whole(rt: HostRuntime) -> Result<(), Fail> {
-    let mut pdb = PDB::open(rt.alloc(), small_file(rt.alloc())?)?;
-    let findings = validate(rt.alloc(), &mut pdb)?;
+    let findings = validate(rt.alloc(), &small_file(rt.alloc())?)?;
     assert!(rt; findings.is_empty());
     Ok(())
 }
@@ -123,10 +142,29 @@ fn damaged(rt: HostRuntime) -> Result<(), Fail> {
         if let Some(place) = file.get_mut(*offset) {
             *place = *byte;
         }
-        let mut pdb = PDB::open(rt.alloc(), file)?;
-        let findings = validate(rt.alloc(), &mut pdb)?;
+        let findings = validate(rt.alloc(), &file)?;
         match findings.first() {
             Some(finding) => assert_eq!(rt; finding.part, *part, "{offset:#x}"),
+            None => assert!(rt; false, "{offset:#x}"),
+        }
+    }
+    Ok(())
+}
+
+#[test]
+fn damaged_records(rt: HostRuntime) -> Result<(), Fail> {
+    for (offset, value, stream, index, byte) in DAMAGED_RECORDS.iter() {
+        let mut file = small_file(rt.alloc())?;
+        if let Some(place) = file.get_mut(*offset) {
+            *place = *value;
+        }
+        let findings = validate(rt.alloc(), &file)?;
+        match findings.first() {
+            Some(finding) => {
+                assert_eq!(rt; finding.stream, Some(*stream), "{offset:#x}");
+                assert_eq!(rt; finding.index, Some(*index), "{offset:#x}");
+                assert_eq!(rt; finding.byte, Some(*byte), "{offset:#x}");
+            }
             None => assert!(rt; false, "{offset:#x}"),
         }
     }

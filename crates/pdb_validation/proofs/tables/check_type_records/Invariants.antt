@@ -1,12 +1,12 @@
 use Rattle.pdb_tpi.specs.Steps.{items_left}
-use Rattle.pdb_validation.specs.Finding.{record_fault}
-use Rattle.pdb_validation.specs.Tables.{type_in}
+use Rattle.pdb_validation.specs.Tables.{item_fault, type_in}
 use Rattle.pdb_validation.specs.declared.finding.Part.TheVariants as parts
 use Rattle.pdb_validation.proofs.WalkLemmas.{IsChecking}
 use Rattle.pdb_validation.proofs.tables.check_type_records.Given as goal
 
 abbrev pub invariant-loop-item : goal.invariant-loop-item
-invariant-loop-item l = IsChecking (record_fault parts.Types 2) (type_in l.types.table) l.types.table l.items
+invariant-loop-item l = IsChecking (item_fault parts.Types 2 l.types.table)
+    (type_in l.types.table) l.types.table l.items
 
 abbrev pub decreases-loop-item : goal.decreases-loop-item
 decreases-loop-item l = items_left l.items
