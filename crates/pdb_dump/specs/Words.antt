@@ -35,6 +35,8 @@ verb_of word =
     else if same word (codes "ask") then Some verbs.Ask
     else if same word (codes "id") then Some verbs.Id
     else if same word (codes "extract") then Some verbs.Extract
+    else if same word (codes "validate") then Some verbs.Validate
+    else if same word (codes "layout") then Some verbs.Layout
     else None
 
 -- the command that the first word names
@@ -91,6 +93,8 @@ with_option verbs.Extract options option value = part_option options option valu
 with_option verbs.Summary options option value = None
 with_option verbs.Ask options option value = None
 with_option verbs.Id options option value = None
+with_option verbs.Validate options option value = None
+with_option verbs.Layout options option value = None
 
 -- the options with the one that its name and the number in the word after it give
 unfoldable pub option_given : Verb → Options → List ℕ → List ℕ → Option Options

@@ -1,5 +1,6 @@
-//! What the program can be asked.
+//! The commands of the program and their arguments.
 
+use pdb_layouts::Options;
 use pdb_mapping::MapStreams;
 use pdb_summary::KeyStyle;
 
@@ -28,9 +29,13 @@ pub enum Verb {
     Id,
     /// `extract`: the bytes of a stream.
     Extract,
+    /// `validate`: whether files are whole.
+    Validate,
+    /// `layout`: where the members of classes are.
+    Layout,
 }
 
-/// What the program is asked to list of a file. A stream that isn't given is found by its role.
+/// What the program lists of a file. A stream that isn't given is found by its role.
 #[derive(Clone, Copy, Debug, PartialEq, Eq)]
 pub enum Command {
     /// What the file is made of.
@@ -82,7 +87,7 @@ pub enum Command {
     },
 }
 
-/// What the program is asked to do with a file.
+/// What the program does with a file.
 #[derive(Clone, Copy, Debug, PartialEq, Eq)]
 pub enum Task {
     /// To list what a command says.
@@ -100,7 +105,7 @@ pub struct Call<'w> {
     pub task: Task,
 }
 
-/// What `extract` is asked: a part of the bytes of a stream.
+/// The arguments of `extract`, which writes a part of the bytes of a stream.
 #[derive(Clone, Copy, Debug, PartialEq, Eq)]
 pub struct Extract<'w> {
     /// The path of the file, or `-` for standard input.
@@ -113,7 +118,7 @@ pub struct Extract<'w> {
     pub limit: Option<u32>,
 }
 
-/// What `id` is asked: the identity of a file.
+/// The arguments of `id`, which prints the identity of a file.
 #[derive(Clone, Copy, Debug, PartialEq, Eq)]
 pub struct Identify<'w> {
     /// The path of the file, or `-` for standard input.
@@ -124,6 +129,26 @@ pub struct Identify<'w> {
     pub name: &'w str,
     /// The key that the file should have.
     pub expected: Option<&'w str>,
+}
+
+/// The arguments of `validate`, which checks whether files are whole.
+#[derive(Debug, Drop)]
+pub struct Validate<'w> {
+    /// Whether only the status is wanted.
+    pub is_quiet: bool,
+    /// The paths of the files, or `-` for standard input.
+    pub paths: Vec<&'w str>,
+}
+
+/// The arguments of `layout`, which shows the layouts of classes of a file.
+#[derive(Clone, Copy, Debug, PartialEq, Eq)]
+pub struct Layouts<'w> {
+    /// The path of the file, or `-` for standard input.
+    pub path: &'w str,
+    /// The names of classes and the paths of members.
+    pub names: &'w [&'w str],
+    /// Which layouts are shown, and how.
+    pub options: Options,
 }
 
 /// Why words ask nothing of a file.

@@ -15,8 +15,8 @@ use pdb_summary::{extract, stream_meant};
 use std::alloc::Global;
 use std::io::{Read, Write};
 
-/// Returns the number of the stream that a word means: the number that it spells, or else that of its
-/// role or name.
+/// Returns the number of the stream that a word means: the number that it spells, or else that of
+/// its role or name.
 #[tactic(auto, unfolding(crate::specs::Extracted::number_meant))]
 fn number_meant<S: Source>(alloc: Global, file: &mut PDB<S>, word: &str) -> Result<u32>
     ensures { ReadsFile S.state file.old file.new (λ number. number) result
@@ -60,9 +60,9 @@ fn extract_from<W: Write>(
     }
 }
 
-/// Reads a file from the input and writes a part of the bytes of a stream to the output. Returns the
-/// status with which the program ends. A fault is written to the error channel, unless it is that the
-/// output was closed.
+/// Reads a file from the input and writes a part of the bytes of a stream to the output. Returns
+/// the status with which the program ends. A fault is written to the error channel, unless it is
+/// that the output was closed.
 pub fn serve_extract<I: Read, O: Write, E: Write>(
     alloc: Global,
     asked: &Extract<'_>,

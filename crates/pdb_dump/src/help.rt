@@ -18,8 +18,10 @@ FILE is a path, or `-` for standard input.
   frames [--old S] [--new S]      each frame
   map .. FILE RVA                 what the address map makes of an address, both ways, with its sections
   ask                             the answers to questions on standard input, a line each
-  id [--format F] [--name NAME]   the key under which symbol servers keep the file
+  id [--format F] .. FILE..       the key under which symbol servers keep each file
   extract .. FILE STREAM          the bytes of a stream, which is a number, a role or a name
+  validate [--quiet] FILE..       whether each file is whole, and what is wrong in it
+  layout .. FILE NAME..           where the members of classes are, and the holes between them
 
 S is the number of a stream, I an index and RVA an address, in decimal, or in hexadecimal after 0x. A stream
 that isn't given is found by its role. With --index only that record is shown, in full. With --json each line
@@ -39,9 +41,13 @@ pub fn usage_of(verb: Verb) -> &'static str {
         Verb::Map => { "pdbdump map [--sections S] [--transformed S] [--to S] [--from S] FILE RVA" }
         Verb::Ask => "pdbdump ask FILE < QUESTIONS",
         Verb::Id => {
-            "pdbdump id [--format key|ssqp|breakpad|guid] [--name NAME] [--expect KEY] FILE"
+            "pdbdump id [--format key|ssqp|breakpad|guid] [--name NAME] [--expect KEY] FILE.."
         }
         Verb::Extract => "pdbdump extract [--skip N] [--take N] FILE STREAM > OUT",
+        Verb::Validate => "pdbdump validate [--quiet] FILE..",
+        Verb::Layout => {
+            "pdbdump layout [--style c|dt] [--sort size|holes|name] [--expand N] [--holes] FILE NAME.."
+        }
     }
 }
 
@@ -90,7 +96,7 @@ pdbq prints, or why there is none. Lines that are empty are passed over. The sta
 were answered, and else 1. All are asked at once, so that a table is read and walked along once."
         }
         Verb::Id => {
-            "The path of FILE in a symbol store, NAME/KEY/NAME. The key is the GUID of the file and its age: that of the
+            "The path of each FILE in a symbol store, NAME/KEY/NAME. The key is the GUID of the file and its age: that of the
 debug information, or that of stream 1 if the file has none. NAME is the last part of FILE if it isn't given.
 --format key   that path (as without the option)
 --format ssqp  that path in lower case, as the conventions for SSQP have it
@@ -103,6 +109,26 @@ another key, in either case of letters. A file of another format is refused with
             "The bytes of a stream and nothing else: without the first N bytes with --skip, and N bytes at most with --take.
 STREAM is the number of a stream, a role as `summary` shows it (types, ids, omap_from_src), or the name of a
 stream (/names, srcsrv). There is no form in JSON."
+        }
+        Verb::Validate => {
+            "For each file a line that says whether it is whole, behind a line for each part that is refused, with its
+first fault: the code of the part, the error, the number of the stream, and the index and the byte of the record.
+A file is whole if no part of it is refused that this program reads: the header, the directory, the sizes and the bytes
+of all streams, the names, the roles, each record of both tables of a kind that is read, the section headers,
+the OMAP tables and the frames. With --json each line is an object. With --quiet nothing is written. The status is 0
+if all files are whole, and else 1."
+        }
+        Verb::Layout => {
+            "The layout of each class or union that NAME means: its members with their places and sizes, and the bytes and
+bits that no member takes. NAME is the name of a class, a name with * and ?, the index of a type as 0x1026, or a
+member of a class as Derived.inner.tag, of which a line tells its offset, its size and its type.
+--style c      the declaration of the class in C++, with places in comments (as without the option)
+--style dt     in the style of the command dt of WinDbg
+--sort ORDER   the largest first (size), those with the most bytes in holes first (holes), or by name
+--expand N     the members of classes within the class too, N deep
+--holes        only classes that have a hole
+--all          all classes of the file, and no NAME
+With --json an object for each class, with its rows."
         }
     }
 }

@@ -6,10 +6,12 @@ ghost use Rattle.pdb_dump.specs.IdWords.{id_view, id_words, identify_of, identif
 
 use crate::command::Identify;
 use crate::words::is_option;
+use pdb_container::Result;
 use pdb_summary::KeyStyle;
+use std::alloc::Global;
 use std::path::Path;
 
-/// What stands behind the name of the command.
+/// The arguments of the command, which follow its name.
 #[derive(Clone, Copy)]
 struct IdArguments<'w> {
     /// `--format FORMAT`.
@@ -84,8 +86,8 @@ fn with_path<'w>(arguments: IdArguments<'w>, word: &'w str) -> Option<IdArgument
     }
 }
 
-/// Returns the arguments with all these words, in any order: options, each with a word behind it, and
-/// the path. Since none may be given twice, there is a call for each of seven words at most.
+/// Returns the arguments with all these words, in any order: options, each with a word behind it,
+/// and the path. Since none may be given twice, there is a call for each of seven words at most.
 #[tactic(auto, unfolding(crate::specs::IdWords::id_words))]
 fn with_words<'w>(arguments: IdArguments<'w>, words: &[&'w str]) -> Option<IdArguments<'w>>
     ensures { option_map id_view result ≡ id_words (id_view arguments.entry) (map (λ word. word.now) words.now) }
@@ -102,6 +104,31 @@ fn with_words<'w>(arguments: IdArguments<'w>, words: &[&'w str]) -> Option<IdArg
     with_words(arguments, words)
 }
 
+/// The words behind the name of the command: its options with the word behind each, and the paths.
+#[derive(Debug, Drop)]
+pub(crate) struct WordsApart<'w> {
+    /// The options, each with the word behind it.
+    pub options: Vec<&'w str>,
+    /// The paths.
+    pub paths: Vec<&'w str>,
+}
+
+/// Returns words apart: the options, each with the word behind it, and the paths.
+pub(crate) fn words_apart<'w>(alloc: Global, words: &[&'w str]) -> Result<WordsApart<'w>> {
+    let mut options = Vec::new(alloc);
+    let mut paths = Vec::new(alloc);
+    let mut is_value = false;
+    for word in words {
+        if is_value || is_option(word) {
+            options.push(*word)?;
+            is_value = !is_value;
+        } else {
+            paths.push(*word)?;
+        }
+    }
+    Ok(WordsApart { options, paths })
+}
+
 /// Returns the name of a file by its path, which is the last part of the path.
 fn own_name(path: &str) -> &str
     ensures { result.now ≡ own_name path.now }
@@ -112,7 +139,7 @@ fn own_name(path: &str) -> &str
     }
 }
 
-/// Returns what `id` is asked with the words behind its name, if it takes them.
+/// Returns the arguments of `id` from the words behind its name, if it takes them.
 #[tactic(auto, unfolding(crate::specs::IdWords::identify_of))]
 pub fn identify_of<'w>(words: &[&'w str]) -> Option<Identify<'w>>
     ensures { option_map identify_view result ≡ identify_of (map (λ word. word.now) words.now) }

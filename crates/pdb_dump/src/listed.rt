@@ -94,9 +94,9 @@ fn list_opened<W: Write>(
 /// Lists what a command asks of a file, a line for each record.
 ///
 /// # Errors
-/// Fails with what `PDB::open` refuses, and then with what the command refuses, after the lines up
-/// to the first fault; with `IoError` if the writer fails; and with `OutOfMemory` if memory is
-/// refused.
+/// Fails with the errors of `PDB::open`, and then with those of the command, after the lines up to
+/// the first fault; with `IoError` if the writer fails; and with `OutOfMemory` if an allocation
+/// fails.
 pub fn list<W: Write>(
     alloc: Global,
     file: Vec<u8>,

@@ -1,12 +1,16 @@
 //! The program on the channels of its process.
 
 use crate::asking::serve_questions;
-use crate::command::{Call, Command, Extract, Identify, Misuse, Task, Verb};
+use crate::command::{Call, Command, Extract, Identify, Layouts, Misuse, Task, Validate, Verb};
 use crate::extracted::serve_extract;
 use crate::help::{HELP, meaning_of, usage_of};
-use crate::id_words::identify_of;
+use crate::id_words::{WordsApart, identify_of, words_apart};
 use crate::identified::serve_id;
+use crate::laid_out::serve_layout;
+use crate::layout_words::layouts_of;
 use crate::served::serve;
+use crate::validate_words::validate_of;
+use crate::validated::serve_validate;
 use crate::words::{any_is, call_of, extract_of, first_verb, plain_words};
 use pdb_cli::{Errors, tell, texts_of, words_of};
 use pdb_container::{Error, Result};
@@ -35,8 +39,8 @@ fn print_help<P: Print>(process: &P, words: &[&str]) -> Result<u8> {
     Ok(0)
 }
 
-/// Writes to standard error why words ask nothing of a file, and returns the status of misuse, which
-/// is the same if standard error fails.
+/// Writes to standard error why words are no command, and returns the status of misuse, which is
+/// the same if standard error fails.
 fn tell_misuse<P: Eprint + AllocGlobal>(process: &P, misuse: Misuse, words: &[&str]) -> Result<u8> {
     let mut told = String::new(process.alloc());
     for word in words {
@@ -125,8 +129,8 @@ fn identify_file<P: Files + Input + Print + Eprint + AllocGlobal>(
     }
 }
 
-/// Writes the bytes of a stream of the file at a path, or of the one in standard input if the path is
-/// `-`.
+/// Writes the bytes of a stream of the file at a path, or of the one in standard input if the path
+/// is `-`.
 fn extract_file<P: Files + Input + Print + Eprint + AllocGlobal>(
     process: &P,
     asked: &Extract<'_>,
@@ -144,17 +148,100 @@ fn extract_file<P: Files + Input + Print + Eprint + AllocGlobal>(
     }
 }
 
-/// Does what the words after `id` ask.
+/// Writes what is found wrong in the file at a path, or in the one in standard input if the path is
+/// `-`, and returns the status for that file.
+fn validate_file<P: Files + Input + Print + Eprint + AllocGlobal>(
+    process: &P,
+    is_quiet: bool,
+    path: &str,
+    form: Form,
+) -> u8 {
+    let alloc = process.alloc();
+    let mut out = Output::new(io::writer(process));
+    let mut err = Output::new(Errors { process });
+    if path == "-" {
+        let mut input = process.reader();
+        return serve_validate(alloc, is_quiet, form, path, &mut input, &mut out, &mut err);
+    }
+    match fs::open(process, path) {
+        Ok(mut input) => serve_validate(
+            alloc, is_quiet, form, path, &mut input, &mut out, &mut err,
+        ),
+        Err(fault) => tell(alloc, &Error::from(fault), &mut err),
+    }
+}
+
+/// Does what the words after `validate` ask: looks at each file, and returns the highest status.
+fn call_validate<P: Files + Input + Print + Eprint + AllocGlobal>(
+    process: &P,
+    plain: &[&str],
+    words: &[&str],
+    form: Form,
+) -> Result<u8> {
+    let Some(Validate { is_quiet, paths }) = validate_of(process.alloc(), plain)? else {
+        return tell_misuse(process, Misuse::Arguments(Verb::Validate), words);
+    };
+    let mut status = 0;
+    for path in paths.iter() {
+        status = status.max(validate_file(process, is_quiet, path, form));
+    }
+    Ok(status)
+}
+
+/// Shows layouts of the file at a path, or of the one in standard input if the path is `-`.
+fn show_file<P: Files + Input + Print + Eprint + AllocGlobal>(
+    process: &P,
+    asked: &Layouts<'_>,
+    form: Form,
+) -> Result<u8> {
+    let alloc = process.alloc();
+    let buffer = BufWriter::with_capacity(alloc, BUFFER_SIZE, io::writer(process))?;
+    let mut out = Output::new(buffer);
+    let mut err = Output::new(Errors { process });
+    if asked.path == "-" {
+        let mut input = process.reader();
+        return Ok(serve_layout(alloc, asked, form, &mut input, &mut out, &mut err));
+    }
+    match fs::open(process, asked.path) {
+        Ok(mut input) => Ok(serve_layout(alloc, asked, form, &mut input, &mut out, &mut err)),
+        Err(fault) => Ok(tell(alloc, &Error::from(fault), &mut err)),
+    }
+}
+
+/// Does what the words after `layout` ask.
+fn call_layout<P: Files + Input + Print + Eprint + AllocGlobal>(
+    process: &P,
+    plain: &[&str],
+    words: &[&str],
+    form: Form,
+) -> Result<u8> {
+    match layouts_of(plain) {
+        Some(asked) => show_file(process, &asked, form),
+        None => tell_misuse(process, Misuse::Arguments(Verb::Layout), words),
+    }
+}
+
+/// Does what the words after `id` ask, of each file in turn, and returns the highest status.
 fn call_id<P: Files + Input + Print + Eprint + AllocGlobal>(
     process: &P,
     plain: &[&str],
     words: &[&str],
     form: Form,
 ) -> Result<u8> {
-    match identify_of(plain) {
-        Some(asked) => identify_file(process, &asked, form),
-        None => tell_misuse(process, Misuse::Arguments(Verb::Id), words),
+    let WordsApart { mut options, paths } = words_apart(process.alloc(), plain)?;
+    if paths.is_empty() {
+        return tell_misuse(process, Misuse::Arguments(Verb::Id), words);
     }
+    let mut status = 0;
+    for path in paths.iter() {
+        options.push(*path)?;
+        let Some(asked) = identify_of(&options) else {
+            return tell_misuse(process, Misuse::Arguments(Verb::Id), words);
+        };
+        status = status.max(identify_file(process, &asked, form)?);
+        options.pop();
+    }
+    Ok(status)
 }
 
 /// Does what the words after `extract` ask, which has no form in JSON.
@@ -207,6 +294,8 @@ fn call<P: Files + Input + Print + Eprint + AllocGlobal>(
     match first_verb(&plain) {
         Some(Verb::Id) => call_id(process, rest, words, form),
         Some(Verb::Extract) => call_extract(process, rest, words, form),
+        Some(Verb::Validate) => call_validate(process, rest, words, form),
+        Some(Verb::Layout) => call_layout(process, rest, words, form),
         _ => call_listing(process, &plain, words, form),
     }
 }
@@ -228,8 +317,8 @@ fn attempt<P: Env + Files + Input + Print + Eprint + AllocGlobal>(process: &P) -
 }
 
 /// Runs the program with the words, the files and the channels of its process, and returns the
-/// status that it ends with: 0 if all was listed or answered, 1 if something was refused, 2 if the
-/// words ask nothing.
+/// status that it ends with: 0 if all was listed or answered, 1 if something failed, 2 if the words
+/// are no command.
 pub fn program<P: Env + Files + Input + Print + Eprint + AllocGlobal>(process: &P) -> u8 {
     match attempt(process) {
         Ok(status) => status,

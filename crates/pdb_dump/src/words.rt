@@ -26,7 +26,7 @@ pub fn any_is(words: &[&str], wanted: &str) -> bool
     false
 }
 
-/// Returns the words without `--json`, which may stand anywhere.
+/// Returns the words without `--json`, which may be anywhere among them.
 pub fn plain_words<'w>(alloc: Global, words: &[&'w str]) -> pdb_container::Result<Vec<&'w str>>
     ensures plain { IfOk result (λ plain. map (λ word. word.now) plain.items ≡
         plain_words (map (λ word. word.now) words.now)) }
@@ -57,11 +57,13 @@ pub fn verb_named(word: &str) -> Option<Verb>
         "ask" => Some(Verb::Ask),
         "id" => Some(Verb::Id),
         "extract" => Some(Verb::Extract),
+        "validate" => Some(Verb::Validate),
+        "layout" => Some(Verb::Layout),
         _ => None,
     }
 }
 
-/// Returns the command that the first word names, for which help is asked.
+/// Returns the command that the first word names, if it names one.
 pub fn first_verb(words: &[&str]) -> Option<Verb>
     ensures { result ≡ first_verb (map (λ word. word.now) words.now) }
 {
@@ -90,18 +92,18 @@ struct Options {
     map: MapStreams,
 }
 
-/// What stands behind the name of a command.
+/// The arguments of a command, which follow its name.
 #[derive(Clone, Copy)]
 struct Arguments<'w> {
     /// The options.
     options: Options,
     /// The path of the file.
     path: Option<&'w str>,
-    /// What is asked of the file.
+    /// The address of `map`, or the stream of `extract`.
     operand: Option<&'w str>,
 }
 
-/// Returns the arguments of a command behind which nothing stands.
+/// Returns the arguments of a command with no word behind its name.
 fn none_given<'w>() -> Arguments<'w>
     ensures { arguments_view result ≡ none_given }
 {
@@ -234,7 +236,7 @@ fn with_option(verb: Verb, options: Options, option: &str, value: u32) -> Option
             Some(Options { map, ..options })
         }
         Verb::Extract => part_option(options, option, value),
-        Verb::Summary | Verb::Ask | Verb::Id => None,
+        Verb::Summary | Verb::Ask | Verb::Id | Verb::Layout | Verb::Validate => None,
     }
 }
 
@@ -247,7 +249,7 @@ fn option_given(verb: Verb, options: Options, option: &str, value: &str) -> Opti
     with_option(verb, options, option, value)
 }
 
-/// Returns the arguments with one more word that is no option: first the path, then what is asked.
+/// Returns the arguments with one more word that is no option: first the path, then the operand.
 fn with_operand<'w>(arguments: Arguments<'w>, word: &'w str) -> Option<Arguments<'w>>
     ensures { option_map arguments_view result ≡ with_operand (arguments_view arguments.entry) word.now }
 {
@@ -299,7 +301,7 @@ fn arguments_with<'w>(
     arguments_with(verb, arguments, words)
 }
 
-/// Returns what a command lists with these options and what is asked of the file, if it takes them.
+/// Returns what a command lists with these options and this operand, if it takes them.
 fn command_with(verb: Verb, options: Options, operand: Option<&str>) -> Option<Command>
     ensures { result ≡ command_with verb options (option_map (λ word. word.now) operand.entry) }
 {
@@ -316,7 +318,8 @@ fn command_with(verb: Verb, options: Options, operand: Option<&str>) -> Option<C
             let address = number(address)?;
             Some(Command::Map { address, streams })
         }
-        (Verb::Map | Verb::Ask | Verb::Id | Verb::Extract, _) | (_, Some(_)) => None,
+        (Verb::Map | Verb::Ask | Verb::Id | Verb::Extract | Verb::Layout | Verb::Validate, _)
+        | (_, Some(_)) => None,
         (Verb::Summary, None) => Some(Command::Summary),
         (Verb::Types, None) => Some(Command::Types { stream, index }),
         (Verb::Ids, None) => Some(Command::Ids { stream, index }),
@@ -330,7 +333,7 @@ fn command_with(verb: Verb, options: Options, operand: Option<&str>) -> Option<C
     }
 }
 
-/// Returns what a command asks with these options and what is asked of the file, if it takes them.
+/// Returns what a command does with these options and this operand, if it takes them.
 fn task_with(verb: Verb, options: Options, operand: Option<&str>) -> Option<Task>
     ensures { result ≡ task_with verb options (option_map (λ word. word.now) operand.entry) }
 {
@@ -354,7 +357,7 @@ fn call_with<'w>(verb: Verb, words: &[&'w str]) -> Option<Call<'w>>
     Some(Call { path, task })
 }
 
-/// Returns what `extract` is asked with the words behind its name, if it takes them.
+/// Returns the arguments of `extract` from the words behind its name, if it takes them.
 #[tactic(auto, unfolding(crate::specs::Words::extract_of))]
 pub fn extract_of<'w>(words: &[&'w str]) -> Option<Extract<'w>>
     ensures { option_map extract_view result ≡ extract_of (map (λ word. word.now) words.now) }

@@ -1,5 +1,5 @@
-//! Shows what a program database holds: its streams, names, sections, moved addresses and frames, a line
-//! each, as text or as JSON. `pdbdump --help` says how it is called.
+//! Shows what a program database holds: its streams, types, ids, names, sections, moved addresses
+//! and frames, a line each, as text or as JSON. `pdbdump --help` says how it is called.
 #![tactic(auto)]
 
 use std::process::ExitCode;

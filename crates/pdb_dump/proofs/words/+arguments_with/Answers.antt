@@ -1,4 +1,4 @@
-use Rattle.std.proofs.Common.{◌≡◌, ℕ, Bool, true, false, List, [], ◌∷◌, Bor, map, Some, refl, sym, ap, ◌∙◌}
+use Rattle.std.proofs.Common.{◌≡◌, ℕ, true, false, List, [], ◌∷◌, Bor, map, Some, refl, sym, ap, ◌∙◌}
 use Rattle.pdb_dump.specs.declared.words.Options.{Options}
 use Rattle.pdb_dump.specs.declared.command.Verb.{Verb}
 use Rattle.pdb_dump.specs.Words.{Given, arguments_view, arguments_with, is_option, option_given, with_operand}

@@ -1,0 +1,70 @@
+//! The words that `validate` takes.
+
+ghost use Rattle.std.specs.Prelude.{◌≡◌, map, IfOk};
+ghost use Rattle.std.specs.Option.{option_map};
+ghost use Rattle.std.specs.List.{list_any};
+ghost use Rattle.pdb_base.specs.Memory.{FailsOnlyForMemory};
+ghost use Rattle.pdb_dump.specs.ValidateWords.{is_unknown, paths_in, validate_of, validate_view};
+
+use crate::command::Validate;
+use crate::words::{any_is, is_option};
+use std::alloc::Global;
+
+/// Returns whether a word is an option that `validate` doesn't take.
+fn is_unknown(word: &str) -> bool
+    ensures { result ≡ is_unknown word.now }
+{
+    is_option(word) && word != "--quiet"
+}
+
+/// Returns whether one of the words is an option that `validate` doesn't take.
+fn any_unknown(words: &[&str]) -> bool
+    ensures { result ≡ list_any (λ word. is_unknown word.now) words.now }
+{
+    for word in words {
+        if is_unknown(word) {
+            return true;
+        }
+    }
+    false
+}
+
+/// Returns the words that are no options, which are paths.
+fn paths_in<'w>(alloc: Global, words: &[&'w str]) -> pdb_container::Result<Vec<&'w str>>
+    ensures paths { IfOk result (λ paths. map (λ path. path.now) paths.items ≡
+        paths_in (map (λ word. word.now) words.now)) }
+    ensures memory { FailsOnlyForMemory result }
+{
+    let mut paths = Vec::new(alloc);
+    for word in words {
+        if !is_option(word) {
+            paths.push(*word)?;
+        }
+    }
+    Ok(paths)
+}
+
+/// Returns the arguments of `validate` from the words behind its name, or None if it doesn't take
+/// them: `--quiet` and paths in any order, at least one path.
+///
+/// # Errors
+/// Fails with `OutOfMemory` if an allocation fails.
+#[tactic(auto, unfolding(crate::specs::ValidateWords::validate_of), using(crate::proofs::ValidateLemmas::any_said))]
+pub fn validate_of<'w>(
+    alloc: Global,
+    words: &[&'w str],
+) -> pdb_container::Result<Option<Validate<'w>>>
+    ensures ok { IfOk result (λ asked. option_map validate_view asked ≡
+        validate_of (map (λ word. word.now) words.now)) }
+    ensures memory { FailsOnlyForMemory result }
+{
+    if any_unknown(words) {
+        return Ok(None);
+    }
+    let paths = paths_in(alloc, words)?;
+    if paths.is_empty() {
+        return Ok(None);
+    }
+    let is_quiet = any_is(words, "--quiet");
+    Ok(Some(Validate { is_quiet, paths }))
+}

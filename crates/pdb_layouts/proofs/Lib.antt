@@ -1,0 +1,3 @@
+pub mod ExpandedLemmas
+pub mod MatchLemmas
+pub mod ShownLemmas

@@ -1,0 +1,40 @@
+-- Names with `*`, which stands for any bytes, and `?`, which stands for one byte.
+use Rattle.std.specs.Prelude.{◌≡◌, ◌⊎◌, ℕ, ◌==◌, ◌<◌, ◌≤◌, Bool, ◌||◌, if◌then◌else◌}
+use Rattle.std.specs.Prelude.{List, [], ◌∷◌, ◌++◌, drop, length, Option, Some, None}
+
+-- whether a byte makes a name a pattern: `*`, which is 42, or `?`, which is 63
+abbrev pub is_sign : ℕ → Bool
+is_sign byte = byte == 42 || byte == 63
+
+-- A sign of a pattern stands for bytes: `*` for any, `?` for one, and another sign for itself.
+abbrev pub StandsFor : ℕ → List ℕ → Type 0
+StandsFor sign bytes = (sign ≡ 42) ⊎ (((byte : ℕ) × (sign ≡ 63) × (bytes ≡ byte ∷ [])) ⊎ (bytes ≡ sign ∷ []))
+
+-- A text is what a sign and then others stand for.
+pub record Begins (sign : ℕ) (others : List ℕ → Type 0) (text : List ℕ) : Type 0 where
+  pub bytes : List ℕ
+  pub behind : List ℕ
+  pub is : text ≡ bytes ++ behind
+  pub stands : StandsFor sign bytes
+  pub means : others behind
+
+-- a name is one that a pattern means: what its signs stand for, one behind another
+unfoldable pub Means : List ℕ → List ℕ → Type 0
+Means [] name = name ≡ []
+Means (sign ∷ signs) name = Begins sign (Means signs) name
+
+-- what is behind the bytes that signs without `*` stand for, if a text begins with such bytes
+unfoldable pub behind : List ℕ → List ℕ → Option (List ℕ)
+behind [] text = Some text
+behind (sign ∷ signs) [] = None
+behind (sign ∷ signs) (byte ∷ bytes) = if sign == 63 || sign == byte then behind signs bytes else None
+
+-- at no place of a text such signs stand for what is there
+abbrev pub IsNowhere : List ℕ → List ℕ → Type 0
+IsNowhere signs text = (place : ℕ) → place ≤ length text → behind signs (drop place text) ≡ None
+
+-- the first place of a text where they do, and what is behind that
+pub record IsFirst (signs text rest : List ℕ) (place : ℕ) : Type 0 where
+  pub within : place ≤ length text
+  pub found : behind signs (drop place text) ≡ Some rest
+  pub before : (other : ℕ) → other < place → behind signs (drop other text) ≡ None

@@ -1,0 +1,137 @@
+//! The classes of a table.
+
+use crate::pattern::matches;
+use pdb_base::{Error, FallibleIterator, RawString, Result, TypeIndex};
+use pdb_tpi::{OpenTable, Type, TypeInformation};
+use pdb_types::{Definitions, Layout};
+use pdb_values::{ClassKind, TypeData};
+use std::alloc::Global;
+
+/// The kind of a record that lists fields, which defines nothing.
+const FIELD_LIST: u16 = 0x1203;
+
+/// How many types are read at most from one with modifiers to the one without.
+const MOST_TYPES: u32 = 16;
+
+/// What the record of a class or a union says of it.
+#[derive(Clone, Copy)]
+pub(crate) struct Class<'t> {
+    /// What it is called in C++: `struct`, `class`, `__interface` or `union`.
+    pub(crate) word: &'static str,
+
+    /// Its name.
+    pub(crate) name: RawString<'t>,
+
+    /// Whether it is only declared.
+    pub(crate) is_forward: bool,
+}
+
+/// Returns what C++ calls a kind of class.
+fn class_word(kind: ClassKind) -> &'static str {
+    match kind {
+        ClassKind::Class => "class",
+        ClassKind::Struct => "struct",
+        ClassKind::Interface => "__interface",
+    }
+}
+
+/// Returns what a record says of a class or a union, or None if it is of neither.
+pub(crate) fn class_of<'t>(value: &TypeData<'t>) -> Option<Class<'t>> {
+    match value {
+        TypeData::Class(class) => Some(Class {
+            word: class_word(class.kind),
+            name: class.name,
+            is_forward: class.properties.forward_reference(),
+        }),
+        TypeData::Union(union_type) => Some(Class {
+            word: "union",
+            name: union_type.name,
+            is_forward: union_type.properties.forward_reference(),
+        }),
+        _ => None,
+    }
+}
+
+/// Returns the class that an item defines, or None if it defines none. A record that can't be read
+/// defines none.
+fn defined<'t>(alloc: Global, item: &Type<'t>) -> Result<Option<Class<'t>>> {
+    if item.raw_kind() == FIELD_LIST {
+        return Ok(None);
+    }
+    match item.parse(alloc) {
+        Ok(value) => Ok(class_of(&value).filter(|class| !class.is_forward)),
+        Err(Error::OutOfMemory) => Err(Error::OutOfMemory),
+        Err(_) => Ok(None),
+    }
+}
+
+/// Returns whether a class is wanted: all are if there is no pattern.
+fn is_wanted(pattern: Option<&[u8]>, class: Class<'_>) -> bool {
+    match pattern {
+        Some(pattern) => matches(pattern, class.name.as_bytes()),
+        None => true,
+    }
+}
+
+/// Returns the indexes of the classes and unions that a table defines and whose names match a
+/// pattern, or of all of them, in the order of the table.
+///
+/// # Errors
+/// Fails with the fault at which the walk along the table stops if that is before its end, and with
+/// `OutOfMemory` if an allocation fails.
+pub(crate) fn classes_in(
+    alloc: Global,
+    table: &TypeInformation,
+    pattern: Option<&[u8]>,
+) -> Result<Vec<TypeIndex>> {
+    let mut items = table.iter();
+    let mut found = Vec::new(alloc);
+    while let Some(item) = items.next()? {
+        match defined(alloc, &item)? {
+            Some(class) if is_wanted(pattern, class) => found.push(item.index())?,
+            _ => {}
+        }
+    }
+    Ok(found)
+}
+
+/// Returns the type of an index.
+pub(crate) fn type_at<'t>(
+    alloc: Global,
+    types: &'t OpenTable<TypeIndex>,
+    index: TypeIndex,
+) -> Result<TypeData<'t>> {
+    types.item(index)?.parse(alloc)
+}
+
+/// Returns the type that a type with a modifier is without it, or None for another type.
+fn unmodified(
+    alloc: Global,
+    types: &OpenTable<TypeIndex>,
+    index: TypeIndex,
+) -> Result<Option<TypeIndex>> {
+    match type_at(alloc, types, index)? {
+        TypeData::Modifier(modifier) => Ok(Some(modifier.underlying_type)),
+        _ => Ok(None),
+    }
+}
+
+/// Returns the layout of a class or a union, also of one with modifiers. Compilers write one
+/// modifier for a type, and up to 15 are followed.
+///
+/// # Errors
+/// Fails as `Definitions::layout_of` does.
+pub(crate) fn class_layout<'t>(
+    alloc: Global,
+    definitions: &Definitions<'t>,
+    index: TypeIndex,
+) -> Result<Option<Layout<'t>>> {
+    let mut index = index;
+    for _ in 0..MOST_TYPES {
+        match unmodified(alloc, definitions.types(), index)? {
+            Some(other) => index = other,
+            None => return definitions.layout_of(alloc, index),
+        }
+    }
+    Ok(None)
+}

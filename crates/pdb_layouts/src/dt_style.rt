@@ -1,0 +1,94 @@
+//! Layouts in the style of WinDbg's `dt`.
+
+use crate::classes::{class_of, type_at};
+use crate::dt_type::dt_type;
+use crate::expanded::{ShownRow, expanded};
+use crate::layout_row::LayoutRow;
+use crate::text::{plural, push_indent, push_named, shown};
+use pdb_base::Result;
+use pdb_types::{Definitions, Extent, FieldKind, Layout, LayoutField};
+use std::alloc::Global;
+
+/// How wide the fields of a class are indented.
+const WIDTH: u32 = 3;
+
+/// Returns what a field is called: its name, or what it is.
+fn field_name(alloc: Global, field: &LayoutField<'_>) -> Result<Vec<u8>> {
+    match field.place.kind {
+        FieldKind::Base => Ok(Vec::from_slice(alloc, b"__BaseClass")?),
+        FieldKind::VirtualBasePointer(_) => Ok(Vec::from_slice(alloc, b"__VBptr")?),
+        FieldKind::VirtualFunctionPointer => Ok(Vec::from_slice(alloc, b"__VFN_table")?),
+        FieldKind::Member(name) => shown(alloc, name.as_bytes()),
+    }
+}
+
+/// Returns whether a field is a pointer to a table of virtual functions.
+fn is_table_pointer(field: &LayoutField<'_>) -> bool {
+    match field.place.kind {
+        FieldKind::VirtualFunctionPointer => true,
+        _ => false,
+    }
+}
+
+/// Returns the bits of a bit field.
+fn bits_type(alloc: Global, position: u8, length: u8) -> Result<Vec<u8>> {
+    let more = plural(length as u64);
+    let text = format!(in alloc; "Pos {position}, {length} Bit{more}")?;
+    Ok(text.into_bytes())
+}
+
+/// Returns the type of a field: `Pos 3, 5 Bits` for a bit field, and no more than that it is a
+/// pointer for one to a table of virtual functions.
+fn field_type<'t>(
+    alloc: Global,
+    definitions: &Definitions<'t>,
+    field: &LayoutField<'t>,
+) -> Result<Vec<u8>> {
+    match field.extent {
+        Extent::Bits(bits) => bits_type(alloc, bits.position, bits.length),
+        Extent::Bytes(size) if is_table_pointer(field) => {
+            let bits = size.saturating_mul(8);
+            Ok(format!(in alloc; "Ptr{bits}")?.into_bytes())
+        }
+        _ => dt_type(alloc, definitions, field.place.field_type),
+    }
+}
+
+/// Appends the line of a field; a gap has no line. The place of a field is that in its own class.
+fn push_row<'t>(
+    alloc: Global,
+    definitions: &Definitions<'t>,
+    shown_row: &ShownRow<'t>,
+    text: &mut Vec<u8>,
+) -> Result<()> {
+    let LayoutRow::Field(field) = &shown_row.row else {
+        return Ok(());
+    };
+    let mut place = Vec::new(alloc);
+    push_indent(shown_row.depth.saturating_add(1), WIDTH, &mut place)?;
+    let offset = field.place.offset;
+    place.extend_from_slice(format!(in alloc; "+0x{offset:03x}")?.as_bytes())?;
+    let name = field_name(alloc, field)?;
+    let type_text = field_type(alloc, definitions, field)?;
+    push_named(&place, &name, &type_text, text)
+}
+
+/// Returns a layout in the style of WinDbg's `dt`: the name of the class, and a line for each
+/// field.
+pub(crate) fn dt_text<'t>(
+    alloc: Global,
+    definitions: &Definitions<'t>,
+    layout: &Layout<'t>,
+    depth: u32,
+) -> Result<Vec<u8>> {
+    let mut text = Vec::new(alloc);
+    if let Some(class) = class_of(&type_at(alloc, definitions.types(), layout.index)?) {
+        text.extend_from_slice(&shown(alloc, class.name.as_bytes())?)?;
+        text.push(b'\n')?;
+    }
+    let rows = expanded(alloc, definitions, layout, depth)?;
+    for row in &rows {
+        push_row(alloc, definitions, row, &mut text)?;
+    }
+    Ok(text)
+}

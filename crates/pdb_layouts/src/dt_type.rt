@@ -1,0 +1,144 @@
+//! Types as WinDbg's `dt` writes them.
+
+use crate::classes::type_at;
+use crate::text::shown;
+use pdb_base::{Result, TypeIndex};
+use pdb_flags::PointerMode;
+use pdb_types::Definitions;
+use pdb_values::{ArrayType, Indirection, PointerType, PrimitiveKind, PrimitiveType, TypeData};
+use std::alloc::Global;
+
+/// How many types one text goes through at most.
+const MOST_TYPES: u32 = 64;
+
+/// Returns the name of a primitive type, or None for one that `dt` has no name for.
+fn kind_name(kind: PrimitiveKind) -> Option<&'static str> {
+    match kind {
+        PrimitiveKind::Void => Some("Void"),
+        PrimitiveKind::Char | PrimitiveKind::RChar | PrimitiveKind::I8 => Some("Char"),
+        PrimitiveKind::UChar | PrimitiveKind::U8 => Some("UChar"),
+        PrimitiveKind::WChar | PrimitiveKind::RChar16 => Some("Wchar"),
+        PrimitiveKind::Short | PrimitiveKind::I16 => Some("Int2B"),
+        PrimitiveKind::UShort | PrimitiveKind::U16 => Some("Uint2B"),
+        PrimitiveKind::Long | PrimitiveKind::I32 => Some("Int4B"),
+        PrimitiveKind::ULong | PrimitiveKind::U32 => Some("Uint4B"),
+        PrimitiveKind::Quad | PrimitiveKind::I64 => Some("Int8B"),
+        PrimitiveKind::UQuad | PrimitiveKind::U64 => Some("Uint8B"),
+        PrimitiveKind::F32 => Some("Float"),
+        PrimitiveKind::F64 => Some("Double"),
+        PrimitiveKind::Bool8 => Some("Bool"),
+        _ => None,
+    }
+}
+
+/// Returns the word for a pointer to a primitive type.
+fn indirection_word(indirection: Indirection) -> &'static str {
+    match indirection {
+        Indirection::Near64 => "Ptr64 ",
+        Indirection::Near128 => "Ptr128 ",
+        Indirection::Near16 | Indirection::Far16 | Indirection::Huge16 => "Ptr16 ",
+        Indirection::Near32 | Indirection::Far32 => "Ptr32 ",
+    }
+}
+
+/// Appends a primitive type, if `dt` has a name for it, and returns whether it has.
+fn push_primitive(primitive: PrimitiveType, text: &mut Vec<u8>) -> Result<bool> {
+    let Some(name) = kind_name(primitive.kind) else {
+        return Ok(false);
+    };
+    if let Some(indirection) = primitive.indirection {
+        text.extend_from_slice(indirection_word(indirection).as_bytes())?;
+    }
+    text.extend_from_slice(name.as_bytes())?;
+    Ok(true)
+}
+
+/// Returns whether a pointer is one to an object, and no reference or pointer to a member.
+fn is_plain(pointer: &PointerType) -> bool {
+    pointer.attributes.pointer_mode() == PointerMode::Pointer
+}
+
+/// Appends the dimensions of an array.
+fn push_array<'t>(
+    alloc: Global,
+    definitions: &Definitions<'t>,
+    array: &ArrayType,
+    text: &mut Vec<u8>,
+) -> Result<()> {
+    let mut part = definitions.size_of(alloc, array.element_type)?.unwrap_or(0);
+    let mut all = Vec::new(alloc);
+    for dimension in &array.dimensions {
+        let whole = *dimension as u64;
+        let count = if part == 0 { 0 } else { whole / part };
+        let mut brackets = format!(in alloc; "[{count}] ")?.into_bytes();
+        brackets.extend_from_slice(&all)?;
+        all = brackets;
+        part = whole;
+    }
+    text.extend_from_slice(&all)?;
+    Ok(())
+}
+
+/// Appends what a type says of the type within it, and returns that type; or returns None for a
+/// type that has none, or that is written as C++ spells it.
+fn push_outer<'t>(
+    alloc: Global,
+    definitions: &Definitions<'t>,
+    value: &TypeData<'t>,
+    text: &mut Vec<u8>,
+) -> Result<Option<TypeIndex>> {
+    match value {
+        TypeData::Modifier(modifier) => Ok(Some(modifier.underlying_type)),
+        TypeData::Pointer(pointer) if is_plain(pointer) => {
+            let bits = pointer.attributes.size() as u32 * 8;
+            text.extend_from_slice(format!(in alloc; "Ptr{bits} ")?.as_bytes())?;
+            Ok(Some(pointer.underlying_type))
+        }
+        TypeData::Array(array) => {
+            push_array(alloc, definitions, array, text)?;
+            Ok(Some(array.element_type))
+        }
+        _ => Ok(None),
+    }
+}
+
+/// Appends a type that no other type is within.
+fn push_last<'t>(
+    alloc: Global,
+    definitions: &Definitions<'t>,
+    index: TypeIndex,
+    value: &TypeData<'t>,
+    text: &mut Vec<u8>,
+) -> Result<()> {
+    if let TypeData::Primitive(primitive) = value {
+        if push_primitive(*primitive, text)? {
+            return Ok(());
+        }
+    }
+    let spelled = definitions.text_of(alloc, index, b"")?;
+    text.extend_from_slice(&shown(alloc, &spelled)?)?;
+    Ok(())
+}
+
+/// Returns a type as WinDbg's `dt` writes it, such as `Ptr64 Node` or `[4] Uint4B`; one that is no
+/// pointer, no array and no number as C++ spells it.
+pub(crate) fn dt_type<'t>(
+    alloc: Global,
+    definitions: &Definitions<'t>,
+    index: TypeIndex,
+) -> Result<Vec<u8>> {
+    let mut text = Vec::new(alloc);
+    let mut index = index;
+    for _ in 0..MOST_TYPES {
+        let value = type_at(alloc, definitions.types(), index)?;
+        match push_outer(alloc, definitions, &value, &mut text)? {
+            Some(next) => index = next,
+            None => {
+                push_last(alloc, definitions, index, &value, &mut text)?;
+                return Ok(text);
+            }
+        }
+    }
+    text.extend_from_slice(b"..")?;
+    Ok(text)
+}

@@ -1,0 +1,44 @@
+//! How layouts are shown.
+
+/// How a layout is written as text.
+#[derive(Clone, Copy, Debug, PartialEq, Eq)]
+pub enum Style {
+    /// As the declaration of a class in C++, with places behind it, as pahole does.
+    C,
+
+    /// As the command `dt` of WinDbg does.
+    Dt,
+}
+
+/// By what classes are sorted.
+#[derive(Clone, Copy, Debug, PartialEq, Eq)]
+pub enum Order {
+    /// The largest first.
+    Size,
+
+    /// Those with the most bytes in holes first.
+    Holes,
+
+    /// By their names.
+    Name,
+}
+
+/// Which layouts are shown, and how.
+#[derive(Clone, Copy, Debug, PartialEq, Eq)]
+pub struct Options {
+    /// How they are written as text.
+    pub style: Style,
+
+    /// By what they are sorted, unless they are shown in the order in which they are found.
+    pub order: Option<Order>,
+
+    /// Whether only classes with a hole are shown.
+    pub has_holes: bool,
+
+    /// How deep the fields of classes within a class are shown. They are at most 256 deep, and the
+    /// classes within one class have at most 65,536 fields and gaps together.
+    pub depth: u32,
+
+    /// Whether all classes of the file are shown.
+    pub all: bool,
+}
