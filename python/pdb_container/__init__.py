@@ -13,13 +13,16 @@ on the thread that opened it.
 
 from ._file import AddressMap, Frame, Frames, Information, Names, Omap, Pdb, Roles, Section, Stream, Streams, open
 from ._identity import Identity, format_of
+from ._layouts import Definitions, Layout, LayoutRow
 from ._library import LibraryError, PdbError
-from ._sys import Format, IdShape, KeyForm, Shape, Status
+from ._sys import Format, IdShape, KeyForm, LayoutKind, Part, Shape, Status
 from ._tables import Field, Id, Ids, Row, Type, Types
+from ._validation import Finding, validate
 
 __version__ = "0.1.0"
 __all__ = [
-    "AddressMap", "Field", "Format", "Frame", "Frames", "Id", "IdShape", "Identity", "Ids", "Information", "KeyForm",
-    "LibraryError", "Names", "Omap", "Pdb", "PdbError", "Roles", "Row", "Section", "Shape", "Status", "Stream", "Streams",
-    "Type", "Types", "format_of", "open",
+    "AddressMap", "Definitions", "Field", "Finding", "Format", "Frame", "Frames", "Id", "IdShape", "Identity", "Ids",
+    "Information", "KeyForm", "Layout", "LayoutKind", "LayoutRow", "LibraryError", "Names", "Omap", "Part", "Pdb",
+    "PdbError", "Roles", "Row", "Section", "Shape", "Status", "Stream", "Streams", "Type", "Types", "format_of", "open",
+    "validate",
 ]  # fmt: skip

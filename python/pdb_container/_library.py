@@ -145,7 +145,8 @@ def items(kind, call, *words, stream: Optional[int] = None, offset: Optional[int
 
 
 def named_items(kind, call, *words, stream: Optional[int] = None):
-    """The same of a call that also copies the names of the items, one after another: the items, and the names."""
+    """The same of a call that also copies the names of the items, one after another: the items, their number, and the
+    names."""
     count, size, fault = c_size_t(), c_size_t(), Fault()
     room, names = (kind * 1)(), bytearray(1)
     lengths = 0, 0
@@ -159,7 +160,7 @@ def named_items(kind, call, *words, stream: Optional[int] = None):
     if status == Status.OK:
         return room, count.value, names
     if status == Status.NOWHERE:
-        return room, 0, b""
+        return None
     raise PdbError(fault, stream)
 
 

@@ -57,6 +57,24 @@ class Format(IntEnum):
     IMAGE = 5
 
 
+class Part(IntEnum):
+    HEADER = 0
+    DIRECTORY = 1
+    SIZES = 2
+    STREAM = 3
+    NAMES = 4
+    STRING_TABLE = 5
+    ROLES = 6
+    TYPES = 7
+    IDS = 8
+    SECTION_HEADERS = 9
+    ORIGINAL_SECTION_HEADERS = 10
+    OMAP_TO_SOURCE = 11
+    OMAP_FROM_SOURCE = 12
+    OLD_FRAMES = 13
+    NEW_FRAMES = 14
+
+
 class Shape(IntEnum):
     PRIMITIVE = 0
     CLASS = 1
@@ -103,6 +121,22 @@ class Stands(IntEnum):
     LIST_INDEX = 128
     EXTRA = 256
     NUMBER = 512
+
+
+class LayoutKind(IntEnum):
+    BASE = 0
+    VIRTUAL_BASE_POINTER = 1
+    VIRTUAL_FUNCTION_POINTER = 2
+    MEMBER = 3
+    HOLE = 4
+    UNUSED_BITS = 5
+    VIRTUAL_BASES = 6
+
+
+class Extent(IntEnum):
+    BYTES = 0
+    BITS = 1
+    UNKNOWN = 2
 
 
 class Fault(Structure):
@@ -163,6 +197,18 @@ class Identity(Structure):
         ("machine", c_uint16),
         ("flags", c_uint16),
         ("guid", c_uint8 * 16),
+    ]
+
+
+class Finding(Structure):
+    _fields_ = [
+        ("index", c_uint64),
+        ("byte", c_uint64),
+        ("part", c_uint32),
+        ("has_stream", c_uint32),
+        ("stream", c_uint32),
+        ("has_index", c_uint32),
+        ("fault", Fault),
     ]
 
 
@@ -271,6 +317,22 @@ class Field(Structure):
     ]
 
 
+class LayoutRow(Structure):
+    _fields_ = [
+        ("offset", c_uint64),
+        ("size", c_uint64),
+        ("name_length", c_size_t),
+        ("kind", c_uint32),
+        ("extent", c_uint32),
+        ("bit", c_uint32),
+        ("bits", c_uint32),
+        ("type_index", c_uint32),
+        ("base_class", c_uint32),
+        ("base_position", c_uint32),
+        ("is_direct", c_uint32),
+    ]
+
+
 # The result and the parameters of each call. A pointer is an address.
 FUNCTIONS = {
     "pdb_error_text": (c_uint32, [c_void_p, c_void_p, c_size_t, c_void_p, c_void_p]),
@@ -287,6 +349,7 @@ FUNCTIONS = {
     "pdb_identity_of": (c_uint32, [c_void_p, c_size_t, c_void_p, c_void_p]),
     "pdb_key": (c_uint32, [c_void_p, c_uint32, c_void_p, c_size_t, c_void_p, c_void_p]),
     "pdb_format_of": (c_uint32, [c_void_p, c_size_t]),
+    "pdb_validate": (c_uint32, [c_void_p, c_size_t, c_void_p, c_size_t, c_void_p, c_void_p]),
     "pdb_names_open": (c_uint32, [c_void_p, c_size_t, c_void_p, c_void_p]),
     "pdb_file_names": (c_uint32, [c_void_p, c_size_t, c_void_p, c_void_p]),
     "pdb_names_get": (c_uint32, [c_void_p, c_uint32, c_void_p, c_size_t, c_void_p, c_void_p]),
@@ -330,6 +393,12 @@ FUNCTIONS = {
     "pdb_type_methods": (c_uint32, [c_void_p, c_size_t, c_uint32, c_void_p, c_size_t, c_void_p, c_void_p]),
     "pdb_type_fields": (c_uint32, [c_void_p, c_size_t, c_uint32, c_void_p, c_size_t, c_void_p, c_void_p, c_size_t, c_void_p, c_void_p]),
     "pdb_fields": (c_uint32, [c_void_p, c_uint32, c_void_p, c_size_t, c_void_p, c_void_p, c_size_t, c_void_p, c_void_p]),
+    "pdb_definitions_open": (c_uint32, [c_void_p, c_size_t, c_void_p, c_void_p]),
+    "pdb_definitions_named": (c_uint32, [c_void_p, c_void_p, c_size_t, c_void_p, c_size_t, c_void_p, c_void_p]),
+    "pdb_definition_of": (c_uint32, [c_void_p, c_uint32, c_void_p, c_void_p]),
+    "pdb_type_size": (c_uint32, [c_void_p, c_uint32, c_void_p, c_void_p]),
+    "pdb_type_text": (c_uint32, [c_void_p, c_uint32, c_void_p, c_size_t, c_void_p, c_size_t, c_void_p, c_void_p]),
+    "pdb_layout": (c_uint32, [c_void_p, c_uint32, c_void_p, c_size_t, c_void_p, c_void_p, c_size_t, c_void_p, c_void_p]),
     "pdb_id_row": (c_uint32, [c_void_p, c_size_t, c_void_p, c_void_p]),
     "pdb_id_name": (c_uint32, [c_void_p, c_size_t, c_void_p, c_size_t, c_void_p, c_void_p]),
     "pdb_id_list": (c_uint32, [c_void_p, c_size_t, c_void_p, c_size_t, c_void_p, c_void_p]),

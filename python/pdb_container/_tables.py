@@ -6,6 +6,7 @@ from dataclasses import dataclass, field
 from typing import Iterator, List, Optional, Union
 
 from . import _sys
+from ._layouts import Definitions, Layout
 from ._library import Opened, PdbError, items, library, named_items, value
 from ._sys import Fault, IdShape, Shape, Stands, Status
 
@@ -191,6 +192,7 @@ class Types:
         # A look-up leaves the walk along the same table where it is.
         self._walks: List[Opened] = [self._table]
         self._names: Optional[dict] = None
+        self._definitions: Optional[Definitions] = None
         call = library().pdb_table_first_index
         self.first_index: int = value(c_uint32, call, self._table.handle).value
 
@@ -265,6 +267,22 @@ class Types:
             fields.append(Field(*_numbers(number, *rest), _SHAPES[shape], name))
             at += length
         return fields
+
+    @property
+    def definitions(self) -> Definitions:
+        """The definitions of the table, which are found once, and the sizes, layouts and texts of its types."""
+        if self._definitions is None:
+            self._definitions = Definitions(self._at, self._size, self.number)
+        return self._definitions
+
+    def layout(self, key: Union[int, str]) -> Layout:
+        """The layout of the type of an index, or of the first class, structure, interface or union of a name. KeyError
+        if there is none."""
+        indexes = self.definitions.named(key) if isinstance(key, str) else [key]
+        layout = next(filter(None, map(self.definitions.layout_of, indexes)), None)
+        if layout is None:
+            raise KeyError(key)
+        return layout
 
     def _by_name(self) -> dict:
         """The index of the first definition of each name, which is made once."""

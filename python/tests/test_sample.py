@@ -15,7 +15,7 @@ import uuid
 from unittest import mock
 
 import pdb_container
-from pdb_container import Format, IdShape, KeyForm, Pdb, PdbError, Shape, Status, format_of
+from pdb_container import Format, IdShape, KeyForm, LayoutKind, Part, Pdb, PdbError, Shape, Status, format_of, validate
 from pdb_container.__main__ import main
 
 SAMPLE = pathlib.Path(__file__).resolve().parents[2] / "examples" / "sample.pdb"
@@ -29,6 +29,13 @@ def read_types(pdb):
             with contextlib.suppress(PdbError):
                 words += (it.fields,)
             str((it, words))
+
+
+def read_layouts(pdb):
+    definitions = pdb.types.definitions
+    for index in range(0x1000, 0x1000 + min(len(pdb.types), 1000)):
+        with contextlib.suppress(PdbError):
+            str((definitions.definition_of(index), definitions.size_of(index), definitions.layout_of(index), definitions.text_of(index)))
 
 
 def read_ids(pdb):
@@ -50,6 +57,7 @@ EVERYTHING = [
     lambda pdb: pdb.address_map.rva_ranges(range(0x1000, 0x3000)),
     lambda pdb: [pdb.frames.at(it) for it in range(0x1000, 0x1200)],
     read_types,
+    read_layouts,
     read_ids,
     lambda pdb: pdb.types.get("Derived"),
 ]
@@ -86,6 +94,41 @@ class OfFile(unittest.TestCase):
         begin = {b"MZ": Format.IMAGE, b"BSJB": Format.PORTABLE, b"MSCF": Format.COMPRESSED, b"": Format.UNKNOWN}
         for data, format in begin.items():
             self.assertEqual(format_of(data), format)
+
+    def test_layouts(self):
+        # As clang lays the classes out (-Xclang -fdump-record-layouts).
+        def rows(name):
+            return [(it.name or it.kind.name, it.offset, it.size) for it in self.pdb.types.layout(name).rows if it.bits is None]
+
+        derived = self.pdb.types.layout("Derived")
+        self.assertEqual((derived.index, derived.size), (self.pdb.types["Derived"].index, 128))
+        members = [("grid", 20, 48), ("flags", 68, 8), ("compare", 76, 4), ("measure", 80, 4), ("axis", 84, 4), ("watched", 88, 4), ("inner", 92, 12)]
+        front = [("BASE", 0, 8), ("BASE", 8, 1), ("VIRTUAL_BASE_POINTER", 12, 4)]
+        gaps = [("HOLE", 9, 3), ("HOLE", 16, 4), ("VIRTUAL_BASES", 108, 20)]
+        self.assertEqual(rows("Derived"), front + members + [("state", 104, 4)] + gaps)
+        pointer = derived.rows[2]
+        self.assertEqual(self.pdb.types[pointer.base_class].name, "Shared")
+        self.assertTrue(pointer.is_direct)
+        # The record has no member for 16 bits without a name.
+        flags = [(it.name, it.offset, it.bit, it.bits) for it in self.pdb.types.layout("Flags").rows if it.bits is not None]
+        self.assertEqual(flags, [("low", 0, 0, 3), ("high", 0, 3, 13), ("ready", 4, 0, 1), (None, 4, 1, 7)])
+        self.assertEqual(rows("Flags"), [("HOLE", 2, 2), ("HOLE", 5, 3)])
+        self.assertEqual(self.pdb.types.layout("Flags").rows[-1].kind, LayoutKind.UNUSED_BITS)
+        self.assertEqual(self.pdb.types.layout(0x1000), derived)
+        for key in ("Missing", "Code", 0x74):
+            with self.assertRaises(KeyError):
+                self.pdb.types.layout(key)
+
+    def test_definitions(self):
+        definitions = self.pdb.types.definitions
+        self.assertEqual(definitions.named("Derived"), [self.pdb.types["Derived"].index])
+        self.assertEqual(definitions.named("Missing"), [])
+        self.assertEqual(definitions.definition_of(0x1000), self.pdb.types["Derived"].index)
+        self.assertEqual((definitions.size_of(0x1000), definitions.size_of(0x74), definitions.size_of(3)), (128, 4, None))
+        self.assertEqual(definitions.text_of(0x1000, "it"), "Derived it")
+        with self.assertRaises(PdbError) as raised:
+            definitions.size_of(0x99999)
+        self.assertEqual((raised.exception.status, raised.exception.stream), (Status.TYPE_NOT_FOUND, 2))
 
     def test_streams(self):
         self.assertEqual(len(self.pdb.stream(10)), 160)
@@ -269,6 +312,20 @@ class OfInput(unittest.TestCase):
                 next(types)
             self.assertEqual((raised.exception.status, raised.exception.stream), (Status.TYPE_TOO_SHORT, 2))
             self.assertEqual(list(types), [])
+
+    def test_whole_and_not(self):
+        data = SAMPLE.read_bytes()
+        self.assertEqual(validate(data), [])
+        (found,) = validate(b"MZ")
+        self.assertEqual((found.part, found.stream, found.index), (Part.HEADER, None, None))
+        self.assertEqual(found.error.status, Status.UNRECOGNIZED_FILE_FORMAT)
+        # The header, two items, and the length of the third, which becomes too short for its kind.
+        with pdb_container.open(SAMPLE) as pdb:
+            front = bytes(pdb.stream(2, 110))
+        (found,) = validate(data.replace(front, front[:108] + b"\x01" + front[109:]))
+        self.assertEqual((found.part, found.stream, found.index), (Part.TYPES, 2, 0x1002))
+        self.assertEqual((found.byte, found.error.status), (108, Status.TYPE_TOO_SHORT))
+        self.assertIn("[stream 2]", str(found))
 
     def test_damaged_files(self):
         data, failed = SAMPLE.read_bytes(), 0

@@ -32,11 +32,13 @@ mod frames;
 mod handle;
 mod identity;
 mod ids;
+mod layouts;
 mod names;
 mod row;
 #[rustfmt::skip]
 pub mod sys;
 mod types;
+mod validation;
 
 pub use addresses::{AddressMap, Omap, Section};
 pub use error::{Error, Result};
@@ -44,6 +46,8 @@ pub use file::{Guid, Information, NamedStream, Pdb, Roles};
 pub use frames::{Frame, Frames};
 pub use identity::{DebugIdentity, Format, Identity, KeyForm};
 pub use ids::{Id, IdIter, Ids};
+pub use layouts::{Definitions, Extent, Layout, LayoutKind, LayoutRow};
 pub use names::{Name, Names};
 pub use row::{IdShape, Row, Shape};
 pub use types::{Field, Fields, Type, TypeIter, Types};
+pub use validation::{Finding, Part, validate};

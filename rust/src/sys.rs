@@ -68,6 +68,18 @@ pub struct Identity {
 
 #[repr(C)]
 #[derive(Debug, Clone, Copy, Default, PartialEq, Eq)]
+pub struct Finding {
+    pub index: u64,
+    pub byte: u64,
+    pub part: u32,
+    pub has_stream: u32,
+    pub stream: u32,
+    pub has_index: u32,
+    pub fault: Fault,
+}
+
+#[repr(C)]
+#[derive(Debug, Clone, Copy, Default, PartialEq, Eq)]
 pub struct Name {
     pub offset: usize,
     pub length: usize,
@@ -171,6 +183,22 @@ pub struct Field {
     pub has_name: u32,
 }
 
+#[repr(C)]
+#[derive(Debug, Clone, Copy, Default, PartialEq, Eq)]
+pub struct LayoutRow {
+    pub offset: u64,
+    pub size: u64,
+    pub name_length: usize,
+    pub kind: u32,
+    pub extent: u32,
+    pub bit: u32,
+    pub bits: u32,
+    pub type_index: u32,
+    pub base_class: u32,
+    pub base_position: u32,
+    pub is_direct: u32,
+}
+
 pub const PDB_OK: u32 = 0;
 pub const PDB_UNRECOGNIZED_FILE_FORMAT: u32 = 1;
 pub const PDB_PAGE_REFERENCE_OUT_OF_RANGE: u32 = 2;
@@ -218,6 +246,22 @@ pub const PDB_FORMAT_PORTABLE: u32 = 3;
 pub const PDB_FORMAT_COMPRESSED: u32 = 4;
 pub const PDB_FORMAT_IMAGE: u32 = 5;
 
+pub const PDB_PART_HEADER: u32 = 0;
+pub const PDB_PART_DIRECTORY: u32 = 1;
+pub const PDB_PART_SIZES: u32 = 2;
+pub const PDB_PART_STREAM: u32 = 3;
+pub const PDB_PART_NAMES: u32 = 4;
+pub const PDB_PART_STRING_TABLE: u32 = 5;
+pub const PDB_PART_ROLES: u32 = 6;
+pub const PDB_PART_TYPES: u32 = 7;
+pub const PDB_PART_IDS: u32 = 8;
+pub const PDB_PART_SECTION_HEADERS: u32 = 9;
+pub const PDB_PART_ORIGINAL_SECTION_HEADERS: u32 = 10;
+pub const PDB_PART_OMAP_TO_SOURCE: u32 = 11;
+pub const PDB_PART_OMAP_FROM_SOURCE: u32 = 12;
+pub const PDB_PART_OLD_FRAMES: u32 = 13;
+pub const PDB_PART_NEW_FRAMES: u32 = 14;
+
 pub const PDB_PRIMITIVE: u32 = 0;
 pub const PDB_CLASS: u32 = 1;
 pub const PDB_MEMBER: u32 = 2;
@@ -260,6 +304,18 @@ pub const PDB_LIST_INDEX: u32 = 128;
 pub const PDB_EXTRA: u32 = 256;
 pub const PDB_NUMBER: u32 = 512;
 
+pub const PDB_LAYOUT_BASE: u32 = 0;
+pub const PDB_LAYOUT_VIRTUAL_BASE_POINTER: u32 = 1;
+pub const PDB_LAYOUT_VIRTUAL_FUNCTION_POINTER: u32 = 2;
+pub const PDB_LAYOUT_MEMBER: u32 = 3;
+pub const PDB_LAYOUT_HOLE: u32 = 4;
+pub const PDB_LAYOUT_UNUSED_BITS: u32 = 5;
+pub const PDB_LAYOUT_VIRTUAL_BASES: u32 = 6;
+
+pub const PDB_EXTENT_BYTES: u32 = 0;
+pub const PDB_EXTENT_BITS: u32 = 1;
+pub const PDB_EXTENT_UNKNOWN: u32 = 2;
+
 unsafe extern "C" {
     pub fn pdb_error_text(about: *const Fault, room: *mut u8, room_length: usize, length: *mut usize, fault: *mut Fault) -> u32;
     pub fn pdb_close(handle: *mut Handle);
@@ -275,6 +331,7 @@ unsafe extern "C" {
     pub fn pdb_identity_of(file: *const u8, file_length: usize, identity: *mut Identity, fault: *mut Fault) -> u32;
     pub fn pdb_key(identity: *const Identity, form: u32, room: *mut u8, room_length: usize, length: *mut usize, fault: *mut Fault) -> u32;
     pub fn pdb_format_of(file: *const u8, file_length: usize) -> u32;
+    pub fn pdb_validate(file: *const u8, file_length: usize, room: *mut Finding, room_length: usize, length: *mut usize, fault: *mut Fault) -> u32;
     pub fn pdb_names_open(stream: *const u8, stream_length: usize, names: *mut Handle, fault: *mut Fault) -> u32;
     pub fn pdb_file_names(file: *const u8, file_length: usize, names: *mut Handle, fault: *mut Fault) -> u32;
     pub fn pdb_names_get(names: *mut Handle, offset: u32, room: *mut u8, room_length: usize, length: *mut usize, fault: *mut Fault) -> u32;
@@ -318,6 +375,12 @@ unsafe extern "C" {
     pub fn pdb_type_methods(record: *const u8, record_length: usize, index: u32, room: *mut Row, room_length: usize, length: *mut usize, fault: *mut Fault) -> u32;
     pub fn pdb_type_fields(record: *const u8, record_length: usize, index: u32, rows: *mut Field, rows_length: usize, count: *mut usize, names: *mut u8, names_length: usize, size: *mut usize, fault: *mut Fault) -> u32;
     pub fn pdb_fields(table: *mut Handle, index: u32, rows: *mut Field, rows_length: usize, count: *mut usize, names: *mut u8, names_length: usize, size: *mut usize, fault: *mut Fault) -> u32;
+    pub fn pdb_definitions_open(stream: *const u8, stream_length: usize, definitions: *mut Handle, fault: *mut Fault) -> u32;
+    pub fn pdb_definitions_named(definitions: *mut Handle, name: *const u8, name_length: usize, room: *mut u32, room_length: usize, length: *mut usize, fault: *mut Fault) -> u32;
+    pub fn pdb_definition_of(definitions: *mut Handle, index: u32, definition: *mut u32, fault: *mut Fault) -> u32;
+    pub fn pdb_type_size(definitions: *mut Handle, index: u32, size: *mut u64, fault: *mut Fault) -> u32;
+    pub fn pdb_type_text(definitions: *mut Handle, index: u32, name: *const u8, name_length: usize, room: *mut u8, room_length: usize, length: *mut usize, fault: *mut Fault) -> u32;
+    pub fn pdb_layout(definitions: *mut Handle, index: u32, rows: *mut LayoutRow, rows_length: usize, count: *mut usize, names: *mut u8, names_length: usize, size: *mut usize, fault: *mut Fault) -> u32;
     pub fn pdb_id_row(record: *const u8, record_length: usize, row: *mut Row, fault: *mut Fault) -> u32;
     pub fn pdb_id_name(record: *const u8, record_length: usize, room: *mut u8, room_length: usize, length: *mut usize, fault: *mut Fault) -> u32;
     pub fn pdb_id_list(record: *const u8, record_length: usize, room: *mut u32, room_length: usize, length: *mut usize, fault: *mut Fault) -> u32;

@@ -1,7 +1,8 @@
-use std::cell::Cell;
+use std::cell::{Cell, OnceCell};
 
 use crate::error::{Error, Result};
 use crate::handle::{Handle, items, named_items, value};
+use crate::layouts::{Definitions, Layout};
 use crate::names::Name;
 use crate::row::{Row, Shape};
 use crate::sys;
@@ -27,6 +28,7 @@ pub struct Types {
     /// Whether an iterator has the walk of `table`; another one opens a table of its own.
     is_walked: Cell<bool>,
     first_index: u32,
+    definitions: OnceCell<Definitions>,
 }
 
 // SAFETY, in all of this file: slices are as long as they say, places that the library writes stay in one call, and a
@@ -41,7 +43,8 @@ impl Types {
     pub fn open(stream: Vec<u8>) -> Result<Types> {
         let table = open(&stream)?;
         let first_index = value(|index, fault| unsafe { sys::pdb_table_first_index(table.get(), index, fault) })?;
-        Ok(Types { stream, table, is_walked: Cell::new(false), first_index: first_index.unwrap_or_default() })
+        let first_index = first_index.unwrap_or_default();
+        Ok(Types { stream, table, is_walked: Cell::new(false), first_index, definitions: OnceCell::new() })
     }
 
     /// The index of the first type that has a record.
@@ -101,6 +104,27 @@ impl Types {
         })?;
         let (rows, names) = found.unwrap_or_default();
         Ok(Fields { rows, names })
+    }
+
+    /// The definitions of the table, which are found once, and the sizes, layouts and texts of its types.
+    pub fn definitions(&self) -> Result<&Definitions> {
+        if let Some(found) = self.definitions.get() {
+            return Ok(found);
+        }
+        let found = Definitions::open(&self.stream)?;
+        Ok(self.definitions.get_or_init(|| found))
+    }
+
+    /// The layout of the first class, structure, interface or union of a name, if there is one.
+    pub fn layout(&self, name: impl AsRef<[u8]>) -> Result<Option<Layout>> {
+        let definitions = self.definitions()?;
+        for index in definitions.named(name)? {
+            let layout = definitions.layout_of(index)?;
+            if layout.is_some() {
+                return Ok(layout);
+            }
+        }
+        Ok(None)
     }
 
     /// The bytes of a record.

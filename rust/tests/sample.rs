@@ -1,6 +1,6 @@
 //! Reads examples/sample.pdb, and copies of it with damage.
 
-use pdb_container::{Error, Format, IdShape, KeyForm, Pdb, Shape};
+use pdb_container::{Error, Extent, Format, IdShape, KeyForm, LayoutKind, LayoutRow, Part, Pdb, Shape, Types, validate};
 
 fn sample() -> Vec<u8> {
     std::fs::read(concat!(env!("CARGO_MANIFEST_DIR"), "/../examples/sample.pdb")).unwrap()
@@ -51,6 +51,78 @@ fn identity_and_format() {
     let begin =
         [("MZ", Format::Image), ("BSJB", Format::Portable), ("MSCF", Format::Compressed), ("", Format::Unknown)];
     assert!(begin.iter().all(|(text, format)| Format::of(text.as_bytes()) == *format));
+}
+
+/// A row of whole bytes, or of bits.
+fn row_of(row: &LayoutRow<'_>) -> (String, u64, u64) {
+    let name = match row.kind {
+        LayoutKind::Base { .. } => "base".to_string(),
+        LayoutKind::VirtualBasePointer { .. } => "vbptr".to_string(),
+        LayoutKind::VirtualFunctionPointer { .. } => "vfptr".to_string(),
+        LayoutKind::Member { name, .. } => name.to_string(),
+        LayoutKind::Hole => "hole".to_string(),
+        LayoutKind::UnusedBits => "unused".to_string(),
+        LayoutKind::VirtualBases => "virtual bases".to_string(),
+        _ => unreachable!(),
+    };
+    match row.extent {
+        Extent::Bytes(size) => (name, row.offset, size),
+        Extent::Bits { first, count } => (name, 8 * row.offset + u64::from(first), count.into()),
+        Extent::Unknown => (name, row.offset, u64::MAX),
+    }
+}
+
+/// As clang lays the classes out (-Xclang -fdump-record-layouts).
+#[test]
+fn layouts() {
+    let file = sample();
+    let types = Pdb::parse(&file).unwrap().types().unwrap();
+    let rows_of = |name: &str| {
+        let layout = types.layout(name).unwrap().unwrap();
+        assert_eq!(layout.len(), layout.iter().count());
+        (layout.size(), layout.iter().map(|it| row_of(&it)).collect::<Vec<_>>())
+    };
+    let (size, rows) = rows_of("Derived");
+    let rows: Vec<_> = rows.iter().map(|(name, offset, size)| (name.as_str(), *offset, *size)).collect();
+    let fields = [
+        ("base", 0, 8),
+        ("base", 8, 1),
+        ("vbptr", 12, 4),
+        ("grid", 20, 48),
+        ("flags", 68, 8),
+        ("compare", 76, 4),
+        ("measure", 80, 4),
+        ("axis", 84, 4),
+        ("watched", 88, 4),
+        ("inner", 92, 12),
+        ("state", 104, 4),
+        ("hole", 9, 3),
+        ("hole", 16, 4),
+        ("virtual bases", 108, 20),
+    ];
+    assert_eq!((size, rows), (128, fields.to_vec()));
+    // The places of bits are told in bits. The record has no member for 16 bits without a name.
+    let (size, rows) = rows_of("Flags");
+    let rows: Vec<_> = rows.iter().map(|(name, offset, size)| (name.as_str(), *offset, *size)).collect();
+    let fields = [("low", 0, 3), ("high", 3, 13), ("ready", 32, 1), ("hole", 2, 2), ("hole", 5, 3), ("unused", 33, 7)];
+    assert_eq!((size, rows), (8, fields.to_vec()));
+    let definitions = types.definitions().unwrap();
+    let forward =
+        types.iter().flatten().find(|it| it.row.is_forward() && it.name().unwrap().unwrap() == "Derived").unwrap();
+    let defined = definitions.named("Derived").unwrap();
+    assert_eq!(definitions.definition_of(forward.index), Ok(Some(defined[0])));
+    assert_eq!((defined.len(), definitions.size_of(forward.index)), (1, Ok(Some(128))));
+    assert_eq!(
+        (definitions.definition_of(0x74), definitions.size_of(0x74), definitions.size_of(3)),
+        (Ok(None), Ok(Some(4)), Ok(None))
+    );
+    assert_eq!(definitions.text_of(forward.index, "it").unwrap(), "Derived it");
+    assert_eq!(
+        (definitions.named("Missing"), types.layout("Missing"), types.layout("Code")),
+        (Ok(vec![]), Ok(None), Ok(None))
+    );
+    let after_last = 0x1000 + types.count();
+    assert_eq!(definitions.layout_of(after_last), Err(Error::TypeNotFound { index: after_last }));
 }
 
 #[test]
@@ -182,6 +254,14 @@ fn a_table_that_is_damaged() {
     assert_eq!(types.get(0x1002), Err(Error::TypeTooShort));
 }
 
+/// Whether all types have a text, and no layout fails.
+fn are_laid_out(types: &Types) -> bool {
+    let Ok(definitions) = types.definitions() else { return false };
+    let is_laid_out =
+        |index| definitions.layout_of(index).is_ok_and(|it| it.is_none_or(|it| it.iter().count() == it.len()));
+    (0x1000..0x1000 + types.count().min(1000)).all(|it| is_laid_out(it) && definitions.text_of(it, "it").is_ok())
+}
+
 /// Reads all that a file has, and counts what can't be read.
 fn read_everything(pdb: &Pdb<'_>) -> usize {
     let mut failed = 0;
@@ -195,6 +275,7 @@ fn read_everything(pdb: &Pdb<'_>) -> usize {
     count(pdb.omap_from_src().is_ok_and(|omap| omap.is_none_or(|it| it.ranges(0x1000..0x3000).is_ok())));
     count(pdb.address_map().is_ok_and(|map| map.rva_to_internal_offset(0x1005).is_ok()));
     count(pdb.frames().is_ok_and(|frames| frames.at(0x1020).is_ok()));
+    count(pdb.types().is_ok_and(|types| are_laid_out(&types)));
     match pdb.types() {
         Err(_) => count(false),
         Ok(types) => types.iter().for_each(|ty| {
@@ -234,9 +315,30 @@ fn damaged_files() {
             let within = [file.len(), 16384][random(2)];
             copy[random(within)] = [0, 1, 0x80, 0xff][random(4)];
         }
-        failed += Pdb::parse(&copy).map_or(1, |pdb| read_everything(&pdb));
+        let read = Pdb::parse(&copy).map_or(1, |pdb| read_everything(&pdb));
+        assert!(read == 0 || copy == file || validate(&copy).is_ok());
+        failed += read;
     }
     assert!(failed > 0);
+}
+
+#[test]
+fn whole_and_not() {
+    let file = sample();
+    assert_eq!(validate(&file), Ok(vec![]));
+    let found = validate(b"MZ").unwrap();
+    assert_eq!(found.len(), 1);
+    assert_eq!((found[0].part, found[0].stream, found[0].index), (Part::Header, None, None));
+    assert_eq!(found[0].error, Error::UnrecognizedFileFormat);
+    // The header, two items, and the length of the third, which becomes too short for its kind.
+    let front = Pdb::parse(&file).unwrap().stream_prefix(2, 110).unwrap();
+    let mut shorter = front.clone();
+    shorter[108] = 1;
+    let found = validate(&replaced(&file, &front, &shorter)).unwrap();
+    assert_eq!(found.len(), 1);
+    assert_eq!((found[0].part, found[0].stream, found[0].index), (Part::Types, Some(2), Some(0x1002)));
+    assert_eq!(found[0].byte, Some(108));
+    assert_eq!(found[0].error, Error::TypeTooShort);
 }
 
 #[test]

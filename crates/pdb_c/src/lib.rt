@@ -2,12 +2,14 @@
 #![tactic(auto)]
 
 mod addresses;
+mod definitions;
 mod fields;
 mod file;
 mod frames;
 mod identity;
 mod ids;
 mod information;
+mod layouts;
 mod lists;
 mod moved;
 mod names;
@@ -21,4 +23,5 @@ mod sections;
 mod streams;
 mod tables;
 mod text;
+mod validation;
 mod walked;

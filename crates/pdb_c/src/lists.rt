@@ -11,7 +11,7 @@ use pdb_handles::records::type_in;
 use pdb_handles::{Fault, Row};
 use std::alloc::Global;
 
-/// Writes the methods in the record of a list of methods, as rows.
+/// Writes the methods in the record of a list of methods, each as a `Row`.
 #[unsafe(no_mangle)]
 pub extern "C" fn pdb_type_methods(
     alloc: Global,

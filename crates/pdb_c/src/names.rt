@@ -63,7 +63,7 @@ pub extern "C" fn pdb_names_get(
     told.tell(fault)
 }
 
-/// Writes where the name at an offset stands in the stream that the table was opened with, and its
+/// Writes where the name at an offset is in the stream that the table was opened with, and its
 /// length without its NUL. Nothing is copied.
 #[unsafe(no_mangle)]
 pub extern "C" fn pdb_names_place(
@@ -89,9 +89,9 @@ pub extern "C" fn pdb_names_place(
     told.tell(fault)
 }
 
-/// Writes where the names at some offsets stand in the stream that the table was opened with, in
-/// the order of the offsets, up to the first offset that is refused. `length` is set to the number
-/// of places that are written, and the fault is that of the refusal.
+/// Writes where the names at some offsets are in the stream that the table was opened with, in the
+/// order of the offsets, up to the first offset that fails. `length` is set to the number of places
+/// that are written, and the fault is that of the offset that failed.
 #[unsafe(no_mangle)]
 pub extern "C" fn pdb_names_places(
     alloc: Global,

@@ -1,4 +1,4 @@
-//! Where the items of a table stand in the caller's stream.
+//! Where the items of a table are in the caller's stream.
 
 ghost use Rattle.std.specs.Prelude.{◌≡◌, ◌<◌, ◌≤◌, length};
 ghost use Rattle.pdb_tpi.specs.Table.{table_of};
@@ -11,8 +11,8 @@ use pdb_handles::{Fault, TOO_LONG};
 use std::alloc::Global;
 
 /// Writes the positions of the items of a table of types or of ids in its stream, from the first
-/// on. At each position stand the two bytes of the item's length, and after them the item. There
-/// are as many positions as the walk gives items, and `facts` says why there are no more.
+/// on. At each position are the two bytes of the item's length, and after them the item. There are
+/// as many positions as the walk gives items, and `facts` says why there are no more.
 #[unsafe(no_mangle)]
 pub extern "C" fn pdb_table_positions(
     alloc: Global,

@@ -16,8 +16,8 @@ use pdb_handles::tables::table_in;
 use pdb_handles::{ALREADY_OPEN, Content, FINE, Fault, Handle, Located, NOT_OPEN, TOO_LONG};
 use std::alloc::Global;
 
-/// Opens the table of types or of ids in a stream, which is copied. Its walk stands before the
-/// first item.
+/// Opens the table of types or of ids in a stream, which is copied. Its walk begins at the first
+/// item.
 #[unsafe(no_mangle)]
 pub extern "C" fn pdb_table_open(
     alloc: Global,
@@ -88,8 +88,8 @@ pub extern "C" fn pdb_table_count(
     told.tell(fault)
 }
 
-/// Writes where the record of an index stands in the stream of a table. The first calls walk along
-/// the table as far as they must, and each later one reads at most eight lengths.
+/// Writes where the record of an index is in the stream of a table. The first calls walk along the
+/// table as far as they must, and each later one reads at most eight lengths.
 #[unsafe(no_mangle)]
 pub extern "C" fn pdb_table_find(
     alloc: Global,
@@ -114,9 +114,8 @@ pub extern "C" fn pdb_table_find(
     told.tell(fault)
 }
 
-/// Writes the index of the next record of the walk along a table, and where it stands in the
-/// stream. If the walk ends or is refused, the index is the one at which it stopped, and there is
-/// no record.
+/// Writes the index of the next record of the walk along a table, and where it is in the stream. If
+/// the walk ends or fails, the index is the one at which it stopped, and there is no record.
 #[unsafe(no_mangle)]
 pub extern "C" fn pdb_table_next(
     alloc: Global,

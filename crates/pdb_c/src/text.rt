@@ -9,7 +9,7 @@ use pdb_handles::text::copy_text_of;
 use pdb_handles::told::told;
 use std::alloc::Global;
 
-/// Copies the library's text of the error that a fault stands for into the caller's array.
+/// Copies the library's text of the error that a fault reports into the caller's array.
 #[unsafe(no_mangle)]
 pub extern "C" fn pdb_error_text(
     alloc: Global,

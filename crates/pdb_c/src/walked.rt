@@ -1,4 +1,4 @@
-//! Walks along tables of types, with the rows of their records.
+//! Walks along tables of types, with the numbers in their records.
 
 ghost use Rattle.std.specs.Prelude.{◌≡◌};
 ghost use Rattle.pdb_handles.specs.Walked.{WritesNextOf};
@@ -8,9 +8,9 @@ use pdb_handles::walked::{TypeRow, write_next};
 use pdb_handles::{Content, Fault, Handle, NOT_OPEN};
 use std::alloc::Global;
 
-/// Writes the next records of the walk along a table of types, each with its place and its row, to
-/// the front of the caller's array: as many as it has room for, or as are left before the walk ends
-/// or is refused. `count` is set to their number. A record that can't be parsed has a fault of its
+/// Writes the next records of the walk along a table of types, each with its place and its `Row`,
+/// to the start of the caller's array: as many as it has room for, or as are left before the walk
+/// ends or fails. `count` is set to their number. A record that can't be parsed has a fault of its
 /// own, and the walk goes on behind it.
 #[unsafe(no_mangle)]
 pub extern "C" fn pdb_table_next_types(

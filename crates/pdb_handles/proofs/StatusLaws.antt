@@ -1,7 +1,7 @@
 -- Refusals of the library and the faults that tell one correspond one to one.
-use Rattle.std.proofs.Common.{◌≡◌, ◌∙◌, ap, sym, subst, refl, ℕ, zero, suc, ◌^◌, ◌==◌, ◌&&◌, nat_lt, Bool, true, false, if◌then◌else◌, List, [], ◌∷◌, slice_get, Option, Some, None, arith}
+use Rattle.std.proofs.Common.{◌≡◌, ◌∙◌, ap, sym, subst, refl, ℕ, zero, suc, ◌+◌, ◌^◌, ◌==◌, ◌&&◌, nat_lt, Bool, true, false, if◌then◌else◌, List, [], ◌∷◌, length, slice_get, Option, Some, None, arith}
 use Rattle.std.proofs.lemmas.Bool.Decides.{nat_tests}
-use Rattle.std.proofs.lemmas.Option.{none-some, cond_some}
+use Rattle.std.proofs.lemmas.Option.{none-some, cond_some, slice_get_read}
 use Rattle.std.specs.Prelude.{Contains}
 use Rattle.std.specs.Option.{option_map}
 use Rattle.std.specs.declared.io.ErrorKind.{ErrorKind}
@@ -11,22 +11,30 @@ use Rattle.pdb_handles.specs.declared.fault.Fault.{Fault}
 use Rattle.pdb_handles.specs.Fault.{fault_of, kind_number, text_number, texts}
 use Rattle.pdb_handles.specs.Told.{IsOurs, below, kind_numbered, numbered, of_source, plain, refusal_told, tellings, text_numbered, told_by, worded}
 
+inside : {X : Type 0} (x y : X) → Some x ≡ Some y → x ≡ y
+inside x y is = (cond_some true x y is).1
+
+-- whether texts have the numbers from `n` on
+abbrev are_numbered : ℕ → List (List ℕ) → Bool
+are_numbered n [] = true
+are_numbered n (text ∷ more) = text_number text == n && are_numbered (suc n) more
+
+number_at : (n : ℕ) (some : List (List ℕ)) (place : ℕ) (text : List ℕ) → are_numbered n some ≡ true
+    → slice_get some place ≡ Some text → text_number text ≡ n + place
+number_at n [] place text are is = absurd (none-some text is)
+number_at n (first ∷ more) zero text are is =
+    let same : text_number first ≡ text_number text = ap text_number (inside first text is) in
+    grind (arith, nat_tests, same, are)
+number_at n (first ∷ more) (suc place) text are is =
+    let rest : are_numbered (suc n) more ≡ true = grind (arith, nat_tests, are) in
+    omega (arith, number_at (suc n) more place text rest is)
+
 -- a text of the library's has a number, which is that of the text
 pub text_back : (text : List ℕ) → Contains texts text → text_numbered (text_number text) ≡ Some text
-text_back text (zero, inside, is) = subst (λ (t : List ℕ). text_numbered (text_number t) ≡ Some t) is refl
-text_back text ((suc zero), inside, is) = subst (λ (t : List ℕ). text_numbered (text_number t) ≡ Some t) is refl
-text_back text ((suc (suc zero)), inside, is) = subst (λ (t : List ℕ). text_numbered (text_number t) ≡ Some t) is refl
-text_back text ((suc (suc (suc zero))), inside, is) = subst (λ (t : List ℕ). text_numbered (text_number t) ≡ Some t) is refl
-text_back text ((suc (suc (suc (suc zero)))), inside, is) = subst (λ (t : List ℕ). text_numbered (text_number t) ≡ Some t) is refl
-text_back text ((suc (suc (suc (suc (suc zero))))), inside, is) = subst (λ (t : List ℕ). text_numbered (text_number t) ≡ Some t) is refl
-text_back text ((suc (suc (suc (suc (suc (suc zero)))))), inside, is) = subst (λ (t : List ℕ). text_numbered (text_number t) ≡ Some t) is refl
-text_back text ((suc (suc (suc (suc (suc (suc (suc zero))))))), inside, is) = subst (λ (t : List ℕ). text_numbered (text_number t) ≡ Some t) is refl
-text_back text ((suc (suc (suc (suc (suc (suc (suc (suc zero)))))))), inside, is) = subst (λ (t : List ℕ). text_numbered (text_number t) ≡ Some t) is refl
-text_back text ((suc (suc (suc (suc (suc (suc (suc (suc (suc zero))))))))), inside, is) = subst (λ (t : List ℕ). text_numbered (text_number t) ≡ Some t) is refl
-text_back text ((suc (suc (suc (suc (suc (suc (suc (suc (suc (suc zero)))))))))), inside, is) = subst (λ (t : List ℕ). text_numbered (text_number t) ≡ Some t) is refl
-text_back text ((suc (suc (suc (suc (suc (suc (suc (suc (suc (suc (suc zero))))))))))), inside, is) = subst (λ (t : List ℕ). text_numbered (text_number t) ≡ Some t) is refl
-text_back text ((suc (suc (suc (suc (suc (suc (suc (suc (suc (suc (suc (suc zero)))))))))))), inside, is) = subst (λ (t : List ℕ). text_numbered (text_number t) ≡ Some t) is refl
-text_back text (suc (suc (suc (suc (suc (suc (suc (suc (suc (suc (suc (suc (suc (k))))))))))))), inside, is) = absurd (omega (arith, inside))
+text_back text (place, within, is) =
+    let at : slice_get texts place ≡ Some text = slice_get_read texts (length texts) place text refl within (sym is) in
+    let number : suc place ≡ text_number text = omega (arith, number_at 1 texts place text refl at) in
+    subst (λ (n : ℕ). text_numbered n ≡ Some text) number at
 
 pub kind_back : (kind : ErrorKind) → Contains (kinds.UnexpectedEof ∷ kinds.OutOfMemory ∷ []) kind → kind_numbered (kind_number kind) ≡ Some kind
 kind_back kind (zero, inside, is) = subst (λ (k : ErrorKind). kind_numbered (kind_number k) ≡ Some k) is refl
@@ -67,9 +75,6 @@ forth out_of_memory ours = refl
 
 -- ---- and back
 
-inside : {X : Type 0} (x y : X) → Some x ≡ Some y → x ≡ y
-inside x y is = (cond_some true x y is).1
-
 where_true : {X : Type 0} (b : Bool) (o : Option X) (y : X) → (if b then o else None) ≡ Some y → (b ≡ true) × (o ≡ Some y)
 where_true true o y is = (refl, is)
 where_true false o y is = absurd (none-some y is)
@@ -80,20 +85,7 @@ mapped f None y is = absurd (none-some y is)
 
 text_forth : (number : ℕ) (text : List ℕ) → text_numbered number ≡ Some text → text_number text ≡ number
 text_forth zero text is = absurd (none-some text is)
-text_forth (suc zero) text is = subst (λ (t : List ℕ). text_number t ≡ 1) (inside _ _ is) refl
-text_forth (suc (suc zero)) text is = subst (λ (t : List ℕ). text_number t ≡ 2) (inside _ _ is) refl
-text_forth (suc (suc (suc zero))) text is = subst (λ (t : List ℕ). text_number t ≡ 3) (inside _ _ is) refl
-text_forth (suc (suc (suc (suc zero)))) text is = subst (λ (t : List ℕ). text_number t ≡ 4) (inside _ _ is) refl
-text_forth (suc (suc (suc (suc (suc zero))))) text is = subst (λ (t : List ℕ). text_number t ≡ 5) (inside _ _ is) refl
-text_forth (suc (suc (suc (suc (suc (suc zero)))))) text is = subst (λ (t : List ℕ). text_number t ≡ 6) (inside _ _ is) refl
-text_forth (suc (suc (suc (suc (suc (suc (suc zero))))))) text is = subst (λ (t : List ℕ). text_number t ≡ 7) (inside _ _ is) refl
-text_forth (suc (suc (suc (suc (suc (suc (suc (suc zero)))))))) text is = subst (λ (t : List ℕ). text_number t ≡ 8) (inside _ _ is) refl
-text_forth (suc (suc (suc (suc (suc (suc (suc (suc (suc zero))))))))) text is = subst (λ (t : List ℕ). text_number t ≡ 9) (inside _ _ is) refl
-text_forth (suc (suc (suc (suc (suc (suc (suc (suc (suc (suc zero)))))))))) text is = subst (λ (t : List ℕ). text_number t ≡ 10) (inside _ _ is) refl
-text_forth (suc (suc (suc (suc (suc (suc (suc (suc (suc (suc (suc zero))))))))))) text is = subst (λ (t : List ℕ). text_number t ≡ 11) (inside _ _ is) refl
-text_forth (suc (suc (suc (suc (suc (suc (suc (suc (suc (suc (suc (suc zero)))))))))))) text is = subst (λ (t : List ℕ). text_number t ≡ 12) (inside _ _ is) refl
-text_forth (suc (suc (suc (suc (suc (suc (suc (suc (suc (suc (suc (suc (suc zero))))))))))))) text is = subst (λ (t : List ℕ). text_number t ≡ 13) (inside _ _ is) refl
-text_forth (suc (suc (suc (suc (suc (suc (suc (suc (suc (suc (suc (suc (suc (suc k)))))))))))))) text is = absurd (none-some text is)
+text_forth (suc place) text is = omega (arith, number_at 1 texts place text refl is)
 
 kind_forth : (number : ℕ) (kind : ErrorKind) → kind_numbered number ≡ Some kind → kind_number kind ≡ number
 kind_forth zero kind is = absurd (none-some kind is)

@@ -50,7 +50,9 @@ texts =
     ∷ codes "small MSF file format" ∷ codes "ancient DBI header" ∷ codes "invalid string table signature"
     ∷ codes "unknown string table hash version" ∷ codes "u64 array sizes" ∷ codes "field list continuation not below its list"
     ∷ codes "header size is impossibly small" ∷ codes "header size is unreasonably large" ∷ codes "minimum type index is < 4096"
-    ∷ codes "maximum type index is < minimum type index" ∷ []
+    ∷ codes "maximum type index is < minimum type index"
+    ∷ codes "OMAP table that is not sorted" ∷ codes "frames that are not sorted"
+    ∷ codes "directory that is larger than its file" ∷ codes "streams that are larger than their file" ∷ []
 
 -- the number of a text
 abbrev pub text_number : List ℕ → ℕ

@@ -21,6 +21,7 @@ kind_of (Some (contents.Addresses map)) = 3
 kind_of (Some (contents.Frames table)) = 4
 kind_of (Some (contents.File layout)) = 5
 kind_of (Some (contents.Table table)) = 6
+kind_of (Some (contents.Definitions table)) = 7
 
 -- the value of an answer, as the contents of a handle
 abbrev pub held_as : {A : Type 0} → (A → Content) → Answer A → Answer Content

@@ -5,6 +5,7 @@ use pdb_frames::FrameTable;
 use pdb_msf::Layout;
 use pdb_space::{AddressMap, OMAPTable, StringTable};
 use pdb_tpi::OpenTable;
+use pdb_types::OpenDefinitions;
 
 /// What a handle holds.
 #[derive(Drop)]
@@ -27,4 +28,7 @@ pub enum Content {
 
     /// The items of a table of types or of ids.
     Table(OpenTable<TypeIndex>),
+
+    /// The definitions of a table of types.
+    Definitions(OpenDefinitions),
 }

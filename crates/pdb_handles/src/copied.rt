@@ -10,7 +10,7 @@ ghost use Rattle.pdb_handles.specs.Records.{fielded, if_copied};
 use crate::fault::{FINE, Fault, NOWHERE, TOO_SMALL};
 use pdb_base::{RawString, Result, Stream};
 
-/// Copies items to the front of a caller's array and sets `length` to their number. If the array
+/// Copies items to the start of a caller's array and sets `length` to their number. If the array
 /// has no room for all of them, none is copied.
 pub fn copy_out<T: Copy>(items: &[T], room: &mut [T], length: &mut usize) -> Fault
     ensures { record { fault = result; length = length.new; room = room.new } ≡ written room.old items.now }
@@ -23,8 +23,8 @@ pub fn copy_out<T: Copy>(items: &[T], room: &mut [T], length: &mut usize) -> Fau
     Fault::status(FINE)
 }
 
-/// Copies rows and the bytes of their names to the fronts of two arrays of the caller, if both have
-/// room for all of them, and sets `count` and `size` to their numbers.
+/// Copies items and the bytes of their names to the starts of two arrays of the caller, if both
+/// have room for all of them, and sets `count` and `size` to their numbers.
 pub fn copy_both<T: Copy>(
     items: &[T],
     bytes: &[u8],

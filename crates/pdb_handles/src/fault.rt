@@ -2,9 +2,8 @@
 
 ghost use Rattle.std.specs.Prelude.{◌≡◌};
 
-/// How a call ended. A status of 0 means success; one from 1 to 28 means that the library refused,
-/// each for its own reason; and those from 100 on mean that the caller misused it or that nothing
-/// was found.
+/// How a call ended. A status of 0 means success; one from 1 to 28 reports an error of the library;
+/// and those from 100 on mean that the caller misused it or that nothing was found.
 #[repr(C)]
 #[derive(Clone, Copy)]
 pub struct Fault {
@@ -57,5 +56,5 @@ pub const TOO_LONG: u32 = 103;
 /// The caller's fault isn't one that a call returns, or the library has no text for it.
 pub const NO_TEXT: u32 = 104;
 
-/// What is asked for was not found.
+/// What the call looks for was not found.
 pub const NOWHERE: u32 = 105;

@@ -48,7 +48,7 @@ fn name_bytes<'t>(field: &TypeData<'t>) -> &'t [u8]
     }
 }
 
-/// Returns the row of a field for the caller.
+/// Returns the `FieldRow` of a field for the caller.
 fn field_row(field: &TypeData<'_>) -> FieldRow
     ensures { result ≡ field_row (type_value field.now) }
 {
@@ -59,7 +59,7 @@ fn field_row(field: &TypeData<'_>) -> FieldRow
     }
 }
 
-/// Collects the rows of fields, and their names one after another.
+/// Collects a `FieldRow` for each field, and their names one after another.
 fn shown(alloc: Global, fields: &[TypeData<'_>]) -> Result<Listing>
     ensures rows { IfOk result (λ shown. shown.rows.items ≡ map (λ field. field_row (type_value field)) fields.now) }
     ensures names { IfOk result (λ shown. shown.names.items ≡
@@ -75,7 +75,8 @@ fn shown(alloc: Global, fields: &[TypeData<'_>]) -> Result<Listing>
     Ok(Listing { rows, names })
 }
 
-/// Writes rows and names to the fronts of the caller's arrays, if both have room for all of them.
+/// Writes the fields and names of a listing to the starts of the caller's arrays, if both have room
+/// for all of them.
 fn write_listing(
     listing: &Listing,
     rows: &mut [FieldRow],
@@ -114,7 +115,7 @@ fn listing_of(alloc: Global, value: &TypeData<'_>) -> Result<Option<Listing>>
 /// Returns all fields that were found, for the caller.
 ///
 /// # Errors
-/// Fails with the error that is given, and with `OutOfMemory` if memory is refused.
+/// Fails with the error that is given, and with `OutOfMemory` if an allocation fails.
 pub fn listing_found(alloc: Global, found: Result<Vec<TypeData<'_>>>) -> Result<Option<Listing>>
     ensures { (meant : Answer (List TypeValue)) → Answers (λ fields. map type_value fields.items) found.entry meant
         → Answers (option_map listing_view) result (listings (all_found meant)) }
@@ -122,7 +123,7 @@ pub fn listing_found(alloc: Global, found: Result<Vec<TypeData<'_>>>) -> Result<
     Ok(Some(shown(alloc, &found?)?))
 }
 
-/// Writes the fields of a list, or nothing if there is no list of fields or it is refused.
+/// Writes the fields of a list, or nothing if there is no list of fields or parsing it failed.
 pub fn write_found(
     found: Result<Option<Listing>>,
     rows: &mut [FieldRow],
@@ -151,7 +152,7 @@ pub fn write_found(
 /// of fields.
 ///
 /// # Errors
-/// Fails as `type_in` does, and with `OutOfMemory` if memory is refused.
+/// Fails as `type_in` does, and with `OutOfMemory` if an allocation fails.
 pub fn fields_of(alloc: Global, bytes: &[u8], index: u32) -> Result<Option<Listing>>
     ensures { Answers (option_map listing_view) result (listings (fields_of_record index bytes.now)) }
 {

@@ -1,4 +1,4 @@
-//! Values that may be missing or refused.
+//! Values that may be missing, and results that may be errors.
 
 ghost use Rattle.std.specs.Prelude.{◌≡◌};
 ghost use Rattle.pdb_base.specs.Answer.{Answer, Gives};

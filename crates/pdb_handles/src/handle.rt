@@ -34,6 +34,7 @@ fn kind_of(content: &Content) -> u32
         Content::Frames(_) => 4,
         Content::File(_) => 5,
         Content::Table(_) => 6,
+        Content::Definitions(_) => 7,
     }
 }
 

@@ -1,4 +1,4 @@
-//! What stands behind a handle.
+//! What a handle points to.
 
 ghost use Rattle.std.specs.Prelude.{◌≡◌, Option, None, Some, IsSome};
 ghost use Rattle.pdb_handles.specs.Held.{owned};

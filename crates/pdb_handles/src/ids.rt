@@ -138,7 +138,7 @@ fn list_in(alloc: Global, value: &IdData<'_>) -> Result<Option<Vec<u32>>>
 /// Parses the record of an id and returns the indexes that it lists, or None if it isn't a list.
 ///
 /// # Errors
-/// Fails as `id_at` does, and with `OutOfMemory` if memory is refused.
+/// Fails as `id_at` does, and with `OutOfMemory` if an allocation fails.
 pub fn list_of(alloc: Global, bytes: &[u8]) -> Result<Option<Vec<u32>>>
     ensures { Answers (option_map (λ list. list.items)) result (id_list_of bytes.now) }
 {
@@ -146,7 +146,7 @@ pub fn list_of(alloc: Global, bytes: &[u8]) -> Result<Option<Vec<u32>>>
     list_in(alloc, &value)
 }
 
-/// Writes the row of an id that was parsed, or returns the fault of its error.
+/// Writes the `Row` of an id that was parsed, or returns the fault of its error.
 pub fn write_id_row(parsed: Result<IdData<'_>>, row: &mut Row) -> Fault
     ensures { (meant : Answer IdValue) → Answers id_value parsed.entry meant
         → IsAnswered (λ value. id_row value) meant row.old result row.new }

@@ -29,7 +29,7 @@ pub struct Information {
     pub signature: u32,
     /// How often the file was written.
     pub age: u32,
-    /// The sixteen bytes that identify this file among all others, as they stand in it.
+    /// The sixteen bytes that identify this file among all others, as they are in it.
     pub guid: [u8; 16],
 }
 
@@ -75,7 +75,7 @@ pub fn information_in(alloc: Global, file: &[u8]) -> Result<PDBInformation>
     file.pdb_information(alloc)
 }
 
-/// Returns the row of a named stream, for the caller.
+/// Returns the `NamedStream` of a named stream, for the caller.
 fn named_row(named: &StreamName<'_>) -> NamedStream
     ensures { result ≡ named_row (named_view named.now) }
 {
@@ -85,7 +85,7 @@ fn named_row(named: &StreamName<'_>) -> NamedStream
     }
 }
 
-/// Collects the rows of named streams for the caller, and their names one after another.
+/// Collects a `NamedStream` for each named stream, and their names one after another.
 fn listed(alloc: Global, streams: &[StreamName<'_>]) -> Result<NameListing>
     ensures rows { IfOk result (λ listed. listed.rows.items ≡ map (λ named. named_row (named_view named)) streams.now) }
     ensures names { IfOk result (λ listed. listed.names.items ≡
@@ -101,7 +101,7 @@ fn listed(alloc: Global, streams: &[StreamName<'_>]) -> Result<NameListing>
     Ok(NameListing { rows, names })
 }
 
-/// Collects the rows and names of all streams that a file names.
+/// Collects the numbers and names of all streams that a file names.
 fn listing_of(alloc: Global, streams: &StreamNames<'_>) -> Result<NameListing>
     ensures rows { IfOk result (λ listed. listed.rows.items ≡ map named_row streams.now) }
     ensures names { IfOk result (λ listed. listed.names.items ≡ flat_map (λ named. named.name) streams.now) }

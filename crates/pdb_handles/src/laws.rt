@@ -1,4 +1,5 @@
-//! What the definitions say in other words. The functions do nothing, or call other laws: each contract is a law.
+//! What the definitions say in other words. The functions do nothing, or call other laws: each
+//! contract is a law.
 
 ghost use Rattle.std.specs.Prelude.{◌≡◌, ℕ, List, Ok, Some};
 ghost use Rattle.pdb_base.specs.Refusal.{Refusal};
@@ -11,7 +12,7 @@ ghost use Rattle.pdb_handles.specs.Told.{IsTold, TellsBack};
 
 use pdb_space::laws::{names, string_tables};
 
-/// Refusals of the library and the faults that tell one correspond one to one.
+/// Errors of the library and the faults that report one correspond one to one.
 pub fn statuses()
     ensures forth { (refusal : Refusal) → IsTold refusal }
     ensures back { (fault : Fault) (refusal : Refusal) → TellsBack fault refusal }
@@ -32,8 +33,8 @@ pub fn name_places()
     names();
 }
 
-/// The places that one call writes are those of the names at all offsets, or of those at the offsets
-/// before the first one without a name.
+/// The places that one call writes are those of the names at all offsets, or of those at the
+/// offsets before the first one without a name.
 pub fn names_fronts()
     ensures { (names : List ℕ) (room : List NamePlace) (offsets : List ℕ) → WritesNamedFront names room offsets }
 {}

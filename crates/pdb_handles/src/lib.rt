@@ -1,5 +1,5 @@
-//! What the library for programs in other languages stands on: handles and what they hold, how calls
-//! end, rows of numbers, and copies into a caller's arrays.
+//! The base of the library for programs in other languages: handles and what they hold, how calls
+//! end, structures of numbers such as `Row`, and copies into a caller's arrays.
 #![tactic(auto)]
 
 pub mod addresses;
@@ -40,7 +40,7 @@ pub mod walked;
 
 pub use content::Content;
 pub use fault::{ALREADY_OPEN, FINE, Fault, NO_TEXT, NOT_OPEN, NOWHERE, TOO_LONG, TOO_SMALL};
-pub use frame::Frame;
+pub use frame::{Frame, flag};
 pub use handle::Handle;
 pub use held::Held;
 pub use located::Located;

@@ -18,7 +18,7 @@ use pdb_base::{RawString, Result};
 use pdb_values::{MethodListEntry, TypeData};
 use std::alloc::Global;
 
-/// Returns the row of a method in a list, for the caller.
+/// Returns the `Row` of a method in a list, for the caller.
 fn method_row(method: &MethodListEntry) -> Row
     ensures { result ≡ method_row method.now }
 {
@@ -33,7 +33,7 @@ fn method_row(method: &MethodListEntry) -> Row
     )
 }
 
-/// Returns the rows of methods, for the caller.
+/// Returns a `Row` for each method, for the caller.
 fn method_rows(alloc: Global, methods: &[MethodListEntry]) -> Result<Vec<Row>>
     ensures { Answers (λ rows. rows.items) result (Ok (map method_row methods.now)) }
 {
@@ -57,7 +57,7 @@ fn methods_in(alloc: Global, value: &TypeData<'_>) -> Result<Option<Vec<Row>>>
 /// Parses a record and returns the methods that it lists, or None if it isn't a list of methods.
 ///
 /// # Errors
-/// Fails as `type_in` does, and with `OutOfMemory` if memory is refused.
+/// Fails as `type_in` does, and with `OutOfMemory` if an allocation fails.
 pub fn methods_of(alloc: Global, bytes: &[u8], index: u32) -> Result<Option<Vec<Row>>>
     ensures { Answers (option_map (λ rows. rows.items)) result (methods_of index bytes.now) }
 {

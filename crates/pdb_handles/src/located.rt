@@ -1,11 +1,11 @@
-//! Where records stand, as a caller sees it.
+//! Where records are, as a caller sees it.
 
 ghost use Rattle.std.specs.Prelude.{◌≡◌};
 ghost use Rattle.pdb_handles.specs.Tables.{located_at};
 
 use pdb_tpi::RecordPlace;
 
-/// Where the record of an index stands in the stream of its table.
+/// Where the record of an index is in the stream of its table.
 #[repr(C)]
 #[derive(Clone, Copy)]
 pub struct Located {

@@ -18,7 +18,7 @@ use std::alloc::Global;
 /// The number of bytes of a stream before the names.
 const NAMES_START: usize = 12;
 
-/// Where a name stands in the stream of its string table.
+/// Where a name is in the stream of its string table.
 #[repr(C)]
 #[derive(Clone, Copy)]
 pub struct NamePlace {
@@ -31,7 +31,7 @@ pub struct NamePlace {
 /// Parses the string table in a stream, which is copied.
 ///
 /// # Errors
-/// Fails as `StringTable::parse` does, and with `OutOfMemory` if memory is refused.
+/// Fails as `StringTable::parse` does, and with `OutOfMemory` if an allocation fails.
 pub fn names_in(alloc: Global, stream: &[u8]) -> Result<Content>
     requires { length stream.now < 0xffffffff }
     ensures { Answers (λ content. content) result (held_as Names (names_of stream.now)) }
@@ -52,7 +52,7 @@ pub fn name_at(names: &StringTable, offset: u32, room: &mut [u8], length: &mut u
     }
 }
 
-/// Returns where the name at an offset of a table stands in the stream of the table.
+/// Returns where the name at an offset of a table is in the stream of the table.
 ///
 /// # Errors
 /// Fails as `StringTable::get` does.
@@ -67,9 +67,9 @@ pub fn place_in(names: &StringTable, offset: u32) -> Result<NamePlace>
     })
 }
 
-/// Writes where the names at some offsets of a table stand to the front of the caller's array, in
-/// the order of the offsets, up to the first offset that is refused, and sets `length` to the number
-/// of places that are written. If the array has fewer places than there are offsets, nothing is
+/// Writes where the names at some offsets of a table are to the start of the caller's array, in the
+/// order of the offsets, up to the first offset that fails, and sets `length` to the number of
+/// places that are written. If the array has fewer places than there are offsets, nothing is
 /// written, and `length` is set to the number of offsets.
 pub fn write_places(
     names: &StringTable,

@@ -10,7 +10,7 @@ use pdb_base::{Error, Result};
 use pdb_space::{StringRef, StringTable};
 use std::alloc::Global;
 
-/// Returns the offsets of all names, which stand one after another from offset 0 on.
+/// Returns the offsets of all names, which follow one another from offset 0 on.
 fn offsets_of(alloc: Global, names: &StringTable) -> Result<Vec<u32>>
     ensures offsets { IfOk result (λ offsets. AreOffsets names.now offsets.items) }
     ensures memory { FailsOnlyForMemory result }

@@ -14,7 +14,7 @@ use std::alloc::Global;
 /// Parses the OMAP table in a stream, which is copied.
 ///
 /// # Errors
-/// Fails as `OMAPTable::parse` does, and with `OutOfMemory` if memory is refused.
+/// Fails as `OMAPTable::parse` does, and with `OutOfMemory` if an allocation fails.
 pub fn table_in(alloc: Global, stream: &[u8]) -> Result<Content>
     requires { length stream.now < 0xffffffff }
     ensures { Answers (λ content. content) result (held_as Omap (omap_table_of stream.now)) }

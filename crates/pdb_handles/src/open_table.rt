@@ -19,7 +19,7 @@ use std::alloc::Global;
 /// Opens the table in a stream, with its walk before the first item.
 ///
 /// # Errors
-/// Fails as `TypeInformation::parse` does, and with `OutOfMemory` if memory is refused.
+/// Fails as `TypeInformation::parse` does, and with `OutOfMemory` if an allocation fails.
 pub fn opened(alloc: Global, stream: Stream) -> Result<OpenTable<TypeIndex>>
     ensures { Answers (λ table. table) result (table_opened stream) }
 {
@@ -34,7 +34,7 @@ pub fn counted(kept: &OpenTable<TypeIndex>) -> u32
     header.maximum_index - header.minimum_index
 }
 
-/// Writes where the record of an index stands in the stream.
+/// Writes where the record of an index is in the stream.
 pub fn find_record(kept: &mut OpenTable<TypeIndex>, index: u32, place: &mut Located) -> Fault
     ensures told { record { fault = result; value = place.new } ≡
         located_told place.old index (located kept.old.table index) }
@@ -51,7 +51,7 @@ pub fn find_record(kept: &mut OpenTable<TypeIndex>, index: u32, place: &mut Loca
     }
 }
 
-/// Writes where the next record stands, or the index at which the walk ends or is refused.
+/// Writes where the next record is, or the index at which the walk ends or fails.
 pub fn next_record(kept: &mut OpenTable<TypeIndex>, place: &mut Located) -> Fault
     ensures { record { fault = result; value = place.new; stand = kept.new } ≡
         stepped kept.old (step_located kept.old) }

@@ -1,4 +1,4 @@
-//! Where the items of a table stand in the caller's stream.
+//! Where the items of a table are in the caller's stream.
 
 ghost use Rattle.std.specs.Prelude.{◌≡◌, ◌<◌, length, Ok, IfOk};
 ghost use Rattle.pdb_base.specs.Memory.{FailsOnlyForMemory};
@@ -59,7 +59,7 @@ fn walked(alloc: Global, table: &TypeInformation) -> Result<Items>
 /// Parses the table in a stream, which is copied.
 ///
 /// # Errors
-/// Fails as `TypeInformation::parse` does, and with `OutOfMemory` if memory is refused.
+/// Fails as `TypeInformation::parse` does, and with `OutOfMemory` if an allocation fails.
 pub fn table_in(alloc: Global, stream: &[u8]) -> Result<TypeInformation>
     requires { length stream.now < 0xffffffff }
     ensures { Answers (λ table. table) result (table_of stream.now) }

@@ -36,7 +36,7 @@ pub fn type_in<'t>(alloc: Global, bytes: &'t [u8], index: u32) -> Result<TypeDat
     parse_type_data(alloc, bytes)
 }
 
-/// Writes the row of a type that was parsed, or returns the fault of its error.
+/// Writes the `Row` of a type that was parsed, or returns the fault of its error.
 #[inline(always)]
 fn write_row(parsed: &Result<TypeData<'_>>, row: &mut Row) -> Fault
     ensures { (meant : Answer TypeValue) → Answers type_value parsed.now meant
@@ -51,7 +51,7 @@ fn write_row(parsed: &Result<TypeData<'_>>, row: &mut Row) -> Fault
     }
 }
 
-/// Writes the row of a list of fields, of which only the continuation was read, or returns the
+/// Writes the `Row` of a list of fields, of which only the continuation was read, or returns the
 /// fault of its error.
 #[inline(always)]
 fn write_field_list(read: &Result<Option<TypeIndex>>, row: &mut Row) -> Fault
@@ -66,7 +66,7 @@ fn write_field_list(read: &Result<Option<TypeIndex>>, row: &mut Row) -> Fault
     }
 }
 
-/// Writes the row of a list of arguments that was skipped, or returns the fault of its error.
+/// Writes the `Row` of a list of arguments that was skipped, or returns the fault of its error.
 #[inline(always)]
 fn write_argument_list(skipped: &Result<()>, row: &mut Row) -> Fault
     ensures { IsWritten (λ nothing. row_of (argument_list [])) skipped.now row.old result row.new }
@@ -81,7 +81,7 @@ fn write_argument_list(skipped: &Result<()>, row: &mut Row) -> Fault
 }
 
 /// Writes the numbers in a record, or returns the fault of its error. No field and no argument of a
-/// list is kept, since its row says nothing of them.
+/// list is kept, since its `Row` says nothing of them.
 #[inline(always)]
 fn write_record(alloc: Global, bytes: &[u8], row: &mut Row) -> Fault
     ensures { IsAnswered (λ value. row_of value) (type_record bytes.now) row.old result row.new }
@@ -129,7 +129,7 @@ pub fn copy_type_name(parsed: Result<TypeData<'_>>, room: &mut [u8], length: &mu
 /// Returns the numbers of type indexes.
 ///
 /// # Errors
-/// Fails with `OutOfMemory` if memory is refused.
+/// Fails with `OutOfMemory` if an allocation fails.
 pub fn numbers_of(alloc: Global, indexes: &[TypeIndex]) -> Result<Vec<u32>>
     ensures { Answers (λ numbers. numbers.items) result (Ok (map (λ index. index.0) indexes.now)) }
 {
@@ -154,7 +154,7 @@ fn arguments_in(alloc: Global, value: &TypeData<'_>) -> Result<Option<Vec<u32>>>
 /// of arguments.
 ///
 /// # Errors
-/// Fails as `type_in` does, and with `OutOfMemory` if memory is refused.
+/// Fails as `type_in` does, and with `OutOfMemory` if an allocation fails.
 pub fn arguments_of(alloc: Global, bytes: &[u8], index: u32) -> Result<Option<Vec<u32>>>
     ensures { Answers (option_map (λ list. list.items)) result (arguments_of index bytes.now) }
 {

@@ -1,4 +1,4 @@
-//! The statuses of refusals.
+//! The statuses of errors.
 
 ghost use Rattle.std.specs.Prelude.{◌≡◌};
 ghost use Rattle.pdb_base.specs.Refusal.{refusal_of};
@@ -26,6 +26,10 @@ fn text_number(text: &str) -> u32
         "header size is unreasonably large" => 11,
         "minimum type index is < 4096" => 12,
         "maximum type index is < minimum type index" => 13,
+        "OMAP table that is not sorted" => 14,
+        "frames that are not sorted" => 15,
+        "directory that is larger than its file" => 16,
+        "streams that are larger than their file" => 17,
         _ => 0,
     }
 }
@@ -54,7 +58,7 @@ impl Fault {
         }
     }
 
-    /// Returns the fault that stands for an error: its status, and the numbers that go with it.
+    /// Returns the fault that reports an error: its status, and the numbers that go with it.
     #[inline(always)]
     pub fn of(error: &Error) -> Fault
         ensures { result ≡ fault_of (refusal_of error.now) }
@@ -64,7 +68,7 @@ impl Fault {
         Fault::refused(error)
     }
 
-    /// Returns the fault that stands for an error.
+    /// Returns the fault that reports an error.
     #[inline(never)]
     fn refused(error: &Error) -> Fault
         ensures { result ≡ fault_of (refusal_of error.now) }

@@ -1,4 +1,4 @@
-//! What a record says, as a row of numbers.
+//! The numbers in a record, as a `Row`.
 
 ghost use Rattle.std.specs.Prelude.{◌≡◌, ◌+◌, ◌*◌, ◌≤◌, []};
 ghost use Rattle.pdb_values.specs.Array.{array_value};
@@ -182,7 +182,7 @@ fn stands(numbers: &Numbers) -> u32
         + bit(512, numbers.number.is_some())
 }
 
-/// Returns the row of a class.
+/// Returns the `Row` of a class.
 #[inline(always)]
 fn class_row(v: &ClassType<'_>) -> Row
     ensures { result ≡ row_of (plain (class (class_value v.now))) }
@@ -202,7 +202,7 @@ fn class_row(v: &ClassType<'_>) -> Row
     )
 }
 
-/// Returns the row of a member.
+/// Returns the `Row` of a member.
 #[inline(always)]
 fn member_row(v: &MemberType<'_>) -> Row
     ensures { result ≡ row_of (plain (member (member_value v.now))) }
@@ -218,7 +218,7 @@ fn member_row(v: &MemberType<'_>) -> Row
     )
 }
 
-/// Returns the row of a method's type.
+/// Returns the `Row` of a method's type.
 #[inline(always)]
 fn member_function_row(v: &MemberFunctionType) -> Row
     ensures { result ≡ row_of (plain (member_function v.now)) }
@@ -238,7 +238,7 @@ fn member_function_row(v: &MemberFunctionType) -> Row
     )
 }
 
-/// Returns the row of the methods of one name.
+/// Returns the `Row` of the methods of one name.
 #[inline(always)]
 fn overloaded_method_row(v: &OverloadedMethodType<'_>) -> Row
     ensures { result ≡ row_of (plain (overloaded_method (overloaded_method_value v.now))) }
@@ -253,7 +253,7 @@ fn overloaded_method_row(v: &OverloadedMethodType<'_>) -> Row
     )
 }
 
-/// Returns the row of a method.
+/// Returns the `Row` of a method.
 #[inline(always)]
 fn method_row(v: &MethodType<'_>) -> Row
     ensures { result ≡ row_of (plain (method (method_value v.now))) }
@@ -269,7 +269,7 @@ fn method_row(v: &MethodType<'_>) -> Row
     )
 }
 
-/// Returns the row of a static member.
+/// Returns the `Row` of a static member.
 #[inline(always)]
 fn static_member_row(v: &StaticMemberType<'_>) -> Row
     ensures { result ≡ row_of (plain (static_member (static_member_value v.now))) }
@@ -284,7 +284,7 @@ fn static_member_row(v: &StaticMemberType<'_>) -> Row
     )
 }
 
-/// Returns the row of a nested type.
+/// Returns the `Row` of a nested type.
 #[inline(always)]
 fn nested_row(v: &NestedType<'_>) -> Row
     ensures { result ≡ row_of (plain (nested (nested_value v.now))) }
@@ -299,7 +299,7 @@ fn nested_row(v: &NestedType<'_>) -> Row
     )
 }
 
-/// Returns the row of a base class.
+/// Returns the `Row` of a base class.
 #[inline(always)]
 fn base_class_row(v: &BaseClassType) -> Row
     ensures { result ≡ row_of (plain (base_class v.now)) }
@@ -316,7 +316,7 @@ fn base_class_row(v: &BaseClassType) -> Row
     )
 }
 
-/// Returns the row of a virtual base class.
+/// Returns the `Row` of a virtual base class.
 #[inline(always)]
 fn virtual_base_class_row(v: &VirtualBaseClassType) -> Row
     ensures { result ≡ row_of (plain (virtual_base_class v.now)) }
@@ -335,7 +335,7 @@ fn virtual_base_class_row(v: &VirtualBaseClassType) -> Row
     )
 }
 
-/// Returns the row of a pointer to a table of virtual functions.
+/// Returns the `Row` of a pointer to a table of virtual functions.
 #[inline(always)]
 fn virtual_function_table_pointer_row(v: &VirtualFunctionTablePointerType) -> Row
     ensures { result ≡ row_of (plain (virtual_function_table_pointer v.now)) }
@@ -349,7 +349,7 @@ fn virtual_function_table_pointer_row(v: &VirtualFunctionTablePointerType) -> Ro
     )
 }
 
-/// Returns the row of a function's type.
+/// Returns the `Row` of a function's type.
 #[inline(always)]
 fn procedure_row(v: &ProcedureType) -> Row
     ensures { result ≡ row_of (plain (procedure v.now)) }
@@ -366,7 +366,7 @@ fn procedure_row(v: &ProcedureType) -> Row
     )
 }
 
-/// Returns the row of a pointer.
+/// Returns the `Row` of a pointer.
 #[inline(always)]
 fn pointer_row(v: &PointerType) -> Row
     ensures { result ≡ row_of (plain (pointer v.now)) }
@@ -382,7 +382,7 @@ fn pointer_row(v: &PointerType) -> Row
     )
 }
 
-/// Returns the row of a type with modifiers.
+/// Returns the `Row` of a type with modifiers.
 #[inline(always)]
 fn modifier_row(v: &ModifierType) -> Row
     ensures { result ≡ row_of (plain (modifier v.now)) }
@@ -397,7 +397,7 @@ fn modifier_row(v: &ModifierType) -> Row
     )
 }
 
-/// Returns the row of an enumeration.
+/// Returns the `Row` of an enumeration.
 #[inline(always)]
 fn enumeration_row(v: &EnumerationType<'_>) -> Row
     ensures { result ≡ row_of (plain (enumeration (enumeration_value v.now))) }
@@ -414,7 +414,7 @@ fn enumeration_row(v: &EnumerationType<'_>) -> Row
     )
 }
 
-/// Returns the row of a value of an enumeration.
+/// Returns the `Row` of a value of an enumeration.
 #[inline(always)]
 fn enumerate_row(v: &EnumerateType<'_>) -> Row
     ensures { result ≡ row_of (plain (enumerate (enumerate_value v.now))) }
@@ -430,7 +430,7 @@ fn enumerate_row(v: &EnumerateType<'_>) -> Row
     )
 }
 
-/// Returns the row of an array.
+/// Returns the `Row` of an array.
 #[inline(always)]
 fn array_row(v: &ArrayType) -> Row
     ensures { result ≡ row_of (array (array_value v.now)) }
@@ -446,7 +446,7 @@ fn array_row(v: &ArrayType) -> Row
     )
 }
 
-/// Returns the row of a union.
+/// Returns the `Row` of a union.
 #[inline(always)]
 fn union_row(v: &UnionType<'_>) -> Row
     ensures { result ≡ row_of (plain (union (union_value v.now))) }
@@ -463,7 +463,7 @@ fn union_row(v: &UnionType<'_>) -> Row
     )
 }
 
-/// Returns the row of a bit field.
+/// Returns the `Row` of a bit field.
 #[inline(always)]
 fn bitfield_row(v: &BitfieldType) -> Row
     ensures { result ≡ row_of (plain (bitfield v.now)) }
@@ -479,7 +479,7 @@ fn bitfield_row(v: &BitfieldType) -> Row
     )
 }
 
-/// Returns the row of the shape of a table of virtual functions.
+/// Returns the `Row` of the shape of a table of virtual functions.
 #[inline(always)]
 fn virtual_table_shape_row(v: &VirtualTableShapeType<'_>) -> Row
     ensures { result ≡ row_of (plain (virtual_table_shape (table_shape_value v.now))) }
@@ -493,7 +493,7 @@ fn virtual_table_shape_row(v: &VirtualTableShapeType<'_>) -> Row
     )
 }
 
-/// Returns the row of a list of fields, from its continuation.
+/// Returns the `Row` of a list of fields, from its continuation.
 #[inline(always)]
 pub fn field_list_row(continuation: Option<TypeIndex>) -> Row
     ensures { result ≡ row_of (field_list no_field continuation) }
@@ -507,7 +507,7 @@ pub fn field_list_row(continuation: Option<TypeIndex>) -> Row
     )
 }
 
-/// Returns the row of a list of arguments, which has no numbers.
+/// Returns the `Row` of a list of arguments, which has no numbers.
 #[inline(always)]
 pub fn argument_list_row() -> Row
     ensures { result ≡ row_of (argument_list []) }
@@ -516,7 +516,7 @@ pub fn argument_list_row() -> Row
 }
 
 impl Row {
-    /// Returns the row of a shape and its numbers.
+    /// Returns the `Row` of a shape and its numbers.
     #[inline(always)]
     #[tactic(auto, unfolding(crate::specs::Row::row))]
     pub fn of(shape: u32, numbers: &Numbers) -> Row
@@ -538,7 +538,7 @@ impl Row {
         }
     }
 
-    /// Writes the row of a type.
+    /// Writes the `Row` of a type.
     pub fn set_type(&mut self, value: &TypeData<'_>)
         ensures { self.new ≡ row_of (type_value value.now) }
     {
@@ -571,7 +571,7 @@ impl Row {
         }
     }
 
-    /// Returns the row of a type.
+    /// Returns the `Row` of a type.
     pub fn of_type(value: &TypeData<'_>) -> Row
         ensures { result ≡ row_of (type_value value.now) }
     {

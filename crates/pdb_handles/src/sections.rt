@@ -67,7 +67,7 @@ fn sections_of(alloc: Global, headers: &[ImageSectionHeader]) -> Result<Vec<Sect
 /// Reads the headers of the sections that a stream holds.
 ///
 /// # Errors
-/// Fails as `section_headers` does, and with `OutOfMemory` if memory is refused.
+/// Fails as `section_headers` does, and with `OutOfMemory` if an allocation fails.
 pub fn sections_in(alloc: Global, stream: &[u8]) -> Result<Vec<Section>>
     requires { length stream.now < 0xffffffff }
     ensures { Answers (λ sections. sections.items) result (sections_in stream.now) }

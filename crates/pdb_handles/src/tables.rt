@@ -14,7 +14,7 @@ use std::alloc::Global;
 /// Opens the table in a stream, which is copied.
 ///
 /// # Errors
-/// Fails as `opened` does, and with `OutOfMemory` if memory is refused.
+/// Fails as `opened` does, and with `OutOfMemory` if an allocation fails.
 pub fn table_in(alloc: Global, stream: &[u8]) -> Result<Content>
     requires { length stream.now < 0xffffffff }
     ensures { Answers (λ content. content) result (held_as Table (table_opened stream.now)) }

@@ -1,4 +1,4 @@
-//! The error that a fault stands for.
+//! The error that a fault reports.
 
 ghost use Rattle.std.specs.Prelude.{◌≡◌, ◌==◌, ◌&&◌, ◌^◌, nat_lt, if◌then◌else◌, Some, None};
 ghost use Rattle.std.specs.Option.{option_map};
@@ -27,6 +27,10 @@ fn text_numbered(number: u32) -> Option<&'static str>
         11 => Some("header size is unreasonably large"),
         12 => Some("minimum type index is < 4096"),
         13 => Some("maximum type index is < minimum type index"),
+        14 => Some("OMAP table that is not sorted"),
+        15 => Some("frames that are not sorted"),
+        16 => Some("directory that is larger than its file"),
+        17 => Some("streams that are larger than their file"),
         _ => None,
     }
 }
@@ -103,7 +107,7 @@ fn of_source(first: u32, second: u32) -> Option<Error>
     Some(Error::IoError(io::Error::from(kind)))
 }
 
-/// Returns the error that a status and its two numbers stand for, or None if they stand for none.
+/// Returns the error that a status and its two numbers report, or None if they report none.
 #[tactic(auto, unfolding(crate::specs::Told::refusal_told))]
 pub fn told(status: u32, first: u32, second: u32) -> Option<Error>
     ensures { option_map refusal_of result ≡ refusal_told (record { status = status; first = first; second = second }) }

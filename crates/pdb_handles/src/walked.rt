@@ -1,4 +1,4 @@
-//! Walks along tables of types, with the rows of their records.
+//! Walks along tables of types, with the numbers in their records.
 
 ghost use Rattle.pdb_tpi.specs.OpenTable.{bytes_at};
 ghost use Rattle.pdb_tpi.specs.Record.{type_of};
@@ -16,16 +16,16 @@ use std::alloc::Global;
 #[repr(C)]
 #[derive(Clone, Copy)]
 pub struct TypeRow {
-    /// Where the record stands in the stream of the table.
+    /// Where the record is in the stream of the table.
     pub place: Located,
     /// How parsing the record ended.
     pub fault: Fault,
-    /// The numbers in the record, or zeros if parsing it was refused.
+    /// The numbers in the record, or zeros if parsing it failed.
     pub row: Row,
 }
 
 /// Parses the record at a place of a table, which is that of the type of an index, and writes what
-/// it says, or the fault of its error and a row of zeros.
+/// it says, or the fault of its error and a `Row` of zeros.
 #[inline(always)]
 fn write_type(
     alloc: Global,
@@ -43,7 +43,7 @@ fn write_type(
     }
 }
 
-/// Writes the next records of a walk to the front of the caller's array, as many as it has room for
+/// Writes the next records of a walk to the start of the caller's array, as many as it has room for
 /// or as are left before the walk stops, and sets `count` to their number.
 pub fn write_next(
     alloc: Global,

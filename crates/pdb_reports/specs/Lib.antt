@@ -1,1 +1,4 @@
+pub mod Definitions
+pub mod Findings
 pub mod Identity
+pub mod LayoutRow

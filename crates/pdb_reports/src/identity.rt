@@ -40,7 +40,7 @@ pub struct FileIdentity {
     /// The flags of the debug information: 1 if it was linked incrementally, 2 if private symbols
     /// are stripped, and 4 if types may conflict.
     pub flags: u16,
-    /// The sixteen bytes of the GUID, as they stand in the file.
+    /// The sixteen bytes of the GUID, as they are in the file.
     pub guid: [u8; 16],
 }
 
@@ -147,9 +147,9 @@ fn copy_guid(guid: Uuid, room: &mut [u8], length: &mut usize) -> Fault
     copy_out(text.as_bytes(), room, length)
 }
 
-/// Copies the text of a file's key to the caller's array, in the form of a number: 0 for upper case,
-/// 1 for lower case, and 2 for the GUID alone with hyphens. Returns a fault of status `NOWHERE` for
-/// any other number.
+/// Copies the text of a file's key to the caller's array, in the form of a number: 0 for upper
+/// case, 1 for lower case, and 2 for the GUID alone with hyphens. Returns a fault of status
+/// `NOWHERE` for any other number.
 pub fn copy_key(
     alloc: Global,
     identity: &FileIdentity,

@@ -1,0 +1,154 @@
+//! Definitions of types behind a handle.
+
+ghost use Rattle.std.specs.Prelude.{◌≡◌};
+ghost use Rattle.pdb_types.specs.Definition.{definition_of};
+ghost use Rattle.pdb_types.specs.Size.{size_of};
+ghost use Rattle.pdb_handles.specs.declared.content.Content.TheVariants.{Definitions};
+ghost use Rattle.pdb_handles.specs.Copied.{CopiesOrLacks, copied_of};
+ghost use Rattle.pdb_reports.specs.Definitions.{FindsOrLacks, WritesTextOf, definitions_held, definitions_named};
+ghost use Rattle.pdb_reports.specs.Definitions.{definitions_opened, found_in};
+ghost use Rattle.pdb_handles.specs.Handle.{OpensStream, held_as};
+
+use pdb_handles::copied::{copy_list, copy_nothing};
+use pdb_handles::{ALREADY_OPEN, Content, Fault, Handle, NOT_OPEN, TOO_LONG};
+use pdb_reports::definitions::{
+    copy_declaration, definition_number, definitions_in, definitions_named, size_in, tell_if_found,
+};
+use std::alloc::Global;
+
+/// Opens the table of types in a stream, which is copied, and finds the definitions of its classes,
+/// unions and enumerations.
+#[unsafe(no_mangle)]
+pub extern "C" fn pdb_definitions_open(
+    alloc: Global,
+    stream: &[u8],
+    definitions: &mut Handle,
+    fault: &mut Fault,
+) -> u32
+    ensures opens { OpensStream stream.now definitions.old.held.content
+        (held_as Definitions (definitions_opened stream.now)) fault.new definitions.new.held.content }
+    ensures status { result ≡ fault.new.status }
+{
+    if definitions.is_open() {
+        return Fault::status(ALREADY_OPEN).tell(fault);
+    }
+    if stream.len() >= 0xffff_ffff {
+        return Fault::status(TOO_LONG).tell(fault);
+    }
+    let opened = definitions_in(alloc, stream);
+    definitions.open(alloc, opened).tell(fault)
+}
+
+/// Copies the indexes of all definitions of a name, in increasing order.
+#[unsafe(no_mangle)]
+pub extern "C" fn pdb_definitions_named(
+    alloc: Global,
+    definitions: &mut Handle,
+    name: &[u8],
+    room: &mut [u32],
+    length: &mut usize,
+    fault: &mut Fault,
+) -> u32
+    ensures answer { CopiesOrLacks (record { fault = fault.new; length = length.new; room = room.new }) room.old
+        (copied_of room.old (definitions_named name.now) (definitions_held definitions.old.held.content)) }
+    ensures kept { definitions.new.held.content ≡ definitions.old.held.content }
+    ensures status { result ≡ fault.new.status }
+{
+    let Some(content) = definitions.take(alloc) else {
+        return copy_nothing(Fault::status(NOT_OPEN), length).tell(fault);
+    };
+    let told = match &*content {
+        Content::Definitions(open) => {
+            let found = definitions_named(alloc, open, name);
+            copy_list(found, room, length)
+        }
+        _ => copy_nothing(Fault::status(NOT_OPEN), length),
+    };
+    definitions.put(content);
+    told.tell(fault)
+}
+
+/// Writes the index of the definition of a type.
+#[unsafe(no_mangle)]
+pub extern "C" fn pdb_definition_of(
+    alloc: Global,
+    definitions: &mut Handle,
+    index: u32,
+    definition: &mut u32,
+    fault: &mut Fault,
+) -> u32
+    ensures answer { FindsOrLacks (record { fault = fault.new; value = definition.new }) definition.old
+        (found_in definition.old (λ table. definition_of table index)
+        (definitions_held definitions.old.held.content)) }
+    ensures kept { definitions.new.held.content ≡ definitions.old.held.content }
+    ensures status { result ≡ fault.new.status }
+{
+    let Some(content) = definitions.take(alloc) else {
+        return Fault::status(NOT_OPEN).tell(fault);
+    };
+    let told = match &*content {
+        Content::Definitions(open) => {
+            let found = definition_number(alloc, open, index);
+            tell_if_found(found, definition)
+        }
+        _ => Fault::status(NOT_OPEN),
+    };
+    definitions.put(content);
+    told.tell(fault)
+}
+
+/// Writes the size of a type in bytes.
+#[unsafe(no_mangle)]
+pub extern "C" fn pdb_type_size(
+    alloc: Global,
+    definitions: &mut Handle,
+    index: u32,
+    size: &mut u64,
+    fault: &mut Fault,
+) -> u32
+    ensures answer { FindsOrLacks (record { fault = fault.new; value = size.new }) size.old
+        (found_in size.old (λ table. size_of table index) (definitions_held definitions.old.held.content)) }
+    ensures kept { definitions.new.held.content ≡ definitions.old.held.content }
+    ensures status { result ≡ fault.new.status }
+{
+    let Some(content) = definitions.take(alloc) else {
+        return Fault::status(NOT_OPEN).tell(fault);
+    };
+    let told = match &*content {
+        Content::Definitions(open) => {
+            let found = size_in(alloc, open, index);
+            tell_if_found(found, size)
+        }
+        _ => Fault::status(NOT_OPEN),
+    };
+    definitions.put(content);
+    told.tell(fault)
+}
+
+/// Copies the declaration of a name that has a type, as C++ spells it, or the text of the type
+/// alone if the name is empty.
+#[unsafe(no_mangle)]
+pub extern "C" fn pdb_type_text(
+    alloc: Global,
+    definitions: &mut Handle,
+    index: u32,
+    name: &[u8],
+    room: &mut [u8],
+    length: &mut usize,
+    fault: &mut Fault,
+) -> u32
+    ensures answer { WritesTextOf (definitions_held definitions.old.held.content) room.old
+        (record { fault = fault.new; length = length.new; room = room.new }) }
+    ensures kept { definitions.new.held.content ≡ definitions.old.held.content }
+    ensures status { result ≡ fault.new.status }
+{
+    let Some(content) = definitions.take(alloc) else {
+        return copy_nothing(Fault::status(NOT_OPEN), length).tell(fault);
+    };
+    let told = match &*content {
+        Content::Definitions(open) => copy_declaration(alloc, open, index, name, room, length),
+        _ => copy_nothing(Fault::status(NOT_OPEN), length),
+    };
+    definitions.put(content);
+    told.tell(fault)
+}
