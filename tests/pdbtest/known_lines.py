@@ -1,0 +1,259 @@
+"""What tests/c/calls.c has to print of the file that is known, by the format's rules."""
+
+import uuid
+
+from pdbtest.addresses import moved_ranges
+from pdbtest.known_file import (
+    DEBUG_AGE, FLAGS, FROM_SOURCE, GUID, LOADED, MACHINE, NAMED, NAMES, NEW_FRAMES, OLD_FRAMES, ORIGINAL, TO_SOURCE,
+    streams,
+)  # fmt: skip
+from pdbtest.reading import PARTS, Reading
+
+FIRST, LAST, STEP = 0x800, 0x5000, 0x80
+NOWHERE = "nowhere"
+
+
+def moved(table, address):
+    """Where a table moves an address, or None where that doesn't fit 32 bits."""
+    below = [record for record in table if record[0] <= address]
+    if not below or not below[-1][1]:
+        return None
+    target = below[-1][1] + address - below[-1][0]
+    return target if target <= 0xFFFFFFFF else None
+
+
+def place_in(sections, address):
+    """The section that has an address, and the offset there."""
+    if address is None:
+        return None
+    for number, (_, _, at, size, _) in enumerate(sections, 1):
+        if at <= address < at + size:
+            return number, address - at
+    return None
+
+
+def address_in(sections, number, offset):
+    """The address of an offset in a section, if there is the section."""
+    return sections[number - 1][2] + offset if 0 < number <= len(sections) else None
+
+
+def shown(address):
+    """An address as calls.c prints it."""
+    return NOWHERE if address is None else f"{address:#x}"
+
+
+def shown_place(place):
+    """A place in a section as calls.c prints it."""
+    return NOWHERE if place is None else f"{place[0]}:{place[1]:#x}"
+
+
+def to_source(address):
+    """Where the table to the source moves an address, if there is one."""
+    return None if address is None else moved(TO_SOURCE, address)
+
+
+def from_source(address):
+    """Where the table from the source moves an address, if there is one."""
+    return None if address is None else moved(FROM_SOURCE, address)
+
+
+def address_lines():
+    """Addresses and places, each converted to the others, and ranges of addresses."""
+    for asked in range(FIRST, LAST, STEP):
+        number = asked // STEP % 4
+        loaded, internal = address_in(LOADED, number, asked), address_in(ORIGINAL, number, asked)
+        yield f"address0 {asked:#x} {shown(to_source(asked))}"
+        yield f"address1 {asked:#x} {shown(from_source(asked))}"
+        places = [place_in(LOADED, asked), place_in(ORIGINAL, to_source(asked))]
+        places += [place_in(LOADED, from_source(asked)), place_in(ORIGINAL, asked)]
+        addresses = [loaded, to_source(loaded), internal, from_source(internal)]
+        for i in range(4):
+            yield f"place{i} {asked:#x} {shown_place(places[i])}"
+            yield f"from{i} {asked:#x} {shown(addresses[i])}"
+        across = [place_in(ORIGINAL, to_source(loaded)), place_in(LOADED, from_source(internal))]
+        for i, table in enumerate([FROM_SOURCE, TO_SOURCE]):
+            yield f"across{i} {asked:#x} {shown_place(across[i])}"
+            ranges = moved_ranges(table, asked, asked + 0x300)
+            yield f"ranges{i} {asked:#x}" + "".join(f" {low:#x}..{high:#x}" for low, high in ranges)
+
+
+def frames_from(frames, address):
+    """The frames from an address on: from the one that starts there or covers it, or from the next."""
+    return [frame for frame in frames if frame[0] >= address or frame[0] + frame[1] > address]
+
+
+def frame_lines():
+    """The frames at addresses."""
+    old = [(at, size, 4 * locals_, 4 * parameters, kind) for at, size, locals_, parameters, kind in OLD_FRAMES]
+    new = [(*frame, 4) for frame in NEW_FRAMES]
+    for asked in range(FIRST, LAST, STEP):
+        # of two that start at one address, the newer
+        heads = [frames[0] for frames in (frames_from(new, asked), frames_from(old, asked)) if frames]
+        first = min(heads, key=lambda frame: frame[0], default=None)
+        yield f"frame {asked:#x} " + (NOWHERE if first is None else "{:#x} {} {} {} {}".format(*first))
+
+
+def stream_lines(all_streams, page_size):
+    """The streams of the file, and one that it lacks."""
+    yield "closed 101 7"
+    yield "again 100"
+    yield f"pages {page_size} streams {len(all_streams)}"
+    for number, stream in enumerate([*all_streams, None]):
+        if stream is None:
+            yield f"stream {number} absent {number}"
+        else:
+            size = len(stream)
+            yield f"stream {number} size {size} needs {size} begins {stream[:40].hex()}"
+
+
+def place_lines():
+    """The places of many names, written into an array that holds a 7 in each length beforehand."""
+    places, untouched = [], "0+7"
+    offset = 0
+    for name in NAMES:
+        places.append(f"{12 + offset}+{len(name)}")
+        offset += len(name) + 1
+    count = len(places)
+
+    def shown_array(status, length, written):
+        return f"places {status} {length} " + " ".join(places[:written] + [untouched] * (count + 1 - written))
+
+    yield shown_array(102, count, 0)
+    yield shown_array(0, count, count)
+    for refused in reversed(range(count)):
+        yield shown_array(8, refused, refused)
+    yield f"places 0 0 {untouched}"
+
+
+def type_lines():
+    """Lists of types, and unique names."""
+    yield "method 0x1000 5 0x3 0x1100 4294967295"
+    yield "method 0x1000 5 0x13 0x1101 24"
+    yield "dimension 0x1001 40"
+    yield "dimension 0x1001 4000"
+    yield "unique 0x1002 .?AUS@@"
+    yield "unique 0x1003 .?ATU@@"
+    yield "unique 0x1007 .?AUT@@"
+    yield "unique 0x1008 .?AUT@@"
+
+
+def identity_lines():
+    """The key by Python's uuid."""
+    guid = uuid.UUID(bytes_le=GUID)
+    yield f"identity 20000404 1700000000 {DEBUG_AGE} 3 1 {DEBUG_AGE} {MACHINE} {FLAGS} guid {GUID.hex()}"
+    texts = [f"{guid.hex.upper()}{DEBUG_AGE:X}", f"{guid.hex}{DEBUG_AGE:x}", str(guid).upper()]
+    yield from (f"key {form} needs {len(text)} is {text}" for form, text in enumerate(texts))
+    yield "key of no form 105 0"
+    yield "format 1 2 3 4 5 0"
+
+
+# Of each type from 0x1000 on: its definition, its size, and the rows of its layout, which are those of its definition.
+# A row: kind, offset, size, extent, first bit, bits, type, virtual base class, its position, if it is direct, name.
+OF_T = [
+    (0, 0, 16, 0, 0, 0, 0x1002, 0, 0, 0, ""),
+    (3, 20, 0, 1, 5, 3, 0x1005, 0, 0, 0, "flag"),
+    (3, 24, 8, 0, 0, 0, 0x1003, 0, 0, 0, "u"),
+    (4, 16, 4, *[0] * 7, ""),
+    (4, 21, 3, *[0] * 7, ""),
+    (4, 32, 4, *[0] * 7, ""),
+    (5, 20, 0, 1, 0, 5, 0, 0, 0, 0, ""),
+]
+OF_V = [
+    (2, 0, 4, 0, 0, 0, 0x1009, 0, 0, 0, ""),
+    (1, 4, 4, 0, 0, 0, 0x1009, 0x1002, 7, 1, ""),
+    (3, 8, 4, 0, 0, 0, 0x74, 0, 0, 0, "last"),
+    (6, 12, 12, *[0] * 7, ""),
+]
+DEFINED = [
+    (None, None, None),
+    (None, 4000, None),
+    (0x1002, 16, [(4, 0, 16, *[0] * 7, "")]),
+    (0x1003, 8, [(4, 0, 8, *[0] * 7, "")]),
+    (0x1004, 4, None),
+    (None, 4, None),
+    (None, None, None),
+    (0x1008, 36, OF_T),
+    (0x1008, 36, OF_T),
+    (None, 4, None),
+    (None, None, None),
+    (0x100B, 24, OF_V),
+    (0x100C, 1, [(4, 0, 1, *[0] * 7, "")]),
+    (0x100D, 2, [(4, 0, 2, *[0] * 7, "")]),
+]
+
+
+def definition_lines():
+    """Definitions of types, and their sizes, layouts and texts."""
+    yield from ("named S 0x1002", "named T 0x1008", "named E 0x1004", "named none", "named Q 0x100c 0x100d")
+    for index, (definition, size, rows) in enumerate(DEFINED, 0x1000):
+        yield f"definition {index:#x} {shown(definition)}"
+        yield f"size {index:#x} {NOWHERE if size is None else size}"
+        for *place, of, base, position, direct, name in rows or []:
+            where = " ".join(map(str, place))
+            yield f"layout {index:#x} {where} {of:#x} {base:#x} {position} {direct} {name}"
+        if rows is None:
+            yield f"layout {index:#x} {NOWHERE}"
+    yield from ("text 0x74 int it", "text 0x1001 int it[100][10]", "text 0x1007 T it", "text 0x1009 T *it")
+    yield "closed definitions 101"
+
+
+# What is told of calls that are refused, with plenty of memory: the status, and the numbers that go with it.
+WHOLE = ["open", "information", "identity", "stream names", "named stream", "roles", "names", "addresses", "frames"]
+TOO_SMALL, NO_TEXT = 102, 104
+REFUSED = [
+    *((f"cut {call}", 1, 0) for call in WHOLE),
+    *((f"page size {call}", 3, 768) for call in WHOLE),
+    ("no names", 5, 0), ("no named stream", 5, 0), ("name of no stream", 5, 0), ("small named stream", TOO_SMALL, 0),
+    ("no stream", 4, 99), ("no size", 4, 99), ("names", 8, 0), ("signature", 9, 6), ("omap", 6, 1), ("table", 8, 0),
+    ("header", 13, 10), ("definitions", 8, 0), ("header of definitions", 13, 10), ("positions", 13, 10),
+    ("sections", 8, 0), ("small sections", TOO_SMALL, 0), ("small name", TOO_SMALL, 0), ("no name", 8, 0),
+    ("no place", 8, 0), ("small ranges", TOO_SMALL, 0), ("small address ranges", TOO_SMALL, 0),
+    ("small internal ranges", TOO_SMALL, 0), ("cut row", 8, 0), ("kind of row", 17, 0x151D), ("pointer", 17, 0x1002),
+    ("prefix", 20, 0x8005), ("primitive", 15, 0x874), ("cut name", 8, 0), ("small name of a type", TOO_SMALL, 0),
+    ("false count", 8, 0), ("small arguments", TOO_SMALL, 0), ("array", 8, 0), ("small dimensions", TOO_SMALL, 0),
+    ("cut method", 8, 0), ("small methods", TOO_SMALL, 0), ("cut unique name", 8, 0),
+    ("small unique name", TOO_SMALL, 0), ("cut field", 8, 0), ("list in a list", 17, 0x1203),
+    ("small fields", TOO_SMALL, 0), ("small names of fields", TOO_SMALL, 0), ("cut id", 8, 0),
+    ("kind of id", 17, 0x1608), ("small name of an id", TOO_SMALL, 0), ("cut name of an id", 8, 0),
+    ("false count of ids", 8, 0), ("small list of ids", TOO_SMALL, 0), ("no type", 15, 0xFFFFFFFF),
+    ("fields of an integer", 17, 0xFFFF), ("fields of an array", 17, 0x1503), ("fields of no type", 15, 0x2000),
+    ("no definition", 15, 0x2000), ("size of no type", 15, 0x2000), ("text of no type", 15, 0x2000),
+    ("layout of no type", 15, 0x2000), ("small definitions", TOO_SMALL, 0), ("small text of a type", TOO_SMALL, 0),
+    ("small layout", TOO_SMALL, 0), ("small names of a layout", TOO_SMALL, 0), ("small text", TOO_SMALL, 0),
+    ("no text", NO_TEXT, 0),
+]  # fmt: skip
+
+
+def finding_lines(data):
+    """What is wrong in the file, and in its first bytes, by the reader of whole files."""
+    for part in (data, data[:4095]):
+        faults = Reading(part).faults
+        yield f"findings {len(faults)}"
+        for code, stream, index, byte in faults:
+            in_stream, at_record = (int(number is not None) for number in (stream, index))
+            yield f"finding {PARTS.index(code)} {in_stream}:{stream or 0} {at_record}:{index or 0:#x}:{byte or 0}"
+
+
+def lines(page_size, data):
+    """All that is printed, of the file, which is these bytes, over pages of a size."""
+    all_streams = streams()
+    yield from stream_lines(all_streams, page_size)
+    yield f"version 20000404 signature 1700000000 age 3 guid {GUID.hex()}"
+    yield f"named {len(NAMED)} {sum(len(name) for name, _ in NAMED)}"
+    yield from (f"named {number} {name}" for name, number in NAMED)
+    yield "roles 6 7 8 9 10"
+    yield from identity_lines()
+    for name, size, at, raw, flags in [*LOADED, *ORIGINAL]:
+        yield f"section {name} {size:#x} {at:#x} {raw:#x} {flags:#x}"
+    yield from address_lines()
+    yield from frame_lines()
+    offset = 0
+    for name in NAMES:
+        yield f"name {offset} {name}"
+        yield f"place {offset} {12 + offset} {len(name)}"
+        offset += len(name) + 1
+    yield from place_lines()
+    yield from type_lines()
+    yield from definition_lines()
+    yield from finding_lines(data)
+    yield from (f"told {what} {status} {number} 0" for what, status, number in REFUSED)
