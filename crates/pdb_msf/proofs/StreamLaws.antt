@@ -15,7 +15,8 @@ use Rattle.pdb_msf.specs.declared.directory.StreamPlace.{StreamPlace}
 use Rattle.pdb_msf.specs.Source.{HasFailed, found}
 use Rattle.pdb_msf.specs.Pages.{pages, page_number, page_numbers, present, scatter, words}
 use Rattle.pdb_msf.specs.Header.{Head, directory_pages}
-use Rattle.pdb_msf.specs.Directory.{Entry, absent, directory_of, entry_of, limited, place_in, sizes_of, start_of}
+use Rattle.pdb_msf.specs.Directory.{Entry, absent, directory_numbers, directory_of, entry_of, limited, place_in, sizes_of}
+use Rattle.pdb_msf.specs.Directory.{start_of}
 use Rattle.pdb_msf.specs.File.{stream_of}
 use Rattle.pdb_msf.specs.Laws.{AreGood, IsDirectory, IsStream, Moment, IsLater, AnswersAlike, AgreeUnless}
 use Rattle.pdb_msf.proofs.lemmas.Kept.{kept_here, kept_then}
@@ -104,23 +105,24 @@ read_good pages_used count words numbers good =
 
 is_directory : (file : List ℕ) (head : Head) (directory : List ℕ) → directory_of file head ≡ Ok directory
     → IsDirectory file head directory
-unfolding directory_of
+unfolding directory_of directory_numbers
 is_directory file head directory e =
     let g = head.geometry in
-    let location = bind_ok (found (scatter file g.page_size head.location (4 * directory_pages g))) _ directory e in
-    let numbers = bind_ok (page_numbers g.pages_used (directory_pages g) (words location.0)) _ directory location.2 in
+    let numbers = bind_ok (directory_numbers file head) _ directory e in
+    let location =
+    bind_ok (found (scatter file g.page_size head.location (4 * directory_pages g))) _ numbers.0 numbers.1 in
     record {
       location = location.0;
       located = (scatters file g.page_size head.location (4 * directory_pages g)).found location.0
           (found_there _ location.0 location.1);
       numbers = numbers.0;
-      good = are_good g.pages_used (directory_pages g) (words location.0) numbers.0 numbers.1;
+      good = are_good g.pages_used (directory_pages g) (words location.0) numbers.0 location.2;
       read = (scatters file g.page_size numbers.0 g.directory_size).found directory (found_there _ directory numbers.2);
     }
 
 only_directory : (file : List ℕ) (head : Head) (directory : List ℕ) → IsDirectory file head directory
     → directory_of file head ≡ Ok directory
-unfolding directory_of
+unfolding directory_of directory_numbers
 only_directory file head directory is =
     let g = head.geometry in
     let located = (scatters file g.page_size head.location (4 * directory_pages g)).only is.location is.located in

@@ -78,11 +78,16 @@ entry_of geometry n limit directory = do
   numbers ← page_numbers geometry.pages_used (pages geometry.page_size place.size) (words (drop place.start directory))
   Ok (record { size = limited place.size limit; pages = numbers })
 
--- The bytes of the directory. Its page numbers are in the pages that the header lists.
+-- The numbers of the pages that hold the directory, which are in the pages that the header lists.
+unfoldable pub directory_numbers : List ℕ → Head → Answer (List ℕ)
+directory_numbers file head = do
+  location ← found (scatter file head.geometry.page_size head.location (4 * directory_pages head.geometry))
+  page_numbers head.geometry.pages_used (directory_pages head.geometry) (words location)
+
+-- The bytes of the directory, which are scattered over its pages.
 unfoldable pub directory_of : List ℕ → Head → Answer (List ℕ)
 directory_of file head = do
-  location ← found (scatter file head.geometry.page_size head.location (4 * directory_pages head.geometry))
-  numbers ← page_numbers head.geometry.pages_used (directory_pages head.geometry) (words location)
+  numbers ← directory_numbers file head
   found (scatter file head.geometry.page_size numbers head.geometry.directory_size)
 
 -- the first word of a directory, which is its count of streams

@@ -1,5 +1,5 @@
 -- What is kept of a file apart from its bytes, and how streams are read by it.
-use Rattle.std.specs.Prelude.{ℕ, List, Option, Ok}
+use Rattle.std.specs.Prelude.{ℕ, List, Option, None, Ok}
 use Rattle.pdb_base.specs.Answer.{Answer, ◌>>=◌}
 use Rattle.pdb_msf.specs.Source.{found}
 use Rattle.pdb_msf.specs.Pages.{scatter}
@@ -21,6 +21,10 @@ layout_of file = do
 -- the size of stream n of a layout
 abbrev pub size_by : LayoutValue → ℕ → Answer ℕ
 size_by layout n = size_in layout.head.geometry.page_size n layout.directory
+
+-- the numbers of the pages of stream n of a layout, in the order of its bytes
+abbrev pub pages_by : LayoutValue → ℕ → Answer (List ℕ)
+pages_by layout n = entry_of layout.head.geometry n None layout.directory >>= λ entry. Ok entry.pages
 
 -- the bytes of a file that lie where a layout places stream n, at most as many as the limit says
 unfoldable pub stream_by : LayoutValue → List ℕ → ℕ → Option ℕ → Answer (List ℕ)

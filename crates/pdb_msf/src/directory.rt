@@ -1,13 +1,13 @@
 //! The directory of a file: which streams it holds, and where the page numbers of each begin.
 
-ghost use Rattle.std.specs.Prelude.{◌≡◌, ◌*◌, ◌^◌, ◌<◌, ◌≤◌, false, length, vec_capacity, IfOk};
+ghost use Rattle.std.specs.Prelude.{◌≡◌, ◌*◌, ◌^◌, ◌<◌, ◌≤◌, false, length, vec_capacity, vec_len, IfOk};
 ghost use Rattle.pdb_base.specs.Memory.{FailsOnlyForMemory};
 ghost use Rattle.pdb_base.specs.Answer.{Answers, AnswersUnless, Gives};
 ghost use Rattle.pdb_msf.specs.Source.{HasFailed, IsKept, KeepsKind};
-ghost use Rattle.pdb_msf.specs.Header.{header_view, IsHeader};
+ghost use Rattle.pdb_msf.specs.Header.{directory_pages, header_view, IsHeader};
 ghost use Rattle.pdb_msf.specs.Asked.{Asks};
 ghost use Rattle.pdb_msf.specs.Exactly.{RefusesExactly};
-ghost use Rattle.pdb_msf.specs.Directory.{absent, directory_of, entry_of, entry_view, limited, pages_taken, place_in};
+ghost use Rattle.pdb_msf.specs.Directory.{absent, directory_numbers, directory_of, entry_of, entry_view, limited, pages_taken, place_in};
 ghost use Rattle.pdb_msf.specs.Directory.{starts_of, stream_count_in, HasPages, HasStarts};
 ghost use Rattle.pdb_msf.specs.File.{locating};
 
@@ -48,6 +48,29 @@ pub struct StreamEntry {
     pub pages: Vec<u32>,
 }
 
+/// Reads the numbers of the pages that hold the directory.
+#[tactic(auto, unfolding(crate::specs::Directory::directory_numbers))]
+pub fn read_numbers<S: Source>(
+    source: &mut CountedSource<S>,
+    alloc: Global,
+    header: &Header,
+) -> Result<Vec<u32>>
+    requires { IsHeader header.now }
+    ensures numbers { AnswersUnless (HasFailed (S.state source.old.source) (S.state source.new.source))
+        (λ v. v.items) result
+        (directory_numbers (S.state source.old.source).bytes (header_view header.now)) }
+    ensures count { IfOk result (λ v. vec_len v ≡ directory_pages header.now.geometry) }
+    ensures kept { IsKept (S.state source.old.source) (S.state source.new.source) }
+    ensures kind { KeepsKind (S.state source.new.source) result }
+    ensures asked { Asks source.old.asked source.new.asked (4 * directory_pages header.now.geometry) result }
+{
+    let geometry = header.geometry;
+    let count = geometry.directory_pages();
+    let location = source.read_scattered(alloc, geometry.page_size, &header.location, 4 * count)?;
+    let mut buffer = ParseBuffer::from(location.as_slice());
+    geometry.page_numbers(alloc, &mut buffer, count)
+}
+
 /// Reads the bytes of the directory.
 #[tactic(auto, unfolding(crate::specs::Directory::directory_of))]
 fn read_directory<S: Source>(
@@ -64,10 +87,7 @@ fn read_directory<S: Source>(
     ensures asked { Asks source.old.asked source.new.asked (locating false header.now.geometry) result }
 {
     let geometry = header.geometry;
-    let count = geometry.directory_pages();
-    let location = source.read_scattered(alloc, geometry.page_size, &header.location, 4 * count)?;
-    let mut buffer = ParseBuffer::from(location.as_slice());
-    let numbers = geometry.page_numbers(alloc, &mut buffer, count)?;
+    let numbers = read_numbers(source, alloc, header)?;
     let size = geometry.directory_size as usize;
     source.read_scattered(alloc, geometry.page_size, &numbers, size)
 }

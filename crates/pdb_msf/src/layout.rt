@@ -3,10 +3,10 @@
 ghost use Rattle.std.specs.Prelude.{◌≡◌};
 ghost use Rattle.pdb_base.specs.Answer.{Answers, Gives};
 ghost use Rattle.pdb_msf.specs.Exactly.{RefusesExactly};
-ghost use Rattle.pdb_msf.specs.Directory.{place_in, stream_count_in};
-ghost use Rattle.pdb_msf.specs.Layout.{layout_of, size_by, stream_by};
+ghost use Rattle.pdb_msf.specs.Directory.{directory_numbers, place_in, stream_count_in};
+ghost use Rattle.pdb_msf.specs.Layout.{layout_of, pages_by, size_by, stream_by};
 
-use crate::directory::Directory;
+use crate::directory::{Directory, read_numbers};
 use crate::header::{Header, read_header};
 use crate::msf::{OPENING_SIZE, view_front};
 use crate::scattered::CountedSource;
@@ -84,6 +84,43 @@ impl Layout {
     {
         let page_size = self.header.geometry.page_size;
         Ok(self.directory.place(page_size, stream_number)?.size)
+    }
+
+    /// Returns the numbers of the pages that hold the page numbers of the directory, as the header
+    /// lists them.
+    pub fn location_pages(&self) -> &[u32]
+        ensures { result.now ≡ self.now.head.location }
+    {
+        self.header.location.as_slice()
+    }
+
+    /// Reads the numbers of the pages that hold the directory, which `file` has in its
+    /// `location_pages`.
+    ///
+    /// # Errors
+    /// Fails with `IoError` if one of these pages is past the end of the file, with
+    /// `PageReferenceOutOfRange` for the first number that is bad, and with `OutOfMemory` if an
+    /// allocation fails.
+    pub fn directory_pages(&self, alloc: Global, file: &[u8]) -> Result<Vec<u32>>
+        ensures { Answers (λ numbers. numbers.items) result (directory_numbers file.now self.now.head) }
+    {
+        read_numbers(&mut CountedSource::new(file), alloc, &self.header)
+    }
+
+    /// Returns the numbers of the pages over which a stream is scattered, in the order of its
+    /// bytes: byte i of the stream is byte i % `page_size` of page i / `page_size` of them. They
+    /// are not checked against the size of the file.
+    ///
+    /// # Errors
+    /// Fails with the first of these, in this order: the errors of `stream_size`; `UnexpectedEof`
+    /// or `PageReferenceOutOfRange` for the first of the stream's page numbers that is missing or
+    /// bad. Fails with `OutOfMemory` if an allocation fails.
+    pub fn stream_pages(&self, alloc: Global, stream_number: u32) -> Result<Vec<u32>>
+        ensures { Answers (λ numbers. numbers.items) result (pages_by self.now stream_number) }
+    {
+        let geometry = self.header.geometry;
+        let entry = self.directory.entry(alloc, geometry, stream_number, None)?;
+        Ok(entry.pages)
     }
 
     /// Returns the bytes of `file` where the directory locates a stream, at most as many as the

@@ -13,7 +13,7 @@ use Rattle.pdb_base.proofs.lemmas.Collected.{err_is}
 use Rattle.pdb_msf.specs.Source.{State, TellsKind, IsOther, found}
 use Rattle.pdb_msf.specs.Header.{Head, directory_pages}
 use Rattle.pdb_msf.specs.Pages.{page_numbers, scatter, words}
-use Rattle.pdb_msf.specs.Directory.{Entry, directory_of, entry_of}
+use Rattle.pdb_msf.specs.Directory.{Entry, directory_numbers, directory_of, entry_of}
 use Rattle.pdb_msf.specs.File.{stream_of}
 use Rattle.pdb_msf.proofs.KindLemmas.{tells_entry, tells_numbers}
 use Rattle.pdb_validation.specs.Outside.{IsFromOutside, answered}
@@ -39,15 +39,15 @@ tells_found None e state is =
     subst (TellsKind state) same (λ (other : IsOther kinds.UnexpectedEof). absurd (other.no_end refl))
 
 pub tells_directory : (file : List ℕ) (head : Head) → Tells (directory_of file head)
-unfolding directory_of
+unfolding directory_of directory_numbers
 tells_directory file head =
     let geometry = head.geometry in
-    tells_then (found (scatter file geometry.page_size head.location (4 * directory_pages geometry))) _
+    tells_then (directory_numbers file head) _
+    (tells_then (found (scatter file geometry.page_size head.location (4 * directory_pages geometry))) _
     (tells_found (scatter file geometry.page_size head.location (4 * directory_pages geometry))) (λ location.
-    tells_then (page_numbers geometry.pages_used (directory_pages geometry) (words location)) _
-    (λ e state is. tells_numbers state (λ (numbers : List ℕ). numbers) e geometry.pages_used
-    (directory_pages geometry) (words location) (inl is)) (λ numbers.
-    tells_found (scatter file geometry.page_size numbers geometry.directory_size)))
+    λ e state is. tells_numbers state (λ (numbers : List ℕ). numbers) e geometry.pages_used
+    (directory_pages geometry) (words location) (inl is))) (λ numbers.
+    tells_found (scatter file geometry.page_size numbers geometry.directory_size))
 
 pub tells_stream : (file : List ℕ) (head : Head) (n : ℕ) (limit : Option ℕ) → Tells (stream_of file head n limit)
 unfolding stream_of
