@@ -1,0 +1,36 @@
+-- What can be inconsistent in a file.
+use Rattle.std.specs.Prelude.{ℕ, Bool, true, false, List, codes}
+use Rattle.pdb_consistency.specs.declared.inconsistency.Inconsistency.{Inconsistency}
+use Rattle.pdb_consistency.specs.declared.inconsistency.Inconsistency.TheVariants.{DirectoryTooLarge, StreamsTooLarge}
+use Rattle.pdb_consistency.specs.declared.inconsistency.Inconsistency.TheVariants.{OutOfOrder, PageShared, PageFree}
+use Rattle.pdb_consistency.specs.declared.inconsistency.Inconsistency.TheVariants.{StreamMissing, DebugSizes}
+use Rattle.pdb_consistency.specs.declared.inconsistency.Inconsistency.TheVariants.{ReferenceNotBelow, RecordUnaligned}
+use Rattle.pdb_consistency.specs.declared.inconsistency.Inconsistency.TheVariants.{KindNotRead, HashCount, HashTooLarge}
+use Rattle.pdb_consistency.specs.declared.inconsistency.Inconsistency.TheVariants.{IndexOffset, NameOffset, NameCount}
+use Rattle.pdb_consistency.specs.declared.inconsistency.Inconsistency.TheVariants.{SectionsOverlap}
+
+-- the code of an inconsistency, under which programs tell of it
+abbrev pub inconsistency_code : Inconsistency → List ℕ
+inconsistency_code DirectoryTooLarge = codes "DIRECTORY-TOO-LARGE"
+inconsistency_code StreamsTooLarge = codes "STREAMS-TOO-LARGE"
+inconsistency_code OutOfOrder = codes "OUT-OF-ORDER"
+inconsistency_code (PageShared page) = codes "PAGE-SHARED"
+inconsistency_code (PageFree page) = codes "PAGE-FREE"
+inconsistency_code (StreamMissing stream) = codes "STREAM-MISSING"
+inconsistency_code DebugSizes = codes "DEBUG-SIZES"
+inconsistency_code (ReferenceNotBelow index) = codes "REFERENCE-NOT-BELOW"
+inconsistency_code RecordUnaligned = codes "RECORD-UNALIGNED"
+inconsistency_code (KindNotRead kind) = codes "KIND-NOT-READ"
+inconsistency_code (HashCount count) = codes "HASH-COUNT"
+inconsistency_code (HashTooLarge value) = codes "HASH-TOO-LARGE"
+inconsistency_code (IndexOffset index) = codes "INDEX-OFFSET"
+inconsistency_code (NameOffset offset) = codes "NAME-OFFSET"
+inconsistency_code (NameCount count) = codes "NAME-COUNT"
+inconsistency_code SectionsOverlap = codes "SECTIONS-OVERLAP"
+
+-- whether files of known tools have it too, so that it makes no file damaged
+abbrev pub is_warning : Inconsistency → Bool
+is_warning (PageFree page) = true
+is_warning RecordUnaligned = true
+is_warning (KindNotRead kind) = true
+is_warning other = false

@@ -1,0 +1,96 @@
+//! What can be inconsistent in a file.
+
+ghost use Rattle.std.specs.Prelude.{◌≡◌};
+ghost use Rattle.pdb_consistency.specs.Inconsistency.{inconsistency_code, is_warning};
+
+/// What does not hold between parts of a file, each of which can be read.
+#[derive(Clone, Copy, Debug, PartialEq, Eq)]
+pub enum Inconsistency {
+    /// The directory is larger than the file.
+    DirectoryTooLarge,
+
+    /// The streams together are larger than the file.
+    StreamsTooLarge,
+
+    /// The records of a stream are not in increasing order.
+    OutOfOrder,
+
+    /// The page of this number holds bytes of two streams, twice of one, or of a stream and of the
+    /// container itself.
+    PageShared(u32),
+
+    /// The page of this number holds bytes of a stream, and the free page map marks it as free.
+    PageFree(u32),
+
+    /// The stream of this number has a name or a role, and the file has no such stream.
+    StreamMissing(u32),
+
+    /// The parts of stream 3 do not have as many bytes as its header says that they have.
+    DebugSizes,
+
+    /// A type refers to this index, which is not below its own.
+    ReferenceNotBelow(u32),
+
+    /// A record ends at a byte that is no multiple of four.
+    RecordUnaligned,
+
+    /// A record has this kind, which the library does not read.
+    KindNotRead(u16),
+
+    /// A table has this many hash values, and not one for each of its records.
+    HashCount(u32),
+
+    /// A hash value is this one, which is not below the number of buckets.
+    HashTooLarge(u32),
+
+    /// The place that is stored for the record of this index is not where the record begins.
+    IndexOffset(u32),
+
+    /// The string table's buckets hold this offset, at which no name begins.
+    NameOffset(u32),
+
+    /// The string table says that it has this many names, and its buckets hold another number.
+    NameCount(u32),
+
+    /// A section begins below the end of the one before it.
+    SectionsOverlap,
+}
+
+impl Inconsistency {
+    /// Returns the code of the inconsistency, under which programs tell of it.
+    pub fn code(self) -> &'static str
+        ensures { result.now ≡ inconsistency_code self }
+    {
+        match self {
+            Inconsistency::DirectoryTooLarge => "DIRECTORY-TOO-LARGE",
+            Inconsistency::StreamsTooLarge => "STREAMS-TOO-LARGE",
+            Inconsistency::OutOfOrder => "OUT-OF-ORDER",
+            Inconsistency::PageShared(_) => "PAGE-SHARED",
+            Inconsistency::PageFree(_) => "PAGE-FREE",
+            Inconsistency::StreamMissing(_) => "STREAM-MISSING",
+            Inconsistency::DebugSizes => "DEBUG-SIZES",
+            Inconsistency::ReferenceNotBelow(_) => "REFERENCE-NOT-BELOW",
+            Inconsistency::RecordUnaligned => "RECORD-UNALIGNED",
+            Inconsistency::KindNotRead(_) => "KIND-NOT-READ",
+            Inconsistency::HashCount(_) => "HASH-COUNT",
+            Inconsistency::HashTooLarge(_) => "HASH-TOO-LARGE",
+            Inconsistency::IndexOffset(_) => "INDEX-OFFSET",
+            Inconsistency::NameOffset(_) => "NAME-OFFSET",
+            Inconsistency::NameCount(_) => "NAME-COUNT",
+            Inconsistency::SectionsOverlap => "SECTIONS-OVERLAP",
+        }
+    }
+
+    /// Returns whether files of known tools have it too, so that it makes no file damaged: a page
+    /// that is marked as free, a record that is not aligned, and a kind that is not read.
+    pub fn is_warning(self) -> bool
+        ensures { result ≡ is_warning self }
+    {
+        match self {
+            Inconsistency::PageFree(_) => true,
+            Inconsistency::RecordUnaligned => true,
+            Inconsistency::KindNotRead(_) => true,
+            _ => false,
+        }
+    }
+}
