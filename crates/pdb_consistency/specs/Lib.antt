@@ -1,1 +1,4 @@
 pub mod Inconsistency
+pub mod Mismatch
+pub mod PageOwners
+pub mod Pages

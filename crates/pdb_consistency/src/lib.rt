@@ -2,5 +2,10 @@
 #![tactic(auto)]
 
 mod inconsistency;
+mod mismatch;
+mod page_owners;
+mod pages;
 
 pub use inconsistency::Inconsistency;
+pub use mismatch::{Extent, Mismatch};
+pub use pages::check_pages;

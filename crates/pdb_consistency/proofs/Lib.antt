@@ -1,0 +1,4 @@
+pub mod HeaderLemmas
+pub mod MismatchLemmas
+pub mod OwnerLemmas
+pub mod PageLemmas

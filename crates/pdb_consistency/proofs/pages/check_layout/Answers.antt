@@ -1,0 +1,14 @@
+use Rattle.pdb_consistency.proofs.HeaderLemmas.{layout_long, layout_sized}
+use Rattle.pdb_consistency.proofs.pages.check_layout.Goals as goal
+
+pub div_ceil-count-requires : goal.div_ceil-count-requires
+div_ceil-count-requires c = rw c.page_size-page_size.ensures (layout_sized _ _ c.requires)
+
+pub add_shared-requires : goal.add_shared-requires
+add_shared-requires c = rw c.page_size-page_size.ensures (layout_sized _ _ c.requires)
+
+pub add_free-requires-clause-positive : goal.add_free-requires-clause-positive
+add_free-requires-clause-positive c = rw c.page_size-page_size.ensures (layout_sized _ _ c.requires)
+
+pub add_free-requires-clause-header : goal.add_free-requires-clause-header
+add_free-requires-clause-header c = layout_long _ _ c.requires
