@@ -62,9 +62,11 @@ layout_parts file layout is =
 pub layout_long : (file : List ℕ) (layout : LayoutValue) → layout_of file ≡ Ok layout → 40 ≤ length file
 layout_long file layout is = let long = (layout_parts file layout is).0 in omega arith
 
+positive : (size : ℕ) → 256 ≤ size → 0 < size
+positive size least = omega arith
+
 pub layout_sized : (file : List ℕ) (layout : LayoutValue) → layout_of file ≡ Ok layout
     → 0 < layout.head.geometry.page_size
 layout_sized file layout is =
     let test : nat_le 0x100 layout.head.geometry.page_size ≡ true = middle _ _ _ (layout_parts file layout is).1 in
-    let least : 256 ≤ layout.head.geometry.page_size = leb-true 256 layout.head.geometry.page_size test in
-    omega arith
+    positive layout.head.geometry.page_size (leb-true 256 layout.head.geometry.page_size test)

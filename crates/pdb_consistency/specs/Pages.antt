@@ -1,12 +1,13 @@
 -- Who owns the pages of a file (Microsoft's msf.cpp): each page has at most one owner, and none of a stream is free.
 use Rattle.std.specs.Prelude.{ℕ, ◌+◌, ◌*◌, ◌/◌, ◌%◌, ◌^◌, ◌==◌, Bool, false, ◌&&◌, ◌||◌, not, nat_lt, List, [], ◌∷◌, ◌++◌}
 use Rattle.std.specs.Prelude.{length, slice_get, Option, Some, None, Ok, Err}
+use Rattle.std.specs.Bool.{then_some}
 use Rattle.std.specs.Int.{div_ceil}
 use Rattle.std.specs.List.{flat_map, list_any}
+use Rattle.std.specs.Option.{option_to_list}
 use Rattle.pdb_base.specs.Answer.{Answer}
 use Rattle.pdb_base.specs.Reading.{word_at}
 use Rattle.pdb_msf.specs.Layout.{LayoutValue, layout_of}
-use Rattle.pdb_consistency.specs.Mismatch.{listed_if}
 use Rattle.pdb_consistency.specs.PageOwners.{layout_owners}
 use Rattle.pdb_consistency.specs.declared.inconsistency.Inconsistency.{Inconsistency}
 use Rattle.pdb_consistency.specs.declared.inconsistency.Inconsistency.TheVariants.{PageFree, PageShared}
@@ -36,7 +37,7 @@ is_owned page_size count before page = nat_lt page count && (is_reserved page_si
 abbrev pub shared_pages : ℕ → ℕ → List PageOwner → List PageOwner → List Mismatch
 shared_pages page_size count before [] = []
 shared_pages page_size count before (owner ∷ owners) =
-    listed_if (is_owned page_size count before owner.page) (at_page owner (PageShared owner.page))
+    option_to_list (then_some (is_owned page_size count before owner.page) (at_page owner (PageShared owner.page)))
     ++ shared_pages page_size count (owner ∷ before) owners
 
 -- ---- free pages
@@ -70,8 +71,8 @@ is_in_use (Some number) = not (number == 0)
 -- the mismatch of a page, if it is marked as free
 abbrev pub free_page : List ℕ → ℕ → PageOwner → List Mismatch
 free_page file page_size owner =
-    listed_if (is_in_use owner.stream && is_free file page_size (active_map file) owner.page)
-    (at_page owner (PageFree owner.page))
+    option_to_list (then_some (is_in_use owner.stream && is_free file page_size (active_map file) owner.page)
+    (at_page owner (PageFree owner.page)))
 
 -- the pages of streams that the free page map marks as free
 abbrev pub free_pages : List ℕ → ℕ → List PageOwner → List Mismatch

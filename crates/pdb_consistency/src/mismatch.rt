@@ -1,8 +1,10 @@
 //! What is inconsistent, and where.
 
 ghost use Rattle.std.specs.Prelude.{Ok};
+ghost use Rattle.std.specs.Option.{option_to_list};
 ghost use Rattle.pdb_base.specs.Answer.{Answers};
-ghost use Rattle.pdb_consistency.specs.Mismatch.{listed_if, with_further};
+ghost use Rattle.pdb_consistency.specs.Mismatch.{with_further, with_one};
+ghost use Rattle.pdb_consistency.specs.declared.mismatch.Extent.TheVariants as extents;
 
 use crate::inconsistency::Inconsistency;
 use pdb_base::Result;
@@ -10,7 +12,7 @@ use pdb_base::Result;
 /// How many of the mismatches are asked for.
 #[derive(Clone, Copy, Debug, PartialEq, Eq)]
 pub enum Extent {
-    /// The first one alone, so that no list is kept.
+    /// The first error alone, or the first warning if there is no error, so that no list is kept.
     First,
     /// All of them.
     All,
@@ -32,20 +34,38 @@ pub struct Mismatch {
     pub what: Inconsistency,
 }
 
-/// Adds a mismatch to those before it if the test holds, unless only the first is asked for and
-/// there is one.
-pub(crate) fn add_if(
-    holds: bool,
+/// Adds a mismatch to those before it, if there is one and it is asked for.
+pub(crate) fn add(
     mismatches: &mut Vec<Mismatch>,
     extent: Extent,
-    mismatch: Mismatch,
+    further: Option<Mismatch>,
 ) -> Result<()>
     ensures { Answers (λ done. mismatches.new.items) result
-        (Ok (with_further extent mismatches.old.items (listed_if holds mismatch))) }
+        (Ok (with_further extent mismatches.old.items (option_to_list further))) }
 {
-    let is_wanted = extent == Extent::All || mismatches.is_empty();
-    if holds && is_wanted {
-        mismatches.push(mismatch)?;
+    let Some(further) = further else {
+        return Ok(());
+    };
+    match extent {
+        Extent::All => mismatches.push(further)?,
+        Extent::First => keep_first(mismatches, further)?,
+    }
+    Ok(())
+}
+
+/// Keeps a mismatch if there is none before it, and an error in the place of a warning.
+fn keep_first(mismatches: &mut Vec<Mismatch>, further: Mismatch) -> Result<()>
+    ensures { Answers (λ done. mismatches.new.items) result
+        (Ok (with_one extents.First mismatches.old.items further)) }
+{
+    match mismatches.first() {
+        None => mismatches.push(further)?,
+        Some(kept) => {
+            if kept.what.is_warning() && !further.what.is_warning() {
+                mismatches.clear();
+                mismatches.push(further)?;
+            }
+        }
     }
     Ok(())
 }

@@ -9,7 +9,7 @@ ghost use Rattle.pdb_consistency.specs.Pages.{at_page, free_byte, free_pages, ha
 ghost use Rattle.pdb_consistency.specs.Pages.{active_map, layout_mismatches, page_mismatches, shared_pages};
 
 use crate::inconsistency::Inconsistency;
-use crate::mismatch::{Extent, Mismatch, add_if};
+use crate::mismatch::{Extent, Mismatch, add};
 use crate::page_owners::{PageOwner, owners_of};
 use byteorder::{ByteOrder, LittleEndian};
 use pdb_base::{Error, Result};
@@ -77,7 +77,7 @@ fn add_shared(
         let marked = mark(&mut owned, owner.page);
         let is_shared = is_owned(page_size, count, marked, owner.page);
         let shared = at_page(owner, Inconsistency::PageShared(owner.page));
-        add_if(is_shared, mismatches, extent, shared)?;
+        add(mismatches, extent, is_shared.then_some(shared))?;
     }
     Ok(())
 }
@@ -150,7 +150,7 @@ fn add_free(
     for owner in owners {
         let is_free = is_used_but_free(file, page_size, map, owner);
         let free = at_page(owner, Inconsistency::PageFree(owner.page));
-        add_if(is_free, mismatches, extent, free)?;
+        add(mismatches, extent, is_free.then_some(free))?;
     }
     Ok(())
 }
