@@ -1,6 +1,8 @@
+pub mod BucketLemmas
 pub mod HeaderLemmas
 pub mod MismatchLemmas
 pub mod OwnerLemmas
 pub mod PageLemmas
+pub mod PlaceLemmas
 pub mod RecordLemmas
 pub mod ReferenceLemmas
