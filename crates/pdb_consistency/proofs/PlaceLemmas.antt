@@ -61,3 +61,9 @@ unfolding names_in_buckets
 names_same stream n none =
     ap length (filter_of_map_range_with_len_more has_name (bucket_at stream) 0 n n (omega arith))
     ∙ same_by (has_name (bucket_at stream n)) _ (bucket_at stream n) (rw none refl)
+
+-- no place yet
+pub places_none : (extent : Extent) (at_place : ℕ → Option Mismatch) (old : List Mismatch)
+    → old ≡ with_further extent old (mismatches_at at_place 0)
+unfolding mismatches_at
+places_none extent at_place old = refl

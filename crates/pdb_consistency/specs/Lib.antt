@@ -1,4 +1,5 @@
 pub mod DebugSizes
+pub mod Hashes
 pub mod Inconsistency
 pub mod Mismatch
 pub mod MissingStreams

@@ -2,6 +2,7 @@
 #![tactic(auto)]
 
 mod debug_sizes;
+mod hashes;
 mod id_references;
 mod inconsistency;
 mod mismatch;
@@ -15,6 +16,7 @@ mod string_table;
 mod words;
 
 pub use debug_sizes::check_debug_sizes;
+pub use hashes::check_hashes;
 pub use inconsistency::Inconsistency;
 pub use mismatch::{Extent, Mismatch};
 pub use missing_streams::{check_named_streams, check_roles};
