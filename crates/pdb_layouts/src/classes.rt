@@ -1,5 +1,13 @@
 //! The classes of a table.
 
+ghost use Rattle.std.specs.Prelude.{◌≡◌, IfOk, IfSome};
+ghost use Rattle.std.specs.Option.{option_map};
+ghost use Rattle.pdb_base.specs.Answer.{Answers};
+ghost use Rattle.pdb_types.specs.Layout.{HasGaps, layout_value};
+ghost use Rattle.pdb_types.specs.TypeAt.{type_at};
+ghost use Rattle.pdb_values.specs.TypeView.{type_value};
+ghost use Rattle.pdb_layouts.specs.Classes.{class_layout, unmodified};
+
 use crate::pattern::matches;
 use pdb_base::{Error, FallibleIterator, RawString, Result, TypeIndex};
 use pdb_tpi::{OpenTable, Type, TypeInformation};
@@ -96,23 +104,27 @@ pub(crate) fn classes_in(
 }
 
 /// Returns the type of an index.
+///
+/// # Errors
+/// Fails as `OpenTable::item` and `Type::parse` do.
+#[tactic(auto, unfolding(pdb_types::specs::TypeAt::type_at))]
 pub(crate) fn type_at<'t>(
     alloc: Global,
     types: &'t OpenTable<TypeIndex>,
     index: TypeIndex,
-) -> Result<TypeData<'t>> {
+) -> Result<TypeData<'t>>
+    ensures { Answers type_value result (type_at types.now.table index.0) }
+{
     types.item(index)?.parse(alloc)
 }
 
 /// Returns the type that a type with a modifier is without it, or None for another type.
-fn unmodified(
-    alloc: Global,
-    types: &OpenTable<TypeIndex>,
-    index: TypeIndex,
-) -> Result<Option<TypeIndex>> {
-    match type_at(alloc, types, index)? {
-        TypeData::Modifier(modifier) => Ok(Some(modifier.underlying_type)),
-        _ => Ok(None),
+fn unmodified(value: &TypeData<'_>) -> Option<TypeIndex>
+    ensures { option_map (λ index. index.0) result ≡ unmodified (type_value value.now) }
+{
+    match value {
+        TypeData::Modifier(modifier) => Some(modifier.underlying_type),
+        _ => None,
     }
 }
 
@@ -125,10 +137,14 @@ pub(crate) fn class_layout<'t>(
     alloc: Global,
     definitions: &Definitions<'t>,
     index: TypeIndex,
-) -> Result<Option<Layout<'t>>> {
+) -> Result<Option<Layout<'t>>>
+    ensures fields { Answers (option_map layout_value) result (class_layout definitions.now index.0) }
+    ensures gaps { IfOk result (λ layout. IfSome layout HasGaps) }
+{
     let mut index = index;
     for _ in 0..MOST_TYPES {
-        match unmodified(alloc, definitions.types(), index)? {
+        let value = type_at(alloc, definitions.types(), index)?;
+        match unmodified(&value) {
             Some(other) => index = other,
             None => return definitions.layout_of(alloc, index),
         }
