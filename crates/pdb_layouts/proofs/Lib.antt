@@ -1,3 +1,4 @@
+pub mod ClassLemmas
 pub mod ExpandedLemmas
 pub mod MatchLemmas
 pub mod ShownLemmas

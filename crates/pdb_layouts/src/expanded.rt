@@ -130,7 +130,10 @@ fn push_inner<'t>(
     ensures follows { OnOk result (FollowsRow definitions.now budget.old.asked outer.entry
         budget.old.is_cut budget.new.is_cut shown.old.items shown.new.items) }
 {
-    if outer.depth >= budget.asked || budget.is_spent(outer.depth) {
+    if outer.depth >= budget.asked {
+        return Ok(());
+    }
+    if budget.is_spent(outer.depth) {
         return Ok(());
     }
     let Some(index) = inner_type(&outer.row) else {

@@ -7,6 +7,7 @@ ghost use Rattle.pdb_layouts.specs.Shown.{IsAccounted, IsAnswered, Tells};
 use crate::c_style::c_text;
 use crate::classes::{class_layout, class_of, classes_in, type_at};
 use crate::dt_style::dt_text;
+use crate::expanded::expanded;
 use crate::json::json_text;
 use crate::member_path::member_text;
 use crate::named::{Meaning, meaning_of};
@@ -47,10 +48,13 @@ fn layout_text<'t>(
     options: &Options,
     form: Form,
 ) -> Result<Vec<u8>> {
+    let class = class_of(&type_at(alloc, definitions.types(), layout.index)?);
+    let class = class.as_ref();
+    let expansion = expanded(alloc, definitions, layout, options.depth)?;
     match (form, options.style) {
-        (Form::Json, _) => json_text(alloc, definitions, layout, options.depth),
-        (Form::Text, Style::C) => c_text(alloc, definitions, layout, options.depth),
-        (Form::Text, Style::Dt) => dt_text(alloc, definitions, layout, options.depth),
+        (Form::Json, _) => json_text(alloc, definitions, layout, class, &expansion),
+        (Form::Text, Style::C) => c_text(alloc, definitions, layout, class, &expansion),
+        (Form::Text, Style::Dt) => dt_text(alloc, definitions, class, &expansion),
     }
 }
 
