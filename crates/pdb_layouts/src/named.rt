@@ -36,8 +36,7 @@ fn types_named(alloc: Global, definitions: &Definitions<'_>, name: &str) -> Resu
         return Ok(vec![in alloc; index]?);
     }
     if is_pattern(name.as_bytes()) {
-        let table = definitions.types().items();
-        return classes_in(alloc, table, Some(name.as_bytes()));
+        return classes_in(alloc, definitions.types(), Some(name.as_bytes()));
     }
     definitions.all_definitions(alloc, name.as_bytes())
 }

@@ -345,7 +345,7 @@ pub fn show_layouts<O: Write, E: Write>(
     };
     let mut found = Vec::new(alloc);
     if options.all {
-        found = classes_in(alloc, types.items(), None)?;
+        found = classes_in(alloc, &types, None)?;
     }
     find_names(
         alloc,
