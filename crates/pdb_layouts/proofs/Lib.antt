@@ -1,3 +1,5 @@
+pub mod ClassLemmas
 pub mod ExpandedLemmas
 pub mod MatchLemmas
+pub mod SelectedLemmas
 pub mod ShownLemmas

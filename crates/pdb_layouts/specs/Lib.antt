@@ -1,3 +1,4 @@
+pub mod Classes
 pub mod Cut
 pub mod Expanded
 pub mod GapPlace

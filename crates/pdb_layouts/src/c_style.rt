@@ -1,6 +1,7 @@
 //! Layouts as the declarations of classes in C++.
 
-use crate::expanded::{ShownRow, expanded};
+use crate::classes::Class;
+use crate::expanded::{Expansion, ShownRow};
 use crate::gap_place::gap_place;
 use crate::head::head_of;
 use crate::layout_row::LayoutRow;
@@ -152,16 +153,20 @@ pub(crate) fn c_text<'t>(
     alloc: Global,
     definitions: &Definitions<'t>,
     layout: &Layout<'t>,
-    depth: u32,
+    class: Option<&Class<'t>>,
+    expansion: &Expansion<'t>,
 ) -> Result<Vec<u8>> {
     let mut text = Vec::new(alloc);
-    let head = head_of(alloc, definitions, layout)?;
+    let head = head_of(alloc, definitions, &layout.fields, class)?;
     let (index, size) = (layout.index.0, layout.size);
     let comment = format!(in alloc; "0x{index:x}, size 0x{size:x}")?;
     push_commented(&head, comment.as_bytes(), &mut text)?;
-    let rows = expanded(alloc, definitions, layout, depth)?;
-    for row in &rows {
+    for row in &expansion.rows {
         push_row(alloc, definitions, row, &mut text)?;
+    }
+    if expansion.is_cut {
+        push_indent(1, WIDTH, &mut text)?;
+        text.extend_from_slice(b"// more is left out\n")?;
     }
     push_end(alloc, &layout.gaps, &mut text)?;
     Ok(text)

@@ -1,14 +1,21 @@
 //! The classes of a table.
 
+ghost use Rattle.std.specs.Prelude.{◌≡◌, ◌↔◌, map, Ok, IfOk, IfSome, IsTrue};
+ghost use Rattle.std.specs.Option.{option_map};
+ghost use Rattle.pdb_base.specs.Answer.{Answers};
+ghost use Rattle.pdb_base.specs.Memory.{FailsOnlyForMemory};
+ghost use Rattle.pdb_types.specs.Layout.{HasGaps, layout_value};
+ghost use Rattle.pdb_types.specs.TypeAt.{type_at};
+ghost use Rattle.pdb_values.specs.Text.{text_bytes};
+ghost use Rattle.pdb_values.specs.TypeView.{type_value};
+ghost use Rattle.pdb_layouts.specs.Classes.{AreClasses, IsClass, IsNameWanted, class_defined, class_layout, class_of, class_value, unmodified};
+
 use crate::pattern::matches;
-use pdb_base::{Error, FallibleIterator, RawString, Result, TypeIndex};
-use pdb_tpi::{OpenTable, Type, TypeInformation};
+use pdb_base::{Error, RawString, Result, TypeIndex};
+use pdb_tpi::OpenTable;
 use pdb_types::{Definitions, Layout};
 use pdb_values::{ClassKind, TypeData};
 use std::alloc::Global;
-
-/// The kind of a record that lists fields, which defines nothing.
-const FIELD_LIST: u16 = 0x1203;
 
 /// How many types are read at most from one with modifiers to the one without.
 const MOST_TYPES: u32 = 16;
@@ -36,7 +43,9 @@ fn class_word(kind: ClassKind) -> &'static str {
 }
 
 /// Returns what a record says of a class or a union, or None if it is of neither.
-pub(crate) fn class_of<'t>(value: &TypeData<'t>) -> Option<Class<'t>> {
+pub(crate) fn class_of<'t>(value: &TypeData<'t>) -> Option<Class<'t>>
+    ensures { option_map class_value result ≡ class_of (type_value value.now) }
+{
     match value {
         TypeData::Class(class) => Some(Class {
             word: class_word(class.kind),
@@ -52,24 +61,59 @@ pub(crate) fn class_of<'t>(value: &TypeData<'t>) -> Option<Class<'t>> {
     }
 }
 
-/// Returns the class that an item defines, or None if it defines none. A record that can't be read
-/// defines none.
-fn defined<'t>(alloc: Global, item: &Type<'t>) -> Result<Option<Class<'t>>> {
-    if item.raw_kind() == FIELD_LIST {
-        return Ok(None);
+/// Returns the class or union that a record defines, or None if it defines none.
+fn defined<'t>(value: &TypeData<'t>) -> Option<Class<'t>>
+    ensures { option_map class_value result ≡ class_defined (Ok (type_value value.now)) }
+{
+    let class = class_of(value)?;
+    if class.is_forward {
+        return None;
     }
-    match item.parse(alloc) {
-        Ok(value) => Ok(class_of(&value).filter(|class| !class.is_forward)),
+    Some(class)
+}
+
+/// Returns the class or union that a type defines, or None if it defines none. A record that can't
+/// be read defines none.
+fn class_defined<'t>(
+    alloc: Global,
+    types: &'t OpenTable<TypeIndex>,
+    index: TypeIndex,
+) -> Result<Option<Class<'t>>>
+    ensures class { IfOk result
+        (λ class. option_map class_value class ≡ class_defined (type_at types.now.table index.0)) }
+    ensures memory { FailsOnlyForMemory result }
+{
+    match type_at(alloc, types, index) {
+        Ok(value) => Ok(defined(&value)),
         Err(Error::OutOfMemory) => Err(Error::OutOfMemory),
         Err(_) => Ok(None),
     }
 }
 
-/// Returns whether a class is wanted: all are if there is no pattern.
-fn is_wanted(pattern: Option<&[u8]>, class: Class<'_>) -> bool {
+/// Returns whether a name is wanted: any is if there is no pattern.
+fn is_name_wanted(pattern: Option<&[u8]>, name: RawString<'_>) -> bool
+    ensures { IsTrue result ↔ IsNameWanted (option_map (λ signs. signs.now) pattern.entry) (text_bytes name.entry) }
+{
     match pattern {
-        Some(pattern) => matches(pattern, class.name.as_bytes()),
+        Some(pattern) => matches(pattern, name.as_bytes()),
         None => true,
+    }
+}
+
+/// Returns whether a type is a class or a union that is defined and whose name is wanted.
+fn is_class(
+    alloc: Global,
+    types: &OpenTable<TypeIndex>,
+    index: TypeIndex,
+    pattern: Option<&[u8]>,
+) -> Result<bool>
+    ensures is { IfOk result (λ is. IsTrue is ↔
+        IsClass types.now.table (option_map (λ signs. signs.now) pattern.entry) index.0) }
+    ensures memory { FailsOnlyForMemory result }
+{
+    match class_defined(alloc, types, index)? {
+        Some(class) => Ok(is_name_wanted(pattern, class.name)),
+        None => Ok(false),
     }
 }
 
@@ -77,42 +121,49 @@ fn is_wanted(pattern: Option<&[u8]>, class: Class<'_>) -> bool {
 /// pattern, or of all of them, in the order of the table.
 ///
 /// # Errors
-/// Fails with the fault at which the walk along the table stops if that is before its end, and with
-/// `OutOfMemory` if an allocation fails.
+/// Fails with `OutOfMemory` if an allocation fails.
 pub(crate) fn classes_in(
     alloc: Global,
-    table: &TypeInformation,
+    types: &OpenTable<TypeIndex>,
     pattern: Option<&[u8]>,
-) -> Result<Vec<TypeIndex>> {
-    let mut items = table.iter();
+) -> Result<Vec<TypeIndex>>
+    ensures classes { IfOk result (λ found. AreClasses types.now.table (option_map (λ signs. signs.now) pattern.entry)
+        (map (λ index. index.0) found.items)) }
+    ensures memory { FailsOnlyForMemory result }
+{
+    let header = types.items().header();
     let mut found = Vec::new(alloc);
-    while let Some(item) = items.next()? {
-        match defined(alloc, &item)? {
-            Some(class) if is_wanted(pattern, class) => found.push(item.index())?,
-            _ => {}
+    for number in header.minimum_index..header.maximum_index {
+        if !is_class(alloc, types, TypeIndex(number), pattern)? {
+            continue;
         }
+        found.push(TypeIndex(number))?;
     }
     Ok(found)
 }
 
 /// Returns the type of an index.
+///
+/// # Errors
+/// Fails as `OpenTable::item` and `Type::parse` do.
+#[tactic(auto, unfolding(pdb_types::specs::TypeAt::type_at))]
 pub(crate) fn type_at<'t>(
     alloc: Global,
     types: &'t OpenTable<TypeIndex>,
     index: TypeIndex,
-) -> Result<TypeData<'t>> {
+) -> Result<TypeData<'t>>
+    ensures { Answers type_value result (type_at types.now.table index.0) }
+{
     types.item(index)?.parse(alloc)
 }
 
 /// Returns the type that a type with a modifier is without it, or None for another type.
-fn unmodified(
-    alloc: Global,
-    types: &OpenTable<TypeIndex>,
-    index: TypeIndex,
-) -> Result<Option<TypeIndex>> {
-    match type_at(alloc, types, index)? {
-        TypeData::Modifier(modifier) => Ok(Some(modifier.underlying_type)),
-        _ => Ok(None),
+fn unmodified(value: &TypeData<'_>) -> Option<TypeIndex>
+    ensures { option_map (λ index. index.0) result ≡ unmodified (type_value value.now) }
+{
+    match value {
+        TypeData::Modifier(modifier) => Some(modifier.underlying_type),
+        _ => None,
     }
 }
 
@@ -125,10 +176,14 @@ pub(crate) fn class_layout<'t>(
     alloc: Global,
     definitions: &Definitions<'t>,
     index: TypeIndex,
-) -> Result<Option<Layout<'t>>> {
+) -> Result<Option<Layout<'t>>>
+    ensures fields { Answers (option_map layout_value) result (class_layout definitions.now index.0) }
+    ensures gaps { IfOk result (λ layout. IfSome layout HasGaps) }
+{
     let mut index = index;
     for _ in 0..MOST_TYPES {
-        match unmodified(alloc, definitions.types(), index)? {
+        let value = type_at(alloc, definitions.types(), index)?;
+        match unmodified(&value) {
             Some(other) => index = other,
             None => return definitions.layout_of(alloc, index),
         }

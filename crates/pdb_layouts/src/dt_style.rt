@@ -1,12 +1,12 @@
 //! Layouts in the style of WinDbg's `dt`.
 
-use crate::classes::{class_of, type_at};
+use crate::classes::Class;
 use crate::dt_type::dt_type;
-use crate::expanded::{ShownRow, expanded};
+use crate::expanded::{Expansion, ShownRow};
 use crate::layout_row::LayoutRow;
 use crate::text::{plural, push_indent, push_named, shown};
 use pdb_base::Result;
-use pdb_types::{Definitions, Extent, FieldKind, Layout, LayoutField};
+use pdb_types::{Definitions, Extent, FieldKind, LayoutField};
 use std::alloc::Global;
 
 /// How wide the fields of a class are indented.
@@ -78,17 +78,20 @@ fn push_row<'t>(
 pub(crate) fn dt_text<'t>(
     alloc: Global,
     definitions: &Definitions<'t>,
-    layout: &Layout<'t>,
-    depth: u32,
+    class: Option<&Class<'t>>,
+    expansion: &Expansion<'t>,
 ) -> Result<Vec<u8>> {
     let mut text = Vec::new(alloc);
-    if let Some(class) = class_of(&type_at(alloc, definitions.types(), layout.index)?) {
+    if let Some(class) = class {
         text.extend_from_slice(&shown(alloc, class.name.as_bytes())?)?;
         text.push(b'\n')?;
     }
-    let rows = expanded(alloc, definitions, layout, depth)?;
-    for row in &rows {
+    for row in &expansion.rows {
         push_row(alloc, definitions, row, &mut text)?;
+    }
+    if expansion.is_cut {
+        push_indent(1, WIDTH, &mut text)?;
+        text.extend_from_slice(b"..\n")?;
     }
     Ok(text)
 }

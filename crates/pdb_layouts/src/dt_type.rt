@@ -9,7 +9,7 @@ use pdb_values::{ArrayType, Indirection, PointerType, PrimitiveKind, PrimitiveTy
 use std::alloc::Global;
 
 /// How many types one text goes through at most.
-const MOST_TYPES: u32 = 64;
+const MOST_TYPES: u32 = 32;
 
 /// Returns the name of a primitive type, or None for one that `dt` has no name for.
 fn kind_name(kind: PrimitiveKind) -> Option<&'static str> {
@@ -121,7 +121,8 @@ fn push_last<'t>(
 }
 
 /// Returns a type as WinDbg's `dt` writes it, such as `Ptr64 Node` or `[4] Uint4B`; one that is no
-/// pointer, no array and no number as C++ spells it.
+/// pointer, no array and no number as C++ spells it. The text is cut with `..` behind 32 types of
+/// which each is within the one before.
 pub(crate) fn dt_type<'t>(
     alloc: Global,
     definitions: &Definitions<'t>,

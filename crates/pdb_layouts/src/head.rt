@@ -1,9 +1,9 @@
 //! The line with which the declaration of a class begins.
 
-use crate::classes::{class_of, type_at};
+use crate::classes::Class;
 use crate::text::shown;
 use pdb_base::{Result, TypeIndex};
-use pdb_types::{Definitions, FieldKind, Layout, LayoutField};
+use pdb_types::{Definitions, FieldKind, LayoutField};
 use std::alloc::Global;
 
 /// Returns the base class of which a field tells, with the word `virtual` before a virtual one. A
@@ -45,15 +45,16 @@ fn push_bases<'t>(
 pub(crate) fn head_of<'t>(
     alloc: Global,
     definitions: &Definitions<'t>,
-    layout: &Layout<'t>,
+    fields: &[LayoutField<'t>],
+    class: Option<&Class<'t>>,
 ) -> Result<Vec<u8>> {
     let mut head = Vec::new(alloc);
-    if let Some(class) = class_of(&type_at(alloc, definitions.types(), layout.index)?) {
+    if let Some(class) = class {
         head.extend_from_slice(class.word.as_bytes())?;
         head.push(b' ')?;
         head.extend_from_slice(&shown(alloc, class.name.as_bytes())?)?;
     }
-    push_bases(alloc, definitions, &layout.fields, &mut head)?;
+    push_bases(alloc, definitions, fields, &mut head)?;
     head.extend_from_slice(b" {")?;
     Ok(head)
 }

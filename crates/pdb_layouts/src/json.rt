@@ -1,7 +1,7 @@
 //! Layouts as objects of JSON.
 
-use crate::classes::{class_of, type_at};
-use crate::expanded::{ShownRow, expanded};
+use crate::classes::Class;
+use crate::expanded::{Expansion, ShownRow};
 use crate::layout_row::LayoutRow;
 use crate::object::{field_object, gap_object};
 use crate::totals::totals_of;
@@ -64,10 +64,10 @@ fn push_object<'t>(
 /// Returns what an object says of a class besides its fields and gaps.
 fn head_row<'t>(
     alloc: Global,
-    definitions: &Definitions<'t>,
     layout: &Layout<'t>,
+    class: Option<&Class<'t>>,
+    is_cut: bool,
 ) -> Result<Row<'t>> {
-    let class = class_of(&type_at(alloc, definitions.types(), layout.index)?);
     let totals = totals_of(&layout.gaps);
     let fields = vec![in alloc;
         field("index", Value::Hexadecimal(layout.index.0)),
@@ -77,6 +77,7 @@ fn head_row<'t>(
         field("holes", Value::Number(totals.holes)),
         field("hole_bytes", Value::Number(totals.hole_bytes)),
         field("unused_bits", Value::Number(totals.unused_bits)),
+        field("cut", Value::Flag(is_cut)),
     ]?;
     Ok(Row { fields })
 }
@@ -87,17 +88,18 @@ pub(crate) fn json_text<'t>(
     alloc: Global,
     definitions: &Definitions<'t>,
     layout: &Layout<'t>,
-    depth: u32,
+    class: Option<&Class<'t>>,
+    expansion: &Expansion<'t>,
 ) -> Result<Vec<u8>> {
     let mut text = Vec::new(alloc);
-    let head = head_row(alloc, definitions, layout)?;
+    let head = head_row(alloc, layout, class, expansion.is_cut)?;
     push_row(Form::Json, &head, &mut text)?;
     // The line feed and the brace behind the members.
     text.pop();
     text.pop();
     text.extend_from_slice(b",\"rows\":[")?;
     let mut is_first = true;
-    for row in &expanded(alloc, definitions, layout, depth)? {
+    for row in &expansion.rows {
         if !is_first {
             text.push(b',')?;
         }

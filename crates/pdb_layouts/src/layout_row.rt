@@ -10,7 +10,7 @@ use std::alloc::Global;
 
 /// A field or a gap of a layout.
 #[derive(Clone, Copy, Debug, PartialEq, Eq)]
-pub enum LayoutRow<'t> {
+pub(crate) enum LayoutRow<'t> {
     /// A field of the class.
     Field(LayoutField<'t>),
 
@@ -20,7 +20,7 @@ pub enum LayoutRow<'t> {
 
 impl<'t> LayoutRow<'t> {
     /// Returns the bits of the field or the gap, counted from the start of the class.
-    pub fn bits(&self) -> Span
+    fn bits(&self) -> Span
         ensures { result ≡ row_bits self.now }
     {
         match self {
@@ -68,7 +68,7 @@ fn unsorted_rows<'t>(alloc: Global, layout: &Layout<'t>) -> Result<Vec<LayoutRow
 ///
 /// # Errors
 /// Fails with `OutOfMemory` if an allocation fails.
-pub fn rows_of<'t>(alloc: Global, layout: &Layout<'t>) -> Result<Vec<LayoutRow<'t>>>
+pub(crate) fn rows_of<'t>(alloc: Global, layout: &Layout<'t>) -> Result<Vec<LayoutRow<'t>>>
     ensures rows { IfOk result (λ rows. AreRowsOf layout.now rows.items) }
     ensures memory { FailsOnlyForMemory result }
 {

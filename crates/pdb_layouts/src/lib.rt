@@ -21,7 +21,5 @@ mod show;
 mod text;
 mod totals;
 
-pub use layout_row::{LayoutRow, rows_of};
 pub use options::{Options, Order, Style};
-pub use pattern::matches;
 pub use show::show_layouts;

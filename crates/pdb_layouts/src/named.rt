@@ -1,24 +1,16 @@
 //! What names mean in a table.
 
+ghost use Rattle.std.specs.Prelude.{IfOk, map};
+ghost use Rattle.pdb_base.specs.Memory.{FailsOnlyForMemory};
+ghost use Rattle.pdb_layouts.specs.Shown.{AreTypesNamed};
+
 use crate::classes::classes_in;
-use crate::member_path::{FoundMember, member_at};
+use crate::member_path::{FoundMember, member_at, member_text};
 use crate::pattern::is_pattern;
 use pdb_base::{Result, TypeIndex};
+use pdb_rows::Form;
 use pdb_types::Definitions;
 use std::alloc::Global;
-
-/// What a name means.
-#[derive(Drop)]
-pub(crate) enum Meaning<'t> {
-    /// These types.
-    Types(Vec<TypeIndex>),
-
-    /// A member of a class.
-    Member(FoundMember<'t>),
-
-    /// Nothing.
-    Nothing,
-}
 
 /// Returns the index that a name spells in hexadecimal digits behind `0x`, if it spells one.
 fn index_named(name: &str) -> Option<TypeIndex> {
@@ -29,15 +21,24 @@ fn index_named(name: &str) -> Option<TypeIndex> {
     u32::from_str_radix(digits, 16).ok().map(TypeIndex)
 }
 
-/// Returns the types of a name: the one of an index, the classes of a pattern, or the definitions
-/// of a name.
-fn types_named(alloc: Global, definitions: &Definitions<'_>, name: &str) -> Result<Vec<TypeIndex>> {
+/// Returns the types that a name means: that of an index such as `0x1026`, the classes of a pattern
+/// with `*` or `?`, or the definitions of the name.
+///
+/// # Errors
+/// Fails with `OutOfMemory` if an allocation fails.
+pub(crate) fn types_named(
+    alloc: Global,
+    definitions: &Definitions<'_>,
+    name: &str,
+) -> Result<Vec<TypeIndex>>
+    ensures named { IfOk result (λ types. AreTypesNamed definitions.now name.now (map (λ index. index.0) types.items)) }
+    ensures memory { FailsOnlyForMemory result }
+{
     if let Some(index) = index_named(name) {
         return Ok(vec![in alloc; index]?);
     }
     if is_pattern(name.as_bytes()) {
-        let table = definitions.types().items();
-        return classes_in(alloc, table, Some(name.as_bytes()));
+        return classes_in(alloc, definitions.types(), Some(name.as_bytes()));
     }
     definitions.all_definitions(alloc, name.as_bytes())
 }
@@ -64,24 +65,20 @@ fn member_named<'t>(
     Ok(None)
 }
 
-/// Returns what a name means: an index such as `0x1026`, a pattern with `*` or `?`, the name of a
-/// class, or the path of a member behind the name of a class, as `Derived.inner.tag`.
+/// Returns the line of the member that a path leads to, such as `Derived.inner.tag`, or None if the
+/// path leads to none.
 ///
 /// # Errors
-/// Fails with the fault at which the walk along the table stops if that is before its end, as
-/// `Definitions::layout_of` does for a class of a path, and with `OutOfMemory` if an allocation
-/// fails.
-pub(crate) fn meaning_of<'t>(
+/// Fails as `Definitions::layout_of` does for a class of the path and as `Definitions::text_of` does
+/// for the type of the member, and with `OutOfMemory` if an allocation fails.
+pub(crate) fn member_line(
     alloc: Global,
-    definitions: &Definitions<'t>,
-    name: &str,
-) -> Result<Meaning<'t>> {
-    let types = types_named(alloc, definitions, name)?;
-    if !types.is_empty() {
-        return Ok(Meaning::Types(types));
-    }
-    match member_named(alloc, definitions, name.as_bytes())? {
-        Some(member) => Ok(Meaning::Member(member)),
-        None => Ok(Meaning::Nothing),
+    definitions: &Definitions<'_>,
+    path: &[u8],
+    form: Form,
+) -> Result<Option<Vec<u8>>> {
+    match member_named(alloc, definitions, path)? {
+        Some(member) => Ok(Some(member_text(alloc, definitions, path, &member, form)?)),
+        None => Ok(None),
     }
 }

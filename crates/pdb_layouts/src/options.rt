@@ -36,7 +36,8 @@ pub struct Options {
     pub has_holes: bool,
 
     /// How deep the fields of classes within a class are shown. They are at most 256 deep, and the
-    /// classes within one class have at most 65,536 fields and gaps together.
+    /// classes within one class have at most 65,536 fields and gaps together; it is told if a class
+    /// within is left out.
     pub depth: u32,
 
     /// Whether all classes of the file are shown.

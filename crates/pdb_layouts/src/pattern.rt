@@ -82,7 +82,7 @@ fn matches_behind(pattern: &[u8], name: &[u8]) -> bool
 
 /// Returns whether a pattern matches a name: `*` in it matches any bytes, `?` matches one byte, and
 /// another byte matches itself. It takes time in proportion to the product of both lengths at most.
-pub fn matches(pattern: &[u8], name: &[u8]) -> bool
+pub(crate) fn matches(pattern: &[u8], name: &[u8]) -> bool
     ensures { IsTrue result ↔ Means pattern.now name.now }
 {
     let (signs, rest) = cut_at(b'*', pattern);

@@ -1,5 +1,7 @@
 //! Pieces of text.
 
+ghost use Rattle.pdb_base.specs.Memory.{FailsOnlyForMemory};
+
 use pdb_base::{RawString, Result};
 use pdb_rows::{Form, Row, Value, field, push_row};
 use std::alloc::Global;
@@ -11,7 +13,9 @@ const COMMENT: usize = 44;
 const NAME: usize = 17;
 
 /// Returns a text of a file as lines show it, with escapes for control characters.
-pub(crate) fn shown(alloc: Global, text: &[u8]) -> Result<Vec<u8>> {
+pub(crate) fn shown(alloc: Global, text: &[u8]) -> Result<Vec<u8>>
+    ensures { FailsOnlyForMemory result }
+{
     let mut line = Vec::new(alloc);
     let fields = vec![in alloc; field("name", Value::Text(RawString::from(text)))]?;
     push_row(Form::Text, &Row { fields }, &mut line)?;

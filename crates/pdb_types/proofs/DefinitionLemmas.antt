@@ -10,7 +10,7 @@ use Rattle.pdb_tpi.specs.Finder.{item_of}
 use Rattle.pdb_tpi.specs.Steps.{nth_item}
 use Rattle.pdb_tpi.specs.Table.{Table, count_of}
 use Rattle.pdb_types.specs.declared.entry.Entry.{Entry}
-use Rattle.pdb_types.specs.Declaration.{TypeName, text_of}
+use Rattle.pdb_types.specs.Declaration.{TypeName}
 use Rattle.pdb_types.specs.Definition.{all_definitions, defines, first_definition}
 use Rattle.pdb_types.specs.DefinitionLaws.{IsFirstDefinition}
 use Rattle.pdb_types.specs.Entries.{AreCandidates}
@@ -55,7 +55,7 @@ same_there entries k d e within here = get_or_default entries k d e within ∙ h
 
 -- an entry that is one comes first
 pub entry_first : (table : Table) (name : TypeName) (entries : List Entry) (k : ℕ) (entry : Entry)
-    → AreCandidates table (name_hash (text_of name)) entries → NoneBefore table name entries k
+    → AreCandidates table (name_hash name) entries → NoneBefore table name entries k
     → k < length entries → get_or entries k entry ≡ entry → defines name (type_at table entry.index.0) ≡ true
     → first_definition table name ≡ Some entry.index.0
 unfolding first_definition
@@ -85,7 +85,7 @@ entry_first table name entries k entry are before within here is =
 
 -- and if no entry is one, there is none
 pub entry_none : (table : Table) (name : TypeName) (entries : List Entry)
-    → AreCandidates table (name_hash (text_of name)) entries → NoneBefore table name entries (length entries)
+    → AreCandidates table (name_hash name) entries → NoneBefore table name entries (length entries)
     → first_definition table name ≡ None
 unfolding first_definition
 entry_none table name entries are before =
@@ -141,7 +141,7 @@ named_begin table name entries = record {
 
 -- an index that has no entry from the next one on is none
 unnamed : (table : Table) (name : TypeName) (entries : List Entry) (k : ℕ) (found : List ℕ) (next : ℕ)
-    → AreCandidates table (name_hash (text_of name)) entries → AreNamed table name entries k found next
+    → AreCandidates table (name_hash name) entries → AreNamed table name entries k found next
     → (j : ℕ) → next ≤ j → ((i : ℕ) (d : Entry) → k ≤ i → i < length entries → j < (get_or entries i d).index.0)
     → is_definition table name j ≡ false
 unnamed table name entries k found next are named j from above =
@@ -158,7 +158,7 @@ unnamed table name entries k found next are named j from above =
 
 -- one more entry, of an index that was not seen
 pub named_more : (table : Table) (name : TypeName) (entries : List Entry) (k x : ℕ) (found : List ℕ) (next : ℕ)
-    → AreCandidates table (name_hash (text_of name)) entries → AreNamed table name entries k found next
+    → AreCandidates table (name_hash name) entries → AreNamed table name entries k found next
     → k < length entries → ((d : Entry) → (get_or entries k d).index.0 ≡ x) → next ≤ x
     → AreNamed table name entries (k + 1) (found ++ cond (is_definition table name x) (x ∷ []) []) (x + 1)
 named_more table name entries k x found next are named within here order =
@@ -180,7 +180,7 @@ named_more table name entries k x found next are named within here order =
     }
 
 pub named_some : (table : Table) (name : TypeName) (entries : List Entry) (k x : ℕ) (found : List ℕ) (next : ℕ)
-    → AreCandidates table (name_hash (text_of name)) entries → AreNamed table name entries k found next
+    → AreCandidates table (name_hash name) entries → AreNamed table name entries k found next
     → k < length entries → ((d : Entry) → (get_or entries k d).index.0 ≡ x) → next ≤ x
     → is_definition table name x ≡ true
     → AreNamed table name entries (k + 1) (found ++ x ∷ []) (x + 1)
@@ -189,7 +189,7 @@ named_some table name entries k x found next are named within here order is =
     subst P is (named_more table name entries k x found next are named within here order)
 
 pub named_none : (table : Table) (name : TypeName) (entries : List Entry) (k x : ℕ) (found : List ℕ) (next : ℕ)
-    → AreCandidates table (name_hash (text_of name)) entries → AreNamed table name entries k found next
+    → AreCandidates table (name_hash name) entries → AreNamed table name entries k found next
     → k < length entries → ((d : Entry) → (get_or entries k d).index.0 ≡ x) → next ≤ x
     → is_definition table name x ≡ false
     → AreNamed table name entries (k + 1) found (x + 1)
@@ -216,7 +216,7 @@ named_seen table name entries k x found next named here order = record {
 
 -- behind all entries, all were found
 pub named_all : (table : Table) (name : TypeName) (entries : List Entry) (k : ℕ) (found : List ℕ) (next : ℕ)
-    → AreCandidates table (name_hash (text_of name)) entries → AreNamed table name entries k found next
+    → AreCandidates table (name_hash name) entries → AreNamed table name entries k found next
     → length entries ≤ k → all_definitions table name ≡ found
 unfolding all_definitions
 named_all table name entries k found next are named past =

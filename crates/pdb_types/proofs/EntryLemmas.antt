@@ -30,7 +30,7 @@ use Rattle.pdb_tpi.specs.Walk.{items, first_item, behind, fault_of}
 use Rattle.pdb_tpi.proofs.StepLemmas.{nth_ok, step_some, step_none, step_err}
 use Rattle.pdb_types.specs.declared.entry.Entry.{Entry}
 use Rattle.pdb_types.specs.Declaration.{Declared, TypeName, source_name, decorated_name, bears, declaration_of}
-use Rattle.pdb_types.specs.Declaration.{is_forward, text_of}
+use Rattle.pdb_types.specs.Declaration.{is_forward}
 use Rattle.pdb_types.specs.Definition.{defines, declares, if_none_left, walked}
 use Rattle.pdb_types.specs.Entries.{rank, entry_of, names_entries, entries_of, entries_from, all_entries, is_entry}
 use Rattle.pdb_types.specs.Entries.{IsIndexed, AreCandidates}
@@ -45,16 +45,18 @@ IsOf index entry = entry.index.0 ≡ index
 abbrev IsWithin : ℕ → ℕ → Entry → Type 0
 IsWithin from to entry = (from ≤ entry.index.0) × (entry.index.0 < to)
 
-names_of : (index : ℕ) (name : List ℕ) (other : Option (List ℕ))
-    → All (IsOf index) (entry_of index name ∷ option_map_or (λ text. entry_of index text ∷ []) other [])
+names_of : (index : ℕ) (name : TypeName) (other : Option (List ℕ))
+    → All (IsOf index) (entry_of index name ∷ option_map_or (λ text. entry_of index (decorated_name text) ∷ []) other [])
 names_of index name None = All-cons (IsOf index) (entry_of index name) [] refl (All-nil (IsOf index))
-names_of index name (Some text) = All-cons (IsOf index) (entry_of index name) (entry_of index text ∷ []) refl
-    (All-cons (IsOf index) (entry_of index text) [] refl (All-nil (IsOf index)))
+names_of index name (Some text) =
+    let second = entry_of index (decorated_name text) in
+    All-cons (IsOf index) (entry_of index name) (second ∷ []) refl
+    (All-cons (IsOf index) second [] refl (All-nil (IsOf index)))
 
 unless_forward : (index : ℕ) (declared : Declared) (forward : Bool)
     → All (IsOf index) (cond forward [] (names_entries index declared))
 unless_forward index declared true = All-nil (IsOf index)
-unless_forward index declared false = names_of index declared.name declared.unique_name
+unless_forward index declared false = names_of index (source_name declared.name) declared.unique_name
 
 declared_of : (index : ℕ) (declared : Option Declared)
     → All (IsOf index) (option_map_or (λ d. cond (is_forward d) [] (names_entries index d)) declared [])
@@ -82,36 +84,45 @@ entries_within index (item ∷ items) =
 
 -- ---- each name of a definition has its entry
 
+abbrev source : List ℕ → TypeName
+source text = source_name text
+
+abbrev decorated : List ℕ → TypeName
+decorated text = decorated_name text
+
 same_bytes : (xs ys : List ℕ) → bytes_eq xs ys ≡ true → xs ≡ ys
 same_bytes xs ys is = (bytes_eq-Decides xs ys).0 is
 
-the_entry : (index : ℕ) (xs ys : List ℕ) → xs ≡ ys → is_entry (name_hash ys) index (entry_of index xs) ≡ true
-the_entry index xs ys same = and_from (eqb (name_hash xs) (name_hash ys)) (eqb index index)
-    (eq-eqb (name_hash xs) (name_hash ys) (ap name_hash same)) (eq-eqb index index refl)
+the_entry : (index : ℕ) (own name : TypeName) → own ≡ name → is_entry (name_hash name) index (entry_of index own) ≡ true
+the_entry index own name same = and_from (eqb (name_hash own) (name_hash name)) (eqb index index)
+    (eq-eqb (name_hash own) (name_hash name) (ap name_hash same)) (eq-eqb index index refl)
 
-second_entry : (index : ℕ) (name text : List ℕ) (other : Option (List ℕ))
+second_entry : (index : ℕ) (name : TypeName) (text : List ℕ) (other : Option (List ℕ))
     → option_map_or (λ own. bytes_eq own text) other false ≡ true
-    → list_any (is_entry (name_hash text) index)
-    (entry_of index name ∷ option_map_or (λ own. entry_of index own ∷ []) other []) ≡ true
+    → list_any (is_entry (name_hash (decorated_name text)) index)
+    (entry_of index name ∷ option_map_or (λ own. entry_of index (decorated_name own) ∷ []) other []) ≡ true
 second_entry index name text None is = absurd (false≢true is)
 second_entry index name text (Some own) is =
-    let here = the_entry index own text (same_bytes own text is) in
-    or_right (is_entry (name_hash text) index (entry_of index name))
-    (is_entry (name_hash text) index (entry_of index own) || false)
-    (or_left (is_entry (name_hash text) index (entry_of index own)) false here)
+    let test = is_entry (name_hash (decorated_name text)) index in
+    let second = test (entry_of index (decorated_name own)) in
+    let here : second ≡ true =
+    the_entry index (decorated_name own) (decorated_name text) (ap decorated (same_bytes own text is)) in
+    or_right (test (entry_of index name)) (second || false) (or_left second false here)
 
 has_name : (index : ℕ) (name : TypeName) (declared : Declared) → bears name declared ≡ true
-    → list_any (is_entry (name_hash (text_of name)) index) (names_entries index declared) ≡ true
+    → list_any (is_entry (name_hash name) index) (names_entries index declared) ≡ true
 has_name index (source_name text) declared is =
-    let here = the_entry index declared.name text (same_bytes declared.name text is) in
-    or_left (is_entry (name_hash text) index (entry_of index declared.name))
-    (list_any (is_entry (name_hash text) index)
-    (option_map_or (λ own. entry_of index own ∷ []) declared.unique_name [])) here
-has_name index (decorated_name text) declared is = second_entry index declared.name text declared.unique_name is
+    let test = is_entry (name_hash (source_name text)) index in
+    let here : test (entry_of index (source_name declared.name)) ≡ true =
+    the_entry index (source_name declared.name) (source_name text) (ap source (same_bytes declared.name text is)) in
+    or_left (test (entry_of index (source_name declared.name)))
+    (list_any test (option_map_or (λ own. entry_of index (decorated_name own) ∷ []) declared.unique_name [])) here
+has_name index (decorated_name text) declared is =
+    second_entry index (source_name declared.name) text declared.unique_name is
 
 has_declared : (index : ℕ) (name : TypeName) (declared : Option Declared)
     → option_map_or (declares name) declared false ≡ true
-    → list_any (is_entry (name_hash (text_of name)) index)
+    → list_any (is_entry (name_hash name) index)
     (option_map_or (λ d. cond (is_forward d) [] (names_entries index d)) declared []) ≡ true
 has_declared index name None is = absurd (false≢true is)
 has_declared index name (Some declared) is =
@@ -119,26 +130,26 @@ has_declared index name (Some declared) is =
     rw (not-true (is_forward declared) parts.0) (has_name index name declared parts.1)
 
 has_type : (index : ℕ) (name : TypeName) (answer : Answer TypeValue) → defines name answer ≡ true
-    → list_any (is_entry (name_hash (text_of name)) index) (entries_of index answer) ≡ true
+    → list_any (is_entry (name_hash name) index) (entries_of index answer) ≡ true
 has_type index name (Err refusal) is = absurd (false≢true is)
 has_type index name (Ok value) is = has_declared index name (declaration_of value) is
 
 has_item : (at index k : ℕ) (name : TypeName) (items : List (List ℕ)) (item : List ℕ) → at ≡ index + k
     → slice_get items k ≡ Some item
-    → defines name (type_of at item) ≡ true → list_any (is_entry (name_hash (text_of name)) at)
+    → defines name (type_of at item) ≡ true → list_any (is_entry (name_hash name) at)
     (entries_from index items) ≡ true
 has_item at index k name [] item same there is = absurd cc
 has_item at index zero name (first ∷ items) item same there is =
     let here : at ≡ index = omega (arith, same) in
     let one : first ≡ item = cc in
-    let test = is_entry (name_hash (text_of name)) at in
+    let test = is_entry (name_hash name) at in
     let found : list_any test (entries_of index (type_of index first)) ≡ true =
     rw (one, ← here) (has_type at name (type_of at item) is) in
     list_any-append test (entries_of index (type_of index first)) (entries_from (index + 1) items)
     ∙ or_left (list_any test (entries_of index (type_of index first)))
     (list_any test (entries_from (index + 1) items)) found
 has_item at index (suc k) name (first ∷ items) item same there is =
-    let test = is_entry (name_hash (text_of name)) at in
+    let test = is_entry (name_hash name) at in
     let found = has_item at (index + 1) k name items item (omega (arith, same)) there is in
     list_any-append test (entries_of index (type_of index first)) (entries_from (index + 1) items)
     ∙ or_right (list_any test (entries_of index (type_of index first)))
@@ -205,7 +216,7 @@ indexed table entries sorted are moved order =
       complete = λ name index above is.
           let there = defined_there table name index is in
           let item = item_there table index there.0 above there.1 in
-          let test = is_entry (name_hash (text_of name)) index in
+          let test = is_entry (name_hash name) index in
           let found : list_any test entries ≡ true =
           rw are (has_item index least (index - least) name (walk table) there.0
           (omega (arith, above)) item there.2) in
@@ -360,12 +371,12 @@ candidates table hash entries start count are within few from to =
           let here : k < count = omega (arith, below, long) in
           rw (there k d here) (are.least (start + k) d (omega (arith, here, all, few, within)));
       complete = λ name index same least is.
-          let test = is_entry (name_hash (text_of name)) index in
+          let test = is_entry (name_hash name) index in
           let found = Any-from_list_any test entries (are.complete name index least is) in
           let k = found.0 in
           let entry = found.1 in
-          let parts = and_parts (eqb entry.hash (name_hash (text_of name))) (eqb entry.index.0 index) found.4 in
-          let its_hash : entry.hash ≡ hash = eqb-true entry.hash (name_hash (text_of name)) parts.0 ∙ same in
+          let parts = and_parts (eqb entry.hash (name_hash name)) (eqb entry.index.0 index) found.4 in
+          let its_hash : entry.hash ≡ hash = eqb-true entry.hash (name_hash name) parts.0 ∙ same in
           let behind : start ≤ k = elim (cases_lt k start) as (λ _. start ≤ k) [
             | inl before ↦
                 let low = from.0 k entry (omega arith) before in

@@ -10,6 +10,7 @@ use Rattle.pdb_base.specs.declared.index.TypeIndex.{TypeIndex}
 use Rattle.pdb_tpi.specs.Table.{Table}
 use Rattle.pdb_types.specs.declared.size_source.SizeSource.{SizeSource}
 use Rattle.pdb_types.specs.declared.size_source.SizeSource.TheVariants.{Stated, SameAs, Unknown}
+use Rattle.pdb_types.specs.Shortcut.{IsAsLarge}
 use Rattle.pdb_types.specs.Size.{Sizes, AreSizes, along, one_size, size_from, size_of, source_at}
 
 -- ---- only the sizes of lower indexes matter
@@ -91,6 +92,22 @@ size_above table index other is above = size_by table index (Ok (SameAs other)) 
 
 pub size_unknown : (table : Table) (index : ℕ) → source_at table index ≡ Ok Unknown → size_of table index ≡ Ok None
 size_unknown table index is = size_by table index (Ok Unknown) is
+
+-- a type that is said to be as large as one of a lower index
+pub lower_large : (table : Table) (index : ℕ) (other : TypeIndex) → source_at table index ≡ Ok (SameAs other)
+    → other.0 < index → IsAsLarge table index other.0
+lower_large table index other is below = record {
+  low = omega (arith, below);
+  same = size_same table index other is (lt-ltb other.0 index below);
+}
+
+-- along types that are as large
+pub large_still : (table : Table) (index between other : ℕ) → IsAsLarge table index between
+    → IsAsLarge table between other → IsAsLarge table index other
+large_still table index between other first second = record {
+  low = let one = first.low in let more = second.low in omega (arith, one, more);
+  same = first.same ∙ second.same;
+}
 
 -- a fault is that of the size at which the types lead there
 pub size_refused : (table : Table) (start index : ℕ) (e : Error) → size_of table start ≡ size_of table index

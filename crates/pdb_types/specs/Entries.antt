@@ -11,7 +11,7 @@ use Rattle.pdb_tpi.specs.Record.{type_of}
 use Rattle.pdb_tpi.specs.Steps.{walk}
 use Rattle.pdb_tpi.specs.Table.{Table}
 use Rattle.pdb_types.specs.declared.entry.Entry.{Entry}
-use Rattle.pdb_types.specs.Declaration.{Declared, TypeName, declaration_of, is_forward, text_of}
+use Rattle.pdb_types.specs.Declaration.{Declared, TypeName, source_name, decorated_name, declaration_of, is_forward}
 use Rattle.pdb_types.specs.Definition.{defines}
 use Rattle.pdb_types.specs.NameHash.{name_hash}
 use Rattle.pdb_types.specs.TypeAt.{type_at}
@@ -21,13 +21,13 @@ abbrev pub rank : Entry → ℕ
 rank entry = entry.hash * 0x1_0000_0000 + entry.index.0
 
 -- the entry of a name of a definition
-abbrev pub entry_of : ℕ → List ℕ → Entry
+abbrev pub entry_of : ℕ → TypeName → Entry
 entry_of index name = record { hash = name_hash name; index = record { 0 = index } }
 
 -- the entries of the names of a definition
 abbrev pub names_entries : ℕ → Declared → List Entry
-names_entries index declared = entry_of index declared.name
-    ∷ option_map_or (λ name. entry_of index name ∷ []) declared.unique_name []
+names_entries index declared = entry_of index (source_name declared.name)
+    ∷ option_map_or (λ name. entry_of index (decorated_name name) ∷ []) declared.unique_name []
 
 -- the entries of a type: those of its names, if it is a definition
 abbrev pub entries_of : ℕ → Answer TypeValue → List Entry
@@ -56,12 +56,12 @@ pub record IsIndexed (table : Table) (entries : List Entry) : Type 0 where
   pub most : All (λ entry. entry.index.0 < 0x1_0000_0000) entries
   pub complete : (name : TypeName) (index : ℕ) → table.header.minimum_index ≤ index
       → defines name (type_at table index) ≡ true
-      → list_any (is_entry (name_hash (text_of name)) index) entries ≡ true
+      → list_any (is_entry (name_hash name) index) entries ≡ true
 
 -- Entries are those of the definitions of a table whose names have this hash, and of no primitive type.
 -- Their indexes don't fall.
 pub record AreCandidates (table : Table) (hash : ℕ) (entries : List Entry) : Type 0 where
   pub rising : IsNonDecreasingBy (λ entry. entry.index.0) entries
   pub least : All (λ entry. table.header.minimum_index ≤ entry.index.0) entries
-  pub complete : (name : TypeName) (index : ℕ) → name_hash (text_of name) ≡ hash → table.header.minimum_index ≤ index
+  pub complete : (name : TypeName) (index : ℕ) → name_hash name ≡ hash → table.header.minimum_index ≤ index
       → defines name (type_at table index) ≡ true → list_any (λ entry. entry.index.0 == index) entries ≡ true

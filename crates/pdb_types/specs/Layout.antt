@@ -1,5 +1,5 @@
 -- Where the fields of a class are, and which of its bits no field takes.
-use Rattle.std.specs.Prelude.{ℕ, ◌==◌, Bool, if◌then◌else◌, List, [], ◌∷◌, ◌++◌, map, Option, Some, None, Ok}
+use Rattle.std.specs.Prelude.{ℕ, ◌==◌, Bool, if◌then◌else◌, List, [], ◌∷◌, ◌++◌, length, map, Option, Some, None, Ok}
 use Rattle.std.specs.List.{cons_option, list_any}
 use Rattle.std.specs.Option.{option_to_list}
 use Rattle.pdb_base.specs.Answer.{Answer, ◌>>=◌}
@@ -76,10 +76,12 @@ abbrev pub records_of : Table → Option TypeIndex → Answer (List TypeValue)
 records_of table (Some list) = fields_of (item_of table) list.0
 records_of table None = Ok []
 
--- a layout: the index of the definition, the size in bytes, and the fields in the order of their records
+-- a layout: the index of the definition, the size in bytes, how many records its list has, and the fields in the order
+-- of their records
 pub record LayoutValue : Type 0 where
   pub index : ℕ
   pub size : ℕ
+  pub records : ℕ
   pub fields : List FieldValue
 
 -- the value of a `Layout`, without its gaps
@@ -87,6 +89,7 @@ abbrev pub layout_value : Layout → LayoutValue
 layout_value layout = record {
   index = layout.index.0;
   size = layout.size;
+  records = layout.records;
   fields =
       map field_value layout.fields.items;
 }
@@ -101,7 +104,7 @@ abbrev pub body_layout : Table → ℕ → ClassBody → Answer LayoutValue
 body_layout table index body = do
   records ← records_of table body.list
   fields ← fields_in table records
-  Ok (record { index = index; size = body.size; fields = fields })
+  Ok (record { index = index; size = body.size; records = length records; fields = fields })
 
 -- the same if it is a class or a union
 abbrev pub layout_from : Table → ℕ → Option ClassBody → Answer (Option LayoutValue)

@@ -6,8 +6,9 @@ pub mod NameHash
 pub mod Definition
 pub mod DefinitionLaws
 pub mod Entries
-pub mod KeptEntries
 pub mod Size
+pub mod Shortcut
+pub mod DefinitionIndex
 pub mod Span
 pub mod Extent
 pub mod FieldPlace

@@ -1,12 +1,14 @@
 -- A hash of names, by which they are sorted.
-use Rattle.std.specs.Prelude.{ℕ, ◌*◌, ◌%◌, ◌^◌, List, bit_xor}
-use Rattle.std.specs.List.{fold}
-use Rattle.pdb_types.specs.declared.name_hash.TheConstants.{OFFSET_BASIS, PRIME}
+use Rattle.std.specs.Prelude.{ℕ, [], ◌∷◌}
+use Rattle.std.specs.Hash.DefaultHasher.{finish, initial, write}
+use Rattle.pdb_types.specs.declared.name_hash.TheConstants.{DECORATED, SOURCE}
+use Rattle.pdb_types.specs.Declaration.{TypeName, source_name, decorated_name, text_of}
 
--- the hash after one more byte
-abbrev pub hash_step : ℕ → ℕ → ℕ
-hash_step hash byte = (bit_xor hash byte * PRIME) % 2 ^ 32
+-- the byte that tells the two kinds of names apart
+abbrev pub kind_byte : TypeName → ℕ
+kind_byte (source_name text) = SOURCE
+kind_byte (decorated_name text) = DECORATED
 
--- the hash of a name (FNV-1a of 32 bits)
-unfoldable pub name_hash : List ℕ → ℕ
-name_hash text = fold hash_step OFFSET_BASIS text
+-- the hash of a name: SipHash-1-3 of its bytes and then of that byte
+unfoldable pub name_hash : TypeName → ℕ
+name_hash name = finish (write (write initial (text_of name)) (kind_byte name ∷ []))

@@ -6,13 +6,16 @@ ghost use Rattle.pdb_base.specs.Answer.{Answers};
 ghost use Rattle.pdb_tpi.specs.Steps.{walk_rest};
 ghost use Rattle.pdb_types.specs.Declaration.{source_name, type_name};
 ghost use Rattle.pdb_types.specs.Definition.{all_definitions, defines, definition_of, first_definition, if_none_left, walked};
+ghost use Rattle.pdb_types.specs.DefinitionIndex.{IsIndexOf};
 ghost use Rattle.pdb_types.specs.Entries.{AreCandidates, IsIndexed, all_entries};
+ghost use Rattle.pdb_types.specs.Shortcut.{AreShortcuts, IsAsLarge};
 ghost use Rattle.pdb_types.specs.TypeAt.{type_at};
 
 use crate::declaration::declaration_of;
+use crate::definition_index::{DefinitionIndex, KeptIndex};
 use crate::entry::{Entry, push_entries};
-use crate::kept_entries::KeptEntries;
 use crate::name_hash::name_hash;
+use crate::shortcut::{Shortcut, end_of};
 use crate::type_at::type_at;
 use crate::type_name::TypeName;
 use pdb_base::{Error, FallibleIterator, Result, TypeIndex};
@@ -23,26 +26,24 @@ use std::marker::Model;
 /// The definitions of the classes, unions and enumerations of a table, which are found by their
 /// names.
 ///
-/// It keeps two entries of eight bytes for each definition, or one if that has no unique name, and
-/// no names: it reads those again from the table. So let the table first learn where its items
-/// begin, up to its last index (`OpenTable::learn`); otherwise each look-up walks along the table.
+/// It keeps two entries of 16 bytes for each definition, or one if that has no unique name, and no
+/// names: it reads those again from the table. So let the table first learn where its items begin,
+/// up to its last index (`OpenTable::learn`); otherwise each look-up walks along the table.
 #[derive(Debug, Drop)]
 pub struct Definitions<'t> {
     types: &'t OpenTable<TypeIndex>,
-    /// An entry for each name of a definition, sorted by their ranks.
-    entries: KeptEntries<'t>,
+    index: KeptIndex<'t>,
 }
 
 impl<'t> Model for Definitions<'t> {
     ghost use Rattle.pdb_tpi.specs.Table.{Table};
-    ghost use Rattle.pdb_types.specs.Entries.{IsIndexed};
-    ghost use Rattle.pdb_types.specs.KeptEntries.{entries_kept};
+    ghost use Rattle.pdb_types.specs.DefinitionIndex.{IsIndexOf, index_kept};
 
     ghost Value = { Table };
 
     ghost view = { λ d. d.types.now.table };
 
-    ghost invariant = { λ d. IsIndexed d.types.now.table (entries_kept d.entries) };
+    ghost invariant = { λ d. IsIndexOf d.types.now.table (index_kept d.index) };
 }
 
 /// Returns an entry for each name of a definition in a table, in the order of the types.
@@ -87,17 +88,17 @@ impl<'t> Definitions<'t> {
     pub fn new(alloc: Global, types: &'t OpenTable<TypeIndex>) -> Result<Self>
         ensures { Answers (λ definitions. definitions) result (walked types.now.table) }
     {
-        let entries = KeptEntries::Own(sorted_entries(alloc, types.items())?);
-        Ok(Definitions { types, entries })
+        let index = KeptIndex::Own(DefinitionIndex::new(alloc, types)?);
+        Ok(Definitions { types, index })
     }
 
-    /// Returns the definitions of a table whose entries another keeps.
-    pub(crate) fn lent(types: &'t OpenTable<TypeIndex>, entries: &'t [Entry]) -> Self
-        requires { IsIndexed types.now.table entries.now }
+    /// Returns the definitions of a table whose index another keeps.
+    pub(crate) fn lent(types: &'t OpenTable<TypeIndex>, index: &'t DefinitionIndex) -> Self
+        requires { IsIndexOf types.now.table index.now }
         ensures { result ≡ types.now.table }
     {
-        let entries = KeptEntries::Lent(entries);
-        Definitions { types, entries }
+        let index = KeptIndex::Lent(index);
+        Definitions { types, index }
     }
 
     /// Returns the table.
@@ -105,6 +106,27 @@ impl<'t> Definitions<'t> {
         ensures { result.now.table ≡ self.now }
     {
         self.types
+    }
+
+    /// Returns the entries of the names of definitions.
+    fn entries(&self) -> &[Entry]
+        ensures { IsIndexed self.now result.now }
+    {
+        &self.index.get().entries
+    }
+
+    /// Returns the shortcuts along types of one size.
+    fn shortcuts(&self) -> &[Shortcut]
+        ensures { AreShortcuts self.now result.now }
+    {
+        &self.index.get().shortcuts
+    }
+
+    /// Returns the type to which a shortcut leads from a type, or that type itself if none does.
+    pub(crate) fn along_shortcut(&self, index: TypeIndex) -> TypeIndex
+        ensures { IsAsLarge self.now index.0 result.0 }
+    {
+        end_of(self.shortcuts(), index)
     }
 
     /// Returns whether the type of an index is a definition of a name.
@@ -122,10 +144,10 @@ impl<'t> Definitions<'t> {
     }
 
     /// Returns the entries of a hash.
-    fn candidates(&self, hash: u32) -> &[Entry]
+    fn candidates(&self, hash: u64) -> &[Entry]
         ensures { AreCandidates self.now hash result.now }
     {
-        let entries = self.entries.as_slice();
+        let entries = self.entries();
         let start = entries.partition_point(|entry| entry.hash < hash);
         let rest = entries_from(entries, start);
         let count = rest.partition_point(|entry| entry.hash <= hash);
@@ -137,7 +159,7 @@ impl<'t> Definitions<'t> {
         ensures { Answers (option_map (λ index. index.0)) result
             (Ok (first_definition self.now (type_name name.entry))) }
     {
-        let candidates = self.candidates(name_hash(name.text()));
+        let candidates = self.candidates(name_hash(name));
         for entry in candidates {
             if self.defines(alloc, entry.index, name)? {
                 return Ok(Some(entry.index));
@@ -177,7 +199,7 @@ impl<'t> Definitions<'t> {
             (Ok (all_definitions self.now (source_name name.now))) }
     {
         let name = TypeName::Source(name);
-        let candidates = self.candidates(name_hash(name.text()));
+        let candidates = self.candidates(name_hash(name));
         let mut found = Vec::new(alloc);
         // A definition has two entries of one hash if its names have that hash.
         let mut next = self.types.items().header().minimum_index as u64;

@@ -4,29 +4,30 @@ ghost use Rattle.std.specs.Prelude.{◌≡◌, ◌++◌, OnOk};
 ghost use Rattle.pdb_base.specs.Memory.{FailsOnlyForMemory};
 ghost use Rattle.pdb_tpi.specs.Item.{bytes_of, index_of};
 ghost use Rattle.pdb_tpi.specs.Record.{type_of};
-ghost use Rattle.pdb_types.specs.Declaration.{declaration_value};
+ghost use Rattle.pdb_types.specs.Declaration.{declaration_value, type_name};
 ghost use Rattle.pdb_types.specs.Entries.{entries_of, entry_of, names_entries, rank};
 
 use crate::declaration::{Declaration, declaration_of};
 use crate::name_hash::name_hash;
+use crate::type_name::TypeName;
 use pdb_base::{Error, Result, TypeIndex};
 use pdb_tpi::Type;
 use std::alloc::Global;
 
 /// How many indexes there are.
-const INDEXES: u64 = 0x1_0000_0000;
+const INDEXES: u128 = 0x1_0000_0000;
 
 /// The hash of a name, and the index of a definition that has the name.
 #[derive(Clone, Copy, Debug)]
 pub(crate) struct Entry {
-    pub(crate) hash: u32,
+    pub(crate) hash: u64,
     pub(crate) index: TypeIndex,
 }
 
 impl Entry {
     /// Returns the entry of a name of a definition.
-    fn of(index: TypeIndex, name: &[u8]) -> Self
-        ensures { result ≡ entry_of index.0 name.now }
+    fn of(index: TypeIndex, name: TypeName<'_>) -> Self
+        ensures { result ≡ entry_of index.0 (type_name name.entry) }
     {
         Entry {
             hash: name_hash(name),
@@ -36,10 +37,10 @@ impl Entry {
 
     /// Returns the number by which entries are sorted: first by their hashes, and then by their
     /// indexes.
-    pub(crate) fn rank(self) -> u64
+    pub(crate) fn rank(self) -> u128
         ensures { result ≡ rank self }
     {
-        self.hash as u64 * INDEXES + self.index.0 as u64
+        self.hash as u128 * INDEXES + self.index.0 as u128
     }
 }
 
@@ -49,9 +50,9 @@ fn push_names(index: TypeIndex, names: &Declaration<'_>, entries: &mut Vec<Entry
         (entries.new.items ≡ entries.old.items ++ names_entries index.0 (declaration_value names.now)) }
     ensures memory { FailsOnlyForMemory result }
 {
-    entries.push(Entry::of(index, names.name.as_bytes()))?;
+    entries.push(Entry::of(index, TypeName::Source(names.name.as_bytes())))?;
     if let Some(name) = names.unique_name {
-        entries.push(Entry::of(index, name.as_bytes()))?;
+        entries.push(Entry::of(index, TypeName::Decorated(name.as_bytes())))?;
     }
     Ok(())
 }

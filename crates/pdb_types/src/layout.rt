@@ -62,6 +62,10 @@ pub struct Layout<'t> {
     /// How many bytes an object takes.
     pub size: u64,
 
+    /// How many records its list of fields has, with the lists in which that continues. Those of
+    /// methods, nested types and the like are of no field.
+    pub records: usize,
+
     /// The fields in the order of their records, which is mostly that of their places.
     pub fields: Vec<LayoutField<'t>>,
 
@@ -181,6 +185,7 @@ impl<'t> Definitions<'t> {
         Ok(Layout {
             index,
             size: body.size,
+            records: records.len(),
             fields,
             gaps,
         })

@@ -5,12 +5,12 @@
 
 mod declaration;
 mod declarator;
+mod definition_index;
 mod definitions;
 mod entry;
 mod extent;
 mod field_place;
 mod gap;
-mod kept_entries;
 mod kind_name;
 pub mod laws;
 mod layout;
@@ -18,6 +18,7 @@ mod name_hash;
 mod open_definitions;
 mod primitive_size;
 mod qualifiers;
+mod shortcut;
 mod size;
 mod size_source;
 mod span;

@@ -1,20 +1,36 @@
 //! Hashes of names.
 
 ghost use Rattle.std.specs.Prelude.{◌≡◌};
-ghost use Rattle.pdb_types.specs.NameHash.{name_hash};
+ghost use Rattle.pdb_types.specs.Declaration.{type_name};
+ghost use Rattle.pdb_types.specs.NameHash.{kind_byte, name_hash};
 
-/// The hash of a name without bytes.
-const OFFSET_BASIS: u32 = 0x811c_9dc5;
+use crate::type_name::TypeName;
+use std::hash::{DefaultHasher, Hasher};
 
-/// By what the hash is multiplied for each byte.
-const PRIME: u32 = 0x0100_0193;
+/// The byte behind a name that the source gives a type.
+const SOURCE: u8 = 0;
 
-/// Returns the hash of a name (FNV-1a of 32 bits).
-#[tactic(auto, unfolding(crate::specs::NameHash::name_hash))]
-pub(crate) fn name_hash(text: &[u8]) -> u32
-    ensures { result ≡ name_hash text.now }
+/// The byte behind a decorated name.
+const DECORATED: u8 = 1;
+
+/// Returns the byte that tells the two kinds of names apart.
+fn kind_byte(name: TypeName<'_>) -> u8
+    ensures { result ≡ kind_byte (type_name name.entry) }
 {
-    text.iter().fold(OFFSET_BASIS, |hash, byte| {
-        (hash ^ u32::from(*byte)).wrapping_mul(PRIME)
-    })
+    match name {
+        TypeName::Source(_) => SOURCE,
+        TypeName::Decorated(_) => DECORATED,
+    }
+}
+
+/// Returns the hash of a name: SipHash-1-3 of its bytes and of a byte for its kind. No way is known
+/// to make many names of one hash of 64 bits, as there is for a hash that is only quick.
+#[tactic(auto, unfolding(crate::specs::NameHash::name_hash))]
+pub(crate) fn name_hash(name: TypeName<'_>) -> u64
+    ensures { result ≡ name_hash (type_name name.entry) }
+{
+    let mut hasher = DefaultHasher::new();
+    hasher.write(name.text());
+    hasher.write(&[kind_byte(name)]);
+    hasher.finish()
 }

@@ -4,8 +4,8 @@ ghost use Rattle.std.specs.Prelude.{◌≡◌};
 ghost use Rattle.pdb_base.specs.Answer.{Answers};
 ghost use Rattle.pdb_types.specs.Definition.{walked};
 
-use crate::definitions::{Definitions, sorted_entries};
-use crate::entry::Entry;
+use crate::definition_index::DefinitionIndex;
+use crate::definitions::Definitions;
 use pdb_base::{Result, TypeIndex};
 use pdb_tpi::OpenTable;
 use std::alloc::Global;
@@ -17,19 +17,18 @@ use std::marker::Model;
 #[derive(Debug, Drop)]
 pub struct OpenDefinitions {
     types: OpenTable<TypeIndex>,
-    /// An entry for each name of a definition, sorted by their ranks.
-    entries: Vec<Entry>,
+    index: DefinitionIndex,
 }
 
 impl Model for OpenDefinitions {
     ghost use Rattle.pdb_tpi.specs.Table.{Table};
-    ghost use Rattle.pdb_types.specs.Entries.{IsIndexed};
+    ghost use Rattle.pdb_types.specs.DefinitionIndex.{IsIndexOf};
 
     ghost Value = { Table };
 
     ghost view = { λ d. d.types.table };
 
-    ghost invariant = { λ d. IsIndexed d.types.table d.entries.items };
+    ghost invariant = { λ d. IsIndexOf d.types.table d.index };
 }
 
 impl OpenDefinitions {
@@ -43,14 +42,14 @@ impl OpenDefinitions {
         let mut types = types;
         let last = types.items().header().maximum_index.saturating_sub(1);
         types.learn(TypeIndex(last));
-        let entries = sorted_entries(alloc, types.items())?;
-        Ok(OpenDefinitions { types, entries })
+        let index = DefinitionIndex::new(alloc, &types)?;
+        Ok(OpenDefinitions { types, index })
     }
 
     /// Returns the definitions, which borrow the table.
     pub fn definitions(&self) -> Definitions<'_>
         ensures { result ≡ self.now }
     {
-        Definitions::lent(&self.types, &self.entries)
+        Definitions::lent(&self.types, &self.index)
     }
 }

@@ -12,7 +12,7 @@ use std::alloc::Global;
 impl<'t> Definitions<'t> {
     /// Returns what says the size of the type of an index: its record, or that of its definition.
     #[tactic(auto, unfolding(crate::specs::Size::source_at))]
-    fn size_source(&self, alloc: Global, index: TypeIndex) -> Result<SizeSource>
+    pub(crate) fn size_source(&self, alloc: Global, index: TypeIndex) -> Result<SizeSource>
         ensures { Answers (λ source. source) result (source_at self.now index.0) }
     {
         let definition = self.definition_of(alloc, index)?;
@@ -40,7 +40,7 @@ impl<'t> Definitions<'t> {
     pub fn size_of(&self, alloc: Global, index: TypeIndex) -> Result<Option<u64>>
         ensures { Answers (λ size. size) result (size_of self.now index.0) }
     {
-        let mut index = index;
+        let mut index = self.along_shortcut(index);
         loop {
             match self.size_source(alloc, index)? {
                 SizeSource::Stated(size) => return Ok(Some(size)),
@@ -48,7 +48,7 @@ impl<'t> Definitions<'t> {
                     if other >= index {
                         return Ok(None);
                     }
-                    index = other;
+                    index = self.along_shortcut(other);
                 }
                 SizeSource::Unknown => return Ok(None),
             }

@@ -18,6 +18,10 @@ use std::alloc::Global;
 /// How many types one text reads at most, so that it ends in a damaged table too.
 const MOST_TYPES: u32 = 4096;
 
+/// How many types a text reads at most of which each is within the one before, such as that of what
+/// a pointer points to.
+const MOST_WITHIN: u32 = 32;
+
 /// The index of no type, which in a list of arguments means any further arguments.
 const ANY_ARGUMENTS: u32 = 0;
 
@@ -304,7 +308,7 @@ impl<'t> Definitions<'t> {
         let mut index = index;
         let mut qualifiers = Qualifiers::none();
         let mut declarator = Declarator::of(alloc, name)?;
-        for _ in 0..MOST_TYPES {
+        for _ in 0..MOST_WITHIN {
             if *most == 0 {
                 break;
             }
@@ -328,7 +332,8 @@ impl<'t> Definitions<'t> {
     /// bit field has its width behind the name.
     ///
     /// The names of classes are those of their records. The text is cut with `..` where functions
-    /// are nested in the arguments of functions 16 deep, and after 4,096 types.
+    /// are nested in the arguments of functions 16 deep, behind 32 types of which each is within the
+    /// one before, such as pointers and modifiers, and after 4,096 types.
     ///
     /// # Errors
     /// Fails as `OpenTable::item`, `Type::parse` and `size_of` do for a type on the way, and with

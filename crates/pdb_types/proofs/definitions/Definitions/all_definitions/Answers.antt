@@ -7,7 +7,7 @@ use Rattle.pdb_types.proofs.definitions.Definitions.all_definitions.Goals as goa
 
 pub loop-entry-preserved-then-not-branch : goal.loop-entry-preserved-then-not-branch
 loop-entry-preserved-then-not-branch c =
-    let are = rw (c.name_hash.ensures, c.text.ensures) at c.candidates-candidates.ensures in
+    let are = rw c.name_hash.ensures at c.candidates-candidates.ensures in
     let within : c.loop-entry.entry-index < length c.candidates-candidates.result.now = omega arith in
     named_none _ _ _ c.loop-entry.entry-index _ _ _ are c.loop-entry.invariant within
     (λ d. ap (λ (e : Entry). e.index.0) (get_or_default _ _ _ _ within))
@@ -15,7 +15,7 @@ loop-entry-preserved-then-not-branch c =
 
 pub loop-entry-preserved : goal.loop-entry-preserved
 loop-entry-preserved c =
-    let are = rw (c.name_hash.ensures, c.text.ensures) at c.candidates-candidates.ensures in
+    let are = rw c.name_hash.ensures at c.candidates-candidates.ensures in
     let within : c.loop-entry.entry-index < length c.candidates-candidates.result.now = omega arith in
     rw (c.in_ok-push.ensures.items, map-append)
     (named_some _ _ _ c.loop-entry.entry-index _ _ _ are c.loop-entry.invariant within
@@ -24,5 +24,5 @@ loop-entry-preserved c =
 
 pub returns : goal.returns
 returns c =
-    let are = rw (c.name_hash.ensures, c.text.ensures) at c.candidates-candidates.ensures in
+    let are = rw c.name_hash.ensures at c.candidates-candidates.ensures in
     ap ok (named_all _ _ _ c.loop-entry.entry-index _ _ are c.loop-entry.invariant (omega arith))

@@ -3,16 +3,15 @@ use Rattle.std.proofs.Common.{rules, ltb, leb}
 use Rattle.std.proofs.lemmas.List.Sorted.{IsPartitionPoint-from_clause, IsPartitionedBy-ltb, IsPartitionedBy-leb}
 use Rattle.std.proofs.lemmas.List.Sorted.{IsNonDecreasingBy-drop}
 use Rattle.pdb_types.specs.declared.entry.Entry.{Entry}
-use Rattle.pdb_types.specs.Entries.{IsIndexed}
 use Rattle.pdb_types.proofs.EntryLemmas.{by_hash, candidates}
 use Rattle.pdb_types.proofs.definitions.Definitions.candidates.Goals as goal
 
 pub returns : goal.returns
 returns c =
     let hash = c.args.hash in
-    let entries = c.as_slice-entries.result.now in
+    let entries = c.entries-entries.result.now in
     let start = c.partition_point-start.result in
-    let are : IsIndexed c.self.inside.types.now.table entries = rw c.as_slice-entries.ensures c.self.invariant in
+    let are = c.entries-entries.ensures in
     let order = by_hash _ entries are in
     let from = IsPartitionPoint-from_clause (λ
     (entry : Entry). ltb entry.hash hash) entries start c.partition_point-start.ensures.partitioned
@@ -21,7 +20,6 @@ returns c =
     (rw c.entries_from-rest.ensures at c.partition_point-count.ensures.partitioned)
     (IsPartitionedBy-leb (λ (entry : Entry). entry.hash) _ hash
     (IsNonDecreasingBy-drop (λ (entry : Entry). entry.hash) start entries order)) (λ a r f k. search rules) in
-    rw (← c.self.view_is)
-    (rw c.entries_from-rest.ensures
+    rw c.entries_from-rest.ensures
     (candidates _ hash entries start c.partition_point-count.result are c.partition_point-start.ensures.bound
-    (rw c.entries_from-rest.ensures at c.partition_point-count.ensures.bound) from to))
+    (rw c.entries_from-rest.ensures at c.partition_point-count.ensures.bound) from to)

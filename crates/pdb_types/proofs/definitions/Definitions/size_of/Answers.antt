@@ -19,7 +19,7 @@ returns-then-ge c =
 pub loop-size-preserved : goal.loop-size-preserved
 loop-size-preserved c =
     c.loop-size.invariant ∙ size_same _ _ _ (rw c.in-SameAs.is at c.in_ok-size.ensures)
-    (below_test _ _ _ c.ge.ensures c.if-ge.false)
+    (below_test _ _ _ c.ge.ensures c.if-ge.false) ∙ c.along_shortcut-index-in-SameAs.ensures.same
 
 pub returns-in-Unknown : goal.returns-in-Unknown
 returns-in-Unknown c = c.loop-size.invariant ∙ size_unknown _ _ (rw c.in-Unknown.is at c.in_ok-size.ensures)
