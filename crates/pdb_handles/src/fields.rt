@@ -11,7 +11,7 @@ ghost use Rattle.pdb_handles.specs.Records.{FieldsOrLacks, all_found, field_row,
 ghost use Rattle.pdb_handles.specs.Listing.{listing_view};
 
 use crate::copied::copy_both;
-use crate::fault::{Fault, NOWHERE};
+use crate::fault::{Fault, NONE};
 use crate::frame::flag;
 use crate::records::type_in;
 use crate::row::Row;
@@ -23,8 +23,8 @@ use std::alloc::Global;
 #[repr(C)]
 #[derive(Clone, Copy)]
 pub struct FieldRow {
-    /// The numbers.
-    pub row: Row,
+    /// What its record says.
+    pub info: Row,
     /// The length of its name in bytes, 0 if it has none.
     pub name_length: usize,
     /// Whether it has a name, as 0 or 1.
@@ -53,7 +53,7 @@ fn field_row(field: &TypeData<'_>) -> FieldRow
     ensures { result ≡ field_row (type_value field.now) }
 {
     FieldRow {
-        row: Row::of_type(field),
+        info: Row::of_type(field),
         name_length: name_bytes(field).len(),
         has_name: flag(field.name().is_some()),
     }
@@ -143,7 +143,7 @@ pub fn write_found(
 {
     match found {
         Ok(Some(listing)) => write_listing(&listing, rows, count, names, size),
-        Ok(None) => write_nothing(Fault::status(NOWHERE), count, size),
+        Ok(None) => write_nothing(Fault::status(NONE), count, size),
         Err(error) => write_nothing(Fault::of(&error), count, size),
     }
 }

@@ -117,10 +117,7 @@ fn name_in<'t>(value: &IdData<'t>) -> Option<RawString<'t>>
 fn id_numbers_of(alloc: Global, indexes: &[IdIndex]) -> Result<Vec<u32>>
     ensures { Answers (λ numbers. numbers.items) result (Ok (map (λ index. index.0) indexes.now)) }
 {
-    let mut numbers = Vec::new(alloc);
-    for index in indexes {
-        numbers.push(index.0)?;
-    }
+    let numbers = indexes.iter().map(|index| index.0).collect(alloc)?;
     Ok(numbers)
 }
 

@@ -11,7 +11,7 @@ ghost use Rattle.pdb_handles.specs.Lists.{dimensions_in, method_row, methods_in,
 ghost use Rattle.pdb_handles.specs.Records.{if_copied, shown_copied};
 
 use crate::copied::{copy_name, copy_nothing, copy_out};
-use crate::fault::{Fault, NOWHERE};
+use crate::fault::{Fault, NONE};
 use crate::records::type_in;
 use crate::row::{NO_NUMBERS, Numbers, Row};
 use pdb_base::{RawString, Result};
@@ -72,7 +72,7 @@ fn copy_dimensions(value: &TypeData<'_>, room: &mut [u32], length: &mut usize) -
 {
     match value {
         TypeData::Array(array) => copy_out(&array.dimensions, room, length),
-        _ => copy_nothing(Fault::status(NOWHERE), length),
+        _ => copy_nothing(Fault::status(NONE), length),
     }
 }
 

@@ -9,7 +9,7 @@ ghost use Rattle.pdb_handles.specs.Listing.{listing_view};
 ghost use Rattle.pdb_handles.specs.Records.{listings};
 ghost use Rattle.pdb_handles.specs.Tables.{fields_in_table, located_told, stepped, table_opened};
 
-use crate::fault::{FINE, Fault, NOWHERE};
+use crate::fault::{END, FINE, Fault, NONE};
 use crate::fields::{Listing, listing_found};
 use crate::located::Located;
 use pdb_base::{Result, Stream, TypeIndex};
@@ -46,7 +46,7 @@ pub fn find_record(kept: &mut OpenTable<TypeIndex>, index: u32, place: &mut Loca
             *place = Located::at(index, found);
             Fault::status(FINE)
         }
-        Ok(None) => Fault::status(NOWHERE),
+        Ok(None) => Fault::status(NONE),
         Err(error) => Fault::of(&error),
     }
 }
@@ -67,7 +67,7 @@ pub fn next_record(kept: &mut OpenTable<TypeIndex>, place: &mut Located) -> Faul
             *place = Located::at(index, found);
             Fault::status(FINE)
         }
-        Ok(None) => Fault::status(NOWHERE),
+        Ok(None) => Fault::status(END),
         Err(error) => Fault::of(&error),
     }
 }

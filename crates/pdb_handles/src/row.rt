@@ -1,6 +1,6 @@
 //! The numbers in a record, as a `Row`.
 
-ghost use Rattle.std.specs.Prelude.{◌≡◌, ◌+◌, ◌*◌, ◌≤◌, []};
+ghost use Rattle.std.specs.Prelude.{◌≡◌, ◌+◌, ◌*◌, ◌≤◌};
 ghost use Rattle.pdb_values.specs.Array.{array_value};
 ghost use Rattle.pdb_values.specs.Class.{class_value};
 ghost use Rattle.pdb_values.specs.Enumeration.{enumerate_value, enumeration_value};
@@ -8,10 +8,10 @@ ghost use Rattle.pdb_values.specs.Member.{member_value, nested_value, static_mem
 ghost use Rattle.pdb_values.specs.Method.{method_value, overloaded_method_value};
 ghost use Rattle.pdb_values.specs.TableShape.{table_shape_value};
 ghost use Rattle.pdb_values.specs.Union.{union_value};
-ghost use Rattle.pdb_values.specs.TypeValue.{argument_list, array, base_class, bitfield, class, enumerate, enumeration, field_list, member, member_function, method, modifier, nested, no_field, overloaded_method, plain, pointer, procedure, static_member, union, virtual_base_class, virtual_function_table_pointer, virtual_table_shape};
+ghost use Rattle.pdb_values.specs.TypeValue.{array, base_class, bitfield, class, enumerate, enumeration, field_list, member, member_function, method, modifier, nested, no_field, overloaded_method, plain, pointer, procedure, static_member, union, virtual_base_class, virtual_function_table_pointer, virtual_table_shape};
 ghost use Rattle.pdb_values.specs.TypeView.{type_value};
 ghost use Rattle.pdb_handles.specs.Frame.{flag};
-ghost use Rattle.pdb_handles.specs.Row.{bit, class_kind, index_in, is_negative, magnitude, no_numbers, row, row_of};
+ghost use Rattle.pdb_handles.specs.Row.{bit, class_kind, in_64_bits, index_in, is_signed, no_numbers, row, row_of, width_of};
 
 use crate::frame::flag;
 use pdb_base::{TypeIndex, Variant};
@@ -27,18 +27,19 @@ use pdb_values::{
 #[repr(C)]
 #[derive(Clone, Copy)]
 pub struct Row {
-    /// The size of a class or a union; the offset of a member or a base class; for a virtual base
-    /// class, the offset of the pointer to its table; or the absolute value of an enumeration's
-    /// value.
-    pub number: u64,
-    /// The shape of the record, numbered as in `pdb_shape`.
+    /// The shape of the record, numbered as in `pdb_shape`, or for an id as in `pdb_id_shape`.
     pub shape: u32,
-    /// Which of the numbers below, and of the one above, the record has: bit 0 for `kind`, bit 1
-    /// for `attributes`, and so on, bit 8 for `extra` and bit 9 for `number`. The others are 0.
-    pub stands: u32,
+    /// Which of the numbers below the record has: bit 0 for `kind`, bit 1 for `attributes`, and so
+    /// on, bit 8 for `extra` and bit 9 for `number`. The others are 0.
+    pub has: u32,
+    /// The size of a class or a union; the offset of a member or a base class; for a virtual base
+    /// class, the offset of the pointer to its table; an enumeration's value in 64 bits, in two's
+    /// complement if it is below 0; or the offset in the string table of the name of the file that
+    /// declares a type.
+    pub number: u64,
     /// For a class or a base class, 0 for a class, 1 for a structure, 2 for an interface; for a
-    /// virtual base class, whether it is a direct one; for an enumeration's value, whether it is
-    /// below 0; for a type with modifiers, the sum of 1 for const, 2 for volatile and 4 for
+    /// virtual base class, whether it is a direct one; for an enumeration's value, whether it can
+    /// be below 0; for a type with modifiers, the sum of 1 for const, 2 for volatile and 4 for
     /// unaligned.
     pub kind: u32,
     /// The word of a member's, a function's or a pointer's attributes.
@@ -46,21 +47,25 @@ pub struct Row {
     /// The word of the properties of a class, a union or an enumeration.
     pub properties: u32,
     /// The number of members, values, parameters, methods or functions, or of the bits of a bit
-    /// field.
+    /// field, or of the bytes of an enumeration's value.
     pub count: u32,
     /// The type that is pointed at, modified or held; the type of a member, an element or a method;
-    /// the base class; or the type that a function returns.
+    /// the base class; the type that a function returns; the type of an id's function; or the type
+    /// that is declared.
     pub type_index: u32,
     /// The class of a method or of a pointer to a member, the pointer to a virtual base class's
-    /// table, the type by which an array is indexed, or the list of a class's base classes.
+    /// table, the type by which an array is indexed, the list of a class's base classes, the scope
+    /// of an id, or the id of the file that declares a type.
     pub second_index: u32,
-    /// The type of a method's `this`, or the shape of a class's table of virtual functions.
+    /// The type of a method's `this`, the shape of a class's table of virtual functions, or for an
+    /// id the class of a method, or the module that declares a type.
     pub third_index: u32,
-    /// The list of fields, of arguments or of methods, or the list in which a list of fields
-    /// continues.
+    /// The list of fields, of arguments, of methods or of the parts of a text, or the list in which
+    /// a list of fields continues.
     pub list_index: u32,
     /// The place of a method in the table of virtual functions, how `this` is adjusted, the place
-    /// of a virtual base class in its table, an array's stride, or the lowest bit of a bit field.
+    /// of a virtual base class in its table, an array's stride, the lowest bit of a bit field, or
+    /// the line that declares a type.
     pub extra: u32,
 }
 
@@ -124,47 +129,56 @@ fn index_in(index: Option<TypeIndex>) -> Option<u32>
     }
 }
 
-/// Returns whether a number is below 0.
-fn is_negative(value: Variant) -> bool
-    ensures { result ≡ is_negative value }
+/// Returns whether a number can be below 0.
+fn is_signed(value: Variant) -> bool
+    ensures { result ≡ is_signed value }
 {
     match value {
-        Variant::I8(n) => n < 0,
-        Variant::I16(n) => n < 0,
-        Variant::I32(n) => n < 0,
-        Variant::I64(n) => n < 0,
+        Variant::I8(_) | Variant::I16(_) | Variant::I32(_) | Variant::I64(_) => true,
         _ => false,
     }
 }
 
-/// Returns the absolute value of a number.
-fn magnitude(value: Variant) -> u64
-    ensures { result ≡ magnitude value }
+/// Returns the width of a number in bytes.
+fn width_of(value: Variant) -> u32
+    ensures { result ≡ width_of value }
+{
+    match value {
+        Variant::U8(_) | Variant::I8(_) => 1,
+        Variant::U16(_) | Variant::I16(_) => 2,
+        Variant::U32(_) | Variant::I32(_) => 4,
+        Variant::U64(_) | Variant::I64(_) => 8,
+    }
+}
+
+/// Returns a number in 64 bits, in two's complement if it is below 0.
+fn in_64_bits(value: Variant) -> u64
+    ensures { result ≡ in_64_bits value }
 {
     match value {
         Variant::U8(n) => n as u64,
         Variant::U16(n) => n as u64,
         Variant::U32(n) => n as u64,
         Variant::U64(n) => n,
-        Variant::I8(n) => n.unsigned_abs() as u64,
-        Variant::I16(n) => n.unsigned_abs() as u64,
-        Variant::I32(n) => n.unsigned_abs() as u64,
-        Variant::I64(n) => n.unsigned_abs(),
+        Variant::I8(n) => i64::from(n).cast_unsigned(),
+        Variant::I16(n) => i64::from(n).cast_unsigned(),
+        Variant::I32(n) => i64::from(n).cast_unsigned(),
+        Variant::I64(n) => n.cast_unsigned(),
     }
 }
 
 /// Returns the weight of a bit if its number is present, and 0 if not.
 #[inline(always)]
-fn bit(weight: u32, stands: bool) -> u32
+fn bit(weight: u32, is_there: bool) -> u32
     requires { weight ≤ 512 }
-    ensures { result ≡ weight * flag stands }
+    ensures { result ≡ weight * flag is_there }
 {
-    weight * flag(stands)
+    weight * flag(is_there)
 }
 
 /// Returns the bits of the numbers that are present.
 #[inline(always)]
-fn stands(numbers: &Numbers) -> u32
+fn bits_of_numbers(numbers: &Numbers) -> u32
     ensures { result ≡ bit 1 numbers.now.kind + bit 2 numbers.now.attributes + bit 4 numbers.now.properties +
         bit 8 numbers.now.count + bit 16 numbers.now.type_index + bit 32 numbers.now.second_index +
         bit 64 numbers.now.third_index + bit 128 numbers.now.list_index + bit 256 numbers.now.extra +
@@ -422,9 +436,10 @@ fn enumerate_row(v: &EnumerateType<'_>) -> Row
     Row::of(
         15,
         &Numbers {
-            kind: Some(flag(is_negative(v.value))),
+            kind: Some(flag(is_signed(v.value))),
             attributes: Some(v.attributes.bits() as u32),
-            number: Some(magnitude(v.value)),
+            count: Some(width_of(v.value)),
+            number: Some(in_64_bits(v.value)),
             ..NO_NUMBERS
         },
     )
@@ -495,7 +510,7 @@ fn virtual_table_shape_row(v: &VirtualTableShapeType<'_>) -> Row
 
 /// Returns the `Row` of a list of fields, from its continuation.
 #[inline(always)]
-pub fn field_list_row(continuation: Option<TypeIndex>) -> Row
+fn field_list_row(continuation: Option<TypeIndex>) -> Row
     ensures { result ≡ row_of (field_list no_field continuation) }
 {
     Row::of(
@@ -507,14 +522,6 @@ pub fn field_list_row(continuation: Option<TypeIndex>) -> Row
     )
 }
 
-/// Returns the `Row` of a list of arguments, which has no numbers.
-#[inline(always)]
-pub fn argument_list_row() -> Row
-    ensures { result ≡ row_of (argument_list []) }
-{
-    Row::of(20, &NO_NUMBERS)
-}
-
 impl Row {
     /// Returns the `Row` of a shape and its numbers.
     #[inline(always)]
@@ -523,9 +530,9 @@ impl Row {
         ensures { result ≡ row shape numbers.now }
     {
         Row {
-            number: numbers.number.unwrap_or(0),
             shape,
-            stands: stands(numbers),
+            has: bits_of_numbers(numbers),
+            number: numbers.number.unwrap_or(0),
             kind: numbers.kind.unwrap_or(0),
             attributes: numbers.attributes.unwrap_or(0),
             properties: numbers.properties.unwrap_or(0),
@@ -565,7 +572,7 @@ impl Row {
             TypeData::Union(v) => *self = union_row(v),
             TypeData::Bitfield(v) => *self = bitfield_row(v),
             TypeData::FieldList(v) => *self = field_list_row(v.continuation),
-            TypeData::ArgumentList(_) => *self = argument_list_row(),
+            TypeData::ArgumentList(_) => *self = Row::of(20, &NO_NUMBERS),
             TypeData::MethodList(_) => *self = Row::of(21, &NO_NUMBERS),
             TypeData::VirtualTableShape(v) => *self = virtual_table_shape_row(v),
         }

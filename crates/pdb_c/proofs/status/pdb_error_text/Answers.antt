@@ -3,7 +3,7 @@ use Rattle.std.proofs.Common.{subst, Option}
 use Rattle.pdb_base.specs.Refusal.{Refusal}
 use Rattle.pdb_handles.specs.Copied.{CopiesOrLacks, text_copied}
 use Rattle.pdb_handles.specs.Told.{text_if}
-use Rattle.pdb_c.proofs.text.pdb_error_text.Goals as goal
+use Rattle.pdb_c.proofs.status.pdb_error_text.Goals as goal
 
 pub returns-clause-answer : goal.returns-clause-answer
 returns-clause-answer c =
