@@ -117,7 +117,7 @@ static inline const char *pdb_status_text(uint32_t status) {
     case PDB_STREAM_NOT_FOUND: return "no such stream";
     case PDB_STREAM_NAME_NOT_FOUND: return "no stream of this name";
     case PDB_INVALID_STREAM_LENGTH: return "the stream's length is no multiple of its records'";
-    case PDB_IO_ERROR: return "the file ends too soon, or an allocation to read it failed";
+    case PDB_IO_ERROR: return "IO error while reading PDB: it ends too soon, or no memory";
     case PDB_UNEXPECTED_EOF: return "the bytes end too soon";
     case PDB_UNIMPLEMENTED_FEATURE: return "a part of the format that is not read";
     case PDB_GLOBAL_SYMBOLS_NOT_FOUND: return "no global symbols";

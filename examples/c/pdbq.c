@@ -150,8 +150,9 @@ static void print_fault(const pdb_fault *about) {
     uint8_t room[200];
     size_t length = 0;
     pdb_fault fault = {0};
-    if (pdb_error_text(about, room, sizeof room, &length, &fault) == PDB_OK) fprintf(stderr, "%.*s\n", (int)length, (char *)room);
-    else fprintf(stderr, "%s\n", pdb_status_text(about->status));
+    uint32_t status = pdb_error_text(about, room, sizeof room, &length, &fault);
+    if (status == PDB_OK) fprintf(stderr, "%.*s\n", (int)length, (char *)room);
+    else fprintf(stderr, "%s\n", pdb_status_text(status == PDB_NO_TEXT ? about->status : status));
 }
 
 static uint32_t number_of(const char *word) { return (uint32_t)strtoul(word, NULL, 0); }
