@@ -17,7 +17,7 @@ use pdb_handles::file::addresses_in;
 use pdb_handles::ranges::{Span, write_internal, write_loaded};
 use pdb_handles::sections::{Section, sections_in};
 use pdb_handles::translation::{Translation, translate};
-use pdb_handles::{ALREADY_OPEN, Content, Fault, Handle, NOT_OPEN, TOO_LONG};
+use pdb_handles::{Fault, Handle, NOT_OPEN, TOO_LONG};
 use pdb_space::{PdbInternalRva, Rva};
 use std::alloc::Global;
 

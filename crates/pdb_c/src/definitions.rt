@@ -12,7 +12,7 @@ ghost use Rattle.pdb_handles.specs.Handle.{OpensStream, held_as};
 
 use pdb_handles::copied::{copy_list, copy_nothing};
 use pdb_handles::fields::write_nothing;
-use pdb_handles::{ALREADY_OPEN, Content, Fault, Handle, NOT_OPEN, TOO_LONG};
+use pdb_handles::{Fault, Handle, NOT_OPEN};
 use pdb_reports::definitions::{
     copy_declaration, definition_number, definitions_in, definitions_named, size_in, tell_if_found,
 };

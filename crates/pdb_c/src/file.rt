@@ -19,7 +19,7 @@ use pdb_handles::information::{
 };
 use pdb_handles::roles::{Roles, roles_in, write_roles};
 use pdb_handles::streams::layout_in;
-use pdb_handles::{ALREADY_OPEN, Content, Fault, Handle, NONE, NOT_OPEN};
+use pdb_handles::{Fault, Handle, NONE, NOT_OPEN};
 use std::alloc::Global;
 
 /// Opens a file: reads its header and its directory, and keeps them. The bytes are not kept.

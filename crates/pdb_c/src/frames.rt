@@ -15,7 +15,7 @@ ghost use Rattle.pdb_handles.specs.Handle.{Opens, frames_held};
 use pdb_handles::copied::{copy_list, copy_nothing};
 use pdb_handles::file::frames_in;
 use pdb_handles::frames::{all_frames, tell_first};
-use pdb_handles::{ALREADY_OPEN, Content, Fault, Frame, Handle, NOT_OPEN};
+use pdb_handles::{Fault, Frame, Handle, NOT_OPEN};
 use std::alloc::Global;
 
 /// Opens the frame table of a file.

@@ -5,7 +5,7 @@
 macro_rules! open {
     ($handle:ident, $alloc:expr, $opened:expr) => {
         if $handle.is_open() {
-            Fault::status(ALREADY_OPEN)
+            pdb_handles::Fault::status(pdb_handles::ALREADY_OPEN)
         } else {
             let opened = $opened;
             $handle.open($alloc, opened)
@@ -16,13 +16,10 @@ macro_rules! open {
 /// Opens a handle that holds nothing to what is in a stream, and returns how that ended.
 macro_rules! open_stream {
     ($handle:ident, $alloc:expr, $stream:ident, $opened:expr) => {
-        if $handle.is_open() {
-            Fault::status(ALREADY_OPEN)
-        } else if $stream.len() >= 0xffff_ffff {
-            Fault::status(TOO_LONG)
+        if !$handle.is_open() && $stream.len() >= 0xffff_ffff {
+            pdb_handles::Fault::status(pdb_handles::TOO_LONG)
         } else {
-            let opened = $opened;
-            $handle.open($alloc, opened)
+            open!($handle, $alloc, $opened)
         }
     };
 }
@@ -34,7 +31,7 @@ macro_rules! with_content {
         match $handle.take($alloc) {
             Some(mut content) => {
                 let told = match &mut *content {
-                    Content::$kind($content) => $told,
+                    pdb_handles::Content::$kind($content) => $told,
                     _ => $missing,
                 };
                 $handle.put(content);

@@ -9,7 +9,7 @@ ghost use Rattle.pdb_handles.specs.Names.{name_place};
 
 use pdb_handles::found::tell_answered;
 use pdb_handles::names::{NamePlace, names_in, place_in};
-use pdb_handles::{ALREADY_OPEN, Content, Fault, Handle, NOT_OPEN, TOO_LONG};
+use pdb_handles::{Fault, Handle, NOT_OPEN};
 use std::alloc::Global;
 
 /// Opens the string table in a stream, which is copied.

@@ -15,7 +15,7 @@ use pdb_handles::copied::{copy_list, copy_nothing};
 use pdb_handles::found::tell_found;
 use pdb_handles::omap::{OmapRow, records_in, table_in, tell_order};
 use pdb_handles::ranges::{Span, write_moved};
-use pdb_handles::{ALREADY_OPEN, Content, Fault, Handle, NONE, NOT_OPEN, TOO_LONG, UNMAPPED, flag};
+use pdb_handles::{Fault, Handle, NOT_OPEN, UNMAPPED};
 use std::alloc::Global;
 
 /// Opens the OMAP table in a stream, which is copied.

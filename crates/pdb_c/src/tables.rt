@@ -16,7 +16,7 @@ use pdb_handles::found::tell_found;
 use pdb_handles::open_table::{counted, find_record, listed_fields, next_record};
 use pdb_handles::tables::table_in;
 use pdb_handles::walked::{TypeRow, write_next};
-use pdb_handles::{ALREADY_OPEN, Content, FINE, Fault, Handle, Located, NONE, NOT_OPEN, TOO_LONG};
+use pdb_handles::{FINE, Fault, Handle, Located, NONE, NOT_OPEN};
 use std::alloc::Global;
 
 /// Opens the table of types or of ids in a stream, which is copied. Its walk begins at the first

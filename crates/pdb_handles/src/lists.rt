@@ -13,7 +13,7 @@ ghost use Rattle.pdb_handles.specs.Records.{if_copied, shown_copied};
 use crate::copied::{copy_name, copy_nothing, copy_out};
 use crate::fault::{Fault, NONE};
 use crate::records::type_in;
-use crate::row::{NO_NUMBERS, Numbers, Row};
+use crate::row::{NO_NUMBERS, Numbers, Row, row};
 use pdb_base::{RawString, Result};
 use pdb_values::{MethodListEntry, TypeData};
 use std::alloc::Global;
@@ -22,15 +22,9 @@ use std::alloc::Global;
 fn method_row(method: &MethodListEntry) -> Row
     ensures { result ≡ method_row method.now }
 {
-    Row::of(
-        5,
-        &Numbers {
-            attributes: Some(method.attributes.bits() as u32),
-            type_index: Some(method.method_type.0),
-            extra: method.vtable_offset,
-            ..NO_NUMBERS
-        },
-    )
+    row!(5;
+        attributes: Some(method.attributes.bits() as u32), type_index: Some(method.method_type.0),
+        extra: method.vtable_offset)
 }
 
 /// Returns a `Row` for each method, for the caller.

@@ -1,26 +1,13 @@
 //! The numbers in a record, as a `Row`.
 
 ghost use Rattle.std.specs.Prelude.{◌≡◌, ◌+◌, ◌*◌, ◌≤◌};
-ghost use Rattle.pdb_values.specs.Array.{array_value};
-ghost use Rattle.pdb_values.specs.Class.{class_value};
-ghost use Rattle.pdb_values.specs.Enumeration.{enumerate_value, enumeration_value};
-ghost use Rattle.pdb_values.specs.Member.{member_value, nested_value, static_member_value};
-ghost use Rattle.pdb_values.specs.Method.{method_value, overloaded_method_value};
-ghost use Rattle.pdb_values.specs.TableShape.{table_shape_value};
-ghost use Rattle.pdb_values.specs.Union.{union_value};
-ghost use Rattle.pdb_values.specs.TypeValue.{array, base_class, bitfield, class, enumerate, enumeration, field_list, member, member_function, method, modifier, nested, no_field, overloaded_method, plain, pointer, procedure, static_member, union, virtual_base_class, virtual_function_table_pointer, virtual_table_shape};
 ghost use Rattle.pdb_values.specs.TypeView.{type_value};
 ghost use Rattle.pdb_handles.specs.Frame.{flag};
 ghost use Rattle.pdb_handles.specs.Row.{bit, class_kind, in_64_bits, index_in, is_signed, no_numbers, row, row_of, width_of};
 
 use crate::frame::flag;
 use pdb_base::{TypeIndex, Variant};
-use pdb_values::{
-    ArrayType, BaseClassType, BitfieldType, ClassKind, ClassType, EnumerateType, EnumerationType,
-    MemberFunctionType, MemberType, MethodType, ModifierType, NestedType, OverloadedMethodType,
-    PointerType, ProcedureType, StaticMemberType, TypeData, UnionType, VirtualBaseClassType,
-    VirtualFunctionTablePointerType, VirtualTableShapeType,
-};
+use pdb_values::{ClassKind, TypeData};
 
 /// The numbers in the record of a type: what it says besides names and lists. Each shape has some
 /// of them.
@@ -93,6 +80,15 @@ pub struct Numbers {
     /// What `Row::number` holds, if the record has it.
     pub number: Option<u64>,
 }
+
+/// Returns the `Row` of a shape and some numbers. The others are absent.
+macro_rules! row {
+    ($shape:expr; $($name:ident: $value:expr),*) => {
+        Row::of($shape, &Numbers { $($name: $value,)* ..NO_NUMBERS })
+    };
+}
+
+pub(crate) use row;
 
 /// No numbers.
 pub const NO_NUMBERS: Numbers = Numbers {
@@ -196,332 +192,6 @@ fn bits_of_numbers(numbers: &Numbers) -> u32
         + bit(512, numbers.number.is_some())
 }
 
-/// Returns the `Row` of a class.
-#[inline(always)]
-fn class_row(v: &ClassType<'_>) -> Row
-    ensures { result ≡ row_of (plain (class (class_value v.now))) }
-{
-    Row::of(
-        1,
-        &Numbers {
-            kind: Some(class_kind(v.kind)),
-            properties: Some(v.properties.bits() as u32),
-            count: Some(v.count as u32),
-            second_index: index_in(v.derived_from),
-            third_index: index_in(v.vtable_shape),
-            list_index: index_in(v.fields),
-            number: Some(v.size),
-            ..NO_NUMBERS
-        },
-    )
-}
-
-/// Returns the `Row` of a member.
-#[inline(always)]
-fn member_row(v: &MemberType<'_>) -> Row
-    ensures { result ≡ row_of (plain (member (member_value v.now))) }
-{
-    Row::of(
-        2,
-        &Numbers {
-            attributes: Some(v.attributes.bits() as u32),
-            type_index: Some(v.field_type.0),
-            number: Some(v.offset),
-            ..NO_NUMBERS
-        },
-    )
-}
-
-/// Returns the `Row` of a method's type.
-#[inline(always)]
-fn member_function_row(v: &MemberFunctionType) -> Row
-    ensures { result ≡ row_of (plain (member_function v.now)) }
-{
-    Row::of(
-        3,
-        &Numbers {
-            attributes: Some(v.attributes.bits() as u32),
-            count: Some(v.parameter_count as u32),
-            type_index: Some(v.return_type.0),
-            second_index: Some(v.class_type.0),
-            third_index: index_in(v.this_pointer_type),
-            list_index: Some(v.argument_list.0),
-            extra: Some(v.this_adjustment),
-            ..NO_NUMBERS
-        },
-    )
-}
-
-/// Returns the `Row` of the methods of one name.
-#[inline(always)]
-fn overloaded_method_row(v: &OverloadedMethodType<'_>) -> Row
-    ensures { result ≡ row_of (plain (overloaded_method (overloaded_method_value v.now))) }
-{
-    Row::of(
-        4,
-        &Numbers {
-            count: Some(v.count as u32),
-            list_index: Some(v.method_list.0),
-            ..NO_NUMBERS
-        },
-    )
-}
-
-/// Returns the `Row` of a method.
-#[inline(always)]
-fn method_row(v: &MethodType<'_>) -> Row
-    ensures { result ≡ row_of (plain (method (method_value v.now))) }
-{
-    Row::of(
-        5,
-        &Numbers {
-            attributes: Some(v.attributes.bits() as u32),
-            type_index: Some(v.method_type.0),
-            extra: v.vtable_offset,
-            ..NO_NUMBERS
-        },
-    )
-}
-
-/// Returns the `Row` of a static member.
-#[inline(always)]
-fn static_member_row(v: &StaticMemberType<'_>) -> Row
-    ensures { result ≡ row_of (plain (static_member (static_member_value v.now))) }
-{
-    Row::of(
-        6,
-        &Numbers {
-            attributes: Some(v.attributes.bits() as u32),
-            type_index: Some(v.field_type.0),
-            ..NO_NUMBERS
-        },
-    )
-}
-
-/// Returns the `Row` of a nested type.
-#[inline(always)]
-fn nested_row(v: &NestedType<'_>) -> Row
-    ensures { result ≡ row_of (plain (nested (nested_value v.now))) }
-{
-    Row::of(
-        7,
-        &Numbers {
-            attributes: Some(v.attributes.bits() as u32),
-            type_index: Some(v.nested_type.0),
-            ..NO_NUMBERS
-        },
-    )
-}
-
-/// Returns the `Row` of a base class.
-#[inline(always)]
-fn base_class_row(v: &BaseClassType) -> Row
-    ensures { result ≡ row_of (plain (base_class v.now)) }
-{
-    Row::of(
-        8,
-        &Numbers {
-            kind: Some(class_kind(v.kind)),
-            attributes: Some(v.attributes.bits() as u32),
-            type_index: Some(v.base_class.0),
-            number: Some(v.offset as u64),
-            ..NO_NUMBERS
-        },
-    )
-}
-
-/// Returns the `Row` of a virtual base class.
-#[inline(always)]
-fn virtual_base_class_row(v: &VirtualBaseClassType) -> Row
-    ensures { result ≡ row_of (plain (virtual_base_class v.now)) }
-{
-    Row::of(
-        9,
-        &Numbers {
-            kind: Some(flag(v.direct)),
-            attributes: Some(v.attributes.bits() as u32),
-            type_index: Some(v.base_class.0),
-            second_index: Some(v.base_pointer.0),
-            number: Some(v.base_pointer_offset as u64),
-            extra: Some(v.virtual_base_offset),
-            ..NO_NUMBERS
-        },
-    )
-}
-
-/// Returns the `Row` of a pointer to a table of virtual functions.
-#[inline(always)]
-fn virtual_function_table_pointer_row(v: &VirtualFunctionTablePointerType) -> Row
-    ensures { result ≡ row_of (plain (virtual_function_table_pointer v.now)) }
-{
-    Row::of(
-        10,
-        &Numbers {
-            type_index: Some(v.table.0),
-            ..NO_NUMBERS
-        },
-    )
-}
-
-/// Returns the `Row` of a function's type.
-#[inline(always)]
-fn procedure_row(v: &ProcedureType) -> Row
-    ensures { result ≡ row_of (plain (procedure v.now)) }
-{
-    Row::of(
-        11,
-        &Numbers {
-            attributes: Some(v.attributes.bits() as u32),
-            count: Some(v.parameter_count as u32),
-            type_index: index_in(v.return_type),
-            list_index: Some(v.argument_list.0),
-            ..NO_NUMBERS
-        },
-    )
-}
-
-/// Returns the `Row` of a pointer.
-#[inline(always)]
-fn pointer_row(v: &PointerType) -> Row
-    ensures { result ≡ row_of (plain (pointer v.now)) }
-{
-    Row::of(
-        12,
-        &Numbers {
-            attributes: Some(v.attributes.bits()),
-            type_index: Some(v.underlying_type.0),
-            second_index: index_in(v.containing_class),
-            ..NO_NUMBERS
-        },
-    )
-}
-
-/// Returns the `Row` of a type with modifiers.
-#[inline(always)]
-fn modifier_row(v: &ModifierType) -> Row
-    ensures { result ≡ row_of (plain (modifier v.now)) }
-{
-    Row::of(
-        13,
-        &Numbers {
-            kind: Some(flag(v.constant) + 2 * flag(v.volatile) + 4 * flag(v.unaligned)),
-            type_index: Some(v.underlying_type.0),
-            ..NO_NUMBERS
-        },
-    )
-}
-
-/// Returns the `Row` of an enumeration.
-#[inline(always)]
-fn enumeration_row(v: &EnumerationType<'_>) -> Row
-    ensures { result ≡ row_of (plain (enumeration (enumeration_value v.now))) }
-{
-    Row::of(
-        14,
-        &Numbers {
-            properties: Some(v.properties.bits() as u32),
-            count: Some(v.count as u32),
-            type_index: Some(v.underlying_type.0),
-            list_index: Some(v.fields.0),
-            ..NO_NUMBERS
-        },
-    )
-}
-
-/// Returns the `Row` of a value of an enumeration.
-#[inline(always)]
-fn enumerate_row(v: &EnumerateType<'_>) -> Row
-    ensures { result ≡ row_of (plain (enumerate (enumerate_value v.now))) }
-{
-    Row::of(
-        15,
-        &Numbers {
-            kind: Some(flag(is_signed(v.value))),
-            attributes: Some(v.attributes.bits() as u32),
-            count: Some(width_of(v.value)),
-            number: Some(in_64_bits(v.value)),
-            ..NO_NUMBERS
-        },
-    )
-}
-
-/// Returns the `Row` of an array.
-#[inline(always)]
-fn array_row(v: &ArrayType) -> Row
-    ensures { result ≡ row_of (array (array_value v.now)) }
-{
-    Row::of(
-        16,
-        &Numbers {
-            type_index: Some(v.element_type.0),
-            second_index: Some(v.indexing_type.0),
-            extra: v.stride,
-            ..NO_NUMBERS
-        },
-    )
-}
-
-/// Returns the `Row` of a union.
-#[inline(always)]
-fn union_row(v: &UnionType<'_>) -> Row
-    ensures { result ≡ row_of (plain (union (union_value v.now))) }
-{
-    Row::of(
-        17,
-        &Numbers {
-            properties: Some(v.properties.bits() as u32),
-            count: Some(v.count as u32),
-            list_index: Some(v.fields.0),
-            number: Some(v.size),
-            ..NO_NUMBERS
-        },
-    )
-}
-
-/// Returns the `Row` of a bit field.
-#[inline(always)]
-fn bitfield_row(v: &BitfieldType) -> Row
-    ensures { result ≡ row_of (plain (bitfield v.now)) }
-{
-    Row::of(
-        18,
-        &Numbers {
-            count: Some(v.length as u32),
-            type_index: Some(v.underlying_type.0),
-            extra: Some(v.position as u32),
-            ..NO_NUMBERS
-        },
-    )
-}
-
-/// Returns the `Row` of the shape of a table of virtual functions.
-#[inline(always)]
-fn virtual_table_shape_row(v: &VirtualTableShapeType<'_>) -> Row
-    ensures { result ≡ row_of (plain (virtual_table_shape (table_shape_value v.now))) }
-{
-    Row::of(
-        22,
-        &Numbers {
-            count: Some(v.count as u32),
-            ..NO_NUMBERS
-        },
-    )
-}
-
-/// Returns the `Row` of a list of fields, from its continuation.
-#[inline(always)]
-fn field_list_row(continuation: Option<TypeIndex>) -> Row
-    ensures { result ≡ row_of (field_list no_field continuation) }
-{
-    Row::of(
-        19,
-        &Numbers {
-            list_index: index_in(continuation),
-            ..NO_NUMBERS
-        },
-    )
-}
-
 impl Row {
     /// Returns the `Row` of a shape and its numbers.
     #[inline(always)]
@@ -551,30 +221,67 @@ impl Row {
     {
         match value {
             TypeData::Primitive(_) => *self = Row::of(0, &NO_NUMBERS),
-            TypeData::Class(v) => *self = class_row(v),
-            TypeData::Member(v) => *self = member_row(v),
-            TypeData::MemberFunction(v) => *self = member_function_row(v),
-            TypeData::OverloadedMethod(v) => *self = overloaded_method_row(v),
-            TypeData::Method(v) => *self = method_row(v),
-            TypeData::StaticMember(v) => *self = static_member_row(v),
-            TypeData::Nested(v) => *self = nested_row(v),
-            TypeData::BaseClass(v) => *self = base_class_row(v),
-            TypeData::VirtualBaseClass(v) => *self = virtual_base_class_row(v),
-            TypeData::VirtualFunctionTablePointer(v) => *self = virtual_function_table_pointer_row(
-                v,
-            ),
-            TypeData::Procedure(v) => *self = procedure_row(v),
-            TypeData::Pointer(v) => *self = pointer_row(v),
-            TypeData::Modifier(v) => *self = modifier_row(v),
-            TypeData::Enumeration(v) => *self = enumeration_row(v),
-            TypeData::Enumerate(v) => *self = enumerate_row(v),
-            TypeData::Array(v) => *self = array_row(v),
-            TypeData::Union(v) => *self = union_row(v),
-            TypeData::Bitfield(v) => *self = bitfield_row(v),
-            TypeData::FieldList(v) => *self = field_list_row(v.continuation),
+            TypeData::Class(v) => *self = row!(1;
+                kind: Some(class_kind(v.kind)), properties: Some(v.properties.bits() as u32),
+                count: Some(v.count as u32), second_index: index_in(v.derived_from),
+                third_index: index_in(v.vtable_shape), list_index: index_in(v.fields),
+                number: Some(v.size)),
+            TypeData::Member(v) => *self = row!(2;
+                attributes: Some(v.attributes.bits() as u32), type_index: Some(v.field_type.0),
+                number: Some(v.offset)),
+            TypeData::MemberFunction(v) => *self = row!(3;
+                attributes: Some(v.attributes.bits() as u32),
+                count: Some(v.parameter_count as u32), type_index: Some(v.return_type.0),
+                second_index: Some(v.class_type.0), third_index: index_in(v.this_pointer_type),
+                list_index: Some(v.argument_list.0), extra: Some(v.this_adjustment)),
+            TypeData::OverloadedMethod(v) => *self = row!(4;
+                count: Some(v.count as u32), list_index: Some(v.method_list.0)),
+            TypeData::Method(v) => *self = row!(5;
+                attributes: Some(v.attributes.bits() as u32), type_index: Some(v.method_type.0),
+                extra: v.vtable_offset),
+            TypeData::StaticMember(v) => *self = row!(6;
+                attributes: Some(v.attributes.bits() as u32), type_index: Some(v.field_type.0)),
+            TypeData::Nested(v) => *self = row!(7;
+                attributes: Some(v.attributes.bits() as u32), type_index: Some(v.nested_type.0)),
+            TypeData::BaseClass(v) => *self = row!(8;
+                kind: Some(class_kind(v.kind)), attributes: Some(v.attributes.bits() as u32),
+                type_index: Some(v.base_class.0), number: Some(v.offset as u64)),
+            TypeData::VirtualBaseClass(v) => *self = row!(9;
+                kind: Some(flag(v.direct)), attributes: Some(v.attributes.bits() as u32),
+                type_index: Some(v.base_class.0), second_index: Some(v.base_pointer.0),
+                number: Some(v.base_pointer_offset as u64), extra: Some(v.virtual_base_offset)),
+            TypeData::VirtualFunctionTablePointer(v) => *self = row!(10;
+                type_index: Some(v.table.0)),
+            TypeData::Procedure(v) => *self = row!(11;
+                attributes: Some(v.attributes.bits() as u32),
+                count: Some(v.parameter_count as u32), type_index: index_in(v.return_type),
+                list_index: Some(v.argument_list.0)),
+            TypeData::Pointer(v) => *self = row!(12;
+                attributes: Some(v.attributes.bits()), type_index: Some(v.underlying_type.0),
+                second_index: index_in(v.containing_class)),
+            TypeData::Modifier(v) => *self = row!(13;
+                kind: Some(flag(v.constant) + 2 * flag(v.volatile) + 4 * flag(v.unaligned)),
+                type_index: Some(v.underlying_type.0)),
+            TypeData::Enumeration(v) => *self = row!(14;
+                properties: Some(v.properties.bits() as u32), count: Some(v.count as u32),
+                type_index: Some(v.underlying_type.0), list_index: Some(v.fields.0)),
+            TypeData::Enumerate(v) => *self = row!(15;
+                kind: Some(flag(is_signed(v.value))),
+                attributes: Some(v.attributes.bits() as u32), count: Some(width_of(v.value)),
+                number: Some(in_64_bits(v.value))),
+            TypeData::Array(v) => *self = row!(16;
+                type_index: Some(v.element_type.0), second_index: Some(v.indexing_type.0),
+                extra: v.stride),
+            TypeData::Union(v) => *self = row!(17;
+                properties: Some(v.properties.bits() as u32), count: Some(v.count as u32),
+                list_index: Some(v.fields.0), number: Some(v.size)),
+            TypeData::Bitfield(v) => *self = row!(18;
+                count: Some(v.length as u32), type_index: Some(v.underlying_type.0),
+                extra: Some(v.position as u32)),
+            TypeData::FieldList(v) => *self = row!(19; list_index: index_in(v.continuation)),
             TypeData::ArgumentList(_) => *self = Row::of(20, &NO_NUMBERS),
             TypeData::MethodList(_) => *self = Row::of(21, &NO_NUMBERS),
-            TypeData::VirtualTableShape(v) => *self = virtual_table_shape_row(v),
+            TypeData::VirtualTableShape(v) => *self = row!(22; count: Some(v.count as u32)),
         }
     }
 
