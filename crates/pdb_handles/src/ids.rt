@@ -7,7 +7,7 @@ ghost use Rattle.pdb_values.specs.Text.{text_bytes};
 ghost use Rattle.pdb_values.specs.IdValue.{IdValue, id_name, id_value};
 ghost use Rattle.pdb_tpi.specs.Record.{id_of};
 ghost use Rattle.pdb_handles.specs.Copied.{CopiesOrLacks};
-ghost use Rattle.pdb_handles.specs.Ids.{id_in, id_list_of, id_row, list_in};
+ghost use Rattle.pdb_handles.specs.Ids.{id_in, id_list_of, id_row};
 ghost use Rattle.pdb_handles.specs.Records.{shown_copied};
 ghost use Rattle.pdb_handles.specs.Roles.{IsAnswered};
 
@@ -83,17 +83,6 @@ fn id_numbers_of(alloc: Global, indexes: &[IdIndex]) -> Result<Vec<u32>>
     Ok(numbers)
 }
 
-/// Returns the indexes that an id lists, or None if it isn't a list.
-fn list_in(alloc: Global, value: &IdData<'_>) -> Result<Option<Vec<u32>>>
-    ensures { Answers (option_map (λ list. list.items)) result (Ok (list_in (id_value value.now))) }
-{
-    match value {
-        IdData::BuildInfo(list) => Ok(Some(id_numbers_of(alloc, &list.arguments)?)),
-        IdData::StringList(list) => Ok(Some(numbers_of(alloc, &list.substrings)?)),
-        _ => Ok(None),
-    }
-}
-
 /// Parses the record of an id and returns the indexes that it lists, or None if it isn't a list.
 ///
 /// # Errors
@@ -102,7 +91,11 @@ pub fn list_of(alloc: Global, bytes: &[u8]) -> Result<Option<Vec<u32>>>
     ensures { Answers (option_map (λ list. list.items)) result (id_list_of bytes.now) }
 {
     let value = id_at(alloc, bytes)?;
-    list_in(alloc, &value)
+    match &value {
+        IdData::BuildInfo(list) => Ok(Some(id_numbers_of(alloc, &list.arguments)?)),
+        IdData::StringList(list) => Ok(Some(numbers_of(alloc, &list.substrings)?)),
+        _ => Ok(None),
+    }
 }
 
 /// Writes the `Row` of an id that was parsed, or returns the fault of its error.

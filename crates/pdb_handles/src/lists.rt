@@ -7,7 +7,7 @@ ghost use Rattle.pdb_values.specs.Text.{text_bytes};
 ghost use Rattle.pdb_values.specs.TypeValue.{TypeValue};
 ghost use Rattle.pdb_values.specs.TypeView.{type_value};
 ghost use Rattle.pdb_handles.specs.Copied.{CopiesOrLacks};
-ghost use Rattle.pdb_handles.specs.Lists.{dimensions_in, method_row, methods_in, methods_of, unique_name_in};
+ghost use Rattle.pdb_handles.specs.Lists.{dimensions_in, method_row, methods_of, unique_name_in};
 ghost use Rattle.pdb_handles.specs.Records.{if_copied, shown_copied};
 
 use crate::copied::{copy_name, copy_nothing, copy_out};
@@ -38,16 +38,6 @@ fn method_rows(alloc: Global, methods: &[MethodListEntry]) -> Result<Vec<Row>>
     Ok(rows)
 }
 
-/// Returns the methods that a type lists, or None if it isn't a list of methods.
-fn methods_in(alloc: Global, value: &TypeData<'_>) -> Result<Option<Vec<Row>>>
-    ensures { Answers (option_map (λ rows. rows.items)) result (Ok (methods_in (type_value value.now))) }
-{
-    match value {
-        TypeData::MethodList(list) => Ok(Some(method_rows(alloc, &list.methods)?)),
-        _ => Ok(None),
-    }
-}
-
 /// Parses a record and returns the methods that it lists, or None if it isn't a list of methods.
 ///
 /// # Errors
@@ -56,7 +46,10 @@ pub fn methods_of(alloc: Global, bytes: &[u8], index: u32) -> Result<Option<Vec<
     ensures { Answers (option_map (λ rows. rows.items)) result (methods_of index bytes.now) }
 {
     let value = type_in(alloc, bytes, index)?;
-    methods_in(alloc, &value)
+    match &value {
+        TypeData::MethodList(list) => Ok(Some(method_rows(alloc, &list.methods)?)),
+        _ => Ok(None),
+    }
 }
 
 /// Copies the dimensions of a type into the caller's array, if it is an array.

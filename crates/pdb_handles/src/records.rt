@@ -7,7 +7,7 @@ ghost use Rattle.pdb_values.specs.TypeValue.{TypeValue, name_of};
 ghost use Rattle.pdb_values.specs.TypeView.{type_value};
 ghost use Rattle.pdb_tpi.specs.Record.{type_of};
 ghost use Rattle.pdb_handles.specs.Copied.{CopiesOrLacks};
-ghost use Rattle.pdb_handles.specs.Records.{arguments_in, arguments_of, shown_copied};
+ghost use Rattle.pdb_handles.specs.Records.{arguments_of, shown_copied};
 ghost use Rattle.pdb_handles.specs.Roles.{IsAnswered};
 ghost use Rattle.pdb_handles.specs.Row.{row_of};
 
@@ -81,16 +81,6 @@ pub fn numbers_of(alloc: Global, indexes: &[TypeIndex]) -> Result<Vec<u32>>
     Ok(numbers)
 }
 
-/// Returns the types of the arguments that a type lists, or None if it isn't a list of arguments.
-fn arguments_in(alloc: Global, value: &TypeData<'_>) -> Result<Option<Vec<u32>>>
-    ensures { Answers (option_map (λ list. list.items)) result (Ok (arguments_in (type_value value.now))) }
-{
-    match value {
-        TypeData::ArgumentList(list) => Ok(Some(numbers_of(alloc, &list.arguments)?)),
-        _ => Ok(None),
-    }
-}
-
 /// Parses a record and returns the types of the arguments that it lists, or None if it isn't a list
 /// of arguments.
 ///
@@ -100,5 +90,8 @@ pub fn arguments_of(alloc: Global, bytes: &[u8], index: u32) -> Result<Option<Ve
     ensures { Answers (option_map (λ list. list.items)) result (arguments_of index bytes.now) }
 {
     let value = type_in(alloc, bytes, index)?;
-    arguments_in(alloc, &value)
+    match &value {
+        TypeData::ArgumentList(list) => Ok(Some(numbers_of(alloc, &list.arguments)?)),
+        _ => Ok(None),
+    }
 }
