@@ -7,7 +7,7 @@ ghost use Rattle.pdb_base.specs.Memory.{FailsOnlyForMemory};
 ghost use Rattle.pdb_base.specs.Answer.{Answer, Answers};
 ghost use Rattle.pdb_values.specs.TypeValue.{TypeValue};
 ghost use Rattle.pdb_values.specs.TypeView.{type_value};
-ghost use Rattle.pdb_handles.specs.Records.{FieldsOrLacks, all_found, field_row, fielded, fields_in, fields_of_record, fields_told, listings, name_bytes};
+ghost use Rattle.pdb_handles.specs.Records.{FieldsOrLacks, all_found, field_row, fields_in, fields_of_record, fields_told, listings, name_bytes};
 ghost use Rattle.pdb_handles.specs.Listing.{listing_view};
 
 use crate::copied::copy_both;
@@ -75,21 +75,6 @@ fn shown(alloc: Global, fields: &[TypeData<'_>]) -> Result<Listing>
     Ok(Listing { rows, names })
 }
 
-/// Writes the fields and names of a listing to the starts of the caller's arrays, if both have room
-/// for all of them.
-fn write_listing(
-    listing: &Listing,
-    rows: &mut [FieldRow],
-    count: &mut usize,
-    names: &mut [u8],
-    size: &mut usize,
-) -> Fault
-    ensures { record { fault = result; rows = rows.new; count = count.new; names = names.new; size = size.new }
-        ≡ fielded rows.old names.old listing.now.rows.items listing.now.names.items }
-{
-    copy_both(&listing.rows, &listing.names, rows, count, names, size)
-}
-
 /// Sets `count` and `size` to 0 and returns the fault.
 pub fn write_nothing(fault: Fault, count: &mut usize, size: &mut usize) -> Fault
     ensures fault { result ≡ fault }
@@ -142,7 +127,7 @@ pub fn write_found(
         rows.old names.old (fields_told rows.old names.old meant) }
 {
     match found {
-        Ok(Some(listing)) => write_listing(&listing, rows, count, names, size),
+        Ok(Some(listing)) => copy_both(&listing.rows, &listing.names, rows, count, names, size),
         Ok(None) => write_nothing(Fault::status(NONE), count, size),
         Err(error) => write_nothing(Fault::of(&error), count, size),
     }
