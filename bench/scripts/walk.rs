@@ -30,11 +30,11 @@ fn by_calls(table: &mut sys::Handle) -> (u64, u64) {
     let mut batch = [sys::Type::default(); 64];
     let (mut filled, mut fault) = (0, sys::Fault::default());
     // SAFETY: the table is open, and the array is as long as it says.
-    unsafe { sys::pdb_table_rewind(table, &mut fault) };
+    unsafe { sys::pdb_types_rewind(table, &mut fault) };
     loop {
         // SAFETY: the same.
         let status = unsafe {
-            sys::pdb_table_next_types(
+            sys::pdb_types_read(
                 table,
                 batch.as_mut_ptr(),
                 batch.len(),
@@ -46,7 +46,7 @@ fn by_calls(table: &mut sys::Handle) -> (u64, u64) {
             count += 1;
             if it.fault.status == sys::PDB_OK {
                 sum = sum
-                    .wrapping_add(it.row.number)
+                    .wrapping_add(it.info.number)
                     .wrapping_add(it.place.index.into())
                     .wrapping_add(it.place.length.into());
             }
@@ -77,7 +77,7 @@ fn main() -> Result<(), Box<dyn Error>> {
     };
     // SAFETY: the handle is all zero, and the stream is as long as it says.
     unsafe {
-        sys::pdb_table_open(
+        sys::pdb_types_open(
             stream.as_ptr(),
             stream.len(),
             &mut table,

@@ -16,8 +16,6 @@ namespace {
 
 using Bytes = std::vector<uint8_t>;
 
-constexpr uint32_t types_stream = 2;
-constexpr uint32_t forward = 1 << 7; // of the properties: only declared
 constexpr size_t most = 5;
 
 // Throws an error of the library, in its own words.
@@ -26,7 +24,7 @@ void expect(bool is_well, const pdb_fault &about) {
     uint8_t room[200];
     size_t length = 0;
     pdb_fault fault{};
-    if (pdb_error_text(&about, room, sizeof room, &length, &fault) != PDB_OK) throw std::runtime_error("status " + std::to_string(about.status));
+    if (pdb_error_text(&about, room, sizeof room, &length, &fault) != PDB_OK) throw std::runtime_error(pdb_status_text(about.status));
     throw std::runtime_error(std::string(room, room + length));
 }
 
@@ -34,76 +32,63 @@ void expect(bool is_well, const pdb_fault &about) {
 template <class T, class Call> std::vector<T> answer(Call call) {
     pdb_fault fault{};
     size_t count = 0;
-    std::vector<T> room(1);
+    std::vector<T> room;
     uint32_t status = call(room.data(), 0, &count, &fault);
-    expect(status == PDB_OK || status == PDB_TOO_SMALL, fault);
-    room.resize(std::max<size_t>(count, 1));
-    if (status == PDB_TOO_SMALL) expect(call(room.data(), count, &count, &fault) == PDB_OK, fault);
-    room.resize(count);
+    if (status == PDB_TOO_SMALL) {
+        room.resize(count);
+        status = call(room.data(), count, &count, &fault);
+    }
+    expect(status == PDB_OK, fault);
     return room;
 }
 
-// The address of bytes, which is not null even where there are none.
-const uint8_t *at(const Bytes &bytes) {
-    static const uint8_t none[1] = {};
-    return bytes.empty() ? none : bytes.data();
-}
-
-// The header and the directory of a file, closed where it goes out of scope.
-struct File {
-    explicit File(const Bytes &file) {
-        pdb_fault fault{};
-        expect(pdb_file_open(at(file), file.size(), &handle, &fault) == PDB_OK, fault);
-    }
-    ~File() { pdb_close(&handle); }
-    File(const File &) = delete;
-    File &operator=(const File &) = delete;
-
-    pdb_handle handle{};
+// A handle, closed where it goes out of scope.
+template <class Handle, void close(Handle *)> struct Open : Handle {
+    Open() : Handle{} {}
+    ~Open() { close(this); }
+    Open(const Open &) = delete;
+    Open &operator=(const Open &) = delete;
 };
 
+using File = Open<pdb_file, pdb_file_close>;
+
 struct Field {
-    pdb_row row;
+    pdb_type_info info;
     std::string name;
 };
 
-// The table of types of a file, which stays open as long as this does.
+// The table of types of a file.
 class Types {
   public:
-    explicit Types(const Bytes &file) {
-        File opened(file);
-        stream = answer<uint8_t>([&](uint8_t *room, size_t size, size_t *count, pdb_fault *fault) {
-            return pdb_file_stream(&opened.handle, at(file), file.size(), types_stream, SIZE_MAX, room, size, count, fault);
-        });
+    explicit Types(const Bytes &bytes) {
         pdb_fault fault{};
-        expect(pdb_table_open(at(stream), stream.size(), &table, &fault) == PDB_OK, fault);
+        File file;
+        expect(pdb_file_open(bytes.data(), bytes.size(), &file, &fault) == PDB_OK, fault);
+        stream = answer<uint8_t>([&](uint8_t *room, size_t size, size_t *count, pdb_fault *fault) {
+            return pdb_file_stream(&file, PDB_TYPES_STREAM, SIZE_MAX, room, size, count, fault);
+        });
+        expect(pdb_types_open(stream.data(), stream.size(), &table, &fault) == PDB_OK, fault);
     }
 
-    ~Types() { pdb_close(&table); }
-    Types(const Types &) = delete;
-    Types &operator=(const Types &) = delete;
-
-    // Calls with the index and the row of each type, from the first on, but not of a kind that is not read.
+    // Calls with each type, from the first on. A record that can't be read, such as an LF_LABEL, is passed by.
     template <class Call> void walk(Call call) {
-        uint32_t status = PDB_OK;
-        pdb_record record{};
+        pdb_type types[64];
         pdb_fault fault{};
-        expect(pdb_table_rewind(&table, &fault) == PDB_OK, fault);
-        while ((status = pdb_table_next(&table, &record, &fault)) != PDB_NOWHERE) {
-            expect(status == PDB_OK, fault);
-            pdb_row row{};
-            status = pdb_type_row(&stream[record.offset], record.length, record.index, &row, &fault);
-            if (status == PDB_OK) call(record.index, row);
-            else expect(status != PDB_OUT_OF_MEMORY, fault);
+        size_t count = std::size(types);
+        expect(pdb_types_rewind(&table, &fault) == PDB_OK, fault);
+        while (count == std::size(types)) {
+            uint32_t status = pdb_types_read(&table, types, std::size(types), &count, &fault);
+            for (size_t i = 0; i < count; i++) {
+                expect(types[i].fault.status != PDB_OUT_OF_MEMORY, types[i].fault);
+                if (types[i].fault.status == PDB_OK) call(types[i]);
+            }
+            expect(status == PDB_OK || status == PDB_END, fault);
         }
     }
 
-    std::string name(uint32_t index) {
-        pdb_fault fault{};
-        pdb_record record{};
-        expect(pdb_table_find(&table, index, &record, &fault) == PDB_OK, fault);
+    std::string name(const pdb_record &place) {
         auto name = answer<uint8_t>([&](uint8_t *room, size_t size, size_t *count, pdb_fault *fault) {
-            return pdb_type_name(&stream[record.offset], record.length, index, room, size, count, fault);
+            return pdb_type_name(&stream[place.offset], place.length, place.index, room, size, count, fault);
         });
         return std::string(name.begin(), name.end());
     }
@@ -111,37 +96,42 @@ class Types {
     // The fields of a list and of those in which it goes on.
     std::vector<Field> fields(uint32_t index) {
         pdb_fault fault{};
-        std::vector<pdb_field> rows(1);
-        Bytes names(1);
+        std::vector<pdb_field> rows;
+        Bytes names;
         size_t count = 0, size = 0;
-        uint32_t status = pdb_fields(&table, index, rows.data(), 0, &count, names.data(), 0, &size, &fault);
-        expect(status == PDB_OK || status == PDB_TOO_SMALL, fault);
-        rows.resize(count + 1);
-        names.resize(size + 1);
-        expect(pdb_fields(&table, index, rows.data(), count, &count, names.data(), size, &size, &fault) == PDB_OK, fault);
+        uint32_t status = pdb_types_fields(&table, index, nullptr, 0, &count, nullptr, 0, &size, &fault);
+        if (status == PDB_TOO_SMALL) {
+            rows.resize(count);
+            names.resize(size);
+            status = pdb_types_fields(&table, index, rows.data(), count, &count, names.data(), size, &size, &fault);
+        }
+        expect(status == PDB_OK, fault);
         std::vector<Field> all;
         auto from = names.begin();
-        for (size_t i = 0; i < count; from += rows[i++].name_length) all.push_back({rows[i].row, std::string(from, from + rows[i].name_length)});
+        for (auto &row : rows) {
+            all.push_back({row.info, std::string(from, from + row.name_length)});
+            from += row.name_length;
+        }
         return all;
     }
 
   private:
-    pdb_handle table{};
-    Bytes stream; // in which the table says where records stand
+    Open<pdb_types, pdb_types_close> table;
+    Bytes stream; // in which the table says where records are
 };
 
 void print_largest(Types &types) {
-    std::vector<std::pair<uint32_t, pdb_row>> classes;
-    types.walk([&](uint32_t index, const pdb_row &row) {
-        if (row.shape == PDB_CLASS && !(row.properties & forward)) classes.emplace_back(index, row);
+    std::vector<pdb_type> classes;
+    types.walk([&](const pdb_type &type) {
+        if (type.info.any.shape == PDB_CLASS && !(type.info.class_type.properties & PDB_PROPERTY_FORWARD_REFERENCE)) classes.push_back(type);
     });
-    std::stable_sort(classes.begin(), classes.end(), [](auto &a, auto &b) { return a.second.number > b.second.number; });
+    std::stable_sort(classes.begin(), classes.end(), [](auto &a, auto &b) { return a.info.class_type.size > b.info.class_type.size; });
     if (classes.size() > most) classes.resize(most);
-    for (auto &[index, row] : classes) {
-        std::printf("%llu %s\n", (unsigned long long)row.number, types.name(index).c_str());
-        if (!(row.stands & PDB_LIST_INDEX)) continue;
-        for (auto &field : types.fields(row.list_index))
-            if (field.row.shape == PDB_MEMBER) std::printf("  +%llu %s\n", (unsigned long long)field.row.number, field.name.c_str());
+    for (auto &type : classes) {
+        std::printf("%llu %s\n", (unsigned long long)type.info.class_type.size, types.name(type.place).c_str());
+        if (!(type.info.any.has & PDB_HAS_FIELDS)) continue;
+        for (auto &field : types.fields(type.info.class_type.fields))
+            if (field.info.any.shape == PDB_MEMBER) std::printf("  +%llu %s\n", (unsigned long long)field.info.member.offset, field.name.c_str());
     }
 }
 

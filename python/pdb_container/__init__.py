@@ -7,11 +7,11 @@
             print(field.shape.name, field.name, field.number)
 
 The calls of the library are proved: for any bytes they end, read within the bytes, and give the answer that a written
-grammar of the format gives, or its first error. This package calls them, and is not proved. What a file has open stays
-on the thread that opened it.
+grammar of the format gives, or its first error. This package calls them, and is not proved. Any
+thread may use what is open.
 """
 
-from ._file import AddressMap, Frame, Frames, Information, Names, Omap, Pdb, Roles, Section, Stream, Streams, open
+from ._file import AddressMap, Frame, Frames, Information, Names, Omap, Pdb, Roles, Section, Stream, Streams, Translation, open
 from ._identity import Identity, format_of
 from ._layouts import Definitions, Layout, LayoutRow
 from ._library import LibraryError, PdbError
@@ -23,6 +23,6 @@ __version__ = "0.1.0"
 __all__ = [
     "AddressMap", "Definitions", "Field", "Finding", "Format", "Frame", "Frames", "Id", "IdShape", "Identity", "Ids",
     "Information", "KeyForm", "Layout", "LayoutKind", "LayoutRow", "LibraryError", "Names", "Omap", "Part", "Pdb",
-    "PdbError", "Roles", "Row", "Section", "Shape", "Status", "Stream", "Streams", "Type", "Types", "format_of", "open",
+    "PdbError", "Roles", "Row", "Section", "Shape", "Status", "Stream", "Streams", "Translation", "Type", "Types", "format_of", "open",
     "validate",
 ]  # fmt: skip

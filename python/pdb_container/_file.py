@@ -13,7 +13,7 @@ from typing import Dict, Iterator, List, Optional, Tuple, Union
 from . import _sys
 from ._identity import Identity, identity_of
 from ._library import Lent, Opened, PdbError, items, library, named_items, value
-from ._sys import Fault, Status
+from ._sys import AddressForm, Fault, Status
 from ._tables import IDS, TYPES, Ids, Types
 
 NO_STREAM = 0xFFFF
@@ -90,17 +90,26 @@ class Names:
 
     def __getitem__(self, offset: int) -> str:
         """The name at an offset. KeyError if no name is there."""
+        return str(self._bytes(offset), "utf-8", "replace")
+
+    def _bytes(self, offset: int) -> memoryview:
         try:
             place = value(_sys.Name, library().pdb_names_place, self._table.handle, offset)
         except PdbError as error:
             if error.status == Status.UNEXPECTED_EOF:
                 raise KeyError(offset) from None
             raise
-        return str(self._stream[place.offset : place.offset + place.length], "utf-8", "replace")
+        return self._stream[place.offset : place.offset + place.length]
 
     def __iter__(self) -> Iterator[Tuple[int, str]]:
-        for offset in items(c_uint32, library().pdb_names_offsets, self._table.handle):
-            yield offset, self[offset]
+        offset, past = 0, 1 << 32
+        while offset < past:
+            try:
+                name = self._bytes(offset)
+            except KeyError:
+                return
+            yield offset, str(name, "utf-8", "replace")
+            offset += len(name) + 1  # the NUL
 
 
 class _Ranges:
@@ -121,68 +130,68 @@ class Omap(_Ranges):
         target = value(c_uint32, library().pdb_omap_lookup, self._table.handle, address)
         return None if target is None else target.value
 
+    @property
+    def records(self) -> List[Tuple[int, int]]:
+        """The first address that each record moves, and where it moves that one, 0 if nowhere, in their order."""
+        return [(it.source, it.target) for it in items(_sys.OmapRecord, library().pdb_omap_records, self._table.handle)]
+
+    @property
+    def is_sorted(self) -> bool:
+        """Whether no record has a source below that of the record before it."""
+        return bool(value(c_uint32, library().pdb_omap_is_sorted, self._table.handle).value)
+
     def ranges(self, addresses: range) -> List[range]:
         """The ranges to which the table moves the addresses of a range: one for each record that moves some."""
         return self._ranges(library().pdb_omap_ranges, self._table.handle, addresses)
 
 
-Place = Tuple[int, int]
+Place = Tuple[int, int]  # a section, counted from 1, and an offset in it
+
+
+@dataclass(frozen=True)
+class Translation:
+    """An address or a place in its four forms. A form that doesn't exist is None.
+
+    An RVA is an address in the image as it is loaded, and an internal RVA is one in the original image, which the parts
+    of a program database refer to.
+    """
+
+    rva: Optional[int]
+    place: Optional[Place]
+    internal_rva: Optional[int]
+    internal_place: Optional[Place]
 
 
 class AddressMap(_Ranges):
-    """The address map of a file: its sections, and the OMAP tables of a tool that rearranged the image.
-
-    An RVA is an address in the image as it is loaded, and an internal RVA is one in the original image, which the parts
-    of a program database refer to. A place is a section, counted from 1, and an offset in it. None says that there is
-    no answer.
-    """
+    """The address map of a file: its sections, and the OMAP tables of a tool that rearranged the image."""
 
     def __init__(self, lent: Lent):
-        self._map = Opened(library().pdb_file_addresses, lent.at, lent.length)
+        self._map = Opened(library().pdb_bytes_addresses, lent.at, lent.length)
 
-    def _address(self, name: str, *words: int) -> Optional[int]:
-        found = value(c_uint32, getattr(library(), name), self._map.handle, *words)
-        return None if found is None else found.value
+    def _translate(self, form: AddressForm, section: int, offset: int) -> Translation:
+        it = value(_sys.Translation, library().pdb_translate, self._map.handle, form, section, offset)
+        return Translation(
+            it.rva if it.has_rva else None,
+            (it.place.section, it.place.offset) if it.has_place else None,
+            it.internal_rva if it.has_internal_rva else None,
+            (it.internal_place.section, it.internal_place.offset) if it.has_internal_place else None,
+        )
 
-    def _place(self, name: str, *words: int) -> Optional[Place]:
-        found = value(_sys.Place, getattr(library(), name), self._map.handle, *words)
-        return None if found is None else (found.section, found.offset)
+    def rva(self, address: int) -> Translation:
+        """The forms of an address in the image as it is loaded."""
+        return self._translate(AddressForm.RVA, 0, address)
 
-    def rva_to_internal_rva(self, address: int) -> Optional[int]:
-        return self._address("pdb_rva_to_internal_rva", address)
+    def place(self, section: int, offset: int) -> Translation:
+        """The forms of a place in a section of the image as it is loaded."""
+        return self._translate(AddressForm.SECTION_OFFSET, section, offset)
 
-    def rva_to_section_offset(self, address: int) -> Optional[Place]:
-        return self._place("pdb_rva_to_section_offset", address)
+    def internal_rva(self, address: int) -> Translation:
+        """The forms of an address in the original image."""
+        return self._translate(AddressForm.INTERNAL_RVA, 0, address)
 
-    def rva_to_internal_offset(self, address: int) -> Optional[Place]:
-        return self._place("pdb_rva_to_internal_offset", address)
-
-    def internal_rva_to_rva(self, address: int) -> Optional[int]:
-        return self._address("pdb_internal_rva_to_rva", address)
-
-    def internal_rva_to_section_offset(self, address: int) -> Optional[Place]:
-        return self._place("pdb_internal_rva_to_section_offset", address)
-
-    def internal_rva_to_internal_offset(self, address: int) -> Optional[Place]:
-        return self._place("pdb_internal_rva_to_internal_offset", address)
-
-    def section_offset_to_rva(self, section: int, offset: int) -> Optional[int]:
-        return self._address("pdb_section_offset_to_rva", section, offset)
-
-    def section_offset_to_internal_rva(self, section: int, offset: int) -> Optional[int]:
-        return self._address("pdb_section_offset_to_internal_rva", section, offset)
-
-    def section_offset_to_internal_offset(self, section: int, offset: int) -> Optional[Place]:
-        return self._place("pdb_section_offset_to_internal_offset", section, offset)
-
-    def internal_offset_to_internal_rva(self, section: int, offset: int) -> Optional[int]:
-        return self._address("pdb_internal_offset_to_internal_rva", section, offset)
-
-    def internal_offset_to_rva(self, section: int, offset: int) -> Optional[int]:
-        return self._address("pdb_internal_offset_to_rva", section, offset)
-
-    def internal_offset_to_section_offset(self, section: int, offset: int) -> Optional[Place]:
-        return self._place("pdb_internal_offset_to_section_offset", section, offset)
+    def internal_place(self, section: int, offset: int) -> Translation:
+        """The forms of a place in a section of the original image."""
+        return self._translate(AddressForm.INTERNAL_SECTION_OFFSET, section, offset)
 
     def rva_ranges(self, addresses: range) -> List[range]:
         """Where the addresses of a range of the original image lie in the image as it is loaded."""
@@ -197,17 +206,23 @@ class Frames:
     """The frame table of a file, of both formats."""
 
     def __init__(self, lent: Lent):
-        self._table = Opened(library().pdb_file_frames, lent.at, lent.length)
+        self._table = Opened(library().pdb_bytes_frames, lent.at, lent.length)
 
     def at(self, address: int) -> Optional[Frame]:
         """The first frame from an address of the original image on: the one at the address, or else the first above."""
         it = value(_sys.Frame, library().pdb_frames_at, self._table.handle, address)
-        if it is None:
-            return None
-        sizes = it.code_start, it.code_size, it.locals_size, it.params_size, it.prolog_size, it.saved_regs_size
-        flags = map(bool, (it.has_structured_eh, it.has_cpp_eh, it.is_function_start, it.uses_base_pointer))
-        most = it.max_stack_size if it.has_max_stack_size else None
-        return Frame(it.kind, *sizes, most, *flags, it.program if it.has_program else None)
+        return None if it is None else _frame(it)
+
+    def __iter__(self) -> Iterator[Frame]:
+        """All frames, ordered by their starts."""
+        return map(_frame, items(_sys.Frame, library().pdb_frames_list, self._table.handle))
+
+
+def _frame(it: _sys.Frame) -> Frame:
+    sizes = it.code_start, it.code_size, it.locals_size, it.params_size, it.prolog_size, it.saved_regs_size
+    flags = map(bool, (it.has_structured_eh, it.has_cpp_eh, it.is_function_start, it.uses_base_pointer))
+    most = it.max_stack_size if it.has_max_stack_size else None
+    return Frame(it.kind, *sizes, most, *flags, it.program if it.has_program else None)
 
 
 class Stream:
@@ -265,7 +280,7 @@ class Pdb:
         self._data = data
         self._lent = Lent(data)
         try:
-            self._file = Opened(library().pdb_file_open, self._lent.at, self._lent.length)
+            self._file = Opened(library().pdb_bytes_open, self._lent.at, self._lent.length)
         except BaseException:
             self._lent.release()
             raise
@@ -296,7 +311,7 @@ class Pdb:
     def _read(self, number: int, limit: Optional[int] = None):
         most = 2**64 - 1 if limit is None else limit
         words = self._file.handle, *self._bytes(), number, most
-        return items(c_uint8, library().pdb_file_stream, *words, stream=number)
+        return items(c_uint8, library().pdb_bytes_stream, *words, stream=number)
 
     def _in_role(self, role: str):
         number = getattr(self.roles, role)
@@ -313,11 +328,11 @@ class Pdb:
 
     def _named(self, name: Union[str, bytes]):
         word = name.encode() if isinstance(name, str) else bytes(name)
-        return items(c_uint8, library().pdb_file_named_stream, *self._bytes(), word, len(word))
+        return items(c_uint8, library().pdb_bytes_named_stream, *self._bytes(), word, len(word))
 
     @cached_property
     def information(self) -> Information:
-        it = value(_sys.Information, library().pdb_file_information, *self._bytes())
+        it = value(_sys.Information, library().pdb_bytes_information, *self._bytes())
         return Information(it.version, it.signature, it.age, uuid.UUID(bytes_le=bytes(it.guid)))
 
     @cached_property
@@ -328,7 +343,7 @@ class Pdb:
     @cached_property
     def named_streams(self) -> Dict[str, Optional[int]]:
         """The number of the first stream of each name, None if the file gives none, in the file's order."""
-        rows, count, names = named_items(_sys.NamedStream, library().pdb_file_stream_names, *self._bytes())
+        rows, count, names = named_items(_sys.NamedStream, library().pdb_bytes_stream_names, *self._bytes())
         streams: Dict[str, Optional[int]] = {}
         at = 0
         for row in rows[:count]:
@@ -339,7 +354,7 @@ class Pdb:
 
     @cached_property
     def roles(self) -> Roles:
-        it = value(_sys.Roles, library().pdb_file_roles, *self._bytes())
+        it = value(_sys.Roles, library().pdb_bytes_roles, *self._bytes())
         numbers = (getattr(it, name) for name, _ in it._fields_)
         return Roles(*(None if number == NO_STREAM else number for number in numbers))
 

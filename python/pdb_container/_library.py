@@ -2,7 +2,6 @@
 
 import ctypes
 import os
-import threading
 from ctypes import byref, c_size_t, c_ssize_t, c_uint8, c_void_p, pythonapi
 from pathlib import Path
 from typing import Optional
@@ -97,24 +96,20 @@ def library() -> ctypes.PyDLL:
 
 
 class Opened:
-    """What the library keeps open. It stays on the thread that opened it."""
+    """What the library keeps open. The interpreter's lock gives it to one call at a time, of any thread."""
 
     def __init__(self, call, *words, stream: Optional[int] = None):
-        self._handle, self._thread, fault = Handle(), threading.get_ident(), Fault()
+        self._handle, fault = Handle(), Fault()
         self.stream = stream
         if call(*words, byref(self._handle), byref(fault)) != Status.OK:
             raise PdbError(fault, stream)
 
     @property
     def handle(self):
-        if self._thread != threading.get_ident():
-            raise RuntimeError("a part of a program database is used on the thread that opened it")
         return byref(self._handle)
 
     def close(self):
-        # Python may drop the last reference on another thread, where nothing can be closed.
-        if getattr(self, "_thread", None) == threading.get_ident() and self._handle.held:
-            library().pdb_close(byref(self._handle))
+        library().pdb_close(byref(self._handle))
 
     __del__ = close
 
@@ -125,7 +120,7 @@ def value(kind, call, *words, stream: Optional[int] = None, offset: Optional[int
     status = call(*words, byref(written), byref(fault))
     if status == Status.OK:
         return written
-    if status == Status.NOWHERE:
+    if status in (Status.NONE, Status.UNMAPPED):
         return None
     raise PdbError(fault, stream, offset)
 
@@ -139,7 +134,7 @@ def items(kind, call, *words, stream: Optional[int] = None, offset: Optional[int
         status = call(*words, room, len(room), byref(count), byref(fault))
     if status == Status.OK:
         return room if len(room) == count.value else (kind * count.value).from_buffer(room)
-    if status == Status.NOWHERE:
+    if status in (Status.NONE, Status.UNMAPPED):
         return None
     raise PdbError(fault, stream, offset)
 
@@ -159,7 +154,7 @@ def named_items(kind, call, *words, stream: Optional[int] = None):
         room, names = (kind * max(lengths[0], 1))(), bytearray(max(lengths[1], 1))
     if status == Status.OK:
         return room, count.value, names
-    if status == Status.NOWHERE:
+    if status in (Status.NONE, Status.UNMAPPED):
         return None
     raise PdbError(fault, stream)
 

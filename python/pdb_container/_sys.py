@@ -39,7 +39,15 @@ class Status(IntEnum):
     TOO_SMALL = 102
     TOO_LONG = 103
     NO_TEXT = 104
-    NOWHERE = 105
+    END = 105
+    NONE = 106
+    UNMAPPED = 107
+
+
+class IdentityFlag(IntEnum):
+    LINKED_INCREMENTALLY = 1
+    PRIVATE_SYMBOLS_STRIPPED = 2
+    TYPES_MAY_CONFLICT = 4
 
 
 class KeyForm(IntEnum):
@@ -73,6 +81,28 @@ class Part(IntEnum):
     OMAP_FROM_SOURCE = 12
     OLD_FRAMES = 13
     NEW_FRAMES = 14
+
+
+class StreamNumber(IntEnum):
+    TYPES_STREAM = 2
+    IDS_STREAM = 4
+    NO_STREAM = 0xffff
+
+
+class AddressForm(IntEnum):
+    RVA = 0
+    SECTION_OFFSET = 1
+    INTERNAL_RVA = 2
+    INTERNAL_SECTION_OFFSET = 3
+
+
+class FrameKind(IntEnum):
+    FPO = 0
+    TRAP = 1
+    TSS = 2
+    STANDARD = 3
+    DATA = 4
+    UNKNOWN = 255
 
 
 class Shape(IntEnum):
@@ -110,7 +140,7 @@ class IdShape(IntEnum):
     TYPE_SOURCE = 5
 
 
-class Stands(IntEnum):
+class Has(IntEnum):
     KIND = 1
     ATTRIBUTES = 2
     PROPERTIES = 4
@@ -121,6 +151,94 @@ class Stands(IntEnum):
     LIST_INDEX = 128
     EXTRA = 256
     NUMBER = 512
+    RETURN_TYPE = 16
+    DERIVED_FROM = 32
+    CONTAINING_CLASS = 32
+    SCOPE = 32
+    FILE_ID = 32
+    VTABLE_SHAPE = 64
+    THIS_POINTER_TYPE = 64
+    MODULE = 64
+    FIELDS = 128
+    CONTINUATION = 128
+    SUBSTRINGS = 128
+    VTABLE_OFFSET = 256
+    STRIDE = 256
+
+
+class ClassKind(IntEnum):
+    CLASS = 0
+    STRUCTURE = 1
+    INTERFACE = 2
+
+
+class Property(IntEnum):
+    PACKED = 0x1
+    CONSTRUCTORS = 0x2
+    OVERLOADED_OPERATORS = 0x4
+    NESTED = 0x8
+    CONTAINS_NESTED = 0x10
+    OVERLOADED_ASSIGNMENT = 0x20
+    CASTING_METHODS = 0x40
+    FORWARD_REFERENCE = 0x80
+    SCOPED = 0x100
+    HAS_UNIQUE_NAME = 0x200
+    SEALED = 0x400
+    HFA_MASK = 0x1800
+    INTRINSIC = 0x2000
+    MOCOM_MASK = 0xc000
+
+
+class FieldAttribute(IntEnum):
+    ACCESS_MASK = 0x3
+    PRIVATE = 1
+    PROTECTED = 2
+    PUBLIC = 3
+    METHOD_MASK = 0x1c
+    METHOD_VIRTUAL = 0x4
+    METHOD_STATIC = 0x8
+    METHOD_FRIEND = 0xc
+    METHOD_INTRO = 0x10
+    METHOD_PURE_VIRTUAL = 0x14
+    METHOD_PURE_INTRO = 0x18
+    PSEUDO = 0x20
+    NO_INHERIT = 0x40
+    NO_CONSTRUCT = 0x80
+    COMPILER_GENERATED = 0x100
+    SEALED = 0x200
+
+
+class FunctionAttribute(IntEnum):
+    CALLING_CONVENTION_MASK = 0xff
+    CXX_RETURN_UDT = 0x100
+    CONSTRUCTOR = 0x200
+    CONSTRUCTOR_WITH_VIRTUAL_BASES = 0x400
+
+
+class PointerAttribute(IntEnum):
+    KIND_MASK = 0x1f
+    KIND_NEAR_32 = 0xa
+    KIND_FAR_32 = 0xb
+    KIND_64 = 0xc
+    MODE_MASK = 0xe0
+    MODE_POINTER = 0
+    MODE_LVALUE_REFERENCE = 0x20
+    MODE_DATA_MEMBER = 0x40
+    MODE_METHOD = 0x60
+    MODE_RVALUE_REFERENCE = 0x80
+    FLAT_32 = 0x100
+    VOLATILE = 0x200
+    CONST = 0x400
+    UNALIGNED = 0x800
+    RESTRICT = 0x1000
+    SIZE_MASK = 0x7e000
+    MOCOM = 0x80000
+
+
+class ModifierBit(IntEnum):
+    CONST = 1
+    VOLATILE = 2
+    UNALIGNED = 4
 
 
 class LayoutKind(IntEnum):
@@ -151,6 +269,32 @@ class Handle(Structure):
     _fields_ = [
         ("held", c_void_p),
         ("kind", c_uint32),
+    ]
+
+
+class Identity(Structure):
+    _fields_ = [
+        ("version", c_uint32),
+        ("signature", c_uint32),
+        ("age", c_uint32),
+        ("information_age", c_uint32),
+        ("has_debug_header", c_uint32),
+        ("debug_age", c_uint32),
+        ("machine", c_uint16),
+        ("flags", c_uint16),
+        ("guid", c_uint8 * 16),
+    ]
+
+
+class Finding(Structure):
+    _fields_ = [
+        ("index", c_uint64),
+        ("byte", c_uint64),
+        ("part", c_uint32),
+        ("has_stream", c_uint32),
+        ("stream", c_uint32),
+        ("has_index", c_uint32),
+        ("fault", Fault),
     ]
 
 
@@ -186,36 +330,17 @@ class Roles(Structure):
     ]
 
 
-class Identity(Structure):
-    _fields_ = [
-        ("version", c_uint32),
-        ("signature", c_uint32),
-        ("age", c_uint32),
-        ("information_age", c_uint32),
-        ("has_debug_header", c_uint32),
-        ("debug_age", c_uint32),
-        ("machine", c_uint16),
-        ("flags", c_uint16),
-        ("guid", c_uint8 * 16),
-    ]
-
-
-class Finding(Structure):
-    _fields_ = [
-        ("index", c_uint64),
-        ("byte", c_uint64),
-        ("part", c_uint32),
-        ("has_stream", c_uint32),
-        ("stream", c_uint32),
-        ("has_index", c_uint32),
-        ("fault", Fault),
-    ]
-
-
 class Name(Structure):
     _fields_ = [
         ("offset", c_size_t),
         ("length", c_size_t),
+    ]
+
+
+class OmapRecord(Structure):
+    _fields_ = [
+        ("source", c_uint32),
+        ("target", c_uint32),
     ]
 
 
@@ -248,6 +373,19 @@ class Place(Structure):
     ]
 
 
+class Translation(Structure):
+    _fields_ = [
+        ("has_rva", c_uint32),
+        ("rva", c_uint32),
+        ("has_place", c_uint32),
+        ("place", Place),
+        ("has_internal_rva", c_uint32),
+        ("internal_rva", c_uint32),
+        ("has_internal_place", c_uint32),
+        ("internal_place", Place),
+    ]
+
+
 class Frame(Structure):
     _fields_ = [
         ("kind", c_uint32),
@@ -276,19 +414,11 @@ class Record(Structure):
     ]
 
 
-class Table(Structure):
-    _fields_ = [
-        ("first_index", c_uint32),
-        ("maximum_index", c_uint32),
-        ("stop", Fault),
-    ]
-
-
 class Row(Structure):
     _fields_ = [
-        ("number", c_uint64),
         ("shape", c_uint32),
-        ("stands", c_uint32),
+        ("has", c_uint32),
+        ("number", c_uint64),
         ("kind", c_uint32),
         ("attributes", c_uint32),
         ("properties", c_uint32),
@@ -305,13 +435,13 @@ class Type(Structure):
     _fields_ = [
         ("place", Record),
         ("fault", Fault),
-        ("row", Row),
+        ("info", Row),
     ]
 
 
 class Field(Structure):
     _fields_ = [
-        ("row", Row),
+        ("info", Row),
         ("name_length", c_size_t),
         ("has_name", c_uint32),
     ]
@@ -335,71 +465,59 @@ class LayoutRow(Structure):
 
 # The result and the parameters of each call. A pointer is an address.
 FUNCTIONS = {
+    "pdb_version": (c_uint32, []),
     "pdb_error_text": (c_uint32, [c_void_p, c_void_p, c_size_t, c_void_p, c_void_p]),
     "pdb_close": (None, [c_void_p]),
-    "pdb_file_open": (c_uint32, [c_void_p, c_size_t, c_void_p, c_void_p]),
-    "pdb_file_page_size": (c_uint32, [c_void_p, c_void_p, c_void_p]),
-    "pdb_file_stream_count": (c_uint32, [c_void_p, c_void_p, c_void_p]),
-    "pdb_file_stream_size": (c_uint32, [c_void_p, c_uint32, c_void_p, c_void_p]),
-    "pdb_file_stream": (c_uint32, [c_void_p, c_void_p, c_size_t, c_uint32, c_size_t, c_void_p, c_size_t, c_void_p, c_void_p]),
-    "pdb_file_information": (c_uint32, [c_void_p, c_size_t, c_void_p, c_void_p]),
-    "pdb_file_stream_names": (c_uint32, [c_void_p, c_size_t, c_void_p, c_size_t, c_void_p, c_void_p, c_size_t, c_void_p, c_void_p]),
-    "pdb_file_named_stream": (c_uint32, [c_void_p, c_size_t, c_void_p, c_size_t, c_void_p, c_size_t, c_void_p, c_void_p]),
-    "pdb_file_roles": (c_uint32, [c_void_p, c_size_t, c_void_p, c_void_p]),
     "pdb_identity_of": (c_uint32, [c_void_p, c_size_t, c_void_p, c_void_p]),
     "pdb_key": (c_uint32, [c_void_p, c_uint32, c_void_p, c_size_t, c_void_p, c_void_p]),
     "pdb_format_of": (c_uint32, [c_void_p, c_size_t]),
     "pdb_validate": (c_uint32, [c_void_p, c_size_t, c_void_p, c_size_t, c_void_p, c_void_p]),
+    "pdb_bytes_open": (c_uint32, [c_void_p, c_size_t, c_void_p, c_void_p]),
+    "pdb_bytes_stream": (c_uint32, [c_void_p, c_void_p, c_size_t, c_uint32, c_size_t, c_void_p, c_size_t, c_void_p, c_void_p]),
+    "pdb_bytes_named_stream": (c_uint32, [c_void_p, c_size_t, c_void_p, c_size_t, c_void_p, c_size_t, c_void_p, c_void_p]),
+    "pdb_bytes_information": (c_uint32, [c_void_p, c_size_t, c_void_p, c_void_p]),
+    "pdb_bytes_stream_names": (c_uint32, [c_void_p, c_size_t, c_void_p, c_size_t, c_void_p, c_void_p, c_size_t, c_void_p, c_void_p]),
+    "pdb_bytes_roles": (c_uint32, [c_void_p, c_size_t, c_void_p, c_void_p]),
+    "pdb_bytes_addresses": (c_uint32, [c_void_p, c_size_t, c_void_p, c_void_p]),
+    "pdb_bytes_frames": (c_uint32, [c_void_p, c_size_t, c_void_p, c_void_p]),
+    "pdb_file_page_size": (c_uint32, [c_void_p, c_void_p, c_void_p]),
+    "pdb_file_stream_count": (c_uint32, [c_void_p, c_void_p, c_void_p]),
+    "pdb_file_stream_size": (c_uint32, [c_void_p, c_uint32, c_void_p, c_void_p]),
     "pdb_names_open": (c_uint32, [c_void_p, c_size_t, c_void_p, c_void_p]),
-    "pdb_file_names": (c_uint32, [c_void_p, c_size_t, c_void_p, c_void_p]),
-    "pdb_names_get": (c_uint32, [c_void_p, c_uint32, c_void_p, c_size_t, c_void_p, c_void_p]),
     "pdb_names_place": (c_uint32, [c_void_p, c_uint32, c_void_p, c_void_p]),
-    "pdb_names_places": (c_uint32, [c_void_p, c_void_p, c_size_t, c_void_p, c_size_t, c_void_p, c_void_p]),
-    "pdb_names_offsets": (c_uint32, [c_void_p, c_void_p, c_size_t, c_void_p, c_void_p]),
     "pdb_omap_open": (c_uint32, [c_void_p, c_size_t, c_void_p, c_void_p]),
+    "pdb_omap_records": (c_uint32, [c_void_p, c_void_p, c_size_t, c_void_p, c_void_p]),
+    "pdb_omap_is_sorted": (c_uint32, [c_void_p, c_void_p, c_void_p]),
     "pdb_omap_lookup": (c_uint32, [c_void_p, c_uint32, c_void_p, c_void_p]),
     "pdb_omap_ranges": (c_uint32, [c_void_p, c_uint32, c_uint32, c_void_p, c_size_t, c_void_p, c_void_p]),
     "pdb_sections": (c_uint32, [c_void_p, c_size_t, c_void_p, c_size_t, c_void_p, c_void_p]),
-    "pdb_file_addresses": (c_uint32, [c_void_p, c_size_t, c_void_p, c_void_p]),
-    "pdb_rva_to_internal_rva": (c_uint32, [c_void_p, c_uint32, c_void_p, c_void_p]),
-    "pdb_rva_to_section_offset": (c_uint32, [c_void_p, c_uint32, c_void_p, c_void_p]),
-    "pdb_rva_to_internal_offset": (c_uint32, [c_void_p, c_uint32, c_void_p, c_void_p]),
-    "pdb_internal_rva_to_rva": (c_uint32, [c_void_p, c_uint32, c_void_p, c_void_p]),
-    "pdb_internal_rva_to_section_offset": (c_uint32, [c_void_p, c_uint32, c_void_p, c_void_p]),
-    "pdb_internal_rva_to_internal_offset": (c_uint32, [c_void_p, c_uint32, c_void_p, c_void_p]),
-    "pdb_section_offset_to_rva": (c_uint32, [c_void_p, c_uint16, c_uint32, c_void_p, c_void_p]),
-    "pdb_section_offset_to_internal_rva": (c_uint32, [c_void_p, c_uint16, c_uint32, c_void_p, c_void_p]),
-    "pdb_section_offset_to_internal_offset": (c_uint32, [c_void_p, c_uint16, c_uint32, c_void_p, c_void_p]),
-    "pdb_internal_offset_to_internal_rva": (c_uint32, [c_void_p, c_uint16, c_uint32, c_void_p, c_void_p]),
-    "pdb_internal_offset_to_rva": (c_uint32, [c_void_p, c_uint16, c_uint32, c_void_p, c_void_p]),
-    "pdb_internal_offset_to_section_offset": (c_uint32, [c_void_p, c_uint16, c_uint32, c_void_p, c_void_p]),
+    "pdb_translate": (c_uint32, [c_void_p, c_uint32, c_uint16, c_uint32, c_void_p, c_void_p]),
     "pdb_rva_ranges": (c_uint32, [c_void_p, c_uint32, c_uint32, c_void_p, c_size_t, c_void_p, c_void_p]),
     "pdb_internal_rva_ranges": (c_uint32, [c_void_p, c_uint32, c_uint32, c_void_p, c_size_t, c_void_p, c_void_p]),
-    "pdb_file_frames": (c_uint32, [c_void_p, c_size_t, c_void_p, c_void_p]),
     "pdb_frames_at": (c_uint32, [c_void_p, c_uint32, c_void_p, c_void_p]),
-    "pdb_table_open": (c_uint32, [c_void_p, c_size_t, c_void_p, c_void_p]),
-    "pdb_table_first_index": (c_uint32, [c_void_p, c_void_p, c_void_p]),
-    "pdb_table_count": (c_uint32, [c_void_p, c_void_p, c_void_p]),
-    "pdb_table_find": (c_uint32, [c_void_p, c_uint32, c_void_p, c_void_p]),
-    "pdb_table_next": (c_uint32, [c_void_p, c_void_p, c_void_p]),
-    "pdb_table_rewind": (c_uint32, [c_void_p, c_void_p]),
-    "pdb_table_positions": (c_uint32, [c_void_p, c_size_t, c_void_p, c_size_t, c_void_p, c_void_p, c_void_p]),
-    "pdb_type_row": (c_uint32, [c_void_p, c_size_t, c_uint32, c_void_p, c_void_p]),
-    "pdb_table_next_types": (c_uint32, [c_void_p, c_void_p, c_size_t, c_void_p, c_void_p]),
+    "pdb_frames_list": (c_uint32, [c_void_p, c_void_p, c_size_t, c_void_p, c_void_p]),
+    "pdb_types_open": (c_uint32, [c_void_p, c_size_t, c_void_p, c_void_p]),
+    "pdb_types_first_index": (c_uint32, [c_void_p, c_void_p, c_void_p]),
+    "pdb_types_count": (c_uint32, [c_void_p, c_void_p, c_void_p]),
+    "pdb_types_find": (c_uint32, [c_void_p, c_uint32, c_void_p, c_void_p]),
+    "pdb_types_next": (c_uint32, [c_void_p, c_void_p, c_void_p]),
+    "pdb_types_rewind": (c_uint32, [c_void_p, c_void_p]),
+    "pdb_type_parse": (c_uint32, [c_void_p, c_size_t, c_uint32, c_void_p, c_void_p]),
+    "pdb_types_read": (c_uint32, [c_void_p, c_void_p, c_size_t, c_void_p, c_void_p]),
     "pdb_type_name": (c_uint32, [c_void_p, c_size_t, c_uint32, c_void_p, c_size_t, c_void_p, c_void_p]),
-    "pdb_type_arguments": (c_uint32, [c_void_p, c_size_t, c_uint32, c_void_p, c_size_t, c_void_p, c_void_p]),
     "pdb_type_unique_name": (c_uint32, [c_void_p, c_size_t, c_uint32, c_void_p, c_size_t, c_void_p, c_void_p]),
+    "pdb_type_arguments": (c_uint32, [c_void_p, c_size_t, c_uint32, c_void_p, c_size_t, c_void_p, c_void_p]),
     "pdb_type_dimensions": (c_uint32, [c_void_p, c_size_t, c_uint32, c_void_p, c_size_t, c_void_p, c_void_p]),
     "pdb_type_methods": (c_uint32, [c_void_p, c_size_t, c_uint32, c_void_p, c_size_t, c_void_p, c_void_p]),
     "pdb_type_fields": (c_uint32, [c_void_p, c_size_t, c_uint32, c_void_p, c_size_t, c_void_p, c_void_p, c_size_t, c_void_p, c_void_p]),
-    "pdb_fields": (c_uint32, [c_void_p, c_uint32, c_void_p, c_size_t, c_void_p, c_void_p, c_size_t, c_void_p, c_void_p]),
+    "pdb_types_fields": (c_uint32, [c_void_p, c_uint32, c_void_p, c_size_t, c_void_p, c_void_p, c_size_t, c_void_p, c_void_p]),
+    "pdb_id_parse": (c_uint32, [c_void_p, c_size_t, c_void_p, c_void_p]),
+    "pdb_id_name": (c_uint32, [c_void_p, c_size_t, c_void_p, c_size_t, c_void_p, c_void_p]),
+    "pdb_id_list": (c_uint32, [c_void_p, c_size_t, c_void_p, c_size_t, c_void_p, c_void_p]),
     "pdb_definitions_open": (c_uint32, [c_void_p, c_size_t, c_void_p, c_void_p]),
     "pdb_definitions_named": (c_uint32, [c_void_p, c_void_p, c_size_t, c_void_p, c_size_t, c_void_p, c_void_p]),
     "pdb_definition_of": (c_uint32, [c_void_p, c_uint32, c_void_p, c_void_p]),
     "pdb_type_size": (c_uint32, [c_void_p, c_uint32, c_void_p, c_void_p]),
     "pdb_type_text": (c_uint32, [c_void_p, c_uint32, c_void_p, c_size_t, c_void_p, c_size_t, c_void_p, c_void_p]),
     "pdb_layout": (c_uint32, [c_void_p, c_uint32, c_void_p, c_size_t, c_void_p, c_void_p, c_size_t, c_void_p, c_void_p]),
-    "pdb_id_row": (c_uint32, [c_void_p, c_size_t, c_void_p, c_void_p]),
-    "pdb_id_name": (c_uint32, [c_void_p, c_size_t, c_void_p, c_size_t, c_void_p, c_void_p]),
-    "pdb_id_list": (c_uint32, [c_void_p, c_size_t, c_void_p, c_size_t, c_void_p, c_void_p]),
 }

@@ -3,26 +3,26 @@
 import struct
 from ctypes import addressof, byref, c_size_t, c_uint8, c_uint32
 from dataclasses import dataclass, field
-from typing import Iterator, List, Optional, Union
+from typing import Iterator, List, Optional, Tuple, Union
 
 from . import _sys
 from ._layouts import Definitions, Layout
 from ._library import Opened, PdbError, items, library, named_items, value
-from ._sys import Fault, IdShape, Shape, Stands, Status
+from ._sys import Fault, Has, IdShape, Property, Shape, Status, StreamNumber
 
-TYPES, IDS = 2, 4  # the streams of both tables
+TYPES, IDS = int(StreamNumber.TYPES_STREAM), int(StreamNumber.IDS_STREAM)  # the streams of both tables
 FIRST_RECORD = 0x1000  # the indexes below it are those of primitive types
-FORWARD = 1 << 7  # of the properties: only declared
+FORWARD = int(Property.FORWARD_REFERENCE)  # of the properties: only declared
 BATCH = 512  # the records that a walk takes from the library at a time
 LONGEST = 65_535  # bytes of a record, and so of its name
 
 # The bits that say which numbers a row has.
-NUMBER, KIND, ATTRIBUTES, PROPERTIES, COUNT = (int(Stands[it]) for it in "NUMBER KIND ATTRIBUTES PROPERTIES COUNT".split())
-TYPE_INDEX, SECOND_INDEX, THIRD_INDEX = int(Stands.TYPE_INDEX), int(Stands.SECOND_INDEX), int(Stands.THIRD_INDEX)
-LIST_INDEX, EXTRA = int(Stands.LIST_INDEX), int(Stands.EXTRA)
+NUMBER, KIND, ATTRIBUTES, PROPERTIES, COUNT = (int(Has[it]) for it in "NUMBER KIND ATTRIBUTES PROPERTIES COUNT".split())
+TYPE_INDEX, SECOND_INDEX, THIRD_INDEX = int(Has.TYPE_INDEX), int(Has.SECOND_INDEX), int(Has.THIRD_INDEX)
+LIST_INDEX, EXTRA = int(Has.LIST_INDEX), int(Has.EXTRA)
 
-_TYPE = struct.Struct("<6IQ11I4x")
-_FIELD = struct.Struct("<Q11I4xQI4x")
+_TYPE = struct.Struct("<6I2IQ9I4x")
+_FIELD = struct.Struct("<2IQ9I4xQI4x")
 _SHAPES = list(Shape)
 
 
@@ -31,14 +31,15 @@ class Row:
     """The numbers in a record. Those that a record of its shape doesn't have are None.
 
     number: the size of a class or a union; the offset of a member or a base class; for a virtual base class, the offset
-        of the pointer to its table; the absolute value of an enumeration's value; for the source of a type, the offset
-        of the file's name in the string table
+        of the pointer to its table; the 64 bits of an enumeration's value; for the source of a type, the offset of the
+        file's name in the string table
     kind: for a class or a base class, 0 for a class, 1 for a structure, 2 for an interface; for a virtual base class,
-        whether it is a direct one; for an enumeration's value, whether it is below 0; for a type with modifiers, the
+        whether it is a direct one; for an enumeration's value, whether it has a sign; for a type with modifiers, the
         sum of 1 for const, 2 for volatile and 4 for unaligned
     attributes: the word of a member's, a function's or a pointer's attributes
     properties: the word of the properties of a class, a union or an enumeration
-    count: the number of members, values, parameters, methods or functions, or of the bits of a bit field
+    count: the number of members, values, parameters, methods or functions, of the bits of a bit field, or of the bytes
+        of an enumeration's value
     type_index: the type that is pointed at, modified or held; the type of a member, an element or a method; the base
         class; the type that a function returns; the type of an id's function; the type that is declared
     second_index: the class of a method or of a pointer to a member; the pointer to a virtual base class's table; the
@@ -66,7 +67,8 @@ class Row:
     @property
     def value(self) -> Optional[int]:
         """The value of an enumeration's value."""
-        return -self.number if self.kind == 1 and self.number is not None else self.number
+        is_below_0 = self.kind == 1 and self.number is not None and self.number >> 63
+        return self.number - (1 << 64) if is_below_0 else self.number
 
     @property
     def is_forward(self) -> bool:
@@ -74,19 +76,19 @@ class Row:
         return bool(self.properties and self.properties & FORWARD)
 
 
-def _numbers(number, stands, kind, attributes, properties, count, type_index, second_index, third_index, list_index, extra):
+def _numbers(has, number, kind, attributes, properties, count, type_index, second_index, third_index, list_index, extra):
     """The numbers that a record has, in the order of Row."""
     return (
-        number if stands & NUMBER else None,
-        kind if stands & KIND else None,
-        attributes if stands & ATTRIBUTES else None,
-        properties if stands & PROPERTIES else None,
-        count if stands & COUNT else None,
-        type_index if stands & TYPE_INDEX else None,
-        second_index if stands & SECOND_INDEX else None,
-        third_index if stands & THIRD_INDEX else None,
-        list_index if stands & LIST_INDEX else None,
-        extra if stands & EXTRA else None,
+        number if has & NUMBER else None,
+        kind if has & KIND else None,
+        attributes if has & ATTRIBUTES else None,
+        properties if has & PROPERTIES else None,
+        count if has & COUNT else None,
+        type_index if has & TYPE_INDEX else None,
+        second_index if has & SECOND_INDEX else None,
+        third_index if has & THIRD_INDEX else None,
+        list_index if has & LIST_INDEX else None,
+        extra if has & EXTRA else None,
     )
 
 
@@ -95,7 +97,7 @@ _NOTHING = (None,) * 10
 
 def _of_row(row: _sys.Row):
     return _numbers(
-        row.number, row.stands, row.kind, row.attributes, row.properties, row.count, row.type_index, row.second_index,
+        row.has, row.number, row.kind, row.attributes, row.properties, row.count, row.type_index, row.second_index,
         row.third_index, row.list_index, row.extra,
     )  # fmt: skip
 
@@ -164,7 +166,7 @@ class Type(Row):
         status = call(*self._place(), room, LONGEST, byref(length), byref(fault))
         if status == Status.OK:
             return str(memoryview(room)[: length.value], "utf-8", "replace")
-        if status == Status.NOWHERE:
+        if status == Status.NONE:
             return None
         raise PdbError(fault, self._table.number, self._offset)
 
@@ -193,39 +195,39 @@ class Types:
         self._walks: List[Opened] = [self._table]
         self._names: Optional[dict] = None
         self._definitions: Optional[Definitions] = None
-        call = library().pdb_table_first_index
+        call = library().pdb_types_first_index
         self.first_index: int = value(c_uint32, call, self._table.handle).value
 
     def _open(self) -> Opened:
-        return Opened(library().pdb_table_open, self._at, self._size, stream=self.number)
+        return Opened(library().pdb_types_open, self._at, self._size, stream=self.number)
 
     def __len__(self) -> int:
         """The number of indexes that the header counts. A damaged table may have fewer types, or more."""
-        return value(c_uint32, library().pdb_table_count, self._table.handle).value
+        return value(c_uint32, library().pdb_types_count, self._table.handle).value
 
     def __iter__(self) -> Iterator[Type]:
         """Each type, from the first on. One that can't be read has an `error`. An error of the table itself is raised."""
         # One walk at a time takes the table that is open already; another one opens a table of its own.
         walk = self._walks.pop() if self._walks else self._open()
-        call, handle, shapes, number = library().pdb_table_next_types, walk.handle, _SHAPES, self.number
+        call, handle, shapes, number = library().pdb_types_read, walk.handle, _SHAPES, self.number
         room, count, fault = (_sys.Type * BATCH)(), c_size_t(), Fault()
         whole, size = memoryview(room).cast("B"), _TYPE.size
-        library().pdb_table_rewind(handle, byref(fault))
+        library().pdb_types_rewind(handle, byref(fault))
         status = Status.OK
         try:
             while status == Status.OK:
                 status = call(handle, room, BATCH, byref(count), byref(fault))
                 at = 0
-                for index, offset, length, failed, _, _, number_, shape, *rest in _TYPE.iter_unpack(whole[: count.value * size]):
+                for index, offset, length, failed, _, _, shape, *rest in _TYPE.iter_unpack(whole[: count.value * size]):
                     if failed:
                         error = PdbError(room[at].fault, number, offset)
                         yield Type(*_NOTHING, index, None, error, self, offset, length)
                     else:
-                        yield Type(*_numbers(number_, *rest), index, shapes[shape], None, self, offset, length)
+                        yield Type(*_numbers(*rest), index, shapes[shape], None, self, offset, length)
                     at += 1
         finally:
             self._walks.append(walk)
-        if status != Status.NOWHERE:
+        if status != Status.END:
             raise PdbError(fault, number)
 
     def __getitem__(self, key: Union[int, str]) -> Type:
@@ -234,7 +236,7 @@ class Types:
         if isinstance(key, str):
             return self[self._by_name()[key]]
         try:
-            place = value(_sys.Record, library().pdb_table_find, self._table.handle, key, stream=self.number)
+            place = value(_sys.Record, library().pdb_types_find, self._table.handle, key, stream=self.number)
         except PdbError as error:
             if error.status == Status.TYPE_NOT_FOUND:
                 raise KeyError(key) from None
@@ -242,7 +244,7 @@ class Types:
         if place is None and key >= FIRST_RECORD:
             raise KeyError(key)
         offset, length = (0, 0) if place is None else (place.offset, place.length)
-        row = value(_sys.Row, library().pdb_type_row, self._at + offset, length, key, stream=self.number, offset=offset)
+        row = value(_sys.Row, library().pdb_type_parse, self._at + offset, length, key, stream=self.number, offset=offset)
         return Type(*_of_row(row), key, Shape(row.shape), None, self, offset, length)
 
     def __contains__(self, key) -> bool:
@@ -260,11 +262,11 @@ class Types:
 
     def fields(self, list_index: int) -> List[Field]:
         """The fields of the list of an index, and of the lists in which it continues."""
-        rows, count, names = named_items(_sys.Field, library().pdb_fields, self._table.handle, list_index, stream=self.number)
+        rows, count, names = named_items(_sys.Field, library().pdb_types_fields, self._table.handle, list_index, stream=self.number)
         fields, at = [], 0
-        for number, shape, *rest, length, has_name in _FIELD.iter_unpack(memoryview(rows).cast("B")[: count * _FIELD.size]):
+        for shape, *rest, length, has_name in _FIELD.iter_unpack(memoryview(rows).cast("B")[: count * _FIELD.size]):
             name = names[at : at + length].decode(errors="replace") if has_name else None
-            fields.append(Field(*_numbers(number, *rest), _SHAPES[shape], name))
+            fields.append(Field(*_numbers(*rest), _SHAPES[shape], name))
             at += length
         return fields
 
@@ -334,21 +336,17 @@ class Ids:
     def __init__(self, stream: memoryview, room, number: Optional[int] = IDS):
         self.stream, self.number = stream, number
         self._kept, self._at = room, addressof(room)
-        count, table, fault, positions = c_size_t(), _sys.Table(), Fault(), (c_uint32 * 1)()
-        place, call, size = (self._at, len(stream)), library().pdb_table_positions, 0
-        status = call(*place, positions, size, byref(count), byref(table), byref(fault))
-        if status == Status.TOO_SMALL:
-            size = count.value
-            positions = (c_uint32 * size)()
-            status = call(*place, positions, size, byref(count), byref(table), byref(fault))
-        if status != Status.OK:
-            raise PdbError(fault, number)
-        self.first_index: int = table.first_index
-        self._positions, self._stop = positions[: count.value], table.stop
+        table, place, fault = Opened(library().pdb_types_open, self._at, len(stream), stream=number), _sys.Record(), Fault()
+        self.first_index: int = value(c_uint32, library().pdb_types_first_index, table.handle).value
+        self._places: List[Tuple[int, int]] = []
+        call = library().pdb_types_next
+        while call(table.handle, byref(place), byref(fault)) == Status.OK:
+            self._places.append((place.offset, place.length))
+        self._stop = fault
 
     def __len__(self) -> int:
         """How many ids the table has, up to its end or to where it is damaged."""
-        return len(self._positions)
+        return len(self._places)
 
     def __iter__(self) -> Iterator[Id]:
         """Each id, from the first on. One that can't be read has an `error`. An error of the table itself is raised."""
@@ -356,21 +354,16 @@ class Ids:
             try:
                 yield self[self.first_index + at]
             except PdbError as error:
-                yield Id(*_NOTHING, self.first_index + at, None, error, self, *self._place(at))
-        if self._stop.status != Status.OK:
+                yield Id(*_NOTHING, self.first_index + at, None, error, self, *self._places[at])
+        if self._stop.status != Status.END:
             raise PdbError(self._stop, self.number)
-
-    def _place(self, at: int):
-        """Where a record is: after two bytes that give its length."""
-        position = self._positions[at]
-        return position + 2, int.from_bytes(self.stream[position : position + 2], "little")
 
     def __getitem__(self, index: int) -> Id:
         """The id of an index. KeyError if there is none."""
         if not 0 <= index - self.first_index < len(self):
             raise KeyError(index)
-        offset, length = self._place(index - self.first_index)
-        row = value(_sys.Row, library().pdb_id_row, self._at + offset, length, stream=self.number, offset=offset)
+        offset, length = self._places[index - self.first_index]
+        row = value(_sys.Row, library().pdb_id_parse, self._at + offset, length, stream=self.number, offset=offset)
         return Id(*_of_row(row), index, IdShape(row.shape), None, self, offset, length)
 
     def __contains__(self, index) -> bool:

@@ -53,7 +53,7 @@ EVERYTHING = [
     lambda pdb: list(pdb.names),
     lambda pdb: pdb.sections + pdb.original_sections,
     lambda pdb: pdb.omap_to_src and pdb.omap_to_src.ranges(range(0x1000, 0x3000)),
-    lambda pdb: [pdb.address_map.rva_to_internal_offset(it) for it in range(0x1000, 0x1200)],
+    lambda pdb: [pdb.address_map.rva(it) for it in range(0x1000, 0x1200)],
     lambda pdb: pdb.address_map.rva_ranges(range(0x1000, 0x3000)),
     lambda pdb: [pdb.frames.at(it) for it in range(0x1000, 0x1200)],
     read_types,
@@ -227,13 +227,16 @@ class OfFile(unittest.TestCase):
         self.assertNotEqual(self.pdb.sections[0], self.pdb.original_sections[0])
         by_map, to_src, from_src = self.pdb.address_map, self.pdb.omap_to_src, self.pdb.omap_from_src
         for address in range(0x1000, 0x1190):
-            original = by_map.rva_to_internal_rva(address)
+            original = by_map.rva(address).internal_rva
             self.assertEqual(original, to_src.lookup(address))
             self.assertEqual(from_src.lookup(original), address)
-            self.assertEqual(by_map.internal_rva_to_rva(original), address)
-        self.assertIsNone(by_map.internal_rva_to_rva(0x1012))
-        self.assertEqual(by_map.rva_to_section_offset(0x1005), (1, 5))
-        self.assertEqual(by_map.section_offset_to_rva(1, 5), 0x1005)
+            self.assertEqual(by_map.internal_rva(original).rva, address)
+        self.assertIsNone(by_map.internal_rva(0x1012).rva)
+        self.assertEqual(by_map.rva(0x1005).place, (1, 5))
+        self.assertEqual(by_map.place(1, 5), by_map.rva(0x1005))
+        self.assertEqual(by_map.internal_place(*by_map.rva(0x1005).internal_place), by_map.rva(0x1005))
+        self.assertTrue(to_src.is_sorted)
+        self.assertEqual([to_src.lookup(source) or 0 for source, _ in to_src.records], [target for _, target in to_src.records])
         moved = by_map.internal_rva_ranges(range(0x1000, 0x1020))
         self.assertEqual([address for it in moved for address in it], [to_src.lookup(it) for it in range(0x1000, 0x1020)])
         self.assertEqual(to_src.ranges(range(0x1000, 0x1020)), moved)
@@ -241,6 +244,9 @@ class OfFile(unittest.TestCase):
     def test_frames(self):
         older, newer = self.pdb.frames.at(0x1000), self.pdb.frames.at(0x10B1)
         self.assertEqual((older.code_start, older.code_size, older.program), (0x1000, 16, None))
+        starts = [it.code_start for it in self.pdb.frames]
+        self.assertEqual(starts, sorted(starts))
+        self.assertLessEqual({0x1000, 0x10B1}, {*starts})
         self.assertEqual((newer.code_start, newer.saved_regs_size), (0x10B1, 4))
         self.assertIn("$esi", self.pdb.names[newer.program])
         self.assertIsNone(self.pdb.frames.at(0x100000))
@@ -343,19 +349,12 @@ class OfInput(unittest.TestCase):
         self.assertGreater(failed, 0)
 
     def test_another_thread(self):
-        raised = []
-
-        def use(pdb):
-            try:
-                pdb.stream(1)
-            except RuntimeError as error:
-                raised.append(error)
-
         with pdb_container.open(SAMPLE) as pdb:
-            thread = threading.Thread(target=use, args=[pdb])
+            read = []
+            thread = threading.Thread(target=lambda: read.append(bytes(pdb.stream(1))))
             thread.start()
             thread.join()
-        self.assertEqual(len(raised), 1)
+            self.assertEqual(read, [bytes(pdb.stream(1))])
 
 
 class OfProgram(unittest.TestCase):

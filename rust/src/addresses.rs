@@ -53,6 +53,21 @@ impl Omap {
         value(|target, fault| unsafe { sys::pdb_omap_lookup(self.0.get(), address, target, fault) })
     }
 
+    /// The records of the table, in their order: the first address that each moves, and where it moves that one, 0 if
+    /// nowhere.
+    pub fn records(&self) -> Result<Vec<(u32, u32)>> {
+        let found = items(|room: *mut sys::OmapRecord, size, count, fault| unsafe {
+            sys::pdb_omap_records(self.0.get(), room, size, count, fault)
+        })?;
+        Ok(found.unwrap_or_default().iter().map(|it| (it.source, it.target)).collect())
+    }
+
+    /// Whether no record has a source below that of the record before it.
+    pub fn is_sorted(&self) -> Result<bool> {
+        let found = value(|is_sorted, fault| unsafe { sys::pdb_omap_is_sorted(self.0.get(), is_sorted, fault) })?;
+        Ok(found == Some(1))
+    }
+
     /// The ranges to which the table moves the addresses of a range: one for each record that moves some of them.
     pub fn ranges(&self, range: Range<u32>) -> Result<Vec<Range<u32>>> {
         ranges(|room, size, count, fault| unsafe {
@@ -64,68 +79,64 @@ impl Omap {
 /// The address map of a file: its sections, and the OMAP tables of a tool that rearranged the image.
 ///
 /// An RVA is an address in the image as it is loaded, and an internal RVA is one in the original image, which the
-/// parts of a program database refer to. A place in a section is the section, counted from 1, and an offset. None
-/// says that there is no answer.
+/// parts of a program database refer to.
 #[derive(Debug)]
 pub struct AddressMap(Handle);
 
-macro_rules! to_address {
-    ($($(#[$about:meta])* $name:ident($($word:ident: $kind:ty),*) $call:ident)*) => {
-        $(
-            $(#[$about])*
-            pub fn $name(&self, $($word: $kind),*) -> Result<Option<u32>> {
-                value(|answer, fault| unsafe { sys::$call(self.0.get(), $($word,)* answer, fault) })
-            }
-        )*
-    };
+/// A place in a section: the section, counted from 1, and an offset.
+pub type Place = (u16, u32);
+
+/// An address or a place in its four forms. A form that doesn't exist is None.
+#[derive(Debug, Clone, Copy, Default, PartialEq, Eq)]
+pub struct Translation {
+    /// The address in the image as it is loaded.
+    pub rva: Option<u32>,
+    /// The place in a section of the image as it is loaded.
+    pub place: Option<Place>,
+    /// The address in the original image.
+    pub internal_rva: Option<u32>,
+    /// The place in a section of the original image.
+    pub internal_place: Option<Place>,
 }
 
-macro_rules! to_place {
-    ($($(#[$about:meta])* $name:ident($($word:ident: $kind:ty),*) $call:ident)*) => {
-        $(
-            $(#[$about])*
-            pub fn $name(&self, $($word: $kind),*) -> Result<Option<(u16, u32)>> {
-                let call = |place: *mut sys::Place, fault| unsafe { sys::$call(self.0.get(), $($word,)* place, fault) };
-                Ok(value(call)?.map(|it| (it.section as u16, it.offset)))
-            }
-        )*
-    };
+/// What is to be translated.
+#[derive(Debug, Clone, Copy, PartialEq, Eq)]
+pub enum Address {
+    /// An address in the image as it is loaded.
+    Rva(u32),
+    /// A place in a section of the image as it is loaded.
+    Place(Place),
+    /// An address in the original image.
+    InternalRva(u32),
+    /// A place in a section of the original image.
+    InternalPlace(Place),
 }
 
 impl AddressMap {
     pub(crate) fn open(file: &[u8]) -> Result<AddressMap> {
-        Handle::open(|map, fault| unsafe { sys::pdb_file_addresses(file.as_ptr(), file.len(), map, fault) })
+        Handle::open(|map, fault| unsafe { sys::pdb_bytes_addresses(file.as_ptr(), file.len(), map, fault) })
             .map(AddressMap)
     }
 
-    to_address! {
-        /// From the image as it is loaded to the original one.
-        rva_to_internal_rva(address: u32) pdb_rva_to_internal_rva
-        /// From the original image to the image as it is loaded.
-        internal_rva_to_rva(address: u32) pdb_internal_rva_to_rva
-        /// From a section of the image as it is loaded to an address in it.
-        section_offset_to_rva(section: u16, offset: u32) pdb_section_offset_to_rva
-        /// From a section of the image as it is loaded to an address in the original one.
-        section_offset_to_internal_rva(section: u16, offset: u32) pdb_section_offset_to_internal_rva
-        /// From a section of the original image to an address in it.
-        internal_offset_to_internal_rva(section: u16, offset: u32) pdb_internal_offset_to_internal_rva
-        /// From a section of the original image to an address in the image as it is loaded.
-        internal_offset_to_rva(section: u16, offset: u32) pdb_internal_offset_to_rva
-    }
-
-    to_place! {
-        /// From the image as it is loaded to its section and an offset there.
-        rva_to_section_offset(address: u32) pdb_rva_to_section_offset
-        /// From the image as it is loaded to a section of the original image and an offset there.
-        rva_to_internal_offset(address: u32) pdb_rva_to_internal_offset
-        /// From the original image to a section of the image as it is loaded and an offset there.
-        internal_rva_to_section_offset(address: u32) pdb_internal_rva_to_section_offset
-        /// From the original image to its section and an offset there.
-        internal_rva_to_internal_offset(address: u32) pdb_internal_rva_to_internal_offset
-        /// From a section of the image as it is loaded to one of the original image.
-        section_offset_to_internal_offset(section: u16, offset: u32) pdb_section_offset_to_internal_offset
-        /// From a section of the original image to one of the image as it is loaded.
-        internal_offset_to_section_offset(section: u16, offset: u32) pdb_internal_offset_to_section_offset
+    /// The four forms of an address or a place.
+    pub fn translate(&self, address: Address) -> Result<Translation> {
+        let (form, (section, offset)) = match address {
+            Address::Rva(address) => (sys::PDB_RVA, (0, address)),
+            Address::Place(place) => (sys::PDB_SECTION_OFFSET, place),
+            Address::InternalRva(address) => (sys::PDB_INTERNAL_RVA, (0, address)),
+            Address::InternalPlace(place) => (sys::PDB_INTERNAL_SECTION_OFFSET, place),
+        };
+        let call = |to: *mut sys::Translation, fault| unsafe {
+            sys::pdb_translate(self.0.get(), form, section, offset, to, fault)
+        };
+        let to = value(call)?.unwrap_or_default();
+        let place = |it: sys::Place| (it.section as u16, it.offset);
+        Ok(Translation {
+            rva: (to.has_rva != 0).then_some(to.rva),
+            place: (to.has_place != 0).then(|| place(to.place)),
+            internal_rva: (to.has_internal_rva != 0).then_some(to.internal_rva),
+            internal_place: (to.has_internal_place != 0).then(|| place(to.internal_place)),
+        })
     }
 
     /// Where the addresses of a range of the original image lie in the image as it is loaded.

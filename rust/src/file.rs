@@ -27,7 +27,8 @@ impl<'f> Pdb<'f> {
     /// Reads the header and the directory of a file.
     pub fn parse(bytes: &'f [u8]) -> Result<Pdb<'f>> {
         // SAFETY: the slice is as long as it says, and the handle is all zero; so in all of this file.
-        let file = Handle::open(|file, fault| unsafe { sys::pdb_file_open(bytes.as_ptr(), bytes.len(), file, fault) })?;
+        let file =
+            Handle::open(|file, fault| unsafe { sys::pdb_bytes_open(bytes.as_ptr(), bytes.len(), file, fault) })?;
         let page_size = value(|size, fault| unsafe { sys::pdb_file_page_size(file.get(), size, fault) })?;
         let stream_count = value(|count, fault| unsafe { sys::pdb_file_stream_count(file.get(), count, fault) })?;
         Ok(Pdb {
@@ -68,7 +69,7 @@ impl<'f> Pdb<'f> {
     pub fn stream_prefix(&self, number: u32, limit: usize) -> Result<Vec<u8>> {
         let (at, length) = (self.bytes.as_ptr(), self.bytes.len());
         let bytes = items(|room, size, count, fault| unsafe {
-            sys::pdb_file_stream(self.file.get(), at, length, number, limit, room, size, count, fault)
+            sys::pdb_bytes_stream(self.file.get(), at, length, number, limit, room, size, count, fault)
         })?;
         Ok(bytes.unwrap_or_default())
     }
@@ -76,7 +77,7 @@ impl<'f> Pdb<'f> {
     /// The numbers that identify the file.
     pub fn information(&self) -> Result<Information> {
         let found = value(|to: *mut sys::Information, fault| unsafe {
-            sys::pdb_file_information(self.bytes.as_ptr(), self.bytes.len(), to, fault)
+            sys::pdb_bytes_information(self.bytes.as_ptr(), self.bytes.len(), to, fault)
         })?;
         let sys::Information { version, signature, age, guid } = found.unwrap_or_default();
         Ok(Information { version, signature, age, guid: Guid(guid) })
@@ -90,7 +91,7 @@ impl<'f> Pdb<'f> {
     /// The streams that have names, in the order in which the file lists them.
     pub fn named_streams(&self) -> Result<Vec<NamedStream>> {
         let found = named_items(|rows: *mut sys::NamedStream, length, count, names, room, size, fault| unsafe {
-            sys::pdb_file_stream_names(
+            sys::pdb_bytes_stream_names(
                 self.bytes.as_ptr(),
                 self.bytes.len(),
                 rows,
@@ -116,7 +117,7 @@ impl<'f> Pdb<'f> {
     pub fn named_stream(&self, name: impl AsRef<[u8]>) -> Result<Vec<u8>> {
         let name = name.as_ref();
         let bytes = items(|room, size, count, fault| unsafe {
-            sys::pdb_file_named_stream(
+            sys::pdb_bytes_named_stream(
                 self.bytes.as_ptr(),
                 self.bytes.len(),
                 name.as_ptr(),
@@ -133,7 +134,7 @@ impl<'f> Pdb<'f> {
     /// The numbers of the streams in eleven roles.
     pub fn roles(&self) -> Result<Roles> {
         let found = value(|to: *mut sys::Roles, fault| unsafe {
-            sys::pdb_file_roles(self.bytes.as_ptr(), self.bytes.len(), to, fault)
+            sys::pdb_bytes_roles(self.bytes.as_ptr(), self.bytes.len(), to, fault)
         })?;
         Ok(Roles::of(&found.unwrap_or_default()))
     }

@@ -1,5 +1,5 @@
 use crate::error::Result;
-use crate::handle::{Handle, value};
+use crate::handle::{Handle, items, value};
 use crate::sys;
 
 /// What a stack walker needs to know about the frame of a piece of code.
@@ -12,7 +12,7 @@ pub struct Frames(Handle);
 impl Frames {
     pub(crate) fn open(file: &[u8]) -> Result<Frames> {
         // SAFETY: the slice is as long as it says, and the handle is all zero.
-        Handle::open(|frames, fault| unsafe { sys::pdb_file_frames(file.as_ptr(), file.len(), frames, fault) })
+        Handle::open(|frames, fault| unsafe { sys::pdb_bytes_frames(file.as_ptr(), file.len(), frames, fault) })
             .map(Frames)
     }
 
@@ -20,5 +20,13 @@ impl Frames {
     pub fn at(&self, address: u32) -> Result<Option<Frame>> {
         // SAFETY: the handle is open, and no other call has it.
         value(|frame, fault| unsafe { sys::pdb_frames_at(self.0.get(), address, frame, fault) })
+    }
+
+    /// All frames, ordered by their starts.
+    pub fn list(&self) -> Result<Vec<Frame>> {
+        // SAFETY: the handle is open, and no other call has it.
+        let found =
+            items(|room, size, count, fault| unsafe { sys::pdb_frames_list(self.0.get(), room, size, count, fault) })?;
+        Ok(found.unwrap_or_default())
     }
 }

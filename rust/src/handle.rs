@@ -5,10 +5,12 @@ use crate::sys;
 
 /// What the library keeps open, which is closed once, when this is dropped.
 ///
-/// A handle stays on the thread that opened it, and no two calls have it at once: it is neither `Send` nor `Sync`,
-/// since it has a raw pointer, and no call of the library calls back.
+/// No two calls have a handle at once: it is not `Sync`, and no call of the library calls back.
 #[derive(Debug)]
 pub(crate) struct Handle(UnsafeCell<sys::Handle>);
+
+// SAFETY: a handle owns blocks of `malloc`, which any thread may read and free, and nothing in it belongs to a thread.
+unsafe impl Send for Handle {}
 
 impl Handle {
     /// Opens a handle by a call.
@@ -38,7 +40,7 @@ pub(crate) fn value<T: Default>(call: impl FnOnce(*mut T, *mut sys::Fault) -> u3
     let (mut value, mut fault) = (T::default(), sys::Fault::default());
     match call(&mut value, &mut fault) {
         sys::PDB_OK => Ok(Some(value)),
-        sys::PDB_NOWHERE => Ok(None),
+        sys::PDB_NONE | sys::PDB_UNMAPPED => Ok(None),
         _ => Err(Error::of(&fault)),
     }
 }
@@ -55,7 +57,7 @@ pub(crate) fn items<T: Clone + Default>(
                 room.truncate(count);
                 return Ok(Some(room));
             }
-            sys::PDB_NOWHERE => return Ok(None),
+            sys::PDB_NONE => return Ok(None),
             sys::PDB_TOO_SMALL => {
                 room.try_reserve_exact(count).map_err(|_| Error::OutOfMemory)?;
                 room.resize(count, T::default());
@@ -78,7 +80,7 @@ pub(crate) fn named_items<T: Clone + Default>(
                 names.truncate(size);
                 return Ok(Some((room, names)));
             }
-            sys::PDB_NOWHERE => return Ok(None),
+            sys::PDB_NONE => return Ok(None),
             sys::PDB_TOO_SMALL => {
                 room.try_reserve_exact(count).map_err(|_| Error::OutOfMemory)?;
                 names.try_reserve_exact(size).map_err(|_| Error::OutOfMemory)?;

@@ -1,15 +1,15 @@
 use crate::error::{Error, Result};
-use crate::handle::{items, value};
+use crate::handle::{Handle, items, value};
 use crate::names::Name;
 use crate::row::{IdShape, Row};
 use crate::sys;
 use crate::types::borrowed;
 
-/// A table of ids: the stream that has it, and the positions of its items there.
+/// A table of ids: the stream that has it, and the places of its records there.
 #[derive(Debug, Clone)]
 pub struct Ids {
     stream: Vec<u8>,
-    positions: Vec<u32>,
+    places: Vec<sys::Record>,
     first_index: u32,
     stop: Option<Error>,
 }
@@ -19,12 +19,15 @@ pub struct Ids {
 impl Ids {
     /// Reads the table of ids in a stream.
     pub fn open(stream: Vec<u8>) -> Result<Ids> {
-        let mut table = sys::Table::default();
-        let positions = items(|room, size, count, fault| unsafe {
-            sys::pdb_table_positions(stream.as_ptr(), stream.len(), room, size, count, &mut table, fault)
-        })?;
-        let stop = (table.stop.status != sys::PDB_OK).then(|| Error::of(&table.stop));
-        Ok(Ids { stream, positions: positions.unwrap_or_default(), first_index: table.first_index, stop })
+        let table =
+            Handle::open(|table, fault| unsafe { sys::pdb_types_open(stream.as_ptr(), stream.len(), table, fault) })?;
+        let first_index = value(|index, fault| unsafe { sys::pdb_types_first_index(table.get(), index, fault) })?;
+        let (mut places, mut place, mut fault) = (Vec::new(), sys::Record::default(), sys::Fault::default());
+        while unsafe { sys::pdb_types_next(table.get(), &mut place, &mut fault) } == sys::PDB_OK {
+            places.push(place);
+        }
+        let stop = (fault.status != sys::PDB_END).then(|| Error::of(&fault));
+        Ok(Ids { stream, places, first_index: first_index.unwrap_or_default(), stop })
     }
 
     /// The index of the first id.
@@ -34,18 +37,18 @@ impl Ids {
 
     /// How many ids the table has, up to its end or to where it is damaged.
     pub fn len(&self) -> usize {
-        self.positions.len()
+        self.places.len()
     }
 
     /// Whether the table has no id.
     pub fn is_empty(&self) -> bool {
-        self.positions.is_empty()
+        self.places.is_empty()
     }
 
     /// The id of an index.
     pub fn get(&self, index: u32) -> Result<Id<'_>> {
-        let position = index.checked_sub(self.first_index).and_then(|at| self.positions.get(at as usize));
-        self.at(index, *position.ok_or(Error::TypeNotFound { index })?)
+        let place = index.checked_sub(self.first_index).and_then(|at| self.places.get(at as usize));
+        self.at(place.ok_or(Error::TypeNotFound { index })?)
     }
 
     /// Each id of the table, from the first on.
@@ -53,12 +56,10 @@ impl Ids {
         IdIter { ids: self, at: 0, stop: self.stop }
     }
 
-    fn at(&self, index: u32, position: u32) -> Result<Id<'_>> {
-        // Two bytes give the length of the record that follows them, which the library has found there.
-        let item = &self.stream[position as usize..];
-        let record = &item[2..][..usize::from(u16::from_le_bytes([item[0], item[1]]))];
-        let row = value(|row, fault| unsafe { sys::pdb_id_row(record.as_ptr(), record.len(), row, fault) })?;
-        Ok(Id { index, record, row: Row(row.unwrap_or_default()) })
+    fn at(&self, place: &sys::Record) -> Result<Id<'_>> {
+        let record = &self.stream[place.offset as usize..][..place.length as usize];
+        let row = value(|row, fault| unsafe { sys::pdb_id_parse(record.as_ptr(), record.len(), row, fault) })?;
+        Ok(Id { index: place.index, record, row: Row(row.unwrap_or_default()) })
     }
 }
 
@@ -84,12 +85,11 @@ impl<'t> Iterator for IdIter<'t> {
     type Item = Result<Id<'t>>;
 
     fn next(&mut self) -> Option<Result<Id<'t>>> {
-        let Some(position) = self.ids.positions.get(self.at) else {
+        let Some(place) = self.ids.places.get(self.at) else {
             return self.stop.take().map(Err);
         };
-        let index = self.ids.first_index.wrapping_add(self.at as u32);
         self.at += 1;
-        Some(self.ids.at(index, *position))
+        Some(self.ids.at(place))
     }
 }
 

@@ -11,7 +11,7 @@ use crate::sys;
 pub struct Definitions(Handle);
 
 // SAFETY, in all of this file: slices are as long as they say, places that the library writes stay in one call, and a
-// handle is in one call at a time, since it stays on its thread and no call calls back.
+// handle is in one call at a time, since it is not `Sync` and no call calls back.
 
 impl Definitions {
     /// Finds the definitions of the table of types in a stream, in one walk along it.

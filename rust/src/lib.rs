@@ -21,8 +21,8 @@
 //! The calls of the library are proved: for any bytes they end, read within the bytes, and give the answer that a
 //! written grammar of the format gives, or its first error. This crate calls them, and is not proved.
 //!
-//! Values that keep something open in the library stay on the thread that opened it: they are neither `Send` nor
-//! `Sync`. Threads that read one file each open it for themselves, over the same bytes.
+//! Values that keep something open in the library may move to another thread, but are not `Sync`: threads that read one
+//! file at once each open it for themselves, over the same bytes.
 #![warn(missing_docs)]
 
 mod addresses;
@@ -40,7 +40,7 @@ pub mod sys;
 mod types;
 mod validation;
 
-pub use addresses::{AddressMap, Omap, Section};
+pub use addresses::{Address, AddressMap, Omap, Place, Section, Translation};
 pub use error::{Error, Result};
 pub use file::{Guid, Information, NamedStream, Pdb, Roles};
 pub use frames::{Frame, Frames};

@@ -2,7 +2,7 @@ use std::borrow::Cow;
 use std::fmt;
 
 use crate::error::{Error, Result};
-use crate::handle::{Handle, items, value};
+use crate::handle::{Handle, value};
 use crate::sys;
 
 /// A name, borrowed from the stream that has it. It is most often UTF-8, which nothing ensures, and is printed with
@@ -74,10 +74,22 @@ impl Names {
     }
 
     /// The offset of each name, and the name, in their order.
-    pub fn iter(&self) -> Result<impl Iterator<Item = Result<(u32, Name<'_>)>>> {
-        let offsets = items(|room, size, count, fault| unsafe {
-            sys::pdb_names_offsets(self.table.get(), room, size, count, fault)
-        })?;
-        Ok(offsets.unwrap_or_default().into_iter().map(|offset| Ok((offset, self.get(offset)?))))
+    pub fn iter(&self) -> impl Iterator<Item = Result<(u32, Name<'_>)>> {
+        let mut next = Some(0u32);
+        std::iter::from_fn(move || {
+            let offset = next?;
+            match self.get(offset) {
+                Ok(name) => {
+                    // Right after the NUL.
+                    next = u32::try_from(name.0.len()).ok().and_then(|it| offset.checked_add(it)?.checked_add(1));
+                    Some(Ok((offset, name)))
+                }
+                Err(Error::UnexpectedEof) => None,
+                Err(error) => {
+                    next = None;
+                    Some(Err(error))
+                }
+            }
+        })
     }
 }

@@ -90,12 +90,12 @@ shapes! { IdShape "The shapes of ids."
 pub struct Row(pub sys::Row);
 
 macro_rules! numbers {
-    ($($(#[$about:meta])* $name:ident: $kind:ty = $stands:ident)*) => {
+    ($($(#[$about:meta])* $name:ident: $kind:ty = $has:ident)*) => {
         impl Row {
             $(
                 $(#[$about])*
                 pub fn $name(&self) -> Option<$kind> {
-                    (self.0.stands & sys::$stands != 0).then_some(self.0.$name)
+                    (self.0.has & sys::$has != 0).then_some(self.0.$name)
                 }
             )*
         }
@@ -104,45 +104,46 @@ macro_rules! numbers {
 
 numbers! {
     /// The size of a class or a union; the offset of a member or a base class; for a virtual base class, the offset of
-    /// the pointer to its table; the absolute value of an enumeration's value; for the source of a type, the offset of
-    /// the file's name in the string table.
-    number: u64 = PDB_NUMBER
+    /// the pointer to its table; the 64 bits of an enumeration's value; for the source of a type, the offset of the
+    /// file's name in the string table.
+    number: u64 = PDB_HAS_NUMBER
     /// For a class or a base class, 0 for a class, 1 for a structure, 2 for an interface; for a virtual base class,
-    /// whether it is a direct one; for an enumeration's value, whether it is below 0; for a type with modifiers, the
-    /// sum of 1 for const, 2 for volatile and 4 for unaligned.
-    kind: u32 = PDB_KIND
+    /// whether it is a direct one; for an enumeration's value, whether it has a sign; for a type with modifiers, the sum
+    /// of 1 for const, 2 for volatile and 4 for unaligned.
+    kind: u32 = PDB_HAS_KIND
     /// The word of a member's, a function's or a pointer's attributes.
-    attributes: u32 = PDB_ATTRIBUTES
+    attributes: u32 = PDB_HAS_ATTRIBUTES
     /// The word of the properties of a class, a union or an enumeration.
-    properties: u32 = PDB_PROPERTIES
-    /// The number of members, values, parameters, methods or functions, or of the bits of a bit field.
-    count: u32 = PDB_COUNT
+    properties: u32 = PDB_HAS_PROPERTIES
+    /// The number of members, values, parameters, methods or functions, of the bits of a bit field, or of the bytes of
+    /// an enumeration's value.
+    count: u32 = PDB_HAS_COUNT
     /// The type that is pointed at, modified or held; the type of a member, an element or a method; the base class;
     /// the type that a function returns; the type of an id's function; the type that is declared.
-    type_index: u32 = PDB_TYPE_INDEX
+    type_index: u32 = PDB_HAS_TYPE_INDEX
     /// The class of a method or of a pointer to a member; the pointer to a virtual base class's table; the type by
     /// which an array is indexed; the list of a class's base classes; the scope of an id; the id of the file that
     /// declares a type.
-    second_index: u32 = PDB_SECOND_INDEX
+    second_index: u32 = PDB_HAS_SECOND_INDEX
     /// The type of a method's `this`; the shape of a class's table of virtual functions; for an id, the class of a
     /// method, or the module that declares a type.
-    third_index: u32 = PDB_THIRD_INDEX
+    third_index: u32 = PDB_HAS_THIRD_INDEX
     /// The list of fields, of arguments, of methods or of the parts of a text; the list in which a list of fields
     /// continues.
-    list_index: u32 = PDB_LIST_INDEX
+    list_index: u32 = PDB_HAS_LIST_INDEX
     /// The place of a method in the table of virtual functions; how `this` is adjusted; the place of a virtual base
     /// class in its table; an array's stride; the lowest bit of a bit field; the line that declares a type.
-    extra: u32 = PDB_EXTRA
+    extra: u32 = PDB_HAS_EXTRA
 }
 
 impl Row {
     /// The bit of the properties that says that a class, a union or an enumeration is only declared.
-    pub const FORWARD: u32 = 1 << 7;
+    pub const FORWARD: u32 = sys::PDB_PROPERTY_FORWARD_REFERENCE;
 
     /// The value of an enumeration's value, which may be below 0.
     pub fn value(&self) -> Option<i128> {
-        let magnitude = i128::from(self.number()?);
-        Some(if self.kind() == Some(1) { -magnitude } else { magnitude })
+        let bits = self.number()?;
+        Some(if self.kind() == Some(1) { i128::from(bits as i64) } else { i128::from(bits) })
     }
 
     /// Whether a class, a union or an enumeration is only declared here, and defined by another record.

@@ -22,6 +22,32 @@ pub struct Handle {
 
 #[repr(C)]
 #[derive(Debug, Clone, Copy, Default, PartialEq, Eq)]
+pub struct Identity {
+    pub version: u32,
+    pub signature: u32,
+    pub age: u32,
+    pub information_age: u32,
+    pub has_debug_header: u32,
+    pub debug_age: u32,
+    pub machine: u16,
+    pub flags: u16,
+    pub guid: [u8; 16],
+}
+
+#[repr(C)]
+#[derive(Debug, Clone, Copy, Default, PartialEq, Eq)]
+pub struct Finding {
+    pub index: u64,
+    pub byte: u64,
+    pub part: u32,
+    pub has_stream: u32,
+    pub stream: u32,
+    pub has_index: u32,
+    pub fault: Fault,
+}
+
+#[repr(C)]
+#[derive(Debug, Clone, Copy, Default, PartialEq, Eq)]
 pub struct Information {
     pub version: u32,
     pub signature: u32,
@@ -54,35 +80,16 @@ pub struct Roles {
 
 #[repr(C)]
 #[derive(Debug, Clone, Copy, Default, PartialEq, Eq)]
-pub struct Identity {
-    pub version: u32,
-    pub signature: u32,
-    pub age: u32,
-    pub information_age: u32,
-    pub has_debug_header: u32,
-    pub debug_age: u32,
-    pub machine: u16,
-    pub flags: u16,
-    pub guid: [u8; 16],
-}
-
-#[repr(C)]
-#[derive(Debug, Clone, Copy, Default, PartialEq, Eq)]
-pub struct Finding {
-    pub index: u64,
-    pub byte: u64,
-    pub part: u32,
-    pub has_stream: u32,
-    pub stream: u32,
-    pub has_index: u32,
-    pub fault: Fault,
-}
-
-#[repr(C)]
-#[derive(Debug, Clone, Copy, Default, PartialEq, Eq)]
 pub struct Name {
     pub offset: usize,
     pub length: usize,
+}
+
+#[repr(C)]
+#[derive(Debug, Clone, Copy, Default, PartialEq, Eq)]
+pub struct OmapRecord {
+    pub source: u32,
+    pub target: u32,
 }
 
 #[repr(C)]
@@ -116,6 +123,19 @@ pub struct Place {
 
 #[repr(C)]
 #[derive(Debug, Clone, Copy, Default, PartialEq, Eq)]
+pub struct Translation {
+    pub has_rva: u32,
+    pub rva: u32,
+    pub has_place: u32,
+    pub place: Place,
+    pub has_internal_rva: u32,
+    pub internal_rva: u32,
+    pub has_internal_place: u32,
+    pub internal_place: Place,
+}
+
+#[repr(C)]
+#[derive(Debug, Clone, Copy, Default, PartialEq, Eq)]
 pub struct Frame {
     pub kind: u32,
     pub code_start: u32,
@@ -144,18 +164,10 @@ pub struct Record {
 
 #[repr(C)]
 #[derive(Debug, Clone, Copy, Default, PartialEq, Eq)]
-pub struct Table {
-    pub first_index: u32,
-    pub maximum_index: u32,
-    pub stop: Fault,
-}
-
-#[repr(C)]
-#[derive(Debug, Clone, Copy, Default, PartialEq, Eq)]
 pub struct Row {
-    pub number: u64,
     pub shape: u32,
-    pub stands: u32,
+    pub has: u32,
+    pub number: u64,
     pub kind: u32,
     pub attributes: u32,
     pub properties: u32,
@@ -172,13 +184,13 @@ pub struct Row {
 pub struct Type {
     pub place: Record,
     pub fault: Fault,
-    pub row: Row,
+    pub info: Row,
 }
 
 #[repr(C)]
 #[derive(Debug, Clone, Copy, Default, PartialEq, Eq)]
 pub struct Field {
-    pub row: Row,
+    pub info: Row,
     pub name_length: usize,
     pub has_name: u32,
 }
@@ -233,7 +245,13 @@ pub const PDB_NOT_OPEN: u32 = 101;
 pub const PDB_TOO_SMALL: u32 = 102;
 pub const PDB_TOO_LONG: u32 = 103;
 pub const PDB_NO_TEXT: u32 = 104;
-pub const PDB_NOWHERE: u32 = 105;
+pub const PDB_END: u32 = 105;
+pub const PDB_NONE: u32 = 106;
+pub const PDB_UNMAPPED: u32 = 107;
+
+pub const PDB_LINKED_INCREMENTALLY: u32 = 1;
+pub const PDB_PRIVATE_SYMBOLS_STRIPPED: u32 = 2;
+pub const PDB_TYPES_MAY_CONFLICT: u32 = 4;
 
 pub const PDB_KEY_UPPER: u32 = 0;
 pub const PDB_KEY_LOWER: u32 = 1;
@@ -261,6 +279,22 @@ pub const PDB_PART_OMAP_TO_SOURCE: u32 = 11;
 pub const PDB_PART_OMAP_FROM_SOURCE: u32 = 12;
 pub const PDB_PART_OLD_FRAMES: u32 = 13;
 pub const PDB_PART_NEW_FRAMES: u32 = 14;
+
+pub const PDB_TYPES_STREAM: u32 = 2;
+pub const PDB_IDS_STREAM: u32 = 4;
+pub const PDB_NO_STREAM: u32 = 0xffff;
+
+pub const PDB_RVA: u32 = 0;
+pub const PDB_SECTION_OFFSET: u32 = 1;
+pub const PDB_INTERNAL_RVA: u32 = 2;
+pub const PDB_INTERNAL_SECTION_OFFSET: u32 = 3;
+
+pub const PDB_FRAME_FPO: u32 = 0;
+pub const PDB_FRAME_TRAP: u32 = 1;
+pub const PDB_FRAME_TSS: u32 = 2;
+pub const PDB_FRAME_STANDARD: u32 = 3;
+pub const PDB_FRAME_DATA: u32 = 4;
+pub const PDB_FRAME_UNKNOWN: u32 = 255;
 
 pub const PDB_PRIMITIVE: u32 = 0;
 pub const PDB_CLASS: u32 = 1;
@@ -293,16 +327,92 @@ pub const PDB_ID_STRING_LIST: u32 = 3;
 pub const PDB_ID_STRING: u32 = 4;
 pub const PDB_ID_TYPE_SOURCE: u32 = 5;
 
-pub const PDB_KIND: u32 = 1;
-pub const PDB_ATTRIBUTES: u32 = 2;
-pub const PDB_PROPERTIES: u32 = 4;
-pub const PDB_COUNT: u32 = 8;
-pub const PDB_TYPE_INDEX: u32 = 16;
-pub const PDB_SECOND_INDEX: u32 = 32;
-pub const PDB_THIRD_INDEX: u32 = 64;
-pub const PDB_LIST_INDEX: u32 = 128;
-pub const PDB_EXTRA: u32 = 256;
-pub const PDB_NUMBER: u32 = 512;
+pub const PDB_HAS_KIND: u32 = 1;
+pub const PDB_HAS_ATTRIBUTES: u32 = 2;
+pub const PDB_HAS_PROPERTIES: u32 = 4;
+pub const PDB_HAS_COUNT: u32 = 8;
+pub const PDB_HAS_TYPE_INDEX: u32 = 16;
+pub const PDB_HAS_SECOND_INDEX: u32 = 32;
+pub const PDB_HAS_THIRD_INDEX: u32 = 64;
+pub const PDB_HAS_LIST_INDEX: u32 = 128;
+pub const PDB_HAS_EXTRA: u32 = 256;
+pub const PDB_HAS_NUMBER: u32 = 512;
+pub const PDB_HAS_RETURN_TYPE: u32 = 16;
+pub const PDB_HAS_DERIVED_FROM: u32 = 32;
+pub const PDB_HAS_CONTAINING_CLASS: u32 = 32;
+pub const PDB_HAS_SCOPE: u32 = 32;
+pub const PDB_HAS_FILE_ID: u32 = 32;
+pub const PDB_HAS_VTABLE_SHAPE: u32 = 64;
+pub const PDB_HAS_THIS_POINTER_TYPE: u32 = 64;
+pub const PDB_HAS_MODULE: u32 = 64;
+pub const PDB_HAS_FIELDS: u32 = 128;
+pub const PDB_HAS_CONTINUATION: u32 = 128;
+pub const PDB_HAS_SUBSTRINGS: u32 = 128;
+pub const PDB_HAS_VTABLE_OFFSET: u32 = 256;
+pub const PDB_HAS_STRIDE: u32 = 256;
+
+pub const PDB_KIND_CLASS: u32 = 0;
+pub const PDB_KIND_STRUCTURE: u32 = 1;
+pub const PDB_KIND_INTERFACE: u32 = 2;
+
+pub const PDB_PROPERTY_PACKED: u32 = 0x1;
+pub const PDB_PROPERTY_CONSTRUCTORS: u32 = 0x2;
+pub const PDB_PROPERTY_OVERLOADED_OPERATORS: u32 = 0x4;
+pub const PDB_PROPERTY_NESTED: u32 = 0x8;
+pub const PDB_PROPERTY_CONTAINS_NESTED: u32 = 0x10;
+pub const PDB_PROPERTY_OVERLOADED_ASSIGNMENT: u32 = 0x20;
+pub const PDB_PROPERTY_CASTING_METHODS: u32 = 0x40;
+pub const PDB_PROPERTY_FORWARD_REFERENCE: u32 = 0x80;
+pub const PDB_PROPERTY_SCOPED: u32 = 0x100;
+pub const PDB_PROPERTY_HAS_UNIQUE_NAME: u32 = 0x200;
+pub const PDB_PROPERTY_SEALED: u32 = 0x400;
+pub const PDB_PROPERTY_HFA_MASK: u32 = 0x1800;
+pub const PDB_PROPERTY_INTRINSIC: u32 = 0x2000;
+pub const PDB_PROPERTY_MOCOM_MASK: u32 = 0xc000;
+
+pub const PDB_FIELD_ACCESS_MASK: u32 = 0x3;
+pub const PDB_FIELD_PRIVATE: u32 = 1;
+pub const PDB_FIELD_PROTECTED: u32 = 2;
+pub const PDB_FIELD_PUBLIC: u32 = 3;
+pub const PDB_FIELD_METHOD_MASK: u32 = 0x1c;
+pub const PDB_FIELD_METHOD_VIRTUAL: u32 = 0x4;
+pub const PDB_FIELD_METHOD_STATIC: u32 = 0x8;
+pub const PDB_FIELD_METHOD_FRIEND: u32 = 0xc;
+pub const PDB_FIELD_METHOD_INTRO: u32 = 0x10;
+pub const PDB_FIELD_METHOD_PURE_VIRTUAL: u32 = 0x14;
+pub const PDB_FIELD_METHOD_PURE_INTRO: u32 = 0x18;
+pub const PDB_FIELD_PSEUDO: u32 = 0x20;
+pub const PDB_FIELD_NO_INHERIT: u32 = 0x40;
+pub const PDB_FIELD_NO_CONSTRUCT: u32 = 0x80;
+pub const PDB_FIELD_COMPILER_GENERATED: u32 = 0x100;
+pub const PDB_FIELD_SEALED: u32 = 0x200;
+
+pub const PDB_FUNCTION_CALLING_CONVENTION_MASK: u32 = 0xff;
+pub const PDB_FUNCTION_CXX_RETURN_UDT: u32 = 0x100;
+pub const PDB_FUNCTION_CONSTRUCTOR: u32 = 0x200;
+pub const PDB_FUNCTION_CONSTRUCTOR_WITH_VIRTUAL_BASES: u32 = 0x400;
+
+pub const PDB_POINTER_KIND_MASK: u32 = 0x1f;
+pub const PDB_POINTER_KIND_NEAR_32: u32 = 0xa;
+pub const PDB_POINTER_KIND_FAR_32: u32 = 0xb;
+pub const PDB_POINTER_KIND_64: u32 = 0xc;
+pub const PDB_POINTER_MODE_MASK: u32 = 0xe0;
+pub const PDB_POINTER_MODE_POINTER: u32 = 0;
+pub const PDB_POINTER_MODE_LVALUE_REFERENCE: u32 = 0x20;
+pub const PDB_POINTER_MODE_DATA_MEMBER: u32 = 0x40;
+pub const PDB_POINTER_MODE_METHOD: u32 = 0x60;
+pub const PDB_POINTER_MODE_RVALUE_REFERENCE: u32 = 0x80;
+pub const PDB_POINTER_FLAT_32: u32 = 0x100;
+pub const PDB_POINTER_VOLATILE: u32 = 0x200;
+pub const PDB_POINTER_CONST: u32 = 0x400;
+pub const PDB_POINTER_UNALIGNED: u32 = 0x800;
+pub const PDB_POINTER_RESTRICT: u32 = 0x1000;
+pub const PDB_POINTER_SIZE_MASK: u32 = 0x7e000;
+pub const PDB_POINTER_MOCOM: u32 = 0x80000;
+
+pub const PDB_MODIFIER_CONST: u32 = 1;
+pub const PDB_MODIFIER_VOLATILE: u32 = 2;
+pub const PDB_MODIFIER_UNALIGNED: u32 = 4;
 
 pub const PDB_LAYOUT_BASE: u32 = 0;
 pub const PDB_LAYOUT_VIRTUAL_BASE_POINTER: u32 = 1;
@@ -317,71 +427,59 @@ pub const PDB_EXTENT_BITS: u32 = 1;
 pub const PDB_EXTENT_UNKNOWN: u32 = 2;
 
 unsafe extern "C" {
+    pub fn pdb_version() -> u32;
     pub fn pdb_error_text(about: *const Fault, room: *mut u8, room_length: usize, length: *mut usize, fault: *mut Fault) -> u32;
     pub fn pdb_close(handle: *mut Handle);
-    pub fn pdb_file_open(bytes: *const u8, bytes_length: usize, file: *mut Handle, fault: *mut Fault) -> u32;
-    pub fn pdb_file_page_size(file: *mut Handle, page_size: *mut u32, fault: *mut Fault) -> u32;
-    pub fn pdb_file_stream_count(file: *mut Handle, count: *mut u32, fault: *mut Fault) -> u32;
-    pub fn pdb_file_stream_size(file: *mut Handle, number: u32, size: *mut u32, fault: *mut Fault) -> u32;
-    pub fn pdb_file_stream(file: *mut Handle, bytes: *const u8, bytes_length: usize, number: u32, limit: usize, room: *mut u8, room_length: usize, length: *mut usize, fault: *mut Fault) -> u32;
-    pub fn pdb_file_information(file: *const u8, file_length: usize, information: *mut Information, fault: *mut Fault) -> u32;
-    pub fn pdb_file_stream_names(file: *const u8, file_length: usize, rows: *mut NamedStream, rows_length: usize, count: *mut usize, names: *mut u8, names_length: usize, size: *mut usize, fault: *mut Fault) -> u32;
-    pub fn pdb_file_named_stream(file: *const u8, file_length: usize, name: *const u8, name_length: usize, room: *mut u8, room_length: usize, length: *mut usize, fault: *mut Fault) -> u32;
-    pub fn pdb_file_roles(file: *const u8, file_length: usize, roles: *mut Roles, fault: *mut Fault) -> u32;
     pub fn pdb_identity_of(file: *const u8, file_length: usize, identity: *mut Identity, fault: *mut Fault) -> u32;
     pub fn pdb_key(identity: *const Identity, form: u32, room: *mut u8, room_length: usize, length: *mut usize, fault: *mut Fault) -> u32;
     pub fn pdb_format_of(file: *const u8, file_length: usize) -> u32;
     pub fn pdb_validate(file: *const u8, file_length: usize, room: *mut Finding, room_length: usize, length: *mut usize, fault: *mut Fault) -> u32;
+    pub fn pdb_bytes_open(bytes: *const u8, bytes_length: usize, file: *mut Handle, fault: *mut Fault) -> u32;
+    pub fn pdb_bytes_stream(file: *mut Handle, bytes: *const u8, bytes_length: usize, number: u32, limit: usize, room: *mut u8, room_length: usize, length: *mut usize, fault: *mut Fault) -> u32;
+    pub fn pdb_bytes_named_stream(bytes: *const u8, bytes_length: usize, name: *const u8, name_length: usize, room: *mut u8, room_length: usize, length: *mut usize, fault: *mut Fault) -> u32;
+    pub fn pdb_bytes_information(bytes: *const u8, bytes_length: usize, information: *mut Information, fault: *mut Fault) -> u32;
+    pub fn pdb_bytes_stream_names(bytes: *const u8, bytes_length: usize, rows: *mut NamedStream, rows_length: usize, count: *mut usize, names: *mut u8, names_length: usize, size: *mut usize, fault: *mut Fault) -> u32;
+    pub fn pdb_bytes_roles(bytes: *const u8, bytes_length: usize, roles: *mut Roles, fault: *mut Fault) -> u32;
+    pub fn pdb_bytes_addresses(bytes: *const u8, bytes_length: usize, addresses: *mut Handle, fault: *mut Fault) -> u32;
+    pub fn pdb_bytes_frames(bytes: *const u8, bytes_length: usize, frames: *mut Handle, fault: *mut Fault) -> u32;
+    pub fn pdb_file_page_size(file: *mut Handle, page_size: *mut u32, fault: *mut Fault) -> u32;
+    pub fn pdb_file_stream_count(file: *mut Handle, count: *mut u32, fault: *mut Fault) -> u32;
+    pub fn pdb_file_stream_size(file: *mut Handle, number: u32, size: *mut u32, fault: *mut Fault) -> u32;
     pub fn pdb_names_open(stream: *const u8, stream_length: usize, names: *mut Handle, fault: *mut Fault) -> u32;
-    pub fn pdb_file_names(file: *const u8, file_length: usize, names: *mut Handle, fault: *mut Fault) -> u32;
-    pub fn pdb_names_get(names: *mut Handle, offset: u32, room: *mut u8, room_length: usize, length: *mut usize, fault: *mut Fault) -> u32;
     pub fn pdb_names_place(names: *mut Handle, offset: u32, place: *mut Name, fault: *mut Fault) -> u32;
-    pub fn pdb_names_places(names: *mut Handle, offsets: *const u32, offsets_length: usize, room: *mut Name, room_length: usize, length: *mut usize, fault: *mut Fault) -> u32;
-    pub fn pdb_names_offsets(names: *mut Handle, room: *mut u32, room_length: usize, length: *mut usize, fault: *mut Fault) -> u32;
     pub fn pdb_omap_open(stream: *const u8, stream_length: usize, omap: *mut Handle, fault: *mut Fault) -> u32;
+    pub fn pdb_omap_records(omap: *mut Handle, room: *mut OmapRecord, room_length: usize, length: *mut usize, fault: *mut Fault) -> u32;
+    pub fn pdb_omap_is_sorted(omap: *mut Handle, is_sorted: *mut u32, fault: *mut Fault) -> u32;
     pub fn pdb_omap_lookup(omap: *mut Handle, address: u32, target: *mut u32, fault: *mut Fault) -> u32;
     pub fn pdb_omap_ranges(omap: *mut Handle, start: u32, end: u32, room: *mut Span, room_length: usize, length: *mut usize, fault: *mut Fault) -> u32;
     pub fn pdb_sections(stream: *const u8, stream_length: usize, room: *mut Section, room_length: usize, count: *mut usize, fault: *mut Fault) -> u32;
-    pub fn pdb_file_addresses(file: *const u8, file_length: usize, addresses: *mut Handle, fault: *mut Fault) -> u32;
-    pub fn pdb_rva_to_internal_rva(addresses: *mut Handle, address: u32, answer: *mut u32, fault: *mut Fault) -> u32;
-    pub fn pdb_rva_to_section_offset(addresses: *mut Handle, address: u32, place: *mut Place, fault: *mut Fault) -> u32;
-    pub fn pdb_rva_to_internal_offset(addresses: *mut Handle, address: u32, place: *mut Place, fault: *mut Fault) -> u32;
-    pub fn pdb_internal_rva_to_rva(addresses: *mut Handle, address: u32, answer: *mut u32, fault: *mut Fault) -> u32;
-    pub fn pdb_internal_rva_to_section_offset(addresses: *mut Handle, address: u32, place: *mut Place, fault: *mut Fault) -> u32;
-    pub fn pdb_internal_rva_to_internal_offset(addresses: *mut Handle, address: u32, place: *mut Place, fault: *mut Fault) -> u32;
-    pub fn pdb_section_offset_to_rva(addresses: *mut Handle, section: u16, offset: u32, answer: *mut u32, fault: *mut Fault) -> u32;
-    pub fn pdb_section_offset_to_internal_rva(addresses: *mut Handle, section: u16, offset: u32, answer: *mut u32, fault: *mut Fault) -> u32;
-    pub fn pdb_section_offset_to_internal_offset(addresses: *mut Handle, section: u16, offset: u32, place: *mut Place, fault: *mut Fault) -> u32;
-    pub fn pdb_internal_offset_to_internal_rva(addresses: *mut Handle, section: u16, offset: u32, answer: *mut u32, fault: *mut Fault) -> u32;
-    pub fn pdb_internal_offset_to_rva(addresses: *mut Handle, section: u16, offset: u32, answer: *mut u32, fault: *mut Fault) -> u32;
-    pub fn pdb_internal_offset_to_section_offset(addresses: *mut Handle, section: u16, offset: u32, place: *mut Place, fault: *mut Fault) -> u32;
+    pub fn pdb_translate(addresses: *mut Handle, form: u32, section: u16, offset: u32, translation: *mut Translation, fault: *mut Fault) -> u32;
     pub fn pdb_rva_ranges(addresses: *mut Handle, start: u32, end: u32, room: *mut Span, room_length: usize, length: *mut usize, fault: *mut Fault) -> u32;
     pub fn pdb_internal_rva_ranges(addresses: *mut Handle, start: u32, end: u32, room: *mut Span, room_length: usize, length: *mut usize, fault: *mut Fault) -> u32;
-    pub fn pdb_file_frames(file: *const u8, file_length: usize, frames: *mut Handle, fault: *mut Fault) -> u32;
     pub fn pdb_frames_at(frames: *mut Handle, address: u32, frame: *mut Frame, fault: *mut Fault) -> u32;
-    pub fn pdb_table_open(stream: *const u8, stream_length: usize, table: *mut Handle, fault: *mut Fault) -> u32;
-    pub fn pdb_table_first_index(table: *mut Handle, index: *mut u32, fault: *mut Fault) -> u32;
-    pub fn pdb_table_count(table: *mut Handle, count: *mut u32, fault: *mut Fault) -> u32;
-    pub fn pdb_table_find(table: *mut Handle, index: u32, record: *mut Record, fault: *mut Fault) -> u32;
-    pub fn pdb_table_next(table: *mut Handle, record: *mut Record, fault: *mut Fault) -> u32;
-    pub fn pdb_table_rewind(table: *mut Handle, fault: *mut Fault) -> u32;
-    pub fn pdb_table_positions(stream: *const u8, stream_length: usize, positions: *mut u32, positions_length: usize, count: *mut usize, table: *mut Table, fault: *mut Fault) -> u32;
-    pub fn pdb_type_row(record: *const u8, record_length: usize, index: u32, row: *mut Row, fault: *mut Fault) -> u32;
-    pub fn pdb_table_next_types(table: *mut Handle, types: *mut Type, types_length: usize, count: *mut usize, fault: *mut Fault) -> u32;
+    pub fn pdb_frames_list(frames: *mut Handle, room: *mut Frame, room_length: usize, length: *mut usize, fault: *mut Fault) -> u32;
+    pub fn pdb_types_open(stream: *const u8, stream_length: usize, table: *mut Handle, fault: *mut Fault) -> u32;
+    pub fn pdb_types_first_index(table: *mut Handle, index: *mut u32, fault: *mut Fault) -> u32;
+    pub fn pdb_types_count(table: *mut Handle, count: *mut u32, fault: *mut Fault) -> u32;
+    pub fn pdb_types_find(table: *mut Handle, index: u32, record: *mut Record, fault: *mut Fault) -> u32;
+    pub fn pdb_types_next(table: *mut Handle, record: *mut Record, fault: *mut Fault) -> u32;
+    pub fn pdb_types_rewind(table: *mut Handle, fault: *mut Fault) -> u32;
+    pub fn pdb_type_parse(record: *const u8, record_length: usize, index: u32, info: *mut Row, fault: *mut Fault) -> u32;
+    pub fn pdb_types_read(table: *mut Handle, types: *mut Type, types_length: usize, count: *mut usize, fault: *mut Fault) -> u32;
     pub fn pdb_type_name(record: *const u8, record_length: usize, index: u32, room: *mut u8, room_length: usize, length: *mut usize, fault: *mut Fault) -> u32;
-    pub fn pdb_type_arguments(record: *const u8, record_length: usize, index: u32, room: *mut u32, room_length: usize, length: *mut usize, fault: *mut Fault) -> u32;
     pub fn pdb_type_unique_name(record: *const u8, record_length: usize, index: u32, room: *mut u8, room_length: usize, length: *mut usize, fault: *mut Fault) -> u32;
+    pub fn pdb_type_arguments(record: *const u8, record_length: usize, index: u32, room: *mut u32, room_length: usize, length: *mut usize, fault: *mut Fault) -> u32;
     pub fn pdb_type_dimensions(record: *const u8, record_length: usize, index: u32, room: *mut u32, room_length: usize, length: *mut usize, fault: *mut Fault) -> u32;
     pub fn pdb_type_methods(record: *const u8, record_length: usize, index: u32, room: *mut Row, room_length: usize, length: *mut usize, fault: *mut Fault) -> u32;
     pub fn pdb_type_fields(record: *const u8, record_length: usize, index: u32, rows: *mut Field, rows_length: usize, count: *mut usize, names: *mut u8, names_length: usize, size: *mut usize, fault: *mut Fault) -> u32;
-    pub fn pdb_fields(table: *mut Handle, index: u32, rows: *mut Field, rows_length: usize, count: *mut usize, names: *mut u8, names_length: usize, size: *mut usize, fault: *mut Fault) -> u32;
+    pub fn pdb_types_fields(table: *mut Handle, index: u32, rows: *mut Field, rows_length: usize, count: *mut usize, names: *mut u8, names_length: usize, size: *mut usize, fault: *mut Fault) -> u32;
+    pub fn pdb_id_parse(record: *const u8, record_length: usize, info: *mut Row, fault: *mut Fault) -> u32;
+    pub fn pdb_id_name(record: *const u8, record_length: usize, room: *mut u8, room_length: usize, length: *mut usize, fault: *mut Fault) -> u32;
+    pub fn pdb_id_list(record: *const u8, record_length: usize, room: *mut u32, room_length: usize, length: *mut usize, fault: *mut Fault) -> u32;
     pub fn pdb_definitions_open(stream: *const u8, stream_length: usize, definitions: *mut Handle, fault: *mut Fault) -> u32;
     pub fn pdb_definitions_named(definitions: *mut Handle, name: *const u8, name_length: usize, room: *mut u32, room_length: usize, length: *mut usize, fault: *mut Fault) -> u32;
     pub fn pdb_definition_of(definitions: *mut Handle, index: u32, definition: *mut u32, fault: *mut Fault) -> u32;
     pub fn pdb_type_size(definitions: *mut Handle, index: u32, size: *mut u64, fault: *mut Fault) -> u32;
     pub fn pdb_type_text(definitions: *mut Handle, index: u32, name: *const u8, name_length: usize, room: *mut u8, room_length: usize, length: *mut usize, fault: *mut Fault) -> u32;
     pub fn pdb_layout(definitions: *mut Handle, index: u32, rows: *mut LayoutRow, rows_length: usize, count: *mut usize, names: *mut u8, names_length: usize, size: *mut usize, fault: *mut Fault) -> u32;
-    pub fn pdb_id_row(record: *const u8, record_length: usize, row: *mut Row, fault: *mut Fault) -> u32;
-    pub fn pdb_id_name(record: *const u8, record_length: usize, room: *mut u8, room_length: usize, length: *mut usize, fault: *mut Fault) -> u32;
-    pub fn pdb_id_list(record: *const u8, record_length: usize, room: *mut u32, room_length: usize, length: *mut usize, fault: *mut Fault) -> u32;
 }

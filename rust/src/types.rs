@@ -15,11 +15,16 @@ const BATCH: usize = 64;
 
 /// A table of types, and the stream that has it.
 ///
-/// The library keeps a part of it open, which stays on its thread:
+/// It may move to another thread, but one thread at a time has it:
 ///
-/// ```compile_fail,E0277
+/// ```
 /// fn is_send<T: Send>() {}
 /// is_send::<pdb_container::Types>();
+/// ```
+///
+/// ```compile_fail,E0277
+/// fn is_sync<T: Sync>() {}
+/// is_sync::<pdb_container::Types>();
 /// ```
 #[derive(Debug)]
 pub struct Types {
@@ -32,17 +37,17 @@ pub struct Types {
 }
 
 // SAFETY, in all of this file: slices are as long as they say, places that the library writes stay in one call, and a
-// handle is in one call at a time, since it stays on its thread and no call calls back.
+// handle is in one call at a time, since it is not `Sync` and no call calls back.
 
 fn open(stream: &[u8]) -> Result<Handle> {
-    Handle::open(|table, fault| unsafe { sys::pdb_table_open(stream.as_ptr(), stream.len(), table, fault) })
+    Handle::open(|table, fault| unsafe { sys::pdb_types_open(stream.as_ptr(), stream.len(), table, fault) })
 }
 
 impl Types {
     /// Reads the table of types in a stream.
     pub fn open(stream: Vec<u8>) -> Result<Types> {
         let table = open(&stream)?;
-        let first_index = value(|index, fault| unsafe { sys::pdb_table_first_index(table.get(), index, fault) })?;
+        let first_index = value(|index, fault| unsafe { sys::pdb_types_first_index(table.get(), index, fault) })?;
         let first_index = first_index.unwrap_or_default();
         Ok(Types { stream, table, is_walked: Cell::new(false), first_index, definitions: OnceCell::new() })
     }
@@ -54,7 +59,7 @@ impl Types {
 
     /// The number of indexes that the header counts. The table may have fewer types, or more.
     pub fn count(&self) -> u32 {
-        let count = value(|count, fault| unsafe { sys::pdb_table_count(self.table.get(), count, fault) });
+        let count = value(|count, fault| unsafe { sys::pdb_types_count(self.table.get(), count, fault) });
         count.ok().flatten().unwrap_or_default()
     }
 
@@ -63,7 +68,7 @@ impl Types {
         let mut stop = None;
         let walk = if !self.is_walked.replace(true) {
             // The status can only be that the table is not open.
-            unsafe { sys::pdb_table_rewind(self.table.get(), &mut sys::Fault::default()) };
+            unsafe { sys::pdb_types_rewind(self.table.get(), &mut sys::Fault::default()) };
             Walk::Shared
         } else {
             open(&self.stream).map(Walk::Own).unwrap_or_else(|error| {
@@ -77,13 +82,13 @@ impl Types {
 
     /// The type of an index, which may be that of a primitive type.
     pub fn get(&self, index: u32) -> Result<Type<'_>> {
-        let place = value(|place, fault| unsafe { sys::pdb_table_find(self.table.get(), index, place, fault) })?;
+        let place = value(|place, fault| unsafe { sys::pdb_types_find(self.table.get(), index, place, fault) })?;
         let record = match place {
             Some(place) => self.record(&place),
             None if index < FIRST_RECORD => &[],
             None => return Err(Error::TypeNotFound { index }),
         };
-        let row = value(|row, fault| unsafe { sys::pdb_type_row(record.as_ptr(), record.len(), index, row, fault) })?;
+        let row = value(|row, fault| unsafe { sys::pdb_type_parse(record.as_ptr(), record.len(), index, row, fault) })?;
         Ok(Type { index, record, row: Row(row.unwrap_or_default()) })
     }
 
@@ -100,7 +105,7 @@ impl Types {
     /// The fields of the list of an index, and of the lists in which it continues.
     pub fn fields(&self, list: u32) -> Result<Fields> {
         let found = named_items(|rows: *mut sys::Field, length, count, names, room, size, fault| unsafe {
-            sys::pdb_fields(self.table.get(), list, rows, length, count, names, room, size, fault)
+            sys::pdb_types_fields(self.table.get(), list, rows, length, count, names, room, size, fault)
         })?;
         let (rows, names) = found.unwrap_or_default();
         Ok(Fields { rows, names })
@@ -181,11 +186,10 @@ impl TypeIter<'_> {
             Walk::Ended => return false,
         };
         let (mut count, mut fault) = (0, sys::Fault::default());
-        let status =
-            unsafe { sys::pdb_table_next_types(table, self.batch.as_mut_ptr(), BATCH, &mut count, &mut fault) };
+        let status = unsafe { sys::pdb_types_read(table, self.batch.as_mut_ptr(), BATCH, &mut count, &mut fault) };
         (self.at, self.filled) = (0, count);
         if status != sys::PDB_OK {
-            self.stop = (status != sys::PDB_NOWHERE).then(|| Error::of(&fault));
+            self.stop = (status != sys::PDB_END).then(|| Error::of(&fault));
             self.end();
         }
         count > 0
@@ -213,7 +217,7 @@ impl<'t> Iterator for TypeIter<'t> {
         if it.fault.status != sys::PDB_OK {
             return Some(Err(failed(&it.fault)));
         }
-        Some(Ok(Type { index: it.place.index, record: self.types.record(&it.place), row: Row(it.row) }))
+        Some(Ok(Type { index: it.place.index, record: self.types.record(&it.place), row: Row(it.info) }))
     }
 }
 
@@ -324,7 +328,7 @@ impl Fields {
         self.rows.iter().map(move |field| {
             let name = &self.names[from..][..field.name_length];
             from += field.name_length;
-            Field { row: Row(field.row), name: (field.has_name != 0).then_some(Name::new(name)) }
+            Field { row: Row(field.info), name: (field.has_name != 0).then_some(Name::new(name)) }
         })
     }
 }

@@ -1,6 +1,8 @@
 //! Reads examples/sample.pdb, and copies of it with damage.
 
-use pdb_container::{Error, Extent, Format, IdShape, KeyForm, LayoutKind, LayoutRow, Part, Pdb, Shape, Types, validate};
+use pdb_container::{
+    Address, Error, Extent, Format, IdShape, KeyForm, LayoutKind, LayoutRow, Part, Pdb, Shape, Types, validate,
+};
 
 fn sample() -> Vec<u8> {
     std::fs::read(concat!(env!("CARGO_MANIFEST_DIR"), "/../examples/sample.pdb")).unwrap()
@@ -187,7 +189,7 @@ fn ids_and_names() {
     assert_eq!(ids.get(build[2]).unwrap().name().unwrap().unwrap(), "sample.cpp");
     assert_eq!(ids.get(0xfff), Err(Error::TypeNotFound { index: 0xfff }));
     let names = pdb.names().unwrap();
-    let found: Vec<_> = names.iter().unwrap().collect::<Result<_, _>>().unwrap();
+    let found: Vec<_> = names.iter().collect::<Result<_, _>>().unwrap();
     assert!(found.iter().any(|(_, name)| *name == "/sample/sample.cpp"));
     assert!(found.iter().all(|(offset, name)| names.get(*offset) == Ok(*name)));
     assert_eq!(names.get(1 << 20), Err(Error::UnexpectedEof));
@@ -202,19 +204,34 @@ fn addresses_and_frames() {
     assert_ne!(pdb.sections().unwrap()[0], pdb.original_sections().unwrap()[0]);
     let (map, to_src) = (pdb.address_map().unwrap(), pdb.omap_to_src().unwrap().unwrap());
     for address in 0x1000..0x1190 {
-        let original = map.rva_to_internal_rva(address).unwrap().unwrap();
+        let original = map.translate(Address::Rva(address)).unwrap().internal_rva.unwrap();
         assert_eq!(to_src.lookup(address), Ok(Some(original)));
-        assert_eq!(map.internal_rva_to_rva(original), Ok(Some(address)));
+        assert_eq!(map.translate(Address::InternalRva(original)).unwrap().rva, Some(address));
     }
-    assert_eq!(map.internal_rva_to_rva(0x1012), Ok(None));
-    assert_eq!(map.rva_to_section_offset(0x1005), Ok(Some((1, 5))));
-    assert_eq!(map.section_offset_to_rva(1, 5), Ok(Some(0x1005)));
+    assert_eq!(map.translate(Address::InternalRva(0x1012)).unwrap().rva, None);
+    let of_rva = map.translate(Address::Rva(0x1005)).unwrap();
+    assert_eq!(of_rva.place, Some((1, 5)));
+    assert_eq!(map.translate(Address::Place((1, 5))), Ok(of_rva));
+    let internal_place = Address::InternalPlace(of_rva.internal_place.unwrap());
+    assert_eq!(map.translate(internal_place), Ok(of_rva));
+    assert_eq!(to_src.is_sorted(), Ok(true));
+    assert!(
+        to_src
+            .records()
+            .unwrap()
+            .iter()
+            .all(|(source, target)| to_src.lookup(*source).unwrap().unwrap_or(0) == *target)
+    );
     assert_eq!(map.internal_rva_ranges(0x1000..0x1020), to_src.ranges(0x1000..0x1020));
     let frames = pdb.frames().unwrap();
     let (older, newer) = (frames.at(0x1000).unwrap().unwrap(), frames.at(0x10b1).unwrap().unwrap());
     assert_eq!((older.code_start, older.code_size, older.has_program), (0x1000, 16, 0));
     assert_eq!((newer.code_start, newer.saved_regs_size), (0x10b1, 4));
     assert_eq!(frames.at(0x100000), Ok(None));
+    let all = frames.list().unwrap();
+    assert!(
+        all.windows(2).all(|it| it[0].code_start < it[1].code_start) && all.contains(&older) && all.contains(&newer)
+    );
 }
 
 #[test]
@@ -270,10 +287,10 @@ fn read_everything(pdb: &Pdb<'_>) -> usize {
     count(pdb.information().is_ok());
     count(pdb.identity().is_ok_and(|it| it.key(KeyForm::Upper).is_ok()));
     count(pdb.named_streams().is_ok());
-    count(pdb.names().and_then(|names| names.iter()?.collect::<Result<Vec<_>, _>>().map(|it| it.len())).is_ok());
+    count(pdb.names().and_then(|names| names.iter().collect::<Result<Vec<_>, _>>().map(|it| it.len())).is_ok());
     count(pdb.sections().is_ok());
     count(pdb.omap_from_src().is_ok_and(|omap| omap.is_none_or(|it| it.ranges(0x1000..0x3000).is_ok())));
-    count(pdb.address_map().is_ok_and(|map| map.rva_to_internal_offset(0x1005).is_ok()));
+    count(pdb.address_map().is_ok_and(|map| map.translate(Address::Rva(0x1005)).is_ok()));
     count(pdb.frames().is_ok_and(|frames| frames.at(0x1020).is_ok()));
     count(pdb.types().is_ok_and(|types| are_laid_out(&types)));
     match pdb.types() {
@@ -350,4 +367,17 @@ fn no_program_database() {
         error.into()
     }
     assert!(!is_error(Error::OutOfMemory).to_string().is_empty());
+}
+
+#[test]
+fn another_thread() {
+    let types = Pdb::parse(&sample()).unwrap().types().unwrap();
+    let count = types.iter().count();
+    let (types, elsewhere) = std::thread::spawn(move || {
+        let count = types.iter().count();
+        (types, count)
+    })
+    .join()
+    .unwrap();
+    assert_eq!((types.iter().count(), elsewhere), (count, count));
 }

@@ -1,8 +1,11 @@
-"""Compares include/pdb_container.h with what the crates of the library for C export."""
+"""Compares include/pdb_container.h with what the crates of the library for C export: prototypes, and how structures lie
+in memory."""
 
 import re
 
+from pdbtest.calls import call
 from pdbtest.programs import ROOT
+from pdbtest.tools import tool
 
 HEADER = ROOT / "include/pdb_container.h"
 
@@ -10,12 +13,19 @@ HEADER = ROOT / "include/pdb_container.h"
 STRUCTURES = {
     "Fault": "pdb_fault", "Roles": "pdb_roles", "Span": "pdb_span", "Section": "pdb_section", "Place": "pdb_place",
     "Information": "pdb_information", "NamedStream": "pdb_named_stream", "Frame": "pdb_frame", "Located": "pdb_record",
-    "TableFacts": "pdb_table", "Row": "pdb_row", "TypeRow": "pdb_type", "FieldRow": "pdb_field",
-    "FileIdentity": "pdb_identity", "LayoutRow": "pdb_layout_row", "FoundFault": "pdb_finding",
+    "Row": "pdb_row", "TypeRow": "pdb_type", "FieldRow": "pdb_field", "OmapRow": "pdb_omap_record",
+    "Translation": "pdb_translation", "FileIdentity": "pdb_identity", "LayoutRow": "pdb_layout_row",
+    "FoundFault": "pdb_finding", "NamePlace": "pdb_name",
 }  # fmt: skip
 NUMBERS = {"u64": "uint64_t", "u32": "uint32_t", "u16": "uint16_t", "u8": "uint8_t", "usize": "size_t"}
-# What a parameter or a field may be of. The crates have other fields in a Handle, and in a NamePlace.
-KINDS = {**STRUCTURES, **NUMBERS, "Handle": "pdb_handle", "NamePlace": "pdb_name"}
+SIZES = {"u64": 8, "u32": 4, "u16": 2, "u8": 1, "usize": 8}
+# What a parameter or a field may be of. In C a Row is seen through the union of its shapes.
+KINDS = {**STRUCTURES, **NUMBERS, "Row": "pdb_type_info"}
+# The header has a structure for each kind of handle, by the name of the parameter.
+HANDLES = {
+    "file": "pdb_file", "names": "pdb_names", "omap": "pdb_omap", "addresses": "pdb_address_map",
+    "frames": "pdb_frames", "table": "pdb_types", "definitions": "pdb_definitions", "handle": "pdb_handle",
+}  # fmt: skip
 
 EXPORT = re.compile(r"no_mangle\)\]\s*pub extern \"C\" fn (\w+)\(([^)]*)\)( -> u32)?")
 STRUCTURE = re.compile(r"#\[repr\(C\)\].*?pub struct (\w+)(?:<[^>]*>)? \{(.*?)^\}", re.DOTALL | re.MULTILINE)
@@ -26,8 +36,8 @@ def sources_of(*crates):
     return [file.read_text() for crate in crates for file in (ROOT / "crates" / crate / "src").rglob("*.rt")]
 
 
-def parameter_of(kind):
-    """The words by which C passes a parameter of a kind: a number, a pointer, or one with a length."""
+def parameter_of(name, kind):
+    """The words by which C passes a parameter: a number, a pointer, or one with a length."""
     if kind == "Global":
         return []
     if kind in NUMBERS:
@@ -37,7 +47,7 @@ def parameter_of(kind):
     front = "" if is_changed else "const "
     if inner.startswith("["):
         return [f"{front}{KINDS[inner[1:-1]]}*", "size_t"]
-    return [f"{front}{KINDS[inner]}*"]
+    return [f"{front}{HANDLES[name] if inner == 'Handle' else KINDS[inner]}*"]
 
 
 def exported():
@@ -45,8 +55,8 @@ def exported():
     found = {}
     for text in sources_of("pdb_c"):
         for name, parameters, result in EXPORT.findall(text):
-            kinds = re.findall(r"\w+: ([^,]+?)\s*(?:,|$)", parameters)
-            words = [word for kind in kinds for word in parameter_of(kind)]
+            named = re.findall(r"(\w+): ([^,]+?)\s*(?:,|$)", parameters)
+            words = [word for name_and_kind in named for word in parameter_of(*name_and_kind)]
             found[name] = ("uint32_t" if result else "void", words)
     return found
 
@@ -55,7 +65,8 @@ def declared(text):
     """The result and the parameters of each function that the header declares."""
     found = {}
     for result, name, parameters in re.findall(r"^(\w+) (pdb_\w+)\(([^)]*)\);", text, re.MULTILINE):
-        kinds = (it.rpartition(" ")[0] + ("*" if "*" in it else "") for it in re.split(r",\s+", parameters))
+        words = [it for it in re.split(r",\s+", parameters) if it != "void"]
+        kinds = (it.rpartition(" ")[0] + ("*" if "*" in it else "") for it in words)
         found[name] = (result, list(kinds))
     return found
 
@@ -81,6 +92,75 @@ def fields_of_crates():
             rows = re.findall(r"^ +(?:pub )?(\w+): ([^,]+),", body, re.MULTILINE)
             found[name] = [field_of(*row) for row in rows]
     return found
+
+
+def layouts():
+    """The size and the alignment of each structure of the crates, and the offset of each field, as `repr(C)` has them."""
+    found, bodies = {}, {}
+    for text in sources_of("pdb_handles", "pdb_reports"):
+        bodies.update(STRUCTURE.findall(text))
+
+    def size_and_alignment(kind):
+        array = re.fullmatch(r"\[(\w+); (\d+)\]", kind)
+        if array:
+            size, alignment = size_and_alignment(array[1])
+            return size * int(array[2]), alignment
+        return (SIZES[kind], SIZES[kind]) if kind in SIZES else layout_of(kind)[:2]
+
+    def layout_of(name):
+        if name not in found:
+            end, widest, offsets = 0, 1, {}
+            for field, kind in re.findall(r"^ +(?:pub )?(\w+): ([^,]+),", bodies[name], re.MULTILINE):
+                size, alignment = size_and_alignment(kind)
+                end += -end % alignment
+                offsets[field] = end
+                end, widest = end + size, max(widest, alignment)
+            found[name] = end + -end % widest, widest, offsets
+        return found[name]
+
+    return {name: layout_of(name) for name in STRUCTURES}
+
+
+# Names of the union where the definitions have others: of a shape, and of a number of one.
+MEMBERS = {"class": "class_type", "union": "union_type"}
+WORDS = {
+    ("virtual_base_class", "direct"): "is_direct", ("enumerate", "value"): "value",
+    ("user_defined_type_source", "source_file"): None,
+}  # fmt: skip
+
+
+def words_of_union():
+    """The numbers of each shape of a type by the definition that says which number of a row is which: of the union's
+    member, the name there, the name in a row, and whether some records lack it."""
+    text = (ROOT / "crates/pdb_handles/specs/Row.antt").read_text()
+    for shape, body in re.findall(r"(?:plain_)?numbers(?:_of)? \(values\.(\w+) v\) = record no_numbers \{(.*)\}", text):
+        for slot, said in re.findall(r"(\w+) = ([^;}]+)", body):
+            word = re.findall(r"v\.(\w+)", said)[-1]
+            if (shape, slot) == ("modifier", "kind"):
+                word = "modifiers"
+            if shape == "enumerate":
+                word = {"kind": "is_signed", "count": "width"}.get(slot, word)
+            yield MEMBERS.get(shape, shape), WORDS.get((shape, word), word), slot, "Some" not in said
+
+
+def asserted(text):
+    """A program in C that compiles only if structures lie in memory as those of the crates do."""
+    yield "#include <pdb_container.h>"
+    for name, (size, _, offsets) in layouts().items():
+        yield f"_Static_assert(sizeof({STRUCTURES[name]}) == {size}, \"size of {name}\");"
+        for field, offset in offsets.items():
+            yield f"_Static_assert(offsetof({STRUCTURES[name]}, {field}) == {offset}, \"{name}.{field}\");"
+    yield '_Static_assert(sizeof(pdb_type_info) == sizeof(pdb_row), "size of pdb_type_info");'
+    for member, word, slot, is_optional in words_of_union():
+        place = f"offsetof(pdb_type_info, {member}.{word})"
+        yield f"_Static_assert({place} == offsetof(pdb_row, {slot}), \"{member}.{word}\");"
+        if is_optional:
+            yield f"_Static_assert(PDB_HAS_{word.upper()} == PDB_HAS_{slot.upper()}, \"{word}\");"
+    for member in re.findall(r"^    \} (\w+);", text, re.MULTILINE):
+        yield f'_Static_assert(offsetof(pdb_type_info, {member}.has) == 4, "{member}");'
+    for handle in {*HANDLES.values()} - {"pdb_file"}:
+        yield f"_Static_assert(sizeof({handle}) == 16 && offsetof(pdb_handle, kind) == 8, \"{handle}\");"
+    yield '_Static_assert(offsetof(pdb_file, handle) == 0, "a file begins with its handle");'
 
 
 def constant_of(error):
@@ -114,3 +194,6 @@ def check_header(tally):
         ours, theirs = crate.get(name), header.get(other)
         tally.check(ours == theirs, f"{other}: {theirs} in the header, {ours} in {name}")
     check_statuses(tally, text)
+    words = ["-std=c11", "-Werror", f"-I{HEADER.parent}", "-fsyntax-only", "-x", "c", "-"]
+    ran = call(tool("cc"), words, "\n".join([*asserted(text), ""]).encode())
+    tally.check(ran.status == 0, f"structures lie elsewhere: {ran.err.decode()}")

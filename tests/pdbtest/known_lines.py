@@ -58,9 +58,14 @@ def from_source(address):
 
 
 def address_lines():
-    """Addresses and places, each converted to the others, and ranges of addresses."""
+    """Addresses and places, each in all its forms, and ranges of addresses."""
+    yield "address of no form 106"
     for asked in range(FIRST, LAST, STEP):
         number = asked // STEP % 4
+        yield f"own0 {asked:#x} {asked:#x}"
+        yield f"own1 {asked:#x} {asked:#x}"
+        yield f"own2 {asked:#x} {number}:{asked:#x}"
+        yield f"own3 {asked:#x} {number}:{asked:#x}"
         loaded, internal = address_in(LOADED, number, asked), address_in(ORIGINAL, number, asked)
         yield f"address0 {asked:#x} {shown(to_source(asked))}"
         yield f"address1 {asked:#x} {shown(from_source(asked))}"
@@ -77,6 +82,13 @@ def address_lines():
             yield f"ranges{i} {asked:#x}" + "".join(f" {low:#x}..{high:#x}" for low, high in ranges)
 
 
+def omap_lines():
+    """The records of the table to the source, which is sorted, and one that is not."""
+    yield from (f"omap {source:#x} {target:#x}" for source, target in TO_SOURCE)
+    yield "omap sorted 1 unmapped 107 7"
+    yield "omap sorted 0"
+
+
 def frames_from(frames, address):
     """The frames from an address on: from the one that starts there or covers it, or from the next."""
     return [frame for frame in frames if frame[0] >= address or frame[0] + frame[1] > address]
@@ -91,6 +103,9 @@ def frame_lines():
         heads = [frames[0] for frames in (frames_from(new, asked), frames_from(old, asked)) if frames]
         first = min(heads, key=lambda frame: frame[0], default=None)
         yield f"frame {asked:#x} " + (NOWHERE if first is None else "{:#x} {} {} {} {}".format(*first))
+    starts = {frame[0] for frame in new}
+    for at, size, _, _, kind in sorted([*new, *(frame for frame in old if frame[0] not in starts)]):
+        yield f"listed {at:#x} {size} {kind}"
 
 
 def stream_lines(all_streams, page_size):
@@ -106,25 +121,6 @@ def stream_lines(all_streams, page_size):
             yield f"stream {number} size {size} needs {size} begins {stream[:40].hex()}"
 
 
-def place_lines():
-    """The places of many names, written into an array that holds a 7 in each length beforehand."""
-    places, untouched = [], "0+7"
-    offset = 0
-    for name in NAMES:
-        places.append(f"{12 + offset}+{len(name)}")
-        offset += len(name) + 1
-    count = len(places)
-
-    def shown_array(status, length, written):
-        return f"places {status} {length} " + " ".join(places[:written] + [untouched] * (count + 1 - written))
-
-    yield shown_array(102, count, 0)
-    yield shown_array(0, count, count)
-    for refused in reversed(range(count)):
-        yield shown_array(8, refused, refused)
-    yield f"places 0 0 {untouched}"
-
-
 def type_lines():
     """Lists of types, and unique names."""
     yield "method 0x1000 5 0x3 0x1100 4294967295"
@@ -135,6 +131,12 @@ def type_lines():
     yield "unique 0x1003 .?ATU@@"
     yield "unique 0x1007 .?AUT@@"
     yield "unique 0x1008 .?AUT@@"
+    yield from ("primitive 0x74 int 0", "primitive 0x674 int 6", "primitive 0x103 void 1")
+    yield from ("primitive 0x874 status 15", "primitive 0x80 status 15", "primitive 0x1000 status 106")
+    # of each prefix of a number, its width and the number
+    yield "enumerate 2 12345"
+    yield from ("enumerate 2 -2", "enumerate 2 65534", "enumerate 4 -2", "enumerate 4 4294967294")
+    yield from ("enumerate 8 -2", "enumerate 8 18446744073709551614")
 
 
 def identity_lines():
@@ -143,7 +145,7 @@ def identity_lines():
     yield f"identity 20000404 1700000000 {DEBUG_AGE} 3 1 {DEBUG_AGE} {MACHINE} {FLAGS} guid {GUID.hex()}"
     texts = [f"{guid.hex.upper()}{DEBUG_AGE:X}", f"{guid.hex}{DEBUG_AGE:x}", str(guid).upper()]
     yield from (f"key {form} needs {len(text)} is {text}" for form, text in enumerate(texts))
-    yield "key of no form 105 0"
+    yield "key of no form 106 0"
     yield "format 1 2 3 4 5 0"
 
 
@@ -198,29 +200,22 @@ def definition_lines():
 
 
 # What is told of calls that are refused, with plenty of memory: the status, and the numbers that go with it.
-WHOLE = ["open", "information", "identity", "stream names", "named stream", "roles", "names", "addresses", "frames"]
-TOO_SMALL, NO_TEXT = 102, 104
+WHOLE = ["open", "information", "identity", "stream names", "named stream", "roles", "addresses", "frames"]
+NO_TEXT = 104
 REFUSED = [
     *((f"cut {call}", 1, 0) for call in WHOLE),
+    *((f"empty {call}", 1, 0) for call in WHOLE),
     *((f"page size {call}", 3, 768) for call in WHOLE),
-    ("no names", 5, 0), ("no named stream", 5, 0), ("name of no stream", 5, 0), ("small named stream", TOO_SMALL, 0),
-    ("no stream", 4, 99), ("no size", 4, 99), ("names", 8, 0), ("signature", 9, 6), ("omap", 6, 1), ("table", 8, 0),
-    ("header", 13, 10), ("definitions", 8, 0), ("header of definitions", 13, 10), ("positions", 13, 10),
-    ("sections", 8, 0), ("small sections", TOO_SMALL, 0), ("small name", TOO_SMALL, 0), ("no name", 8, 0),
-    ("no place", 8, 0), ("small ranges", TOO_SMALL, 0), ("small address ranges", TOO_SMALL, 0),
-    ("small internal ranges", TOO_SMALL, 0), ("cut row", 8, 0), ("kind of row", 17, 0x151D), ("pointer", 17, 0x1002),
-    ("prefix", 20, 0x8005), ("primitive", 15, 0x874), ("cut name", 8, 0), ("small name of a type", TOO_SMALL, 0),
-    ("false count", 8, 0), ("small arguments", TOO_SMALL, 0), ("array", 8, 0), ("small dimensions", TOO_SMALL, 0),
-    ("cut method", 8, 0), ("small methods", TOO_SMALL, 0), ("cut unique name", 8, 0),
-    ("small unique name", TOO_SMALL, 0), ("cut field", 8, 0), ("list in a list", 17, 0x1203),
-    ("small fields", TOO_SMALL, 0), ("small names of fields", TOO_SMALL, 0), ("cut id", 8, 0),
-    ("kind of id", 17, 0x1608), ("small name of an id", TOO_SMALL, 0), ("cut name of an id", 8, 0),
-    ("false count of ids", 8, 0), ("small list of ids", TOO_SMALL, 0), ("no type", 15, 0xFFFFFFFF),
+    ("no named stream", 5, 0), ("name of no stream", 5, 0), ("no stream", 4, 99), ("no size", 4, 99),
+    ("names", 8, 0), ("signature", 9, 6), ("omap", 6, 1), ("table", 8, 0), ("header", 13, 10), ("definitions", 8, 0),
+    ("header of definitions", 13, 10), ("sections", 8, 0), ("no name", 8, 0), ("no place", 8, 0), ("cut row", 8, 0),
+    ("kind of row", 17, 0x151D), ("pointer", 17, 0x1002), ("prefix", 20, 0x8005), ("primitive", 15, 0x874),
+    ("cut name", 8, 0), ("false count", 8, 0), ("array", 8, 0), ("cut method", 8, 0), ("cut unique name", 8, 0),
+    ("cut field", 8, 0), ("list in a list", 17, 0x1203), ("cut id", 8, 0), ("kind of id", 17, 0x1608),
+    ("cut name of an id", 8, 0), ("false count of ids", 8, 0), ("no type", 15, 0xFFFFFFFF),
     ("fields of an integer", 17, 0xFFFF), ("fields of an array", 17, 0x1503), ("fields of no type", 15, 0x2000),
     ("no definition", 15, 0x2000), ("size of no type", 15, 0x2000), ("text of no type", 15, 0x2000),
-    ("layout of no type", 15, 0x2000), ("small definitions", TOO_SMALL, 0), ("small text of a type", TOO_SMALL, 0),
-    ("small layout", TOO_SMALL, 0), ("small names of a layout", TOO_SMALL, 0), ("small text", TOO_SMALL, 0),
-    ("no text", NO_TEXT, 0),
+    ("layout of no type", 15, 0x2000), ("no text", NO_TEXT, 0),
 ]  # fmt: skip
 
 
@@ -246,13 +241,13 @@ def lines(page_size, data):
     for name, size, at, raw, flags in [*LOADED, *ORIGINAL]:
         yield f"section {name} {size:#x} {at:#x} {raw:#x} {flags:#x}"
     yield from address_lines()
+    yield from omap_lines()
     yield from frame_lines()
     offset = 0
     for name in NAMES:
         yield f"name {offset} {name}"
         yield f"place {offset} {12 + offset} {len(name)}"
         offset += len(name) + 1
-    yield from place_lines()
     yield from type_lines()
     yield from definition_lines()
     yield from finding_lines(data)

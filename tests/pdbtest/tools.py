@@ -14,6 +14,7 @@ LINKER = "x86_64-w64-mingw32-ld"  # GNU ld for Windows
 
 # those that only bench/run needs, and all
 BENCH_PACKAGES = {"llvm-config": "llvm-dev"}
+SANITIZERS = "libclang-rt-dev"
 PACKAGES = {
     "clang": "clang",
     "lld-link": "lld",
@@ -39,6 +40,15 @@ def path_of(name):
         if (match := re.fullmatch(re.escape(name) + r"-(\d+)", path.name)) and os.access(path, os.X_OK)
     ]
     return shutil.which(name) or (str(max(versions)[1]) if versions else None)
+
+
+def has_sanitizers():
+    """Whether Clang finds its fuzzer and its sanitizers, which are in a package of their own."""
+    clang = path_of("clang")
+    if not clang:
+        return False
+    ran = subprocess.run([clang, "-print-resource-dir"], capture_output=True, text=True, timeout=SECONDS)
+    return any(Path(ran.stdout.strip(), "lib").glob("*/libclang_rt.fuzzer*x86_64*"))
 
 
 @functools.cache

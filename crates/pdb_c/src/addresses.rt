@@ -1,397 +1,154 @@
-//! Conversions of addresses and of places in sections by an address map.
+//! Address maps, and the sections of which they are made.
 
-ghost use Rattle.std.specs.Prelude.{◌≡◌, None, Some, IfSome, IfNone};
-ghost use Rattle.std.specs.Option.{option_map};
-ghost use Rattle.pdb_space.specs.Omap.{IsSortedBySource, MovesSomehow};
-ghost use Rattle.pdb_space.specs.Conversions.{ComesSomehow, rva_to_internal_rva, rva_to_section_offset, rva_to_internal_offset, internal_rva_to_rva, internal_rva_to_section_offset, internal_rva_to_internal_offset, section_offset_to_rva, section_offset_to_internal_rva, section_offset_to_internal_offset, internal_offset_to_internal_rva, internal_offset_to_rva, internal_offset_to_section_offset};
-ghost use Rattle.pdb_handles.specs.Fault.{fine};
-ghost use Rattle.pdb_handles.specs.Found.{IsFound, found, not_held};
-ghost use Rattle.pdb_handles.specs.Handle.{addresses_held};
-ghost use Rattle.pdb_handles.specs.Place.{place_of, section_place};
+ghost use Rattle.std.specs.Prelude.{◌≡◌, ◌<◌, ◌≤◌, length, IfSome, IfNone};
+ghost use Rattle.pdb_space.specs.Conversions.{translated_parts};
+ghost use Rattle.pdb_space.specs.Omap.{IsSortedBySource};
+ghost use Rattle.pdb_handles.specs.Copied.{CopiesOrLacks, copied, untouched};
+ghost use Rattle.pdb_handles.specs.Fault.{not_open, too_long};
+ghost use Rattle.pdb_handles.specs.File.{addresses_said};
+ghost use Rattle.pdb_handles.specs.Found.{not_held};
+ghost use Rattle.pdb_handles.specs.Handle.{Opens, addresses_held};
+ghost use Rattle.pdb_handles.specs.Ranges.{WritesSome, spans_written};
+ghost use Rattle.pdb_handles.specs.Sections.{sections_in};
+ghost use Rattle.pdb_handles.specs.Translation.{Translates};
 
-use pdb_handles::addresses::{find_by_addresses, if_internal, if_loaded};
-use pdb_handles::{Fault, Handle, Place};
-use pdb_space::{PdbInternalRva, PdbInternalSectionOffset, Rva, SectionOffset};
+use pdb_handles::copied::{copy_list, copy_nothing};
+use pdb_handles::file::addresses_in;
+use pdb_handles::ranges::{Span, write_internal, write_loaded};
+use pdb_handles::sections::{Section, sections_in};
+use pdb_handles::translation::{Translation, translate};
+use pdb_handles::{Fault, Handle, NOT_OPEN, TOO_LONG};
+use pdb_space::{PdbInternalRva, Rva};
 use std::alloc::Global;
 
-/// Converts an address in the image as it is loaded to the address in the original image from which
-/// it was moved.
+/// Writes the headers of the sections that a stream holds.
 #[unsafe(no_mangle)]
-pub extern "C" fn pdb_rva_to_internal_rva(
+pub extern "C" fn pdb_sections(
     alloc: Global,
-    addresses: &mut Handle,
-    address: u32,
-    answer: &mut u32,
+    stream: &[u8],
+    room: &mut [Section],
+    count: &mut usize,
     fault: &mut Fault,
 ) -> u32
-    ensures exact { IfSome (addresses_held addresses.old.held.content) (λ map.
-        IfSome map.transformed_to_original IsSortedBySource
-        → record { fault = fault.new; value = answer.new } ≡ found answer.old (rva_to_internal_rva map address)) }
-    ensures unsorted { IfSome (addresses_held addresses.old.held.content) (λ map.
-        IfSome map.transformed_to_original (λ table. fault.new ≡ fine → MovesSomehow table address answer.new)) }
-    ensures found { IfSome (addresses_held addresses.old.held.content) (λ _.
-        IsFound answer.old (record { fault = fault.new; value = answer.new })) }
+    ensures answer { length stream.now < 0xffffffff
+        → CopiesOrLacks (record { fault = fault.new; length = count.new; room = room.new }) room.old
+        (copied room.old (sections_in stream.now)) }
+    ensures long { 0xffffffff ≤ length stream.now
+        → record { fault = fault.new; length = count.new; room = room.new } ≡ untouched too_long room.old }
+    ensures status { result ≡ fault.new.status }
+{
+    if stream.len() >= 0xffff_ffff {
+        return copy_nothing(Fault::status(TOO_LONG), count).tell(fault);
+    }
+    copy_list(sections_in(alloc, stream), room, count).tell(fault)
+}
+
+/// Opens the address map of a file.
+#[unsafe(no_mangle)]
+pub extern "C" fn pdb_bytes_addresses(
+    alloc: Global,
+    bytes: &[u8],
+    addresses: &mut Handle,
+    fault: &mut Fault,
+) -> u32
+    ensures opens { Opens addresses.old.held.content (addresses_said bytes.now) fault.new addresses.new.held.content }
+    ensures status { result ≡ fault.new.status }
+{
+    open!(addresses, alloc, addresses_in(alloc, bytes)).tell(fault)
+}
+
+/// Writes the four forms of an address or a place. `form` is its own form, numbered as in
+/// `pdb_address_form`.
+#[unsafe(no_mangle)]
+pub extern "C" fn pdb_translate(
+    alloc: Global,
+    addresses: &mut Handle,
+    form: u32,
+    section: u16,
+    offset: u32,
+    translation: &mut Translation,
+    fault: &mut Fault,
+) -> u32
+    ensures answer { IfSome (addresses_held addresses.old.held.content) (λ map.
+        Translates map form (record { section = section; offset = offset }) translation.old
+        (record { fault = fault.new; value = translation.new })) }
     ensures closed { IfNone (addresses_held addresses.old.held.content)
-        (record { fault = fault.new; value = answer.new } ≡ not_held answer.old) }
+        (record { fault = fault.new; value = translation.new } ≡ not_held translation.old) }
     ensures kept { addresses.new.held.content ≡ addresses.old.held.content }
     ensures status { result ≡ fault.new.status }
 {
-    find_by_addresses(
+    with_content!(
         addresses,
         alloc,
-        |map| if_internal(Rva(address).to_internal_rva(map)),
-        answer,
+        Addresses(map) => translate(map, form, section, offset, translation),
+        Fault::status(NOT_OPEN)
     )
     .tell(fault)
 }
 
-/// Converts an address in the image as it is loaded to its place in a section of that image.
+/// Writes where the addresses of a range of the original image lie in the image as it is loaded.
 #[unsafe(no_mangle)]
-pub extern "C" fn pdb_rva_to_section_offset(
+pub extern "C" fn pdb_rva_ranges(
     alloc: Global,
     addresses: &mut Handle,
-    address: u32,
-    place: &mut Place,
-    fault: &mut Fault,
-) -> u32
-    ensures exact { IfSome (addresses_held addresses.old.held.content) (λ map.
-        record { fault = fault.new; value = place.new } ≡
-        found place.old (option_map place_of (rva_to_section_offset map address))) }
-    ensures closed { IfNone (addresses_held addresses.old.held.content)
-        (record { fault = fault.new; value = place.new } ≡ not_held place.old) }
-    ensures kept { addresses.new.held.content ≡ addresses.old.held.content }
-    ensures status { result ≡ fault.new.status }
-{
-    find_by_addresses(
-        addresses,
-        alloc,
-        |map| Place::if_loaded(Rva(address).to_section_offset(map)),
-        place,
-    )
-    .tell(fault)
-}
-
-/// Converts an address in the image as it is loaded to its place in a section of the original
-/// image.
-#[unsafe(no_mangle)]
-pub extern "C" fn pdb_rva_to_internal_offset(
-    alloc: Global,
-    addresses: &mut Handle,
-    address: u32,
-    place: &mut Place,
-    fault: &mut Fault,
-) -> u32
-    ensures exact { IfSome (addresses_held addresses.old.held.content) (λ map.
-        IfSome map.transformed_to_original IsSortedBySource
-        → record { fault = fault.new; value = place.new } ≡
-        found place.old (option_map place_of (rva_to_internal_offset map address))) }
-    ensures unsorted { IfSome (addresses_held addresses.old.held.content) (λ map.
-        IfSome map.transformed_to_original (λ table. fault.new ≡ fine →
-        ComesSomehow (Some address) (internal_rva_to_internal_offset map) table (section_place place.new))) }
-    ensures found { IfSome (addresses_held addresses.old.held.content) (λ _.
-        IsFound place.old (record { fault = fault.new; value = place.new })) }
-    ensures closed { IfNone (addresses_held addresses.old.held.content)
-        (record { fault = fault.new; value = place.new } ≡ not_held place.old) }
-    ensures kept { addresses.new.held.content ≡ addresses.old.held.content }
-    ensures status { result ≡ fault.new.status }
-{
-    find_by_addresses(
-        addresses,
-        alloc,
-        |map| Place::if_internal(Rva(address).to_internal_offset(map)),
-        place,
-    )
-    .tell(fault)
-}
-
-/// Converts an address in the original image to the address in the image as it is loaded to which
-/// it was moved.
-#[unsafe(no_mangle)]
-pub extern "C" fn pdb_internal_rva_to_rva(
-    alloc: Global,
-    addresses: &mut Handle,
-    address: u32,
-    answer: &mut u32,
+    start: u32,
+    end: u32,
+    room: &mut [Span],
+    length: &mut usize,
     fault: &mut Fault,
 ) -> u32
     ensures exact { IfSome (addresses_held addresses.old.held.content) (λ map.
         IfSome map.original_to_transformed IsSortedBySource
-        → record { fault = fault.new; value = answer.new } ≡ found answer.old (internal_rva_to_rva map address)) }
+        → CopiesOrLacks (record { fault = fault.new; length = length.new; room = room.new }) room.old
+        (spans_written room.old (translated_parts map.original_to_transformed (record { start = start; end = end })))) }
     ensures unsorted { IfSome (addresses_held addresses.old.held.content) (λ map.
-        IfSome map.original_to_transformed (λ table. fault.new ≡ fine → MovesSomehow table address answer.new)) }
-    ensures found { IfSome (addresses_held addresses.old.held.content) (λ _.
-        IsFound answer.old (record { fault = fault.new; value = answer.new })) }
+        IfSome map.original_to_transformed (λ table.
+        WritesSome table room.old (record { fault = fault.new; length = length.new; room = room.new }))) }
     ensures closed { IfNone (addresses_held addresses.old.held.content)
-        (record { fault = fault.new; value = answer.new } ≡ not_held answer.old) }
+        (record { fault = fault.new; length = length.new; room = room.new } ≡ untouched not_open room.old) }
     ensures kept { addresses.new.held.content ≡ addresses.old.held.content }
     ensures status { result ≡ fault.new.status }
 {
-    find_by_addresses(
+    with_content!(
         addresses,
         alloc,
-        |map| if_loaded(PdbInternalRva(address).to_rva(map)),
-        answer,
+        Addresses(map) => {
+            let asked = PdbInternalRva(start)..PdbInternalRva(end);
+            write_loaded(alloc, map, asked, room, length)
+        },
+        copy_nothing(Fault::status(NOT_OPEN), length)
     )
     .tell(fault)
 }
 
-/// Converts an address in the original image to its place in a section of the image as it is
-/// loaded.
+/// Writes where the addresses of a range of the image as it is loaded lie in the original image.
 #[unsafe(no_mangle)]
-pub extern "C" fn pdb_internal_rva_to_section_offset(
+pub extern "C" fn pdb_internal_rva_ranges(
     alloc: Global,
     addresses: &mut Handle,
-    address: u32,
-    place: &mut Place,
-    fault: &mut Fault,
-) -> u32
-    ensures exact { IfSome (addresses_held addresses.old.held.content) (λ map.
-        IfSome map.original_to_transformed IsSortedBySource
-        → record { fault = fault.new; value = place.new } ≡
-        found place.old (option_map place_of (internal_rva_to_section_offset map address))) }
-    ensures unsorted { IfSome (addresses_held addresses.old.held.content) (λ map.
-        IfSome map.original_to_transformed (λ table. fault.new ≡ fine →
-        ComesSomehow (Some address) (rva_to_section_offset map) table (section_place place.new))) }
-    ensures found { IfSome (addresses_held addresses.old.held.content) (λ _.
-        IsFound place.old (record { fault = fault.new; value = place.new })) }
-    ensures closed { IfNone (addresses_held addresses.old.held.content)
-        (record { fault = fault.new; value = place.new } ≡ not_held place.old) }
-    ensures kept { addresses.new.held.content ≡ addresses.old.held.content }
-    ensures status { result ≡ fault.new.status }
-{
-    find_by_addresses(
-        addresses,
-        alloc,
-        |map| Place::if_loaded(PdbInternalRva(address).to_section_offset(map)),
-        place,
-    )
-    .tell(fault)
-}
-
-/// Converts an address in the original image to its place in a section of that image.
-#[unsafe(no_mangle)]
-pub extern "C" fn pdb_internal_rva_to_internal_offset(
-    alloc: Global,
-    addresses: &mut Handle,
-    address: u32,
-    place: &mut Place,
-    fault: &mut Fault,
-) -> u32
-    ensures exact { IfSome (addresses_held addresses.old.held.content) (λ map.
-        record { fault = fault.new; value = place.new } ≡
-        found place.old (option_map place_of (internal_rva_to_internal_offset map address))) }
-    ensures closed { IfNone (addresses_held addresses.old.held.content)
-        (record { fault = fault.new; value = place.new } ≡ not_held place.old) }
-    ensures kept { addresses.new.held.content ≡ addresses.old.held.content }
-    ensures status { result ≡ fault.new.status }
-{
-    find_by_addresses(
-        addresses,
-        alloc,
-        |map| Place::if_internal(PdbInternalRva(address).to_internal_offset(map)),
-        place,
-    )
-    .tell(fault)
-}
-
-/// Converts a place in a section of the image as it is loaded to its address in that image.
-#[unsafe(no_mangle)]
-pub extern "C" fn pdb_section_offset_to_rva(
-    alloc: Global,
-    addresses: &mut Handle,
-    section: u16,
-    offset: u32,
-    answer: &mut u32,
-    fault: &mut Fault,
-) -> u32
-    ensures exact { IfSome (addresses_held addresses.old.held.content) (λ map.
-        record { fault = fault.new; value = answer.new } ≡
-        found answer.old (section_offset_to_rva map (record { section = section; offset = offset }))) }
-    ensures closed { IfNone (addresses_held addresses.old.held.content)
-        (record { fault = fault.new; value = answer.new } ≡ not_held answer.old) }
-    ensures kept { addresses.new.held.content ≡ addresses.old.held.content }
-    ensures status { result ≡ fault.new.status }
-{
-    find_by_addresses(
-        addresses,
-        alloc,
-        |map| if_loaded(SectionOffset::new(section, offset).to_rva(map)),
-        answer,
-    )
-    .tell(fault)
-}
-
-/// Converts a place in a section of the image as it is loaded to its address in the original image.
-#[unsafe(no_mangle)]
-pub extern "C" fn pdb_section_offset_to_internal_rva(
-    alloc: Global,
-    addresses: &mut Handle,
-    section: u16,
-    offset: u32,
-    answer: &mut u32,
+    start: u32,
+    end: u32,
+    room: &mut [Span],
+    length: &mut usize,
     fault: &mut Fault,
 ) -> u32
     ensures exact { IfSome (addresses_held addresses.old.held.content) (λ map.
         IfSome map.transformed_to_original IsSortedBySource
-        → record { fault = fault.new; value = answer.new } ≡
-        found answer.old (section_offset_to_internal_rva map (record { section = section; offset = offset }))) }
+        → CopiesOrLacks (record { fault = fault.new; length = length.new; room = room.new }) room.old
+        (spans_written room.old (translated_parts map.transformed_to_original (record { start = start; end = end })))) }
     ensures unsorted { IfSome (addresses_held addresses.old.held.content) (λ map.
-        IfSome map.transformed_to_original (λ table. fault.new ≡ fine →
-        ComesSomehow (section_offset_to_rva map
-        (record { section = section; offset = offset })) Some table answer.new)) }
-    ensures found { IfSome (addresses_held addresses.old.held.content) (λ _.
-        IsFound answer.old (record { fault = fault.new; value = answer.new })) }
+        IfSome map.transformed_to_original (λ table.
+        WritesSome table room.old (record { fault = fault.new; length = length.new; room = room.new }))) }
     ensures closed { IfNone (addresses_held addresses.old.held.content)
-        (record { fault = fault.new; value = answer.new } ≡ not_held answer.old) }
+        (record { fault = fault.new; length = length.new; room = room.new } ≡ untouched not_open room.old) }
     ensures kept { addresses.new.held.content ≡ addresses.old.held.content }
     ensures status { result ≡ fault.new.status }
 {
-    find_by_addresses(
+    with_content!(
         addresses,
         alloc,
-        |map| if_internal(SectionOffset::new(section, offset).to_internal_rva(map)),
-        answer,
-    )
-    .tell(fault)
-}
-
-/// Converts a place in a section of the image as it is loaded to its place in a section of the
-/// original image.
-#[unsafe(no_mangle)]
-pub extern "C" fn pdb_section_offset_to_internal_offset(
-    alloc: Global,
-    addresses: &mut Handle,
-    section: u16,
-    offset: u32,
-    place: &mut Place,
-    fault: &mut Fault,
-) -> u32
-    ensures exact { IfSome (addresses_held addresses.old.held.content) (λ map.
-        IfSome map.transformed_to_original IsSortedBySource
-        → record { fault = fault.new; value = place.new } ≡
-        found place.old (option_map place_of
-        (section_offset_to_internal_offset map (record { section = section; offset = offset })))) }
-    ensures unsorted { IfSome (addresses_held addresses.old.held.content) (λ map.
-        IfSome map.transformed_sections (λ _. IfSome map.transformed_to_original (λ table. fault.new ≡ fine →
-        ComesSomehow (section_offset_to_rva map (record { section = section; offset = offset }))
-        (internal_rva_to_internal_offset map) table (section_place place.new)))) }
-    ensures same { IfSome (addresses_held addresses.old.held.content) (λ map. map.transformed_sections ≡ None
-        → record { fault = fault.new; value = place.new } ≡
-        found place.old (Some (place_of (record { section = section; offset = offset })))) }
-    ensures found { IfSome (addresses_held addresses.old.held.content) (λ _.
-        IsFound place.old (record { fault = fault.new; value = place.new })) }
-    ensures closed { IfNone (addresses_held addresses.old.held.content)
-        (record { fault = fault.new; value = place.new } ≡ not_held place.old) }
-    ensures kept { addresses.new.held.content ≡ addresses.old.held.content }
-    ensures status { result ≡ fault.new.status }
-{
-    find_by_addresses(
-        addresses,
-        alloc,
-        |map| Place::if_internal(SectionOffset::new(section, offset).to_internal_offset(map)),
-        place,
-    )
-    .tell(fault)
-}
-
-/// Converts a place in a section of the original image to its address in that image.
-#[unsafe(no_mangle)]
-pub extern "C" fn pdb_internal_offset_to_internal_rva(
-    alloc: Global,
-    addresses: &mut Handle,
-    section: u16,
-    offset: u32,
-    answer: &mut u32,
-    fault: &mut Fault,
-) -> u32
-    ensures exact { IfSome (addresses_held addresses.old.held.content) (λ map.
-        record { fault = fault.new; value = answer.new } ≡
-        found answer.old (internal_offset_to_internal_rva map (record { section = section; offset = offset }))) }
-    ensures closed { IfNone (addresses_held addresses.old.held.content)
-        (record { fault = fault.new; value = answer.new } ≡ not_held answer.old) }
-    ensures kept { addresses.new.held.content ≡ addresses.old.held.content }
-    ensures status { result ≡ fault.new.status }
-{
-    find_by_addresses(
-        addresses,
-        alloc,
-        |map| if_internal(PdbInternalSectionOffset::new(section, offset).to_internal_rva(map)),
-        answer,
-    )
-    .tell(fault)
-}
-
-/// Converts a place in a section of the original image to its address in the image as it is loaded.
-#[unsafe(no_mangle)]
-pub extern "C" fn pdb_internal_offset_to_rva(
-    alloc: Global,
-    addresses: &mut Handle,
-    section: u16,
-    offset: u32,
-    answer: &mut u32,
-    fault: &mut Fault,
-) -> u32
-    ensures exact { IfSome (addresses_held addresses.old.held.content) (λ map.
-        IfSome map.original_to_transformed IsSortedBySource
-        → record { fault = fault.new; value = answer.new } ≡
-        found answer.old (internal_offset_to_rva map (record { section = section; offset = offset }))) }
-    ensures unsorted { IfSome (addresses_held addresses.old.held.content) (λ map.
-        IfSome map.original_to_transformed (λ table. fault.new ≡ fine →
-        ComesSomehow (internal_offset_to_internal_rva map
-        (record { section = section; offset = offset })) Some table answer.new)) }
-    ensures found { IfSome (addresses_held addresses.old.held.content) (λ _.
-        IsFound answer.old (record { fault = fault.new; value = answer.new })) }
-    ensures closed { IfNone (addresses_held addresses.old.held.content)
-        (record { fault = fault.new; value = answer.new } ≡ not_held answer.old) }
-    ensures kept { addresses.new.held.content ≡ addresses.old.held.content }
-    ensures status { result ≡ fault.new.status }
-{
-    find_by_addresses(
-        addresses,
-        alloc,
-        |map| if_loaded(PdbInternalSectionOffset::new(section, offset).to_rva(map)),
-        answer,
-    )
-    .tell(fault)
-}
-
-/// Converts a place in a section of the original image to its place in a section of the image as it
-/// is loaded.
-#[unsafe(no_mangle)]
-pub extern "C" fn pdb_internal_offset_to_section_offset(
-    alloc: Global,
-    addresses: &mut Handle,
-    section: u16,
-    offset: u32,
-    place: &mut Place,
-    fault: &mut Fault,
-) -> u32
-    ensures exact { IfSome (addresses_held addresses.old.held.content) (λ map.
-        IfSome map.original_to_transformed IsSortedBySource
-        → record { fault = fault.new; value = place.new } ≡
-        found place.old (option_map place_of
-        (internal_offset_to_section_offset map (record { section = section; offset = offset })))) }
-    ensures unsorted { IfSome (addresses_held addresses.old.held.content) (λ map.
-        IfSome map.transformed_sections (λ _. IfSome map.original_to_transformed (λ table. fault.new ≡ fine →
-        ComesSomehow (internal_offset_to_internal_rva map (record { section = section; offset = offset }))
-        (rva_to_section_offset map) table (section_place place.new)))) }
-    ensures same { IfSome (addresses_held addresses.old.held.content) (λ map. map.transformed_sections ≡ None
-        → record { fault = fault.new; value = place.new } ≡
-        found place.old (Some (place_of (record { section = section; offset = offset })))) }
-    ensures found { IfSome (addresses_held addresses.old.held.content) (λ _.
-        IsFound place.old (record { fault = fault.new; value = place.new })) }
-    ensures closed { IfNone (addresses_held addresses.old.held.content)
-        (record { fault = fault.new; value = place.new } ≡ not_held place.old) }
-    ensures kept { addresses.new.held.content ≡ addresses.old.held.content }
-    ensures status { result ≡ fault.new.status }
-{
-    find_by_addresses(
-        addresses,
-        alloc,
-        |map| Place::if_loaded(PdbInternalSectionOffset::new(section, offset).to_section_offset(
-            map,
-        )),
-        place,
+        Addresses(map) => write_internal(alloc, map, Rva(start)..Rva(end), room, length),
+        copy_nothing(Fault::status(NOT_OPEN), length)
     )
     .tell(fault)
 }

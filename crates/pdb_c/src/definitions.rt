@@ -1,4 +1,4 @@
-//! Definitions of types behind a handle.
+//! Definitions of types, their sizes, texts and layouts.
 
 ghost use Rattle.std.specs.Prelude.{◌≡◌};
 ghost use Rattle.pdb_types.specs.Definition.{definition_of};
@@ -7,13 +7,16 @@ ghost use Rattle.pdb_handles.specs.declared.content.Content.TheVariants.{Definit
 ghost use Rattle.pdb_handles.specs.Copied.{CopiesOrLacks, copied_of};
 ghost use Rattle.pdb_reports.specs.Definitions.{FindsOrLacks, WritesTextOf, definitions_held, definitions_named};
 ghost use Rattle.pdb_reports.specs.Definitions.{definitions_opened, found_in};
+ghost use Rattle.pdb_reports.specs.LayoutRow.{LaysOutOf};
 ghost use Rattle.pdb_handles.specs.Handle.{OpensStream, held_as};
 
 use pdb_handles::copied::{copy_list, copy_nothing};
-use pdb_handles::{ALREADY_OPEN, Content, Fault, Handle, NOT_OPEN, TOO_LONG};
+use pdb_handles::fields::write_nothing;
+use pdb_handles::{Fault, Handle, NOT_OPEN};
 use pdb_reports::definitions::{
     copy_declaration, definition_number, definitions_in, definitions_named, size_in, tell_if_found,
 };
+use pdb_reports::layout_row::{LayoutRow, write_layout_of};
 use std::alloc::Global;
 
 /// Opens the table of types in a stream, which is copied, and finds the definitions of its classes,
@@ -29,14 +32,7 @@ pub extern "C" fn pdb_definitions_open(
         (held_as Definitions (definitions_opened stream.now)) fault.new definitions.new.held.content }
     ensures status { result ≡ fault.new.status }
 {
-    if definitions.is_open() {
-        return Fault::status(ALREADY_OPEN).tell(fault);
-    }
-    if stream.len() >= 0xffff_ffff {
-        return Fault::status(TOO_LONG).tell(fault);
-    }
-    let opened = definitions_in(alloc, stream);
-    definitions.open(alloc, opened).tell(fault)
+    open_stream!(definitions, alloc, stream, definitions_in(alloc, stream)).tell(fault)
 }
 
 /// Copies the indexes of all definitions of a name, in increasing order.
@@ -54,18 +50,16 @@ pub extern "C" fn pdb_definitions_named(
     ensures kept { definitions.new.held.content ≡ definitions.old.held.content }
     ensures status { result ≡ fault.new.status }
 {
-    let Some(content) = definitions.take(alloc) else {
-        return copy_nothing(Fault::status(NOT_OPEN), length).tell(fault);
-    };
-    let told = match &*content {
-        Content::Definitions(open) => {
+    with_content!(
+        definitions,
+        alloc,
+        Definitions(open) => {
             let found = definitions_named(alloc, open, name);
             copy_list(found, room, length)
-        }
-        _ => copy_nothing(Fault::status(NOT_OPEN), length),
-    };
-    definitions.put(content);
-    told.tell(fault)
+        },
+        copy_nothing(Fault::status(NOT_OPEN), length)
+    )
+    .tell(fault)
 }
 
 /// Writes the index of the definition of a type.
@@ -83,18 +77,16 @@ pub extern "C" fn pdb_definition_of(
     ensures kept { definitions.new.held.content ≡ definitions.old.held.content }
     ensures status { result ≡ fault.new.status }
 {
-    let Some(content) = definitions.take(alloc) else {
-        return Fault::status(NOT_OPEN).tell(fault);
-    };
-    let told = match &*content {
-        Content::Definitions(open) => {
+    with_content!(
+        definitions,
+        alloc,
+        Definitions(open) => {
             let found = definition_number(alloc, open, index);
             tell_if_found(found, definition)
-        }
-        _ => Fault::status(NOT_OPEN),
-    };
-    definitions.put(content);
-    told.tell(fault)
+        },
+        Fault::status(NOT_OPEN)
+    )
+    .tell(fault)
 }
 
 /// Writes the size of a type in bytes.
@@ -111,18 +103,16 @@ pub extern "C" fn pdb_type_size(
     ensures kept { definitions.new.held.content ≡ definitions.old.held.content }
     ensures status { result ≡ fault.new.status }
 {
-    let Some(content) = definitions.take(alloc) else {
-        return Fault::status(NOT_OPEN).tell(fault);
-    };
-    let told = match &*content {
-        Content::Definitions(open) => {
+    with_content!(
+        definitions,
+        alloc,
+        Definitions(open) => {
             let found = size_in(alloc, open, index);
             tell_if_found(found, size)
-        }
-        _ => Fault::status(NOT_OPEN),
-    };
-    definitions.put(content);
-    told.tell(fault)
+        },
+        Fault::status(NOT_OPEN)
+    )
+    .tell(fault)
 }
 
 /// Copies the declaration of a name that has a type, as C++ spells it, or the text of the type
@@ -142,13 +132,40 @@ pub extern "C" fn pdb_type_text(
     ensures kept { definitions.new.held.content ≡ definitions.old.held.content }
     ensures status { result ≡ fault.new.status }
 {
-    let Some(content) = definitions.take(alloc) else {
-        return copy_nothing(Fault::status(NOT_OPEN), length).tell(fault);
-    };
-    let told = match &*content {
-        Content::Definitions(open) => copy_declaration(alloc, open, index, name, room, length),
-        _ => copy_nothing(Fault::status(NOT_OPEN), length),
-    };
-    definitions.put(content);
-    told.tell(fault)
+    with_content!(
+        definitions,
+        alloc,
+        Definitions(open) => copy_declaration(alloc, open, index, name, room, length),
+        copy_nothing(Fault::status(NOT_OPEN), length)
+    )
+    .tell(fault)
+}
+
+/// Writes the fields and gaps of the layout of a class or a union, each as a `LayoutRow`, and the
+/// bytes of the names of its members, one name after another.
+#[unsafe(no_mangle)]
+pub extern "C" fn pdb_layout(
+    alloc: Global,
+    definitions: &mut Handle,
+    index: u32,
+    rows: &mut [LayoutRow],
+    count: &mut usize,
+    names: &mut [u8],
+    size: &mut usize,
+    fault: &mut Fault,
+) -> u32
+    ensures answer { LaysOutOf rows.old names.old index (definitions_held definitions.old.held.content)
+        (record { fault = fault.new; rows = rows.new; count = count.new; names = names.new; size = size.new }) }
+    ensures kept { definitions.new.held.content ≡ definitions.old.held.content }
+    ensures status { result ≡ fault.new.status }
+{
+    with_content!(
+        definitions,
+        alloc,
+        Definitions(open) => {
+            write_layout_of(alloc, open, index, rows, count, names, size)
+        },
+        write_nothing(Fault::status(NOT_OPEN), count, size)
+    )
+    .tell(fault)
 }

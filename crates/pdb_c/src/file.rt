@@ -1,83 +1,203 @@
-//! The parts of a caller's file that are found by the roles and names of its streams.
+//! Files: their streams, and what is found by the roles and names of these.
 
-ghost use Rattle.std.specs.Prelude.{◌≡◌};
-ghost use Rattle.pdb_handles.specs.Copied.{CopiesOrLacks, copied};
-ghost use Rattle.pdb_handles.specs.File.{addresses_said, frames_said, named_stream_said, names_said};
-ghost use Rattle.pdb_handles.specs.Handle.{Opens};
+ghost use Rattle.std.specs.Prelude.{◌≡◌, Some};
+ghost use Rattle.pdb_msf.specs.Directory.{stream_count_in};
+ghost use Rattle.pdb_msf.specs.Layout.{size_by, stream_by};
+ghost use Rattle.pdb_handles.specs.Copied.{CopiesOrLacks, copied, copied_of};
+ghost use Rattle.pdb_handles.specs.File.{layout_said, named_stream_said};
+ghost use Rattle.pdb_handles.specs.Found.{answered_of, found_of};
+ghost use Rattle.pdb_handles.specs.Handle.{Opens, file_held};
+ghost use Rattle.pdb_handles.specs.Information.{information_of, information_said, named_told, names_said};
+ghost use Rattle.pdb_handles.specs.Records.{FieldsOrLacks};
+ghost use Rattle.pdb_handles.specs.Roles.{IsAnswered, roles_of, roles_said};
 
-use pdb_handles::copied::copy_stream;
-use pdb_handles::file::{addresses_in, frames_in, named_stream_in, names_in};
-use pdb_handles::{ALREADY_OPEN, Fault, Handle};
+use pdb_handles::copied::{copy_nothing, copy_stream};
+use pdb_handles::file::named_stream_in;
+use pdb_handles::found::{tell_answered, tell_found};
+use pdb_handles::information::{
+    Information, NamedStream, information_in, write_information, write_stream_names,
+};
+use pdb_handles::roles::{Roles, roles_in, write_roles};
+use pdb_handles::streams::layout_in;
+use pdb_handles::{Fault, Handle, NONE, NOT_OPEN};
 use std::alloc::Global;
+
+/// Opens a file: reads its header and its directory, and keeps them. The bytes are not kept.
+#[unsafe(no_mangle)]
+pub extern "C" fn pdb_bytes_open(
+    alloc: Global,
+    bytes: &[u8],
+    file: &mut Handle,
+    fault: &mut Fault,
+) -> u32
+    ensures opens { Opens file.old.held.content (layout_said bytes.now) fault.new file.new.held.content }
+    ensures status { result ≡ fault.new.status }
+{
+    open!(file, alloc, layout_in(alloc, bytes)).tell(fault)
+}
+
+/// Writes the size of the file's pages in bytes.
+#[unsafe(no_mangle)]
+pub extern "C" fn pdb_file_page_size(
+    alloc: Global,
+    file: &mut Handle,
+    page_size: &mut u32,
+    fault: &mut Fault,
+) -> u32
+    ensures answer { record { fault = fault.new; value = page_size.new }
+        ≡ found_of page_size.old (λ layout. layout.head.geometry.page_size) (file_held file.old.held.content) }
+    ensures kept { file.new.held.content ≡ file.old.held.content }
+    ensures status { result ≡ fault.new.status }
+{
+    with_content!(
+        file,
+        alloc,
+        File(layout) => tell_found(Some(layout.page_size()), Fault::status(NONE), page_size),
+        Fault::status(NOT_OPEN)
+    )
+    .tell(fault)
+}
+
+/// Writes the number of streams in the directory of the file, including absent ones.
+#[unsafe(no_mangle)]
+pub extern "C" fn pdb_file_stream_count(
+    alloc: Global,
+    file: &mut Handle,
+    count: &mut u32,
+    fault: &mut Fault,
+) -> u32
+    ensures answer { record { fault = fault.new; value = count.new }
+        ≡ answered_of count.old (λ layout. stream_count_in layout.directory) (file_held file.old.held.content) }
+    ensures kept { file.new.held.content ≡ file.old.held.content }
+    ensures status { result ≡ fault.new.status }
+{
+    with_content!(
+        file,
+        alloc,
+        File(layout) => tell_answered(layout.stream_count(), count),
+        Fault::status(NOT_OPEN)
+    )
+    .tell(fault)
+}
+
+/// Writes the size of a stream of the file in bytes.
+#[unsafe(no_mangle)]
+pub extern "C" fn pdb_file_stream_size(
+    alloc: Global,
+    file: &mut Handle,
+    number: u32,
+    size: &mut u32,
+    fault: &mut Fault,
+) -> u32
+    ensures answer { record { fault = fault.new; value = size.new }
+        ≡ answered_of size.old (λ layout. size_by layout number) (file_held file.old.held.content) }
+    ensures kept { file.new.held.content ≡ file.old.held.content }
+    ensures status { result ≡ fault.new.status }
+{
+    with_content!(
+        file,
+        alloc,
+        File(layout) => tell_answered(layout.stream_size(number), size),
+        Fault::status(NOT_OPEN)
+    )
+    .tell(fault)
+}
+
+/// Copies the bytes of a stream of the file into the caller's array, at most `limit` of them.
+/// `bytes` are those that the file was opened with; given others, it copies what lies in the same
+/// places.
+#[unsafe(no_mangle)]
+pub extern "C" fn pdb_bytes_stream(
+    alloc: Global,
+    file: &mut Handle,
+    bytes: &[u8],
+    number: u32,
+    limit: usize,
+    room: &mut [u8],
+    length: &mut usize,
+    fault: &mut Fault,
+) -> u32
+    ensures answer { CopiesOrLacks (record { fault = fault.new; length = length.new; room = room.new }) room.old
+        (copied_of room.old (λ layout. stream_by layout bytes.now number (Some limit))
+        (file_held file.old.held.content)) }
+    ensures kept { file.new.held.content ≡ file.old.held.content }
+    ensures status { result ≡ fault.new.status }
+{
+    with_content!(
+        file,
+        alloc,
+        File(layout) => {
+            let stream = layout.stream(alloc, bytes, number, Some(limit));
+            copy_stream(stream, room, length)
+        },
+        copy_nothing(Fault::status(NOT_OPEN), length)
+    )
+    .tell(fault)
+}
 
 /// Copies the bytes of the first stream with this name into the caller's array.
 #[unsafe(no_mangle)]
-pub extern "C" fn pdb_file_named_stream(
+pub extern "C" fn pdb_bytes_named_stream(
     alloc: Global,
-    file: &[u8],
+    bytes: &[u8],
     name: &[u8],
     room: &mut [u8],
     length: &mut usize,
     fault: &mut Fault,
 ) -> u32
     ensures answer { CopiesOrLacks (record { fault = fault.new; length = length.new; room = room.new }) room.old
-        (copied room.old (named_stream_said name.now file.now)) }
+        (copied room.old (named_stream_said name.now bytes.now)) }
     ensures status { result ≡ fault.new.status }
 {
-    let stream = named_stream_in(alloc, file, name);
-    copy_stream(stream, room, length).tell(fault)
+    copy_stream(named_stream_in(alloc, bytes, name), room, length).tell(fault)
 }
 
-/// Opens the string table of a file, which is its stream `/names`.
+/// Writes the numbers in stream 1 of a file.
 #[unsafe(no_mangle)]
-pub extern "C" fn pdb_file_names(
+pub extern "C" fn pdb_bytes_information(
     alloc: Global,
-    file: &[u8],
-    names: &mut Handle,
+    bytes: &[u8],
+    information: &mut Information,
     fault: &mut Fault,
 ) -> u32
-    ensures opens { Opens names.old.held.content (names_said file.now) fault.new names.new.held.content }
+    ensures answer { IsAnswered information_of (information_said bytes.now) information.old fault.new information.new }
     ensures status { result ≡ fault.new.status }
 {
-    if names.is_open() {
-        return Fault::status(ALREADY_OPEN).tell(fault);
-    }
-    let opened = names_in(alloc, file);
-    names.open(alloc, opened).tell(fault)
+    write_information(information_in(alloc, bytes), information).tell(fault)
 }
 
-/// Opens the address map of a file.
+/// Writes the streams that a file names, in the order in which it lists them, and the bytes of
+/// their names, one name after another.
 #[unsafe(no_mangle)]
-pub extern "C" fn pdb_file_addresses(
+pub extern "C" fn pdb_bytes_stream_names(
     alloc: Global,
-    file: &[u8],
-    addresses: &mut Handle,
+    bytes: &[u8],
+    rows: &mut [NamedStream],
+    count: &mut usize,
+    names: &mut [u8],
+    size: &mut usize,
     fault: &mut Fault,
 ) -> u32
-    ensures opens { Opens addresses.old.held.content (addresses_said file.now) fault.new addresses.new.held.content }
+    ensures answer { FieldsOrLacks
+        (record { fault = fault.new; rows = rows.new; count = count.new; names = names.new; size = size.new })
+        rows.old names.old (named_told rows.old names.old (names_said bytes.now)) }
     ensures status { result ≡ fault.new.status }
 {
-    if addresses.is_open() {
-        return Fault::status(ALREADY_OPEN).tell(fault);
-    }
-    let opened = addresses_in(alloc, file);
-    addresses.open(alloc, opened).tell(fault)
+    let read = information_in(alloc, bytes);
+    write_stream_names(alloc, read, rows, count, names, size).tell(fault)
 }
 
-/// Opens the frame table of a file.
+/// Writes the numbers of a file's streams in their roles. If they can't be read, `roles` is left
+/// unchanged.
 #[unsafe(no_mangle)]
-pub extern "C" fn pdb_file_frames(
+pub extern "C" fn pdb_bytes_roles(
     alloc: Global,
-    file: &[u8],
-    frames: &mut Handle,
+    bytes: &[u8],
+    roles: &mut Roles,
     fault: &mut Fault,
 ) -> u32
-    ensures opens { Opens frames.old.held.content (frames_said file.now) fault.new frames.new.held.content }
+    ensures answer { IsAnswered roles_of (roles_said bytes.now) roles.old fault.new roles.new }
     ensures status { result ≡ fault.new.status }
 {
-    if frames.is_open() {
-        return Fault::status(ALREADY_OPEN).tell(fault);
-    }
-    let opened = frames_in(alloc, file);
-    frames.open(alloc, opened).tell(fault)
+    write_roles(roles_in(alloc, bytes), roles).tell(fault)
 }

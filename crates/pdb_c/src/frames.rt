@@ -1,17 +1,36 @@
 //! Frames of a program.
 
-ghost use Rattle.std.specs.Prelude.{◌≡◌, IfSome, IfNone, slice_get, List};
+ghost use Rattle.std.specs.Prelude.{◌≡◌, IfSome, IfNone, slice_get, List, map, Ok};
 ghost use Rattle.std.specs.Option.{option_map};
+ghost use Rattle.pdb_frames.specs.Merge.{by_heads, merge};
 ghost use Rattle.pdb_frames.specs.Table.{BeginsSomewhere, StartsIncrease, merge_from};
 ghost use Rattle.pdb_frames.specs.declared.frame_data.FrameData.{FrameData as Described};
+ghost use Rattle.pdb_handles.specs.Copied.{CopiesOrLacks, copied_of, written};
+ghost use Rattle.pdb_handles.specs.Fault.{no_value};
+ghost use Rattle.pdb_handles.specs.File.{frames_said};
 ghost use Rattle.pdb_handles.specs.Found.{found, not_held};
 ghost use Rattle.pdb_handles.specs.Frame.{frame_of};
-ghost use Rattle.pdb_handles.specs.Handle.{frames_held};
+ghost use Rattle.pdb_handles.specs.Handle.{Opens, frames_held};
 
-use pdb_handles::found::tell_found;
-use pdb_handles::frames::first_from;
-use pdb_handles::{Content, Fault, Frame, Handle, NOT_OPEN};
+use pdb_handles::copied::{copy_list, copy_nothing};
+use pdb_handles::file::frames_in;
+use pdb_handles::frames::{all_frames, tell_first};
+use pdb_handles::{Fault, Frame, Handle, NOT_OPEN};
 use std::alloc::Global;
+
+/// Opens the frame table of a file.
+#[unsafe(no_mangle)]
+pub extern "C" fn pdb_bytes_frames(
+    alloc: Global,
+    bytes: &[u8],
+    frames: &mut Handle,
+    fault: &mut Fault,
+) -> u32
+    ensures opens { Opens frames.old.held.content (frames_said bytes.now) fault.new frames.new.held.content }
+    ensures status { result ≡ fault.new.status }
+{
+    open!(frames, alloc, frames_in(alloc, bytes)).tell(fault)
+}
 
 /// Writes the frame at an address of the original image: the first that `FrameTable::iter_at_rva`
 /// yields.
@@ -25,23 +44,48 @@ pub extern "C" fn pdb_frames_at(
 ) -> u32
     ensures exact { IfSome (frames_held frames.old.held.content) (λ table. StartsIncrease table
         → record { fault = fault.new; value = frame.new } ≡
-        found frame.old (option_map frame_of (slice_get (merge_from address table) 0))) }
+        found no_value frame.old (option_map frame_of (slice_get (merge_from address table) 0))) }
     ensures somewhere { IfSome (frames_held frames.old.held.content) (λ table.
         (some : List Described) × BeginsSomewhere table some
         × (record { fault = fault.new; value = frame.new } ≡
-        found frame.old (option_map frame_of (slice_get some 0)))) }
+        found no_value frame.old (option_map frame_of (slice_get some 0)))) }
     ensures closed { IfNone (frames_held frames.old.held.content)
         (record { fault = fault.new; value = frame.new } ≡ not_held frame.old) }
     ensures kept { frames.new.held.content ≡ frames.old.held.content }
     ensures status { result ≡ fault.new.status }
 {
-    let Some(content) = frames.take(alloc) else {
-        return Fault::status(NOT_OPEN).tell(fault);
-    };
-    let told = match &*content {
-        Content::Frames(table) => tell_found(first_from(table, address), frame),
-        _ => Fault::status(NOT_OPEN),
-    };
-    frames.put(content);
-    told.tell(fault)
+    with_content!(
+        frames,
+        alloc,
+        Frames(table) => tell_first(table, address, frame),
+        Fault::status(NOT_OPEN)
+    )
+    .tell(fault)
+}
+
+/// Copies all frames of a table, in the order of `FrameTable::iter`, into the caller's array.
+#[unsafe(no_mangle)]
+pub extern "C" fn pdb_frames_list(
+    alloc: Global,
+    frames: &mut Handle,
+    room: &mut [Frame],
+    length: &mut usize,
+    fault: &mut Fault,
+) -> u32
+    ensures merged { IfSome (frames_held frames.old.held.content) (λ table. StartsIncrease table
+        → CopiesOrLacks (record { fault = fault.new; length = length.new; room = room.new }) room.old
+        (written room.old (map frame_of (merge table.old table.new)))) }
+    ensures heads { CopiesOrLacks (record { fault = fault.new; length = length.new; room = room.new }) room.old
+        (copied_of room.old (λ table. Ok (map frame_of (by_heads table.old table.new)))
+        (frames_held frames.old.held.content)) }
+    ensures kept { frames.new.held.content ≡ frames.old.held.content }
+    ensures status { result ≡ fault.new.status }
+{
+    with_content!(
+        frames,
+        alloc,
+        Frames(table) => copy_list(all_frames(alloc, table), room, length),
+        copy_nothing(Fault::status(NOT_OPEN), length)
+    )
+    .tell(fault)
 }

@@ -14,7 +14,7 @@ use std::alloc::Global;
 
 /// Writes the numbers in the record of an id.
 #[unsafe(no_mangle)]
-pub extern "C" fn pdb_id_row(alloc: Global, bytes: &[u8], row: &mut Row, fault: &mut Fault) -> u32
+pub extern "C" fn pdb_id_parse(alloc: Global, bytes: &[u8], row: &mut Row, fault: &mut Fault) -> u32
     ensures answer { IsAnswered (λ value. id_row value) (id_of bytes.now) row.old fault.new row.new }
     ensures status { result ≡ fault.new.status }
 {

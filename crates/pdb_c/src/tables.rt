@@ -8,18 +8,21 @@ ghost use Rattle.pdb_handles.specs.Handle.{OpensStream, held_as, table_held};
 ghost use Rattle.pdb_handles.specs.Records.{FieldsOrLacks};
 ghost use Rattle.pdb_handles.specs.Tables.{located_in, table_opened};
 ghost use Rattle.pdb_handles.specs.TableCalls.{fields_asked, rewound, step_told};
+ghost use Rattle.pdb_handles.specs.Walked.{WritesNextOf};
 
+use pdb_handles::copied::copy_nothing;
 use pdb_handles::fields::{FieldRow, write_found, write_nothing};
 use pdb_handles::found::tell_found;
 use pdb_handles::open_table::{counted, find_record, listed_fields, next_record};
 use pdb_handles::tables::table_in;
-use pdb_handles::{ALREADY_OPEN, Content, FINE, Fault, Handle, Located, NOT_OPEN, TOO_LONG};
+use pdb_handles::walked::{TypeRow, write_next};
+use pdb_handles::{FINE, Fault, Handle, Located, NONE, NOT_OPEN};
 use std::alloc::Global;
 
 /// Opens the table of types or of ids in a stream, which is copied. Its walk begins at the first
 /// item.
 #[unsafe(no_mangle)]
-pub extern "C" fn pdb_table_open(
+pub extern "C" fn pdb_types_open(
     alloc: Global,
     stream: &[u8],
     table: &mut Handle,
@@ -29,19 +32,12 @@ pub extern "C" fn pdb_table_open(
         (held_as Table (table_opened stream.now)) fault.new table.new.held.content }
     ensures status { result ≡ fault.new.status }
 {
-    if table.is_open() {
-        return Fault::status(ALREADY_OPEN).tell(fault);
-    }
-    if stream.len() >= 0xffff_ffff {
-        return Fault::status(TOO_LONG).tell(fault);
-    }
-    let opened = table_in(alloc, stream);
-    table.open(alloc, opened).tell(fault)
+    open_stream!(table, alloc, stream, table_in(alloc, stream)).tell(fault)
 }
 
 /// Writes the index of a table's first item.
 #[unsafe(no_mangle)]
-pub extern "C" fn pdb_table_first_index(
+pub extern "C" fn pdb_types_first_index(
     alloc: Global,
     table: &mut Handle,
     index: &mut u32,
@@ -52,21 +48,23 @@ pub extern "C" fn pdb_table_first_index(
     ensures kept { table.new.held.content ≡ table.old.held.content }
     ensures status { result ≡ fault.new.status }
 {
-    let Some(content) = table.take(alloc) else {
-        return Fault::status(NOT_OPEN).tell(fault);
-    };
-    let told = match &*content {
-        Content::Table(open) => tell_found(Some(open.items().header().minimum_index), index),
-        _ => Fault::status(NOT_OPEN),
-    };
-    table.put(content);
-    told.tell(fault)
+    with_content!(
+        table,
+        alloc,
+        Table(open) => tell_found(
+            Some(open.items().header().minimum_index),
+            Fault::status(NONE),
+            index,
+        ),
+        Fault::status(NOT_OPEN)
+    )
+    .tell(fault)
 }
 
 /// Writes the number of indexes that the header of a table counts. The walk may give fewer items,
 /// or more.
 #[unsafe(no_mangle)]
-pub extern "C" fn pdb_table_count(
+pub extern "C" fn pdb_types_count(
     alloc: Global,
     table: &mut Handle,
     count: &mut u32,
@@ -77,21 +75,19 @@ pub extern "C" fn pdb_table_count(
     ensures kept { table.new.held.content ≡ table.old.held.content }
     ensures status { result ≡ fault.new.status }
 {
-    let Some(content) = table.take(alloc) else {
-        return Fault::status(NOT_OPEN).tell(fault);
-    };
-    let told = match &*content {
-        Content::Table(open) => tell_found(Some(counted(open)), count),
-        _ => Fault::status(NOT_OPEN),
-    };
-    table.put(content);
-    told.tell(fault)
+    with_content!(
+        table,
+        alloc,
+        Table(open) => tell_found(Some(counted(open)), Fault::status(NONE), count),
+        Fault::status(NOT_OPEN)
+    )
+    .tell(fault)
 }
 
 /// Writes where the record of an index is in the stream of a table. The first calls walk along the
 /// table as far as they must, and each later one reads at most eight lengths.
 #[unsafe(no_mangle)]
-pub extern "C" fn pdb_table_find(
+pub extern "C" fn pdb_types_find(
     alloc: Global,
     table: &mut Handle,
     index: u32,
@@ -103,21 +99,19 @@ pub extern "C" fn pdb_table_find(
     ensures kept { table.new.held.content ≡ table.old.held.content }
     ensures status { result ≡ fault.new.status }
 {
-    let Some(mut content) = table.take(alloc) else {
-        return Fault::status(NOT_OPEN).tell(fault);
-    };
-    let told = match &mut *content {
-        Content::Table(open) => find_record(open, index, place),
-        _ => Fault::status(NOT_OPEN),
-    };
-    table.put(content);
-    told.tell(fault)
+    with_content!(
+        table,
+        alloc,
+        Table(open) => find_record(open, index, place),
+        Fault::status(NOT_OPEN)
+    )
+    .tell(fault)
 }
 
 /// Writes the index of the next record of the walk along a table, and where it is in the stream. If
 /// the walk ends or fails, the index is the one at which it stopped, and there is no record.
 #[unsafe(no_mangle)]
-pub extern "C" fn pdb_table_next(
+pub extern "C" fn pdb_types_next(
     alloc: Global,
     table: &mut Handle,
     place: &mut Located,
@@ -127,41 +121,37 @@ pub extern "C" fn pdb_table_next(
         step_told place.old table.old.held.content }
     ensures status { result ≡ fault.new.status }
 {
-    let Some(mut content) = table.take(alloc) else {
-        return Fault::status(NOT_OPEN).tell(fault);
-    };
-    let told = match &mut *content {
-        Content::Table(open) => next_record(open, place),
-        _ => Fault::status(NOT_OPEN),
-    };
-    table.put(content);
-    told.tell(fault)
+    with_content!(
+        table,
+        alloc,
+        Table(open) => next_record(open, place),
+        Fault::status(NOT_OPEN)
+    )
+    .tell(fault)
 }
 
 /// Restarts the walk along a table before its first item.
 #[unsafe(no_mangle)]
-pub extern "C" fn pdb_table_rewind(alloc: Global, table: &mut Handle, fault: &mut Fault) -> u32
+pub extern "C" fn pdb_types_rewind(alloc: Global, table: &mut Handle, fault: &mut Fault) -> u32
     ensures answer { record { fault = fault.new; held = table.new.held.content } ≡ rewound table.old.held.content }
     ensures status { result ≡ fault.new.status }
 {
-    let Some(mut content) = table.take(alloc) else {
-        return Fault::status(NOT_OPEN).tell(fault);
-    };
-    let told = match &mut *content {
-        Content::Table(open) => {
+    with_content!(
+        table,
+        alloc,
+        Table(open) => {
             open.rewind();
             Fault::status(FINE)
-        }
-        _ => Fault::status(NOT_OPEN),
-    };
-    table.put(content);
-    told.tell(fault)
+        },
+        Fault::status(NOT_OPEN)
+    )
+    .tell(fault)
 }
 
 /// Writes the fields of a list and of the lists in which it continues, in order, and the bytes of
 /// their names, one name after another.
 #[unsafe(no_mangle)]
-pub extern "C" fn pdb_fields(
+pub extern "C" fn pdb_types_fields(
     alloc: Global,
     table: &mut Handle,
     index: u32,
@@ -177,19 +167,42 @@ pub extern "C" fn pdb_fields(
     ensures kept { table.new.held.content ≡ table.old.held.content }
     ensures status { result ≡ fault.new.status }
 {
-    let Some(mut content) = table.take(alloc) else {
-        return write_nothing(Fault::status(NOT_OPEN), count, size).tell(fault);
-    };
-    let told = match &mut *content {
-        Content::Table(open) => write_found(
+    with_content!(
+        table,
+        alloc,
+        Table(open) => write_found(
             listed_fields(open, alloc, index),
             rows,
             count,
             names,
             size,
         ),
-        _ => write_nothing(Fault::status(NOT_OPEN), count, size),
-    };
-    table.put(content);
-    told.tell(fault)
+        write_nothing(Fault::status(NOT_OPEN), count, size)
+    )
+    .tell(fault)
+}
+
+/// Writes the next records of the walk along a table of types, each with its place and its `Row`,
+/// to the start of the caller's array: as many as it has room for, or as are left before the walk
+/// ends or fails. `count` is set to their number. A record that can't be parsed has a fault of its
+/// own, and the walk goes on behind it.
+#[unsafe(no_mangle)]
+pub extern "C" fn pdb_types_read(
+    alloc: Global,
+    table: &mut Handle,
+    rows: &mut [TypeRow],
+    count: &mut usize,
+    fault: &mut Fault,
+) -> u32
+    ensures answer { WritesNextOf rows.old table.old.held.content
+        (record { fault = fault.new; length = count.new; room = rows.new }) table.new.held.content }
+    ensures status { result ≡ fault.new.status }
+{
+    with_content!(
+        table,
+        alloc,
+        Table(kept) => write_next(alloc, kept, rows, count),
+        copy_nothing(Fault::status(NOT_OPEN), count)
+    )
+    .tell(fault)
 }

@@ -14,7 +14,7 @@ use Rattle.pdb_tpi.proofs.StepLemmas.{step_gives, step_stops}
 use Rattle.pdb_tpi.proofs.WalkLemmas.{nth_some}
 use Rattle.pdb_handles.specs.declared.fault.Fault.{Fault}
 use Rattle.pdb_handles.specs.declared.walked.TypeRow.{TypeRow}
-use Rattle.pdb_handles.specs.Fault.{nowhere}
+use Rattle.pdb_handles.specs.Fault.{no_more}
 use Rattle.pdb_handles.specs.Tables.{index_told}
 use Rattle.pdb_handles.specs.Walked.{AreNext, EndsWith, IsTypeRow, WritesNext}
 
@@ -111,7 +111,7 @@ written_to old now first stand count fault fits same done ends =
 
 -- what is written where no record is left
 pub written_all : (old now : List TypeRow) (first stand next : WalkPosition) (count : ℕ) (fault : Fault) → count < length old → length now ≡ length old → IsWrittenTo old now first count stand
-    → step_located stand ≡ Ok (None, next) → fault ≡ nowhere → WritesNext old first (record { fault = fault; length = count; room = now }) next
+    → step_located stand ≡ Ok (None, next) → fault ≡ no_more → WritesNext old first (record { fault = fault; length = count; room = now }) next
 written_all old now first stand next count fault more same done step is =
     let there : next ≡ stand = (located_stays stand next None step).1 refl in
     subst (λ (s : WalkPosition). WritesNext old first (record { fault = fault; length = count; room = now }) s) (sym there)

@@ -1,5 +1,5 @@
 -- How an answer is written into a caller's array.
-use Rattle.std.specs.Prelude.{◌≡◌, ◌⊎◌, ℕ, List, [], ◌∷◌, ◌++◌, length, drop, nat_lt, if◌then◌else◌, Option, Some, None, Ok, Err}
+use Rattle.std.specs.Prelude.{◌≡◌, ◌⊎◌, ℕ, List, ◌++◌, length, drop, nat_lt, if◌then◌else◌, Option, Some, None, Ok, Err}
 use Rattle.pdb_base.specs.Answer.{Answer}
 use Rattle.pdb_base.specs.Refusal.{out_of_memory}
 use Rattle.pdb_handles.specs.declared.fault.Fault.{Fault}
@@ -27,12 +27,6 @@ written room items =
 abbrev pub copied : {A : Type 0} → List A → Answer (List A) → Copied A
 copied room (Ok items) = written room items
 copied room (Err refusal) = untouched (fault_of refusal) room
-
--- the values of the answers before the first refusal among them, in order
-abbrev pub values_before_refusal : {A : Type 0} → List (Answer A) → List A
-values_before_refusal [] = []
-values_before_refusal (Ok value ∷ answers) = value ∷ values_before_refusal answers
-values_before_refusal (Err refusal ∷ answers) = []
 
 -- the answer for what a handle holds, if it holds what is asked, and else `not_open`
 abbrev pub copied_of : {A B : Type 0} → List B → (A → Answer (List B)) → Option A → Copied B

@@ -1,8 +1,7 @@
 -- How an exported function says how it ended: with a status, and the numbers that go with it.
-use Rattle.std.specs.Prelude.{ℕ, ◌+◌, bytes_eq, if◌then◌else◌, List, [], ◌∷◌, codes, Ok, Err}
+use Rattle.std.specs.Prelude.{ℕ, ◌+◌, bytes_eq, if◌then◌else◌, List, [], ◌∷◌, codes}
 use Rattle.std.specs.declared.io.ErrorKind.{ErrorKind}
 use Rattle.std.specs.declared.io.ErrorKind.TheVariants as kinds
-use Rattle.pdb_base.specs.Answer.{Answer}
 use Rattle.pdb_base.specs.Refusal.{Refusal, unrecognized_file_format, stream_name_not_found, unexpected_eof, global_symbols_not_found, symbol_too_short, type_too_short, address_map_not_found, lines_not_found, invalid_compressed_annotation, out_of_memory, page_reference_out_of_range, invalid_page_size, stream_not_found, unimplemented_symbol_kind, type_not_found, unimplemented_type_kind, not_a_cross_module_ref, cross_module_ref_not_found, unexpected_numeric_prefix, unimplemented_debug_subsection, unimplemented_file_checksum_kind, invalid_file_checksum_offset, unknown_binary_annotation, type_not_indexed, invalid_stream_length, unimplemented_feature, invalid_type_information_header, io_error}
 use Rattle.pdb_handles.specs.declared.fault.Fault.{Fault}
 
@@ -32,9 +31,17 @@ too_long = record { status = 103; first = 0; second = 0 }
 abbrev pub no_text : Fault
 no_text = record { status = 104; first = 0; second = 0 }
 
--- what is asked for was not found
-abbrev pub nowhere : Fault
-nowhere = record { status = 105; first = 0; second = 0 }
+-- the walk is at its end
+abbrev pub no_more : Fault
+no_more = record { status = 105; first = 0; second = 0 }
+
+-- there is no such value
+abbrev pub no_value : Fault
+no_value = record { status = 106; first = 0; second = 0 }
+
+-- the table moves the address nowhere
+abbrev pub not_mapped : Fault
+not_mapped = record { status = 107; first = 0; second = 0 }
 
 -- ---- texts within refusals
 
@@ -96,8 +103,3 @@ fault_of lines_not_found = record { status = 25; first = 0; second = 0 }
 fault_of invalid_compressed_annotation = record { status = 26; first = 0; second = 0 }
 fault_of (unknown_binary_annotation number) = record { status = 27; first = number; second = 0 }
 fault_of out_of_memory = record { status = 28; first = 0; second = 0 }
-
--- the fault of a call that gives an answer: that of its refusal, or `fine` if there is none
-abbrev pub fault_of_answer : {A : Type 0} → Answer A → Fault
-fault_of_answer (Ok value) = fine
-fault_of_answer (Err refusal) = fault_of refusal

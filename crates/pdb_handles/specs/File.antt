@@ -4,7 +4,7 @@ use Rattle.pdb_base.specs.Answer.{Answer, ◌>>=◌}
 use Rattle.pdb_msf.specs.Header.{Head, opened}
 use Rattle.pdb_msf.specs.File.{stream_of}
 use Rattle.pdb_msf.specs.Layout.{layout_of}
-use Rattle.pdb_file.specs.File.{file_address_map, file_frame_table, file_named_stream, file_string_table}
+use Rattle.pdb_file.specs.File.{file_address_map, file_frame_table, file_named_stream}
 use Rattle.pdb_handles.specs.declared.content.Content.{Content}
 use Rattle.pdb_handles.specs.declared.content.Content.TheVariants as contents
 use Rattle.pdb_handles.specs.Handle.{held_as}
@@ -25,10 +25,7 @@ named_stream_said name file = said (λ bytes head. file_named_stream bytes head 
 abbrev pub layout_said : List ℕ → Answer Content
 layout_said file = held_as contents.File (layout_of file)
 
--- its string table, its address map and its frame table, as the contents of a handle
-abbrev pub names_said : List ℕ → Answer Content
-names_said file = held_as contents.Names (said file_string_table file)
-
+-- its address map and its frame table, as the contents of a handle
 abbrev pub addresses_said : List ℕ → Answer Content
 addresses_said file = held_as contents.Addresses (said file_address_map file)
 

@@ -2,17 +2,17 @@
 use Rattle.std.specs.Prelude.{◌≡◌, Option, Some, None, Ok, Err}
 use Rattle.pdb_base.specs.Answer.{Answer}
 use Rattle.pdb_handles.specs.declared.fault.Fault.{Fault}
-use Rattle.pdb_handles.specs.Fault.{fault_of, fine, not_open, nowhere}
+use Rattle.pdb_handles.specs.Fault.{fault_of, fine, not_open}
 
 -- how a call ended, and the caller's variable afterwards
 pub record Found (A : Type 0) : Type 0 where
   pub fault : Fault
   pub value : A
 
--- the value that was found; or it was not found, and then the variable stays as it was
-abbrev pub found : {A : Type 0} → A → Option A → Found A
-found old (Some value) = record { fault = fine; value = value }
-found old None = record { fault = nowhere; value = old }
+-- the value that was found; or it is missing, and then the variable stays as it was
+abbrev pub found : {A : Type 0} → Fault → A → Option A → Found A
+found missing old (Some value) = record { fault = fine; value = value }
+found missing old None = record { fault = missing; value = old }
 
 -- the handle doesn't hold what is asked, and the variable stays as it was
 abbrev pub not_held : {A : Type 0} → A → Found A
@@ -30,9 +30,9 @@ answered_of old answer None = not_held old
 
 -- a value of what a handle holds, if it holds what is asked, and else `not_open`
 abbrev pub found_of : {A B : Type 0} → B → (A → B) → Option A → Found B
-found_of old number (Some held) = found old (Some (number held))
+found_of old number (Some held) = record { fault = fine; value = number held }
 found_of old number None = not_held old
 
--- A value was found, whatever it is, or none was found.
-abbrev pub IsFound : {A : Type 0} → A → Found A → Type 0
-IsFound {A} old told = (value : Option A) × (told ≡ found old value)
+-- A value was found, whatever it is, or it is missing.
+abbrev pub IsFound : {A : Type 0} → Fault → A → Found A → Type 0
+IsFound {A} missing old told = (value : Option A) × (told ≡ found missing old value)

@@ -10,9 +10,7 @@ pub mod Information
 pub mod Listing
 pub mod Lists
 pub mod Names
-pub mod Offsets
-pub mod Place
-pub mod Places
+pub mod Omap
 pub mod Ranges
 pub mod Records
 pub mod Roles
@@ -21,4 +19,5 @@ pub mod Sections
 pub mod TableCalls
 pub mod Tables
 pub mod Told
+pub mod Translation
 pub mod Walked

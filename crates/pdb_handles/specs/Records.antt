@@ -1,28 +1,22 @@
 -- The contents of a type record, as a caller sees them: its row, its name and its lists.
-use Rattle.std.specs.Prelude.{◌≡◌, ◌⊎◌, ℕ, ◌||◌, nat_lt, if◌then◌else◌, is_some, unwrap_or, List, [], ◌++◌, length, drop, map, Option, Some, None, Result, Ok, Err, MatchResult}
+use Rattle.std.specs.Prelude.{◌≡◌, ◌⊎◌, ℕ, ◌||◌, nat_lt, if◌then◌else◌, is_some, unwrap_or, List, [], ◌++◌, length, drop, map, Option, Some, None, Ok, Err}
 use Rattle.std.specs.List.{flat_map}
 use Rattle.std.specs.Option.{option_map}
 use Rattle.pdb_base.specs.Answer.{Answer, ◌>>=◌}
-use Rattle.pdb_base.specs.declared.error.Error.{Error}
-use Rattle.pdb_base.specs.Refusal.{out_of_memory, refusal_of}
+use Rattle.pdb_base.specs.Refusal.{out_of_memory}
 use Rattle.pdb_values.specs.TypeValue.{TypeValue, argument_list, field_list, name_of, values_in}
 use Rattle.pdb_tpi.specs.Record.{type_of}
 use Rattle.pdb_handles.specs.declared.fault.Fault.{Fault}
 use Rattle.pdb_handles.specs.declared.fields.FieldRow.{FieldRow}
-use Rattle.pdb_handles.specs.declared.row.Row.{Row}
 use Rattle.pdb_handles.specs.Copied.{Copied, untouched, written}
-use Rattle.pdb_handles.specs.Fault.{fine, fault_of, nowhere, too_small}
+use Rattle.pdb_handles.specs.Fault.{fine, fault_of, no_value, too_small}
 use Rattle.pdb_handles.specs.Frame.{flag}
 use Rattle.pdb_handles.specs.Row.{row_of}
-
--- A row is written as what was read is shown; or the fault is that of the error, and the row stays as it was.
-abbrev pub IsWritten : {A : Type 0} → (A → Row) → Result A Error → Row → Fault → Row → Type 0
-IsWritten shown read old fault new = MatchResult read (λ x. (fault ≡ fine) × (new ≡ shown x)) (λ e. (fault ≡ fault_of (refusal_of e)) × (new ≡ old))
 
 -- what is written of a list that may be absent
 abbrev pub if_copied : {A : Type 0} → List A → Answer (Option (List A)) → Copied A
 if_copied room (Ok (Some items)) = written room items
-if_copied room (Ok None) = untouched nowhere room
+if_copied room (Ok None) = untouched no_value room
 if_copied room (Err refusal) = untouched (fault_of refusal) room
 
 -- what is written of a list that a value shows, if it shows one
@@ -55,7 +49,7 @@ name_bytes value = unwrap_or (name_of value) []
 
 -- a field for the caller
 abbrev pub field_row : TypeValue → FieldRow
-field_row value = record { row = row_of value; has_name = flag (is_some (name_of value)); name_length = length (name_bytes value) }
+field_row value = record { info = row_of value; has_name = flag (is_some (name_of value)); name_length = length (name_bytes value) }
 
 -- fields for the caller, and their names one behind another
 pub record Listing : Type 0 where
@@ -97,7 +91,7 @@ fielded rows names told bytes =
 -- the fields that are meant are written, or the fault is that of their refusal
 abbrev pub fields_told : List FieldRow → List ℕ → Answer (Option (List TypeValue)) → Fielded FieldRow
 fields_told rows names (Ok (Some fields)) = fielded rows names (map field_row fields) (flat_map name_bytes fields)
-fields_told rows names (Ok None) = unfielded nowhere rows names
+fields_told rows names (Ok None) = unfielded no_value rows names
 fields_told rows names (Err refusal) = unfielded (fault_of refusal) rows names
 
 -- What is meant was written; or memory was refused, and nothing was written.

@@ -1,5 +1,6 @@
 -- The contents of a type record, as a caller sees them: a row of numbers, of which each shape has some.
-use Rattle.std.specs.Prelude.{ℕ, ◌+◌, ◌*◌, Bool, false, is_some, unwrap_or, int_lt, pos, unsigned_abs, Option, Some, None}
+use Rattle.std.specs.Prelude.{ℕ, ◌+◌, ◌*◌, Bool, true, false, is_some, unwrap_or, Option, Some, None}
+use Rattle.std.specs.Int.{cast_unsigned, w64}
 use Rattle.std.specs.Option.{option_map}
 use Rattle.pdb_base.specs.declared.index.TypeIndex.{TypeIndex}
 use Rattle.pdb_base.specs.declared.variant.Variant.{Variant}
@@ -18,24 +19,34 @@ class_kind kinds.Class = 0
 class_kind kinds.Struct = 1
 class_kind kinds.Interface = 2
 
--- whether a number of any width is below 0
-abbrev pub is_negative : Variant → Bool
-is_negative (variants.I8 n) = int_lt n (pos 0)
-is_negative (variants.I16 n) = int_lt n (pos 0)
-is_negative (variants.I32 n) = int_lt n (pos 0)
-is_negative (variants.I64 n) = int_lt n (pos 0)
-is_negative value = false
+-- whether a number of any width can be below 0
+abbrev pub is_signed : Variant → Bool
+is_signed (variants.U8 n) = false
+is_signed (variants.U16 n) = false
+is_signed (variants.U32 n) = false
+is_signed (variants.U64 n) = false
+is_signed value = true
 
--- the absolute value of a number of any width
-abbrev pub magnitude : Variant → ℕ
-magnitude (variants.U8 n) = n
-magnitude (variants.U16 n) = n
-magnitude (variants.U32 n) = n
-magnitude (variants.U64 n) = n
-magnitude (variants.I8 n) = unsigned_abs n
-magnitude (variants.I16 n) = unsigned_abs n
-magnitude (variants.I32 n) = unsigned_abs n
-magnitude (variants.I64 n) = unsigned_abs n
+-- its width in bytes
+abbrev pub width_of : Variant → ℕ
+width_of (variants.U8 n) = 1
+width_of (variants.I8 n) = 1
+width_of (variants.U16 n) = 2
+width_of (variants.I16 n) = 2
+width_of (variants.U32 n) = 4
+width_of (variants.I32 n) = 4
+width_of value = 8
+
+-- the number in 64 bits, in two's complement if it is below 0
+abbrev pub in_64_bits : Variant → ℕ
+in_64_bits (variants.U8 n) = n
+in_64_bits (variants.U16 n) = n
+in_64_bits (variants.U32 n) = n
+in_64_bits (variants.U64 n) = n
+in_64_bits (variants.I8 n) = cast_unsigned w64 n
+in_64_bits (variants.I16 n) = cast_unsigned w64 n
+in_64_bits (variants.I32 n) = cast_unsigned w64 n
+in_64_bits (variants.I64 n) = cast_unsigned w64 n
 
 -- the number of a type's index, if there is one
 abbrev pub index_in : Option TypeIndex → Option ℕ
@@ -62,7 +73,7 @@ plain_numbers (values.procedure v) = record no_numbers { attributes = Some v.att
 plain_numbers (values.pointer v) = record no_numbers { attributes = Some v.attributes; type_index = Some v.underlying_type.0; second_index = index_in v.containing_class }
 plain_numbers (values.modifier v) = record no_numbers { kind = Some (flag v.constant + 2 * flag v.volatile + 4 * flag v.unaligned); type_index = Some v.underlying_type.0 }
 plain_numbers (values.enumeration v) = record no_numbers { properties = Some v.properties; count = Some v.count; type_index = Some v.underlying_type.0; list_index = Some v.fields.0 }
-plain_numbers (values.enumerate v) = record no_numbers { kind = Some (flag (is_negative v.value)); attributes = Some v.attributes; number = Some (magnitude v.value) }
+plain_numbers (values.enumerate v) = record no_numbers { kind = Some (flag (is_signed v.value)); attributes = Some v.attributes; count = Some (width_of v.value); number = Some (in_64_bits v.value) }
 plain_numbers (values.union v) = record no_numbers { properties = Some v.properties; count = Some v.count; list_index = Some v.fields.0; number = Some v.size }
 plain_numbers (values.bitfield v) = record no_numbers { count = Some v.length; type_index = Some v.underlying_type.0; extra = Some v.position }
 plain_numbers (values.virtual_table_shape v) = record no_numbers { count = Some v.count }
@@ -122,7 +133,7 @@ row shape numbers = record {
   extra = unwrap_or numbers.extra 0;
   number = unwrap_or numbers.number 0;
   shape = shape;
-  stands = bit 1 numbers.kind + bit 2 numbers.attributes + bit 4 numbers.properties + bit 8 numbers.count + bit 16 numbers.type_index + bit 32 numbers.second_index + bit 64 numbers.third_index + bit 128 numbers.list_index + bit 256 numbers.extra + bit 512 numbers.number;
+  has = bit 1 numbers.kind + bit 2 numbers.attributes + bit 4 numbers.properties + bit 8 numbers.count + bit 16 numbers.type_index + bit 32 numbers.second_index + bit 64 numbers.third_index + bit 128 numbers.list_index + bit 256 numbers.extra + bit 512 numbers.number;
 }
 
 -- the row of a type

@@ -11,7 +11,7 @@ use Rattle.pdb_tpi.specs.Steps.{WalkPosition}
 use Rattle.pdb_tpi.specs.Table.{table_of}
 use Rattle.pdb_handles.specs.declared.fault.Fault.{Fault}
 use Rattle.pdb_handles.specs.declared.located.Located.{Located}
-use Rattle.pdb_handles.specs.Fault.{fault_of, fine, nowhere}
+use Rattle.pdb_handles.specs.Fault.{fault_of, fine, no_more, no_value}
 use Rattle.pdb_handles.specs.Found.{Found, not_held}
 use Rattle.pdb_handles.specs.Records.{all_found}
 
@@ -26,7 +26,7 @@ located_at index place = record { index = index; offset = place.offset; length =
 -- the result for the record of an index: its place, or that it has none, or the fault of the refusal
 abbrev pub located_told : Located → ℕ → Answer (Option RecordPlace) → Found Located
 located_told old index (Ok (Some place)) = record { fault = fine; value = located_at index place }
-located_told old index (Ok None) = record { fault = nowhere; value = old }
+located_told old index (Ok None) = record { fault = no_value; value = old }
 located_told old index (Err refusal) = record { fault = fault_of refusal; value = old }
 
 -- the same for the table that a handle holds
@@ -53,7 +53,7 @@ stopped_at index = record { index = index_told index; offset = 0; length = 0 }
 -- record is left, or the fault of the next record.
 abbrev pub stepped : WalkPosition → Answer (Option RecordPlace × WalkPosition) → Stepped
 stepped stand (Ok (Some place, next)) = record { fault = fine; value = located_at (index_told stand.index) place; stand = next }
-stepped stand (Ok (None, next)) = record { fault = nowhere; value = stopped_at stand.index; stand = next }
+stepped stand (Ok (None, next)) = record { fault = no_more; value = stopped_at stand.index; stand = next }
 stepped stand (Err refusal) = record { fault = fault_of refusal; value = stopped_at stand.index; stand = stand }
 
 -- the fields of a field list in a table, and of the lists that continue it

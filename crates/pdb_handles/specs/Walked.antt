@@ -13,7 +13,7 @@ use Rattle.pdb_handles.specs.declared.fault.Fault.{Fault}
 use Rattle.pdb_handles.specs.declared.row.Row.{Row}
 use Rattle.pdb_handles.specs.declared.walked.TypeRow.{TypeRow}
 use Rattle.pdb_handles.specs.Copied.{Copied, untouched}
-use Rattle.pdb_handles.specs.Fault.{fault_of, fine, not_open, nowhere}
+use Rattle.pdb_handles.specs.Fault.{fault_of, fine, not_open, no_more}
 use Rattle.pdb_handles.specs.Row.{no_numbers, row, row_of}
 use Rattle.pdb_handles.specs.Tables.{index_told, located_at}
 
@@ -24,8 +24,8 @@ no_row = row 0 no_numbers
 -- a record for the caller: its place and its row; or its place, the fault with which parsing refuses it, and
 -- a row of zeros
 abbrev pub type_row : ℕ → RecordPlace → Answer TypeValue → TypeRow
-type_row index place (Ok value) = record { place = located_at index place; fault = fine; row = row_of value }
-type_row index place (Err refusal) = record { place = located_at index place; fault = fault_of refusal; row = no_row }
+type_row index place (Ok value) = record { place = located_at index place; fault = fine; info = row_of value }
+type_row index place (Err refusal) = record { place = located_at index place; fault = fault_of refusal; info = no_row }
 
 -- A record is written as it is meant; or memory to parse it was refused.
 abbrev pub IsTypeRow : ℕ → RecordPlace → Answer TypeValue → TypeRow → Type 0
@@ -42,7 +42,7 @@ AreNext stand (told ∷ more) end =
 -- No record is left, or the fault is that of the next one.
 abbrev pub StopsWith : Answer (Option RecordPlace × WalkPosition) → Fault → Type 0
 StopsWith (Ok (Some place, next)) fault = ⊥
-StopsWith (Ok (None, next)) fault = fault ≡ nowhere
+StopsWith (Ok (None, next)) fault = fault ≡ no_more
 StopsWith (Err refusal) fault = fault ≡ fault_of refusal
 
 -- Why no more records are written: the array has no room for more, or the walk stops there.

@@ -7,7 +7,7 @@ ghost use Rattle.pdb_values.specs.Text.{text_bytes};
 ghost use Rattle.pdb_handles.specs.Copied.{CopiesOrLacks, copied, written};
 ghost use Rattle.pdb_handles.specs.Records.{fielded, if_copied};
 
-use crate::fault::{FINE, Fault, NOWHERE, TOO_SMALL};
+use crate::fault::{FINE, Fault, NONE, TOO_SMALL};
 use pdb_base::{RawString, Result, Stream};
 
 /// Copies items to the start of a caller's array and sets `length` to their number. If the array
@@ -80,7 +80,7 @@ pub fn copy_list<T: Copy>(answer: Result<Vec<T>>, room: &mut [T], length: &mut u
 }
 
 /// Copies the items of a list to the caller's array if there is one, or returns a fault of status
-/// `NOWHERE` if there is none, or the fault of the error.
+/// `NONE` if there is none, or the fault of the error.
 pub fn copy_if<T: Copy>(answer: Result<Option<Vec<T>>>, room: &mut [T], length: &mut usize) -> Fault
     ensures { (meant : Answer (Option (List T))) → Answers (option_map (λ list. list.items)) answer meant
         → CopiesOrLacks (record { fault = result; length = length.new; room = room.new }) room.old
@@ -88,19 +88,19 @@ pub fn copy_if<T: Copy>(answer: Result<Option<Vec<T>>>, room: &mut [T], length: 
 {
     match answer {
         Ok(Some(items)) => copy_out(&items, room, length),
-        Ok(None) => copy_nothing(Fault::status(NOWHERE), length),
+        Ok(None) => copy_nothing(Fault::status(NONE), length),
         Err(error) => copy_nothing(Fault::of(&error), length),
     }
 }
 
 /// Copies the bytes of a name to the caller's array if there is one, or returns a fault of status
-/// `NOWHERE` if there is none.
+/// `NONE` if there is none.
 pub fn copy_name(name: Option<RawString<'_>>, room: &mut [u8], length: &mut usize) -> Fault
     ensures { record { fault = result; length = length.new; room = room.new }
         ≡ if_copied room.old (Ok (option_map text_bytes name.entry)) }
 {
     match name {
         Some(name) => copy_out(name.as_bytes(), room, length),
-        None => copy_nothing(Fault::status(NOWHERE), length),
+        None => copy_nothing(Fault::status(NONE), length),
     }
 }

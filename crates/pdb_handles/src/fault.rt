@@ -56,5 +56,11 @@ pub const TOO_LONG: u32 = 103;
 /// The caller's fault isn't one that a call returns, or the library has no text for it.
 pub const NO_TEXT: u32 = 104;
 
-/// What the call looks for was not found.
-pub const NOWHERE: u32 = 105;
+/// The walk is at its end.
+pub const END: u32 = 105;
+
+/// There is no such value.
+pub const NONE: u32 = 106;
+
+/// The table moves the address nowhere.
+pub const UNMAPPED: u32 = 107;

@@ -7,11 +7,11 @@ ghost use Rattle.pdb_base.specs.Memory.{FailsOnlyForMemory};
 ghost use Rattle.pdb_base.specs.Answer.{Answer, Answers};
 ghost use Rattle.pdb_values.specs.TypeValue.{TypeValue};
 ghost use Rattle.pdb_values.specs.TypeView.{type_value};
-ghost use Rattle.pdb_handles.specs.Records.{FieldsOrLacks, all_found, field_row, fielded, fields_in, fields_of_record, fields_told, listings, name_bytes};
+ghost use Rattle.pdb_handles.specs.Records.{FieldsOrLacks, all_found, field_row, fields_in, fields_of_record, fields_told, listings, name_bytes};
 ghost use Rattle.pdb_handles.specs.Listing.{listing_view};
 
 use crate::copied::copy_both;
-use crate::fault::{Fault, NOWHERE};
+use crate::fault::{Fault, NONE};
 use crate::frame::flag;
 use crate::records::type_in;
 use crate::row::Row;
@@ -23,8 +23,8 @@ use std::alloc::Global;
 #[repr(C)]
 #[derive(Clone, Copy)]
 pub struct FieldRow {
-    /// The numbers.
-    pub row: Row,
+    /// What its record says.
+    pub info: Row,
     /// The length of its name in bytes, 0 if it has none.
     pub name_length: usize,
     /// Whether it has a name, as 0 or 1.
@@ -53,7 +53,7 @@ fn field_row(field: &TypeData<'_>) -> FieldRow
     ensures { result ≡ field_row (type_value field.now) }
 {
     FieldRow {
-        row: Row::of_type(field),
+        info: Row::of_type(field),
         name_length: name_bytes(field).len(),
         has_name: flag(field.name().is_some()),
     }
@@ -73,21 +73,6 @@ fn shown(alloc: Global, fields: &[TypeData<'_>]) -> Result<Listing>
         names.extend_from_slice(name_bytes(field))?;
     }
     Ok(Listing { rows, names })
-}
-
-/// Writes the fields and names of a listing to the starts of the caller's arrays, if both have room
-/// for all of them.
-fn write_listing(
-    listing: &Listing,
-    rows: &mut [FieldRow],
-    count: &mut usize,
-    names: &mut [u8],
-    size: &mut usize,
-) -> Fault
-    ensures { record { fault = result; rows = rows.new; count = count.new; names = names.new; size = size.new }
-        ≡ fielded rows.old names.old listing.now.rows.items listing.now.names.items }
-{
-    copy_both(&listing.rows, &listing.names, rows, count, names, size)
 }
 
 /// Sets `count` and `size` to 0 and returns the fault.
@@ -142,8 +127,8 @@ pub fn write_found(
         rows.old names.old (fields_told rows.old names.old meant) }
 {
     match found {
-        Ok(Some(listing)) => write_listing(&listing, rows, count, names, size),
-        Ok(None) => write_nothing(Fault::status(NOWHERE), count, size),
+        Ok(Some(listing)) => copy_both(&listing.rows, &listing.names, rows, count, names, size),
+        Ok(None) => write_nothing(Fault::status(NONE), count, size),
         Err(error) => write_nothing(Fault::of(&error), count, size),
     }
 }

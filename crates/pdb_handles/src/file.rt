@@ -3,7 +3,7 @@
 ghost use Rattle.std.specs.Prelude.{◌≡◌, IfOk};
 ghost use Rattle.pdb_base.specs.Answer.{Answers};
 ghost use Rattle.pdb_msf.specs.Header.{opened};
-ghost use Rattle.pdb_handles.specs.File.{addresses_said, frames_said, named_stream_said, names_said};
+ghost use Rattle.pdb_handles.specs.File.{addresses_said, frames_said, named_stream_said};
 
 use crate::content::Content;
 use pdb_base::{Result, Stream};
@@ -30,17 +30,6 @@ pub fn named_stream_in(alloc: Global, file: &[u8], name: &[u8]) -> Result<Stream
 {
     let mut file = opened(alloc, file)?;
     file.named_stream(alloc, name)
-}
-
-/// Reads the string table of a file.
-///
-/// # Errors
-/// Fails as `opened` and `string_table` do.
-pub fn names_in(alloc: Global, file: &[u8]) -> Result<Content>
-    ensures { Answers (λ content. content) result (names_said file.now) }
-{
-    let mut file = opened(alloc, file)?;
-    Ok(Content::Names(file.string_table(alloc)?))
 }
 
 /// Reads the address map of a file.

@@ -4,19 +4,19 @@ ghost use Rattle.std.specs.Prelude.{◌≡◌};
 ghost use Rattle.pdb_base.specs.Answer.{Answer, Gives};
 ghost use Rattle.pdb_handles.specs.Found.{answered, found};
 
-use crate::fault::{FINE, Fault, NOWHERE};
+use crate::fault::{FINE, Fault};
 use pdb_base::Result;
 
-/// Writes a value that was found, or returns a fault of status `NOWHERE` if there is none.
-pub fn tell_found<T: Copy>(answer: Option<T>, value: &mut T) -> Fault
-    ensures { record { fault = result; value = value.new } ≡ found value.old answer }
+/// Writes a value that was found, or returns the fault `missing` if there is none.
+pub fn tell_found<T: Copy>(answer: Option<T>, missing: Fault, value: &mut T) -> Fault
+    ensures { record { fault = result; value = value.new } ≡ found missing value.old answer }
 {
     match answer {
         Some(number) => {
             *value = number;
             Fault::status(FINE)
         }
-        None => Fault::status(NOWHERE),
+        None => missing,
     }
 }
 

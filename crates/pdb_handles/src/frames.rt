@@ -1,18 +1,25 @@
 //! Frames of a program.
 
-ghost use Rattle.std.specs.Prelude.{◌≡◌, slice_get, List};
+ghost use Rattle.std.specs.Prelude.{◌≡◌, slice_get, List, map, Ok};
 ghost use Rattle.std.specs.Option.{option_map};
+ghost use Rattle.pdb_base.specs.Answer.{Answers};
+ghost use Rattle.pdb_frames.specs.Merge.{by_heads, merge};
 ghost use Rattle.pdb_frames.specs.Table.{BeginsSomewhere, StartsIncrease, merge_from};
 ghost use Rattle.pdb_frames.specs.declared.frame_data.FrameData.{FrameData as Described};
+ghost use Rattle.pdb_handles.specs.Fault.{no_value};
+ghost use Rattle.pdb_handles.specs.Found.{found};
 ghost use Rattle.pdb_handles.specs.Frame.{frame_of};
 
+use crate::fault::{Fault, NONE};
+use crate::found::tell_found;
 use crate::frame::Frame;
-use pdb_base::FallibleIterator;
+use pdb_base::{FallibleIterator, Result};
 use pdb_frames::FrameTable;
 use pdb_space::PdbInternalRva;
+use std::alloc::Global;
 
 /// Returns the first frame of a table from an address on.
-pub fn first_from(table: &FrameTable, address: u32) -> Option<Frame>
+fn first_from(table: &FrameTable, address: u32) -> Option<Frame>
     ensures exact { StartsIncrease table.now →
         result ≡ option_map frame_of (slice_get (merge_from address table.now) 0) }
     ensures somewhere { (frames : List Described) × BeginsSomewhere table.now frames ×
@@ -26,4 +33,33 @@ pub fn first_from(table: &FrameTable, address: u32) -> Option<Frame>
         Some(frame) => Some(Frame::of(&frame)),
         None => None,
     }
+}
+
+/// Writes the first frame of a table from an address on, or returns a fault of status `NONE` if
+/// there is none.
+pub fn tell_first(table: &FrameTable, address: u32, frame: &mut Frame) -> Fault
+    ensures exact { StartsIncrease table.now → record { fault = result; value = frame.new } ≡
+        found no_value frame.old (option_map frame_of (slice_get (merge_from address table.now) 0)) }
+    ensures somewhere { (frames : List Described) × BeginsSomewhere table.now frames ×
+        (record { fault = result; value = frame.new } ≡
+        found no_value frame.old (option_map frame_of (slice_get frames 0))) }
+{
+    tell_found(first_from(table, address), Fault::status(NONE), frame)
+}
+
+/// Returns all frames of a table, in the order of `FrameTable::iter`, for the caller.
+///
+/// # Errors
+/// Fails only with `OutOfMemory`, if an allocation fails.
+pub fn all_frames(alloc: Global, table: &FrameTable) -> Result<Vec<Frame>>
+    ensures merged { StartsIncrease table.now →
+        Answers (λ frames. frames.items) result (Ok (map frame_of (merge table.now.old table.now.new))) }
+    ensures heads { Answers (λ frames. frames.items) result (Ok (map frame_of (by_heads table.now.old table.now.new))) }
+{
+    let mut all = Vec::new(alloc);
+    let mut frames = table.iter();
+    while let Ok(Some(frame)) = frames.next() {
+        all.push(Frame::of(&frame))?;
+    }
+    Ok(all)
 }

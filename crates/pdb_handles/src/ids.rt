@@ -7,17 +7,17 @@ ghost use Rattle.pdb_values.specs.Text.{text_bytes};
 ghost use Rattle.pdb_values.specs.IdValue.{IdValue, id_name, id_value};
 ghost use Rattle.pdb_tpi.specs.Record.{id_of};
 ghost use Rattle.pdb_handles.specs.Copied.{CopiesOrLacks};
-ghost use Rattle.pdb_handles.specs.Ids.{id_in, id_list_of, id_numbers, id_row, id_shape, list_in, source_numbers};
+ghost use Rattle.pdb_handles.specs.Ids.{id_in, id_list_of, id_row};
 ghost use Rattle.pdb_handles.specs.Records.{shown_copied};
 ghost use Rattle.pdb_handles.specs.Roles.{IsAnswered};
 
 use crate::copied::{copy_name, copy_nothing};
 use crate::fault::{FINE, Fault};
 use crate::records::numbers_of;
-use crate::row::{NO_NUMBERS, Numbers, Row};
+use crate::row::{NO_NUMBERS, Numbers, Row, row};
 use pdb_base::{IdIndex, RawString, Result};
 use pdb_records::parse_id_data;
-use pdb_values::{IdData, UserDefinedTypeSourceFileRef, UserDefinedTypeSourceId};
+use pdb_values::{IdData, UserDefinedTypeSourceFileRef};
 use std::alloc::Global;
 
 /// Parses the record of an id.
@@ -41,63 +41,25 @@ fn id_in(index: Option<IdIndex>) -> Option<u32>
     }
 }
 
-/// Returns the numbers of the place where a type is declared.
-fn source_numbers(source: &UserDefinedTypeSourceId) -> Numbers
-    ensures { result ≡ source_numbers source.now.udt.0 source.now.line source.now.source_file }
-{
-    match source.source_file {
-        UserDefinedTypeSourceFileRef::Local(file) => Numbers {
-            type_index: Some(source.udt.0),
-            second_index: Some(file.0),
-            extra: Some(source.line),
-            ..NO_NUMBERS
-        },
-        UserDefinedTypeSourceFileRef::Remote(module, place) => Numbers {
-            type_index: Some(source.udt.0),
-            third_index: Some(module as u32),
-            number: Some(place.0 as u64),
-            extra: Some(source.line),
-            ..NO_NUMBERS
-        },
-    }
-}
-
-/// Returns the numbers of an id.
-fn id_numbers(value: &IdData<'_>) -> Numbers
-    ensures { result ≡ id_numbers (id_value value.now) }
+/// Returns the `Row` of an id.
+fn row_of_id(value: &IdData<'_>) -> Row
+    ensures { result ≡ id_row (id_value value.now) }
 {
     match value {
-        IdData::Function(id) => Numbers {
-            type_index: Some(id.function_type.0),
-            second_index: id_in(id.scope),
-            ..NO_NUMBERS
+        IdData::Function(id) => row!(0;
+            type_index: Some(id.function_type.0), second_index: id_in(id.scope)),
+        IdData::MemberFunction(id) => row!(1;
+            type_index: Some(id.function_type.0), third_index: Some(id.parent.0)),
+        IdData::BuildInfo(_) => Row::of(2, &NO_NUMBERS),
+        IdData::StringList(_) => Row::of(3, &NO_NUMBERS),
+        IdData::String(id) => row!(4; list_index: id_in(id.substrings)),
+        IdData::UserDefinedTypeSource(id) => match id.source_file {
+            UserDefinedTypeSourceFileRef::Local(file) => row!(5;
+                type_index: Some(id.udt.0), second_index: Some(file.0), extra: Some(id.line)),
+            UserDefinedTypeSourceFileRef::Remote(module, place) => row!(5;
+                type_index: Some(id.udt.0), third_index: Some(module as u32),
+                number: Some(place.0 as u64), extra: Some(id.line)),
         },
-        IdData::MemberFunction(id) => Numbers {
-            type_index: Some(id.function_type.0),
-            third_index: Some(id.parent.0),
-            ..NO_NUMBERS
-        },
-        IdData::BuildInfo(_) => NO_NUMBERS,
-        IdData::StringList(_) => NO_NUMBERS,
-        IdData::String(id) => Numbers {
-            list_index: id_in(id.substrings),
-            ..NO_NUMBERS
-        },
-        IdData::UserDefinedTypeSource(source) => source_numbers(source),
-    }
-}
-
-/// Returns the number of an id's shape.
-fn id_shape(value: &IdData<'_>) -> u32
-    ensures { result ≡ id_shape (id_value value.now) }
-{
-    match value {
-        IdData::Function(_) => 0,
-        IdData::MemberFunction(_) => 1,
-        IdData::BuildInfo(_) => 2,
-        IdData::StringList(_) => 3,
-        IdData::String(_) => 4,
-        IdData::UserDefinedTypeSource(_) => 5,
     }
 }
 
@@ -117,22 +79,8 @@ fn name_in<'t>(value: &IdData<'t>) -> Option<RawString<'t>>
 fn id_numbers_of(alloc: Global, indexes: &[IdIndex]) -> Result<Vec<u32>>
     ensures { Answers (λ numbers. numbers.items) result (Ok (map (λ index. index.0) indexes.now)) }
 {
-    let mut numbers = Vec::new(alloc);
-    for index in indexes {
-        numbers.push(index.0)?;
-    }
+    let numbers = indexes.iter().map(|index| index.0).collect(alloc)?;
     Ok(numbers)
-}
-
-/// Returns the indexes that an id lists, or None if it isn't a list.
-fn list_in(alloc: Global, value: &IdData<'_>) -> Result<Option<Vec<u32>>>
-    ensures { Answers (option_map (λ list. list.items)) result (Ok (list_in (id_value value.now))) }
-{
-    match value {
-        IdData::BuildInfo(list) => Ok(Some(id_numbers_of(alloc, &list.arguments)?)),
-        IdData::StringList(list) => Ok(Some(numbers_of(alloc, &list.substrings)?)),
-        _ => Ok(None),
-    }
 }
 
 /// Parses the record of an id and returns the indexes that it lists, or None if it isn't a list.
@@ -143,7 +91,11 @@ pub fn list_of(alloc: Global, bytes: &[u8]) -> Result<Option<Vec<u32>>>
     ensures { Answers (option_map (λ list. list.items)) result (id_list_of bytes.now) }
 {
     let value = id_at(alloc, bytes)?;
-    list_in(alloc, &value)
+    match &value {
+        IdData::BuildInfo(list) => Ok(Some(id_numbers_of(alloc, &list.arguments)?)),
+        IdData::StringList(list) => Ok(Some(numbers_of(alloc, &list.substrings)?)),
+        _ => Ok(None),
+    }
 }
 
 /// Writes the `Row` of an id that was parsed, or returns the fault of its error.
@@ -153,7 +105,7 @@ pub fn write_id_row(parsed: Result<IdData<'_>>, row: &mut Row) -> Fault
 {
     match parsed {
         Ok(value) => {
-            *row = Row::of(id_shape(&value), &id_numbers(&value));
+            *row = row_of_id(&value);
             Fault::status(FINE)
         }
         Err(error) => Fault::of(&error),

@@ -8,7 +8,7 @@ ghost use Rattle.pdb_base.specs.Answer.{Answer, Answers};
 ghost use Rattle.pdb_file.specs.StreamNames.{named_view};
 ghost use Rattle.pdb_file.specs.declared.information.PDBInformation.{PDBInformation};
 ghost use Rattle.pdb_handles.specs.Information.{information_of, information_said, named_row, named_told, names_by};
-ghost use Rattle.pdb_handles.specs.Records.{FieldsOrLacks, fielded};
+ghost use Rattle.pdb_handles.specs.Records.{FieldsOrLacks};
 ghost use Rattle.pdb_handles.specs.Roles.{IsAnswered};
 
 use crate::copied::copy_both;
@@ -111,31 +111,6 @@ fn listing_of(alloc: Global, streams: &StreamNames<'_>) -> Result<NameListing>
     Ok(listed)
 }
 
-/// Writes the streams that stream 1 names, and the bytes of their names.
-fn write_named(
-    alloc: Global,
-    streams: &StreamNames<'_>,
-    rows: &mut [NamedStream],
-    count: &mut usize,
-    names: &mut [u8],
-    size: &mut usize,
-) -> Fault
-    ensures { FieldsOrLacks (record {
-      fault = result;
-      rows = rows.new;
-      count = count.new;
-      names = names.new;
-      size = size.new;
-    })
-        rows.old names.old (fielded rows.old names.old (map named_row streams.now)
-        (flat_map (λ named. named.name) streams.now)) }
-{
-    match listing_of(alloc, streams) {
-        Ok(listed) => copy_both(&listed.rows, &listed.names, rows, count, names, size),
-        Err(error) => write_nothing(Fault::of(&error), count, size),
-    }
-}
-
 /// Writes the numbers that identify a file, or returns the fault of the error.
 pub fn write_information(read: Result<PDBInformation>, information: &mut Information) -> Fault
     ensures { (meant : Answer PDBInformation) → Answers (λ information. information) read meant
@@ -174,8 +149,12 @@ pub fn write_stream_names(
         Ok(information) => information,
         Err(error) => return write_nothing(Fault::of(&error), count, size),
     };
-    match information.stream_names(alloc) {
-        Ok(streams) => write_named(alloc, &streams, rows, count, names, size),
+    let streams = match information.stream_names(alloc) {
+        Ok(streams) => streams,
+        Err(error) => return write_nothing(Fault::of(&error), count, size),
+    };
+    match listing_of(alloc, &streams) {
+        Ok(listed) => copy_both(&listed.rows, &listed.names, rows, count, names, size),
         Err(error) => write_nothing(Fault::of(&error), count, size),
     }
 }

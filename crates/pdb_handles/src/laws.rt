@@ -6,8 +6,7 @@ ghost use Rattle.pdb_base.specs.Refusal.{Refusal};
 ghost use Rattle.pdb_msf.specs.Layout.{LayoutValue, layout_of, stream_by};
 ghost use Rattle.pdb_handles.specs.declared.fault.Fault.{Fault};
 ghost use Rattle.pdb_handles.specs.File.{stream_said};
-ghost use Rattle.pdb_handles.specs.Names.{StandsAtItsPlace, WritesNamedFront};
-ghost use Rattle.pdb_handles.specs.declared.names.NamePlace.{NamePlace};
+ghost use Rattle.pdb_handles.specs.Names.{StandsAtItsPlace};
 ghost use Rattle.pdb_handles.specs.Told.{IsTold, TellsBack};
 
 use pdb_space::laws::{names, string_tables};
@@ -32,9 +31,3 @@ pub fn name_places()
     string_tables();
     names();
 }
-
-/// The places that one call writes are those of the names at all offsets, or of those at the
-/// offsets before the first one without a name.
-pub fn names_fronts()
-    ensures { (names : List ℕ) (room : List NamePlace) (offsets : List ℕ) → WritesNamedFront names room offsets }
-{}

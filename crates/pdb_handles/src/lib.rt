@@ -2,7 +2,6 @@
 //! end, structures of numbers such as `Row`, and copies into a caller's arrays.
 #![tactic(auto)]
 
-pub mod addresses;
 mod content;
 pub mod copied;
 mod fault;
@@ -18,14 +17,10 @@ pub mod information;
 pub mod laws;
 pub mod lists;
 mod located;
-pub mod moved;
 pub mod names;
-pub mod offsets;
 pub mod omap;
 pub mod open_table;
 mod parts;
-mod place;
-pub mod places;
 pub mod ranges;
 pub mod records;
 mod refusals;
@@ -36,13 +31,15 @@ pub mod streams;
 pub mod tables;
 pub mod text;
 pub mod told;
+pub mod translation;
 pub mod walked;
 
 pub use content::Content;
-pub use fault::{ALREADY_OPEN, FINE, Fault, NO_TEXT, NOT_OPEN, NOWHERE, TOO_LONG, TOO_SMALL};
+pub use fault::{
+    ALREADY_OPEN, END, FINE, Fault, NO_TEXT, NONE, NOT_OPEN, TOO_LONG, TOO_SMALL, UNMAPPED,
+};
 pub use frame::{Frame, flag};
 pub use handle::Handle;
 pub use held::Held;
 pub use located::Located;
-pub use place::Place;
 pub use row::{NO_NUMBERS, Numbers, Row};

@@ -7,13 +7,13 @@ ghost use Rattle.pdb_values.specs.Text.{text_bytes};
 ghost use Rattle.pdb_values.specs.TypeValue.{TypeValue};
 ghost use Rattle.pdb_values.specs.TypeView.{type_value};
 ghost use Rattle.pdb_handles.specs.Copied.{CopiesOrLacks};
-ghost use Rattle.pdb_handles.specs.Lists.{dimensions_in, method_row, methods_in, methods_of, unique_name_in};
+ghost use Rattle.pdb_handles.specs.Lists.{dimensions_in, method_row, methods_of, unique_name_in};
 ghost use Rattle.pdb_handles.specs.Records.{if_copied, shown_copied};
 
 use crate::copied::{copy_name, copy_nothing, copy_out};
-use crate::fault::{Fault, NOWHERE};
+use crate::fault::{Fault, NONE};
 use crate::records::type_in;
-use crate::row::{NO_NUMBERS, Numbers, Row};
+use crate::row::{NO_NUMBERS, Numbers, Row, row};
 use pdb_base::{RawString, Result};
 use pdb_values::{MethodListEntry, TypeData};
 use std::alloc::Global;
@@ -22,15 +22,9 @@ use std::alloc::Global;
 fn method_row(method: &MethodListEntry) -> Row
     ensures { result ≡ method_row method.now }
 {
-    Row::of(
-        5,
-        &Numbers {
-            attributes: Some(method.attributes.bits() as u32),
-            type_index: Some(method.method_type.0),
-            extra: method.vtable_offset,
-            ..NO_NUMBERS
-        },
-    )
+    row!(5;
+        attributes: Some(method.attributes.bits() as u32), type_index: Some(method.method_type.0),
+        extra: method.vtable_offset)
 }
 
 /// Returns a `Row` for each method, for the caller.
@@ -44,16 +38,6 @@ fn method_rows(alloc: Global, methods: &[MethodListEntry]) -> Result<Vec<Row>>
     Ok(rows)
 }
 
-/// Returns the methods that a type lists, or None if it isn't a list of methods.
-fn methods_in(alloc: Global, value: &TypeData<'_>) -> Result<Option<Vec<Row>>>
-    ensures { Answers (option_map (λ rows. rows.items)) result (Ok (methods_in (type_value value.now))) }
-{
-    match value {
-        TypeData::MethodList(list) => Ok(Some(method_rows(alloc, &list.methods)?)),
-        _ => Ok(None),
-    }
-}
-
 /// Parses a record and returns the methods that it lists, or None if it isn't a list of methods.
 ///
 /// # Errors
@@ -62,7 +46,10 @@ pub fn methods_of(alloc: Global, bytes: &[u8], index: u32) -> Result<Option<Vec<
     ensures { Answers (option_map (λ rows. rows.items)) result (methods_of index bytes.now) }
 {
     let value = type_in(alloc, bytes, index)?;
-    methods_in(alloc, &value)
+    match &value {
+        TypeData::MethodList(list) => Ok(Some(method_rows(alloc, &list.methods)?)),
+        _ => Ok(None),
+    }
 }
 
 /// Copies the dimensions of a type into the caller's array, if it is an array.
@@ -72,7 +59,7 @@ fn copy_dimensions(value: &TypeData<'_>, room: &mut [u32], length: &mut usize) -
 {
     match value {
         TypeData::Array(array) => copy_out(&array.dimensions, room, length),
-        _ => copy_nothing(Fault::status(NOWHERE), length),
+        _ => copy_nothing(Fault::status(NONE), length),
     }
 }
 

@@ -7,24 +7,14 @@ ghost use Rattle.pdb_tpi.specs.OpenTable.{located, step_located};
 ghost use Rattle.pdb_tpi.specs.Table.{count_of};
 ghost use Rattle.pdb_handles.specs.Listing.{listing_view};
 ghost use Rattle.pdb_handles.specs.Records.{listings};
-ghost use Rattle.pdb_handles.specs.Tables.{fields_in_table, located_told, stepped, table_opened};
+ghost use Rattle.pdb_handles.specs.Tables.{fields_in_table, located_told, stepped};
 
-use crate::fault::{FINE, Fault, NOWHERE};
+use crate::fault::{END, FINE, Fault, NONE};
 use crate::fields::{Listing, listing_found};
 use crate::located::Located;
-use pdb_base::{Result, Stream, TypeIndex};
-use pdb_tpi::{OpenTable, TypeInformation};
+use pdb_base::{Result, TypeIndex};
+use pdb_tpi::OpenTable;
 use std::alloc::Global;
-
-/// Opens the table in a stream, with its walk before the first item.
-///
-/// # Errors
-/// Fails as `TypeInformation::parse` does, and with `OutOfMemory` if an allocation fails.
-pub fn opened(alloc: Global, stream: Stream) -> Result<OpenTable<TypeIndex>>
-    ensures { Answers (λ table. table) result (table_opened stream) }
-{
-    OpenTable::new(alloc, TypeInformation::parse(stream)?)
-}
 
 /// Returns the number of indexes that the header of a table counts.
 pub fn counted(kept: &OpenTable<TypeIndex>) -> u32
@@ -46,7 +36,7 @@ pub fn find_record(kept: &mut OpenTable<TypeIndex>, index: u32, place: &mut Loca
             *place = Located::at(index, found);
             Fault::status(FINE)
         }
-        Ok(None) => Fault::status(NOWHERE),
+        Ok(None) => Fault::status(NONE),
         Err(error) => Fault::of(&error),
     }
 }
@@ -67,7 +57,7 @@ pub fn next_record(kept: &mut OpenTable<TypeIndex>, place: &mut Located) -> Faul
             *place = Located::at(index, found);
             Fault::status(FINE)
         }
-        Ok(None) => Fault::status(NOWHERE),
+        Ok(None) => Fault::status(END),
         Err(error) => Fault::of(&error),
     }
 }

@@ -1,16 +1,19 @@
-//! The ranges to which an OMAP table moves a range of addresses.
+//! The ranges to which OMAP tables move a range of addresses.
 
-ghost use Rattle.std.specs.Prelude.{map, Ok};
+ghost use Rattle.std.specs.Prelude.{map, Ok, IfSome};
 ghost use Rattle.pdb_base.specs.Answer.{Answers};
+ghost use Rattle.pdb_space.specs.Conversions.{translated_parts};
 ghost use Rattle.pdb_space.specs.Omap.{IsSortedBySource};
 ghost use Rattle.pdb_space.specs.Ranges.{parts};
 ghost use Rattle.pdb_handles.specs.Copied.{CopiesOrLacks};
 ghost use Rattle.pdb_handles.specs.Ranges.{WritesSome, span_of, spans_written};
 
-use crate::copied::{copy_nothing, copy_out};
+use crate::copied::copy_list;
 use crate::fault::Fault;
 use pdb_base::Result;
-use pdb_space::{OMAPTable, RangeIter};
+use pdb_space::{
+    AddressMap, OMAPTable, PdbInternalRva, PdbInternalRvaRangeIter, RangeIter, Rva, RvaRangeIter,
+};
 use std::alloc::Global;
 use std::ops::Range;
 
@@ -24,35 +27,43 @@ pub struct Span {
     pub end: u32,
 }
 
-/// Converts ranges to spans for the caller.
-fn spans_of(alloc: Global, ranges: &[Range<u32>]) -> Result<Vec<Span>>
-    ensures { Answers (λ spans. spans.items) result (Ok (map span_of ranges.now)) }
-{
-    let mut spans = Vec::new(alloc);
-    for range in ranges {
-        let (start, end) = (range.start, range.end);
-        spans.push(Span { start, end })?;
-    }
-    Ok(spans)
-}
-
-/// Converts all ranges that are left in an iterator to spans for the caller.
+/// Converts all ranges that are left in an iterator for the caller.
 fn spans_in(alloc: Global, ranges: RangeIter<'_>) -> Result<Vec<Span>>
     ensures { Answers (λ spans. spans.items) result (Ok (map span_of ranges.entry)) }
 {
-    let ranges: Vec<Range<u32>> = ranges.collect(alloc)?;
-    spans_of(alloc, &ranges)
+    let spans = ranges
+        .map(|range| Span {
+            start: range.start,
+            end: range.end,
+        })
+        .collect(alloc)?;
+    Ok(spans)
 }
 
-/// Writes the ranges that are left in an iterator to the caller's array.
-fn write_spans(alloc: Global, ranges: RangeIter<'_>, room: &mut [Span], length: &mut usize) -> Fault
-    ensures { CopiesOrLacks (record { fault = result; length = length.new; room = room.new }) room.old
-        (spans_written room.old ranges.entry) }
+/// Converts all ranges of the image as it is loaded that are left in an iterator for the caller.
+fn loaded_spans_in(alloc: Global, ranges: RvaRangeIter<'_>) -> Result<Vec<Span>>
+    ensures { Answers (λ spans. spans.items) result (Ok (map span_of ranges.entry)) }
 {
-    match spans_in(alloc, ranges) {
-        Ok(spans) => copy_out(&spans, room, length),
-        Err(error) => copy_nothing(Fault::of(&error), length),
-    }
+    let spans = ranges
+        .map(|range| Span {
+            start: range.start.0,
+            end: range.end.0,
+        })
+        .collect(alloc)?;
+    Ok(spans)
+}
+
+/// Converts all ranges of the original image that are left in an iterator for the caller.
+fn internal_spans_in(alloc: Global, ranges: PdbInternalRvaRangeIter<'_>) -> Result<Vec<Span>>
+    ensures { Answers (λ spans. spans.items) result (Ok (map span_of ranges.entry)) }
+{
+    let spans = ranges
+        .map(|range| Span {
+            start: range.start.0,
+            end: range.end.0,
+        })
+        .collect(alloc)?;
+    Ok(spans)
 }
 
 /// Writes the ranges to which a table moves the addresses of a range.
@@ -68,5 +79,43 @@ pub fn write_moved(
         (spans_written room.old (parts table.now asked)) }
     ensures unsorted { WritesSome table.now room.old (record { fault = result; length = length.new; room = room.new }) }
 {
-    write_spans(alloc, table.lookup_range(asked), room, length)
+    copy_list(spans_in(alloc, table.lookup_range(asked)), room, length)
+}
+
+/// Writes where the addresses of a range of the original image lie in the image as it is loaded.
+pub fn write_loaded(
+    alloc: Global,
+    map: &AddressMap,
+    asked: Range<PdbInternalRva>,
+    room: &mut [Span],
+    length: &mut usize,
+) -> Fault
+    ensures exact { IfSome map.now.original_to_transformed IsSortedBySource
+        → CopiesOrLacks (record { fault = result; length = length.new; room = room.new }) room.old
+        (spans_written room.old (translated_parts map.now.original_to_transformed asked)) }
+    ensures unsorted { IfSome map.now.original_to_transformed (λ table.
+        WritesSome table room.old (record { fault = result; length = length.new; room = room.new })) }
+{
+    copy_list(loaded_spans_in(alloc, map.rva_ranges(asked)), room, length)
+}
+
+/// Writes where the addresses of a range of the image as it is loaded lie in the original image.
+pub fn write_internal(
+    alloc: Global,
+    map: &AddressMap,
+    asked: Range<Rva>,
+    room: &mut [Span],
+    length: &mut usize,
+) -> Fault
+    ensures exact { IfSome map.now.transformed_to_original IsSortedBySource
+        → CopiesOrLacks (record { fault = result; length = length.new; room = room.new }) room.old
+        (spans_written room.old (translated_parts map.now.transformed_to_original asked)) }
+    ensures unsorted { IfSome map.now.transformed_to_original (λ table.
+        WritesSome table room.old (record { fault = result; length = length.new; room = room.new })) }
+{
+    copy_list(
+        internal_spans_in(alloc, map.internal_rva_ranges(asked)),
+        room,
+        length,
+    )
 }

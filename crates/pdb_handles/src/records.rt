@@ -1,23 +1,21 @@
 //! What the record of a type says.
 
-ghost use Rattle.std.specs.Prelude.{map, [], Ok};
+ghost use Rattle.std.specs.Prelude.{map, Ok};
 ghost use Rattle.std.specs.Option.{option_map};
 ghost use Rattle.pdb_base.specs.Answer.{Answer, Answers};
-ghost use Rattle.pdb_records.specs.Fields.{type_record};
-ghost use Rattle.pdb_values.specs.TypeValue.{TypeValue, argument_list, field_list, name_of, no_field};
+ghost use Rattle.pdb_values.specs.TypeValue.{TypeValue, name_of};
 ghost use Rattle.pdb_values.specs.TypeView.{type_value};
 ghost use Rattle.pdb_tpi.specs.Record.{type_of};
 ghost use Rattle.pdb_handles.specs.Copied.{CopiesOrLacks};
-ghost use Rattle.pdb_handles.specs.Records.{IsWritten, arguments_in, arguments_of, shown_copied};
+ghost use Rattle.pdb_handles.specs.Records.{arguments_of, shown_copied};
 ghost use Rattle.pdb_handles.specs.Roles.{IsAnswered};
 ghost use Rattle.pdb_handles.specs.Row.{row_of};
 
 use crate::copied::{copy_name, copy_nothing};
 use crate::fault::{FINE, Fault};
-use crate::row::{Row, argument_list_row, field_list_row};
-use pdb_base::{ParseBuffer, Result, TypeIndex};
-use pdb_records::{parse_behind_leaf, parse_type_data, skip_arguments, skip_field_list};
-use pdb_values::constants::{LF_ARGLIST, LF_FIELDLIST};
+use crate::row::Row;
+use pdb_base::{Result, TypeIndex};
+use pdb_records::parse_type_data;
 use pdb_values::{FIRST_RECORD, TypeData, type_data_for_primitive};
 use std::alloc::Global;
 
@@ -51,67 +49,13 @@ fn write_row(parsed: &Result<TypeData<'_>>, row: &mut Row) -> Fault
     }
 }
 
-/// Writes the `Row` of a list of fields, of which only the continuation was read, or returns the
-/// fault of its error.
-#[inline(always)]
-fn write_field_list(read: &Result<Option<TypeIndex>>, row: &mut Row) -> Fault
-    ensures { IsWritten (λ continuation. row_of (field_list no_field continuation)) read.now row.old result row.new }
-{
-    match read {
-        Ok(continuation) => {
-            *row = field_list_row(*continuation);
-            Fault::status(FINE)
-        }
-        Err(error) => Fault::of(error),
-    }
-}
-
-/// Writes the `Row` of a list of arguments that was skipped, or returns the fault of its error.
-#[inline(always)]
-fn write_argument_list(skipped: &Result<()>, row: &mut Row) -> Fault
-    ensures { IsWritten (λ nothing. row_of (argument_list [])) skipped.now row.old result row.new }
-{
-    match skipped {
-        Ok(_) => {
-            *row = argument_list_row();
-            Fault::status(FINE)
-        }
-        Err(error) => Fault::of(error),
-    }
-}
-
-/// Writes the numbers in a record, or returns the fault of its error. No field and no argument of a
-/// list is kept, since its `Row` says nothing of them.
-#[inline(always)]
-fn write_record(alloc: Global, bytes: &[u8], row: &mut Row) -> Fault
-    ensures { IsAnswered (λ value. row_of value) (type_record bytes.now) row.old result row.new }
-{
-    let mut buffer = ParseBuffer::from(bytes);
-    let kind = match buffer.parse_u16() {
-        Ok(kind) => kind,
-        Err(error) => return Fault::of(&error),
-    };
-    if kind == LF_FIELDLIST {
-        return write_field_list(&skip_field_list(alloc, &mut buffer), row);
-    }
-    if kind == LF_ARGLIST {
-        return write_argument_list(&skip_arguments(&mut buffer), row);
-    }
-    // What a function in between returned would be copied.
-    write_row(&parse_behind_leaf(alloc, &mut buffer, kind), row)
-}
-
 /// Writes the numbers in the record of a type, or returns the fault of its error. An index below
 /// 0x1000 is that of a primitive type, which needs no record.
 #[inline(always)]
-#[tactic(auto, unfolding(pdb_tpi::specs::Record::type_of))]
 pub fn write_type_row(alloc: Global, bytes: &[u8], index: u32, row: &mut Row) -> Fault
     ensures { IsAnswered (λ value. row_of value) (type_of index bytes.now) row.old result row.new }
 {
-    if index < FIRST_RECORD {
-        return write_row(&type_data_for_primitive(TypeIndex(index)), row);
-    }
-    write_record(alloc, bytes, row)
+    write_row(&type_in(alloc, bytes, index), row)
 }
 
 /// Copies the name of a type that was parsed, or returns the fault of its error.
@@ -133,21 +77,8 @@ pub fn copy_type_name(parsed: Result<TypeData<'_>>, room: &mut [u8], length: &mu
 pub fn numbers_of(alloc: Global, indexes: &[TypeIndex]) -> Result<Vec<u32>>
     ensures { Answers (λ numbers. numbers.items) result (Ok (map (λ index. index.0) indexes.now)) }
 {
-    let mut numbers = Vec::new(alloc);
-    for index in indexes {
-        numbers.push(index.0)?;
-    }
+    let numbers = indexes.iter().map(|index| index.0).collect(alloc)?;
     Ok(numbers)
-}
-
-/// Returns the types of the arguments that a type lists, or None if it isn't a list of arguments.
-fn arguments_in(alloc: Global, value: &TypeData<'_>) -> Result<Option<Vec<u32>>>
-    ensures { Answers (option_map (λ list. list.items)) result (Ok (arguments_in (type_value value.now))) }
-{
-    match value {
-        TypeData::ArgumentList(list) => Ok(Some(numbers_of(alloc, &list.arguments)?)),
-        _ => Ok(None),
-    }
 }
 
 /// Parses a record and returns the types of the arguments that it lists, or None if it isn't a list
@@ -159,5 +90,8 @@ pub fn arguments_of(alloc: Global, bytes: &[u8], index: u32) -> Result<Option<Ve
     ensures { Answers (option_map (λ list. list.items)) result (arguments_of index bytes.now) }
 {
     let value = type_in(alloc, bytes, index)?;
-    arguments_in(alloc, &value)
+    match &value {
+        TypeData::ArgumentList(list) => Ok(Some(numbers_of(alloc, &list.arguments)?)),
+        _ => Ok(None),
+    }
 }

@@ -1,44 +1,32 @@
 //! The numbers in a record, as a `Row`.
 
-ghost use Rattle.std.specs.Prelude.{◌≡◌, ◌+◌, ◌*◌, ◌≤◌, []};
-ghost use Rattle.pdb_values.specs.Array.{array_value};
-ghost use Rattle.pdb_values.specs.Class.{class_value};
-ghost use Rattle.pdb_values.specs.Enumeration.{enumerate_value, enumeration_value};
-ghost use Rattle.pdb_values.specs.Member.{member_value, nested_value, static_member_value};
-ghost use Rattle.pdb_values.specs.Method.{method_value, overloaded_method_value};
-ghost use Rattle.pdb_values.specs.TableShape.{table_shape_value};
-ghost use Rattle.pdb_values.specs.Union.{union_value};
-ghost use Rattle.pdb_values.specs.TypeValue.{argument_list, array, base_class, bitfield, class, enumerate, enumeration, field_list, member, member_function, method, modifier, nested, no_field, overloaded_method, plain, pointer, procedure, static_member, union, virtual_base_class, virtual_function_table_pointer, virtual_table_shape};
+ghost use Rattle.std.specs.Prelude.{◌≡◌, ◌+◌, ◌*◌, ◌≤◌};
 ghost use Rattle.pdb_values.specs.TypeView.{type_value};
 ghost use Rattle.pdb_handles.specs.Frame.{flag};
-ghost use Rattle.pdb_handles.specs.Row.{bit, class_kind, index_in, is_negative, magnitude, no_numbers, row, row_of};
+ghost use Rattle.pdb_handles.specs.Row.{bit, class_kind, in_64_bits, index_in, is_signed, no_numbers, row, row_of, width_of};
 
 use crate::frame::flag;
 use pdb_base::{TypeIndex, Variant};
-use pdb_values::{
-    ArrayType, BaseClassType, BitfieldType, ClassKind, ClassType, EnumerateType, EnumerationType,
-    MemberFunctionType, MemberType, MethodType, ModifierType, NestedType, OverloadedMethodType,
-    PointerType, ProcedureType, StaticMemberType, TypeData, UnionType, VirtualBaseClassType,
-    VirtualFunctionTablePointerType, VirtualTableShapeType,
-};
+use pdb_values::{ClassKind, TypeData};
 
 /// The numbers in the record of a type: what it says besides names and lists. Each shape has some
 /// of them.
 #[repr(C)]
 #[derive(Clone, Copy)]
 pub struct Row {
-    /// The size of a class or a union; the offset of a member or a base class; for a virtual base
-    /// class, the offset of the pointer to its table; or the absolute value of an enumeration's
-    /// value.
-    pub number: u64,
-    /// The shape of the record, numbered as in `pdb_shape`.
+    /// The shape of the record, numbered as in `pdb_shape`, or for an id as in `pdb_id_shape`.
     pub shape: u32,
-    /// Which of the numbers below, and of the one above, the record has: bit 0 for `kind`, bit 1
-    /// for `attributes`, and so on, bit 8 for `extra` and bit 9 for `number`. The others are 0.
-    pub stands: u32,
+    /// Which of the numbers below the record has: bit 0 for `kind`, bit 1 for `attributes`, and so
+    /// on, bit 8 for `extra` and bit 9 for `number`. The others are 0.
+    pub has: u32,
+    /// The size of a class or a union; the offset of a member or a base class; for a virtual base
+    /// class, the offset of the pointer to its table; an enumeration's value in 64 bits, in two's
+    /// complement if it is below 0; or the offset in the string table of the name of the file that
+    /// declares a type.
+    pub number: u64,
     /// For a class or a base class, 0 for a class, 1 for a structure, 2 for an interface; for a
-    /// virtual base class, whether it is a direct one; for an enumeration's value, whether it is
-    /// below 0; for a type with modifiers, the sum of 1 for const, 2 for volatile and 4 for
+    /// virtual base class, whether it is a direct one; for an enumeration's value, whether it can
+    /// be below 0; for a type with modifiers, the sum of 1 for const, 2 for volatile and 4 for
     /// unaligned.
     pub kind: u32,
     /// The word of a member's, a function's or a pointer's attributes.
@@ -46,21 +34,25 @@ pub struct Row {
     /// The word of the properties of a class, a union or an enumeration.
     pub properties: u32,
     /// The number of members, values, parameters, methods or functions, or of the bits of a bit
-    /// field.
+    /// field, or of the bytes of an enumeration's value.
     pub count: u32,
     /// The type that is pointed at, modified or held; the type of a member, an element or a method;
-    /// the base class; or the type that a function returns.
+    /// the base class; the type that a function returns; the type of an id's function; or the type
+    /// that is declared.
     pub type_index: u32,
     /// The class of a method or of a pointer to a member, the pointer to a virtual base class's
-    /// table, the type by which an array is indexed, or the list of a class's base classes.
+    /// table, the type by which an array is indexed, the list of a class's base classes, the scope
+    /// of an id, or the id of the file that declares a type.
     pub second_index: u32,
-    /// The type of a method's `this`, or the shape of a class's table of virtual functions.
+    /// The type of a method's `this`, the shape of a class's table of virtual functions, or for an
+    /// id the class of a method, or the module that declares a type.
     pub third_index: u32,
-    /// The list of fields, of arguments or of methods, or the list in which a list of fields
-    /// continues.
+    /// The list of fields, of arguments, of methods or of the parts of a text, or the list in which
+    /// a list of fields continues.
     pub list_index: u32,
     /// The place of a method in the table of virtual functions, how `this` is adjusted, the place
-    /// of a virtual base class in its table, an array's stride, or the lowest bit of a bit field.
+    /// of a virtual base class in its table, an array's stride, the lowest bit of a bit field, or
+    /// the line that declares a type.
     pub extra: u32,
 }
 
@@ -88,6 +80,15 @@ pub struct Numbers {
     /// What `Row::number` holds, if the record has it.
     pub number: Option<u64>,
 }
+
+/// Returns the `Row` of a shape and some numbers. The others are absent.
+macro_rules! row {
+    ($shape:expr; $($name:ident: $value:expr),*) => {
+        Row::of($shape, &Numbers { $($name: $value,)* ..NO_NUMBERS })
+    };
+}
+
+pub(crate) use row;
 
 /// No numbers.
 pub const NO_NUMBERS: Numbers = Numbers {
@@ -124,47 +125,56 @@ fn index_in(index: Option<TypeIndex>) -> Option<u32>
     }
 }
 
-/// Returns whether a number is below 0.
-fn is_negative(value: Variant) -> bool
-    ensures { result ≡ is_negative value }
+/// Returns whether a number can be below 0.
+fn is_signed(value: Variant) -> bool
+    ensures { result ≡ is_signed value }
 {
     match value {
-        Variant::I8(n) => n < 0,
-        Variant::I16(n) => n < 0,
-        Variant::I32(n) => n < 0,
-        Variant::I64(n) => n < 0,
+        Variant::I8(_) | Variant::I16(_) | Variant::I32(_) | Variant::I64(_) => true,
         _ => false,
     }
 }
 
-/// Returns the absolute value of a number.
-fn magnitude(value: Variant) -> u64
-    ensures { result ≡ magnitude value }
+/// Returns the width of a number in bytes.
+fn width_of(value: Variant) -> u32
+    ensures { result ≡ width_of value }
+{
+    match value {
+        Variant::U8(_) | Variant::I8(_) => 1,
+        Variant::U16(_) | Variant::I16(_) => 2,
+        Variant::U32(_) | Variant::I32(_) => 4,
+        Variant::U64(_) | Variant::I64(_) => 8,
+    }
+}
+
+/// Returns a number in 64 bits, in two's complement if it is below 0.
+fn in_64_bits(value: Variant) -> u64
+    ensures { result ≡ in_64_bits value }
 {
     match value {
         Variant::U8(n) => n as u64,
         Variant::U16(n) => n as u64,
         Variant::U32(n) => n as u64,
         Variant::U64(n) => n,
-        Variant::I8(n) => n.unsigned_abs() as u64,
-        Variant::I16(n) => n.unsigned_abs() as u64,
-        Variant::I32(n) => n.unsigned_abs() as u64,
-        Variant::I64(n) => n.unsigned_abs(),
+        Variant::I8(n) => i64::from(n).cast_unsigned(),
+        Variant::I16(n) => i64::from(n).cast_unsigned(),
+        Variant::I32(n) => i64::from(n).cast_unsigned(),
+        Variant::I64(n) => n.cast_unsigned(),
     }
 }
 
 /// Returns the weight of a bit if its number is present, and 0 if not.
 #[inline(always)]
-fn bit(weight: u32, stands: bool) -> u32
+fn bit(weight: u32, is_there: bool) -> u32
     requires { weight ≤ 512 }
-    ensures { result ≡ weight * flag stands }
+    ensures { result ≡ weight * flag is_there }
 {
-    weight * flag(stands)
+    weight * flag(is_there)
 }
 
 /// Returns the bits of the numbers that are present.
 #[inline(always)]
-fn stands(numbers: &Numbers) -> u32
+fn bits_of_numbers(numbers: &Numbers) -> u32
     ensures { result ≡ bit 1 numbers.now.kind + bit 2 numbers.now.attributes + bit 4 numbers.now.properties +
         bit 8 numbers.now.count + bit 16 numbers.now.type_index + bit 32 numbers.now.second_index +
         bit 64 numbers.now.third_index + bit 128 numbers.now.list_index + bit 256 numbers.now.extra +
@@ -182,339 +192,6 @@ fn stands(numbers: &Numbers) -> u32
         + bit(512, numbers.number.is_some())
 }
 
-/// Returns the `Row` of a class.
-#[inline(always)]
-fn class_row(v: &ClassType<'_>) -> Row
-    ensures { result ≡ row_of (plain (class (class_value v.now))) }
-{
-    Row::of(
-        1,
-        &Numbers {
-            kind: Some(class_kind(v.kind)),
-            properties: Some(v.properties.bits() as u32),
-            count: Some(v.count as u32),
-            second_index: index_in(v.derived_from),
-            third_index: index_in(v.vtable_shape),
-            list_index: index_in(v.fields),
-            number: Some(v.size),
-            ..NO_NUMBERS
-        },
-    )
-}
-
-/// Returns the `Row` of a member.
-#[inline(always)]
-fn member_row(v: &MemberType<'_>) -> Row
-    ensures { result ≡ row_of (plain (member (member_value v.now))) }
-{
-    Row::of(
-        2,
-        &Numbers {
-            attributes: Some(v.attributes.bits() as u32),
-            type_index: Some(v.field_type.0),
-            number: Some(v.offset),
-            ..NO_NUMBERS
-        },
-    )
-}
-
-/// Returns the `Row` of a method's type.
-#[inline(always)]
-fn member_function_row(v: &MemberFunctionType) -> Row
-    ensures { result ≡ row_of (plain (member_function v.now)) }
-{
-    Row::of(
-        3,
-        &Numbers {
-            attributes: Some(v.attributes.bits() as u32),
-            count: Some(v.parameter_count as u32),
-            type_index: Some(v.return_type.0),
-            second_index: Some(v.class_type.0),
-            third_index: index_in(v.this_pointer_type),
-            list_index: Some(v.argument_list.0),
-            extra: Some(v.this_adjustment),
-            ..NO_NUMBERS
-        },
-    )
-}
-
-/// Returns the `Row` of the methods of one name.
-#[inline(always)]
-fn overloaded_method_row(v: &OverloadedMethodType<'_>) -> Row
-    ensures { result ≡ row_of (plain (overloaded_method (overloaded_method_value v.now))) }
-{
-    Row::of(
-        4,
-        &Numbers {
-            count: Some(v.count as u32),
-            list_index: Some(v.method_list.0),
-            ..NO_NUMBERS
-        },
-    )
-}
-
-/// Returns the `Row` of a method.
-#[inline(always)]
-fn method_row(v: &MethodType<'_>) -> Row
-    ensures { result ≡ row_of (plain (method (method_value v.now))) }
-{
-    Row::of(
-        5,
-        &Numbers {
-            attributes: Some(v.attributes.bits() as u32),
-            type_index: Some(v.method_type.0),
-            extra: v.vtable_offset,
-            ..NO_NUMBERS
-        },
-    )
-}
-
-/// Returns the `Row` of a static member.
-#[inline(always)]
-fn static_member_row(v: &StaticMemberType<'_>) -> Row
-    ensures { result ≡ row_of (plain (static_member (static_member_value v.now))) }
-{
-    Row::of(
-        6,
-        &Numbers {
-            attributes: Some(v.attributes.bits() as u32),
-            type_index: Some(v.field_type.0),
-            ..NO_NUMBERS
-        },
-    )
-}
-
-/// Returns the `Row` of a nested type.
-#[inline(always)]
-fn nested_row(v: &NestedType<'_>) -> Row
-    ensures { result ≡ row_of (plain (nested (nested_value v.now))) }
-{
-    Row::of(
-        7,
-        &Numbers {
-            attributes: Some(v.attributes.bits() as u32),
-            type_index: Some(v.nested_type.0),
-            ..NO_NUMBERS
-        },
-    )
-}
-
-/// Returns the `Row` of a base class.
-#[inline(always)]
-fn base_class_row(v: &BaseClassType) -> Row
-    ensures { result ≡ row_of (plain (base_class v.now)) }
-{
-    Row::of(
-        8,
-        &Numbers {
-            kind: Some(class_kind(v.kind)),
-            attributes: Some(v.attributes.bits() as u32),
-            type_index: Some(v.base_class.0),
-            number: Some(v.offset as u64),
-            ..NO_NUMBERS
-        },
-    )
-}
-
-/// Returns the `Row` of a virtual base class.
-#[inline(always)]
-fn virtual_base_class_row(v: &VirtualBaseClassType) -> Row
-    ensures { result ≡ row_of (plain (virtual_base_class v.now)) }
-{
-    Row::of(
-        9,
-        &Numbers {
-            kind: Some(flag(v.direct)),
-            attributes: Some(v.attributes.bits() as u32),
-            type_index: Some(v.base_class.0),
-            second_index: Some(v.base_pointer.0),
-            number: Some(v.base_pointer_offset as u64),
-            extra: Some(v.virtual_base_offset),
-            ..NO_NUMBERS
-        },
-    )
-}
-
-/// Returns the `Row` of a pointer to a table of virtual functions.
-#[inline(always)]
-fn virtual_function_table_pointer_row(v: &VirtualFunctionTablePointerType) -> Row
-    ensures { result ≡ row_of (plain (virtual_function_table_pointer v.now)) }
-{
-    Row::of(
-        10,
-        &Numbers {
-            type_index: Some(v.table.0),
-            ..NO_NUMBERS
-        },
-    )
-}
-
-/// Returns the `Row` of a function's type.
-#[inline(always)]
-fn procedure_row(v: &ProcedureType) -> Row
-    ensures { result ≡ row_of (plain (procedure v.now)) }
-{
-    Row::of(
-        11,
-        &Numbers {
-            attributes: Some(v.attributes.bits() as u32),
-            count: Some(v.parameter_count as u32),
-            type_index: index_in(v.return_type),
-            list_index: Some(v.argument_list.0),
-            ..NO_NUMBERS
-        },
-    )
-}
-
-/// Returns the `Row` of a pointer.
-#[inline(always)]
-fn pointer_row(v: &PointerType) -> Row
-    ensures { result ≡ row_of (plain (pointer v.now)) }
-{
-    Row::of(
-        12,
-        &Numbers {
-            attributes: Some(v.attributes.bits()),
-            type_index: Some(v.underlying_type.0),
-            second_index: index_in(v.containing_class),
-            ..NO_NUMBERS
-        },
-    )
-}
-
-/// Returns the `Row` of a type with modifiers.
-#[inline(always)]
-fn modifier_row(v: &ModifierType) -> Row
-    ensures { result ≡ row_of (plain (modifier v.now)) }
-{
-    Row::of(
-        13,
-        &Numbers {
-            kind: Some(flag(v.constant) + 2 * flag(v.volatile) + 4 * flag(v.unaligned)),
-            type_index: Some(v.underlying_type.0),
-            ..NO_NUMBERS
-        },
-    )
-}
-
-/// Returns the `Row` of an enumeration.
-#[inline(always)]
-fn enumeration_row(v: &EnumerationType<'_>) -> Row
-    ensures { result ≡ row_of (plain (enumeration (enumeration_value v.now))) }
-{
-    Row::of(
-        14,
-        &Numbers {
-            properties: Some(v.properties.bits() as u32),
-            count: Some(v.count as u32),
-            type_index: Some(v.underlying_type.0),
-            list_index: Some(v.fields.0),
-            ..NO_NUMBERS
-        },
-    )
-}
-
-/// Returns the `Row` of a value of an enumeration.
-#[inline(always)]
-fn enumerate_row(v: &EnumerateType<'_>) -> Row
-    ensures { result ≡ row_of (plain (enumerate (enumerate_value v.now))) }
-{
-    Row::of(
-        15,
-        &Numbers {
-            kind: Some(flag(is_negative(v.value))),
-            attributes: Some(v.attributes.bits() as u32),
-            number: Some(magnitude(v.value)),
-            ..NO_NUMBERS
-        },
-    )
-}
-
-/// Returns the `Row` of an array.
-#[inline(always)]
-fn array_row(v: &ArrayType) -> Row
-    ensures { result ≡ row_of (array (array_value v.now)) }
-{
-    Row::of(
-        16,
-        &Numbers {
-            type_index: Some(v.element_type.0),
-            second_index: Some(v.indexing_type.0),
-            extra: v.stride,
-            ..NO_NUMBERS
-        },
-    )
-}
-
-/// Returns the `Row` of a union.
-#[inline(always)]
-fn union_row(v: &UnionType<'_>) -> Row
-    ensures { result ≡ row_of (plain (union (union_value v.now))) }
-{
-    Row::of(
-        17,
-        &Numbers {
-            properties: Some(v.properties.bits() as u32),
-            count: Some(v.count as u32),
-            list_index: Some(v.fields.0),
-            number: Some(v.size),
-            ..NO_NUMBERS
-        },
-    )
-}
-
-/// Returns the `Row` of a bit field.
-#[inline(always)]
-fn bitfield_row(v: &BitfieldType) -> Row
-    ensures { result ≡ row_of (plain (bitfield v.now)) }
-{
-    Row::of(
-        18,
-        &Numbers {
-            count: Some(v.length as u32),
-            type_index: Some(v.underlying_type.0),
-            extra: Some(v.position as u32),
-            ..NO_NUMBERS
-        },
-    )
-}
-
-/// Returns the `Row` of the shape of a table of virtual functions.
-#[inline(always)]
-fn virtual_table_shape_row(v: &VirtualTableShapeType<'_>) -> Row
-    ensures { result ≡ row_of (plain (virtual_table_shape (table_shape_value v.now))) }
-{
-    Row::of(
-        22,
-        &Numbers {
-            count: Some(v.count as u32),
-            ..NO_NUMBERS
-        },
-    )
-}
-
-/// Returns the `Row` of a list of fields, from its continuation.
-#[inline(always)]
-pub fn field_list_row(continuation: Option<TypeIndex>) -> Row
-    ensures { result ≡ row_of (field_list no_field continuation) }
-{
-    Row::of(
-        19,
-        &Numbers {
-            list_index: index_in(continuation),
-            ..NO_NUMBERS
-        },
-    )
-}
-
-/// Returns the `Row` of a list of arguments, which has no numbers.
-#[inline(always)]
-pub fn argument_list_row() -> Row
-    ensures { result ≡ row_of (argument_list []) }
-{
-    Row::of(20, &NO_NUMBERS)
-}
-
 impl Row {
     /// Returns the `Row` of a shape and its numbers.
     #[inline(always)]
@@ -523,9 +200,9 @@ impl Row {
         ensures { result ≡ row shape numbers.now }
     {
         Row {
-            number: numbers.number.unwrap_or(0),
             shape,
-            stands: stands(numbers),
+            has: bits_of_numbers(numbers),
+            number: numbers.number.unwrap_or(0),
             kind: numbers.kind.unwrap_or(0),
             attributes: numbers.attributes.unwrap_or(0),
             properties: numbers.properties.unwrap_or(0),
@@ -544,30 +221,67 @@ impl Row {
     {
         match value {
             TypeData::Primitive(_) => *self = Row::of(0, &NO_NUMBERS),
-            TypeData::Class(v) => *self = class_row(v),
-            TypeData::Member(v) => *self = member_row(v),
-            TypeData::MemberFunction(v) => *self = member_function_row(v),
-            TypeData::OverloadedMethod(v) => *self = overloaded_method_row(v),
-            TypeData::Method(v) => *self = method_row(v),
-            TypeData::StaticMember(v) => *self = static_member_row(v),
-            TypeData::Nested(v) => *self = nested_row(v),
-            TypeData::BaseClass(v) => *self = base_class_row(v),
-            TypeData::VirtualBaseClass(v) => *self = virtual_base_class_row(v),
-            TypeData::VirtualFunctionTablePointer(v) => *self = virtual_function_table_pointer_row(
-                v,
-            ),
-            TypeData::Procedure(v) => *self = procedure_row(v),
-            TypeData::Pointer(v) => *self = pointer_row(v),
-            TypeData::Modifier(v) => *self = modifier_row(v),
-            TypeData::Enumeration(v) => *self = enumeration_row(v),
-            TypeData::Enumerate(v) => *self = enumerate_row(v),
-            TypeData::Array(v) => *self = array_row(v),
-            TypeData::Union(v) => *self = union_row(v),
-            TypeData::Bitfield(v) => *self = bitfield_row(v),
-            TypeData::FieldList(v) => *self = field_list_row(v.continuation),
-            TypeData::ArgumentList(_) => *self = argument_list_row(),
+            TypeData::Class(v) => *self = row!(1;
+                kind: Some(class_kind(v.kind)), properties: Some(v.properties.bits() as u32),
+                count: Some(v.count as u32), second_index: index_in(v.derived_from),
+                third_index: index_in(v.vtable_shape), list_index: index_in(v.fields),
+                number: Some(v.size)),
+            TypeData::Member(v) => *self = row!(2;
+                attributes: Some(v.attributes.bits() as u32), type_index: Some(v.field_type.0),
+                number: Some(v.offset)),
+            TypeData::MemberFunction(v) => *self = row!(3;
+                attributes: Some(v.attributes.bits() as u32),
+                count: Some(v.parameter_count as u32), type_index: Some(v.return_type.0),
+                second_index: Some(v.class_type.0), third_index: index_in(v.this_pointer_type),
+                list_index: Some(v.argument_list.0), extra: Some(v.this_adjustment)),
+            TypeData::OverloadedMethod(v) => *self = row!(4;
+                count: Some(v.count as u32), list_index: Some(v.method_list.0)),
+            TypeData::Method(v) => *self = row!(5;
+                attributes: Some(v.attributes.bits() as u32), type_index: Some(v.method_type.0),
+                extra: v.vtable_offset),
+            TypeData::StaticMember(v) => *self = row!(6;
+                attributes: Some(v.attributes.bits() as u32), type_index: Some(v.field_type.0)),
+            TypeData::Nested(v) => *self = row!(7;
+                attributes: Some(v.attributes.bits() as u32), type_index: Some(v.nested_type.0)),
+            TypeData::BaseClass(v) => *self = row!(8;
+                kind: Some(class_kind(v.kind)), attributes: Some(v.attributes.bits() as u32),
+                type_index: Some(v.base_class.0), number: Some(v.offset as u64)),
+            TypeData::VirtualBaseClass(v) => *self = row!(9;
+                kind: Some(flag(v.direct)), attributes: Some(v.attributes.bits() as u32),
+                type_index: Some(v.base_class.0), second_index: Some(v.base_pointer.0),
+                number: Some(v.base_pointer_offset as u64), extra: Some(v.virtual_base_offset)),
+            TypeData::VirtualFunctionTablePointer(v) => *self = row!(10;
+                type_index: Some(v.table.0)),
+            TypeData::Procedure(v) => *self = row!(11;
+                attributes: Some(v.attributes.bits() as u32),
+                count: Some(v.parameter_count as u32), type_index: index_in(v.return_type),
+                list_index: Some(v.argument_list.0)),
+            TypeData::Pointer(v) => *self = row!(12;
+                attributes: Some(v.attributes.bits()), type_index: Some(v.underlying_type.0),
+                second_index: index_in(v.containing_class)),
+            TypeData::Modifier(v) => *self = row!(13;
+                kind: Some(flag(v.constant) + 2 * flag(v.volatile) + 4 * flag(v.unaligned)),
+                type_index: Some(v.underlying_type.0)),
+            TypeData::Enumeration(v) => *self = row!(14;
+                properties: Some(v.properties.bits() as u32), count: Some(v.count as u32),
+                type_index: Some(v.underlying_type.0), list_index: Some(v.fields.0)),
+            TypeData::Enumerate(v) => *self = row!(15;
+                kind: Some(flag(is_signed(v.value))),
+                attributes: Some(v.attributes.bits() as u32), count: Some(width_of(v.value)),
+                number: Some(in_64_bits(v.value))),
+            TypeData::Array(v) => *self = row!(16;
+                type_index: Some(v.element_type.0), second_index: Some(v.indexing_type.0),
+                extra: v.stride),
+            TypeData::Union(v) => *self = row!(17;
+                properties: Some(v.properties.bits() as u32), count: Some(v.count as u32),
+                list_index: Some(v.fields.0), number: Some(v.size)),
+            TypeData::Bitfield(v) => *self = row!(18;
+                count: Some(v.length as u32), type_index: Some(v.underlying_type.0),
+                extra: Some(v.position as u32)),
+            TypeData::FieldList(v) => *self = row!(19; list_index: index_in(v.continuation)),
+            TypeData::ArgumentList(_) => *self = Row::of(20, &NO_NUMBERS),
             TypeData::MethodList(_) => *self = Row::of(21, &NO_NUMBERS),
-            TypeData::VirtualTableShape(v) => *self = virtual_table_shape_row(v),
+            TypeData::VirtualTableShape(v) => *self = row!(22; count: Some(v.count as u32)),
         }
     }
 

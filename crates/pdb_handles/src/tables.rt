@@ -7,19 +7,18 @@ ghost use Rattle.pdb_handles.specs.Handle.{held_as};
 ghost use Rattle.pdb_handles.specs.Tables.{table_opened};
 
 use crate::content::Content;
-use crate::open_table::opened;
 use pdb_base::{Result, Stream};
+use pdb_tpi::{OpenTable, TypeInformation};
 use std::alloc::Global;
 
 /// Opens the table in a stream, which is copied.
 ///
 /// # Errors
-/// Fails as `opened` does, and with `OutOfMemory` if an allocation fails.
+/// Fails as `TypeInformation::parse` does, and with `OutOfMemory` if an allocation fails.
 pub fn table_in(alloc: Global, stream: &[u8]) -> Result<Content>
     requires { length stream.now < 0xffffffff }
     ensures { Answers (λ content. content) result (held_as Table (table_opened stream.now)) }
 {
-    let bytes = stream.to_vec(alloc)?;
-    let table = opened(alloc, Stream::new(bytes))?;
-    Ok(Content::Table(table))
+    let items = TypeInformation::parse(Stream::new(stream.to_vec(alloc)?))?;
+    Ok(Content::Table(OpenTable::new(alloc, items)?))
 }

@@ -4,7 +4,7 @@ ghost use Rattle.pdb_tpi.specs.OpenTable.{bytes_at};
 ghost use Rattle.pdb_tpi.specs.Record.{type_of};
 ghost use Rattle.pdb_handles.specs.Walked.{IsTypeRow, WritesNext};
 
-use crate::fault::{FINE, Fault, NOWHERE};
+use crate::fault::{END, FINE, Fault};
 use crate::located::Located;
 use crate::records::write_type_row;
 use crate::row::{NO_NUMBERS, Row};
@@ -20,8 +20,8 @@ pub struct TypeRow {
     pub place: Located,
     /// How parsing the record ended.
     pub fault: Fault,
-    /// The numbers in the record, or zeros if parsing it failed.
-    pub row: Row,
+    /// What the record says, or zeros if parsing it failed.
+    pub info: Row,
 }
 
 /// Parses the record at a place of a table, which is that of the type of an index, and writes what
@@ -37,9 +37,9 @@ fn write_type(
     ensures { IsTypeRow index place (type_of index (bytes_at kept.now.table place)) told.new }
 {
     told.place = Located::at(index, place);
-    told.fault = write_type_row(alloc, kept.bytes_at(place), index, &mut told.row);
+    told.fault = write_type_row(alloc, kept.bytes_at(place), index, &mut told.info);
     if told.fault.status != FINE {
-        told.row = Row::of(0, &NO_NUMBERS);
+        told.info = Row::of(0, &NO_NUMBERS);
     }
 }
 
@@ -60,7 +60,7 @@ pub fn write_next(
             Ok(Some(place)) => write_type(alloc, kept, index, place, &mut rows[at]),
             Ok(None) => {
                 *count = at;
-                return Fault::status(NOWHERE);
+                return Fault::status(END);
             }
             Err(error) => {
                 *count = at;

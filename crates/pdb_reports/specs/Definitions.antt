@@ -10,7 +10,7 @@ use Rattle.pdb_types.specs.TypeAt.{type_at}
 use Rattle.pdb_handles.specs.declared.content.Content.{Content}
 use Rattle.pdb_handles.specs.declared.content.Content.TheVariants as contents
 use Rattle.pdb_handles.specs.Copied.{Copied, untouched, written}
-use Rattle.pdb_handles.specs.Fault.{fault_of, not_open}
+use Rattle.pdb_handles.specs.Fault.{fault_of, no_value, not_open}
 use Rattle.pdb_handles.specs.Found.{Found, found}
 
 -- the table of types in a stream, whose definitions are found in one walk along it
@@ -28,7 +28,7 @@ definitions_named name table = Ok (all_definitions table (source_name name))
 
 -- a value that was found; or it was not found, or refused, and then the variable stays as it was
 abbrev pub found_told : {A : Type 0} → A → Answer (Option A) → Found A
-found_told old (Ok value) = found old value
+found_told old (Ok value) = found no_value old value
 found_told old (Err refusal) = record { fault = fault_of refusal; value = old }
 
 -- the same for what a handle holds, if it holds what is asked, and else `not_open`

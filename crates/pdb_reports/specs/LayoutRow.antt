@@ -17,7 +17,7 @@ use Rattle.pdb_types.specs.FieldPlace.{virtual_base_pointer, virtual_function_po
 use Rattle.pdb_types.specs.Gap.{AreGapRows}
 use Rattle.pdb_types.specs.Layout.{FieldValue, LayoutValue, layout_of}
 use Rattle.pdb_reports.specs.declared.layout_row.LayoutRow.{LayoutRow}
-use Rattle.pdb_handles.specs.Fault.{fault_of, not_open, nowhere}
+use Rattle.pdb_handles.specs.Fault.{fault_of, no_value, not_open}
 use Rattle.pdb_handles.specs.Frame.{flag}
 use Rattle.pdb_handles.specs.Records.{Fielded, fielded, unfielded}
 
@@ -114,7 +114,7 @@ pub record WritesLayout (rows : List LayoutRow) (names : List ℕ) (layout : Lay
 -- The same for a layout that may be absent or refused.
 abbrev pub LaysOut : List LayoutRow → List ℕ → Answer (Option LayoutValue) → Fielded LayoutRow → Type 0
 LaysOut rows names (Ok (Some layout)) told = WritesLayout rows names layout told
-LaysOut rows names (Ok None) told = told ≡ unfielded nowhere rows names
+LaysOut rows names (Ok None) told = told ≡ unfielded no_value rows names
 LaysOut rows names (Err refusal) told = told ≡ unfielded (fault_of refusal) rows names
 
 -- The same; or memory was refused, and nothing was written.

@@ -16,7 +16,7 @@ use pdb_base::{Result, Stream, TypeIndex};
 use pdb_handles::copied::{copy_nothing, copy_out};
 use pdb_handles::found::tell_found;
 use pdb_handles::records::numbers_of;
-use pdb_handles::{Content, Fault};
+use pdb_handles::{Content, Fault, NONE};
 use pdb_tpi::{OpenTable, TypeInformation};
 use pdb_types::OpenDefinitions;
 use std::alloc::Global;
@@ -81,14 +81,14 @@ pub fn size_in(alloc: Global, kept: &OpenDefinitions, index: u32) -> Result<Opti
     definitions.size_of(alloc, TypeIndex(index))
 }
 
-/// Writes a value that was found, or returns a fault of status `NOWHERE` if there is none, or the
+/// Writes a value that was found, or returns a fault of status `NONE` if there is none, or the
 /// fault of the error.
 pub fn tell_if_found<T: Copy>(answer: Result<Option<T>>, value: &mut T) -> Fault
     ensures { (meant : Answer (Option T)) → Answers (λ found. found) answer meant
         → FindsOrLacks (record { fault = result; value = value.new }) value.old (found_told value.old meant) }
 {
     match answer {
-        Ok(found) => tell_found(found, value),
+        Ok(found) => tell_found(found, Fault::status(NONE), value),
         Err(error) => Fault::of(&error),
     }
 }

@@ -14,7 +14,7 @@ ghost use Rattle.pdb_handles.specs.Roles.{IsAnswered};
 use pdb_base::Result;
 use pdb_handles::copied::{copy_nothing, copy_out};
 use pdb_handles::file::opened;
-use pdb_handles::{FINE, Fault, NOWHERE};
+use pdb_handles::{FINE, Fault, NONE};
 use pdb_identity::{Format, Identity, LowerKey, UpperKey};
 use std::alloc::Global;
 use uuid::Uuid;
@@ -149,7 +149,7 @@ fn copy_guid(guid: Uuid, room: &mut [u8], length: &mut usize) -> Fault
 
 /// Copies the text of a file's key to the caller's array, in the form of a number: 0 for upper
 /// case, 1 for lower case, and 2 for the GUID alone with hyphens. Returns a fault of status
-/// `NOWHERE` for any other number.
+/// `NONE` for any other number.
 pub fn copy_key(
     alloc: Global,
     identity: &FileIdentity,
@@ -166,7 +166,7 @@ pub fn copy_key(
         0 => copy_made(upper_text(alloc, guid, age), room, length),
         1 => copy_made(lower_text(alloc, guid, age), room, length),
         2 => copy_guid(guid, room, length),
-        _ => copy_nothing(Fault::status(NOWHERE), length),
+        _ => copy_nothing(Fault::status(NONE), length),
     }
 }
 

@@ -11,7 +11,7 @@ ghost use Rattle.pdb_reports.specs.LayoutRow.{with_extent, with_role};
 use pdb_base::{Result, TypeIndex};
 use pdb_handles::copied::copy_both;
 use pdb_handles::fields::write_nothing;
-use pdb_handles::{Fault, NOWHERE, flag};
+use pdb_handles::{Fault, NONE, flag};
 use pdb_types::{Extent, FieldKind, Gap, GapKind, Layout, LayoutField, OpenDefinitions, Span};
 use std::alloc::Global;
 
@@ -236,7 +236,7 @@ fn write_layout(
 }
 
 /// Writes the entries of the layout of a type and the names of its fields, or returns a fault of
-/// status `NOWHERE` if it has no layout, or the fault of the error.
+/// status `NONE` if it has no layout, or the fault of the error.
 pub fn write_layout_of(
     alloc: Global,
     kept: &OpenDefinitions,
@@ -252,7 +252,7 @@ pub fn write_layout_of(
     let definitions = kept.definitions();
     match definitions.layout_of(alloc, TypeIndex(index)) {
         Ok(Some(layout)) => write_layout(alloc, &layout, rows, count, names, size),
-        Ok(None) => write_nothing(Fault::status(NOWHERE), count, size),
+        Ok(None) => write_nothing(Fault::status(NONE), count, size),
         Err(error) => write_nothing(Fault::of(&error), count, size),
     }
 }

@@ -1,0 +1,44 @@
+//! Faults, the version, and the end of a handle.
+
+ghost use Rattle.std.specs.Prelude.{◌≡◌, None};
+ghost use Rattle.pdb_handles.specs.Copied.{CopiesOrLacks, text_copied};
+ghost use Rattle.pdb_handles.specs.Told.{fault_text};
+
+use pdb_handles::text::copy_text_of;
+use pdb_handles::told::told;
+use pdb_handles::{Fault, Handle};
+use std::alloc::Global;
+
+/// Copies the library's text of the error that a fault reports into the caller's array.
+#[unsafe(no_mangle)]
+pub extern "C" fn pdb_error_text(
+    alloc: Global,
+    about: &Fault,
+    room: &mut [u8],
+    length: &mut usize,
+    fault: &mut Fault,
+) -> u32
+    ensures answer { CopiesOrLacks (record { fault = fault.new; length = length.new; room = room.new }) room.old
+        (text_copied room.old (fault_text about.now)) }
+    ensures status { result ≡ fault.new.status }
+{
+    let error = told(about.status, about.first, about.second);
+    copy_text_of(alloc, error, room, length).tell(fault)
+}
+
+/// Returns the version of the library: 10,000 times the major number, plus 100 times the minor one,
+/// plus the patch.
+#[unsafe(no_mangle)]
+pub extern "C" fn pdb_version() -> u32
+    ensures { result ≡ 100 }
+{
+    100
+}
+
+/// Closes a handle and frees what it holds, if it holds anything.
+#[unsafe(no_mangle)]
+pub extern "C" fn pdb_close(alloc: Global, handle: &mut Handle)
+    ensures { handle.new.held.content ≡ None }
+{
+    let _content = handle.take(alloc);
+}

@@ -1,0 +1,138 @@
+//! What the record of a type says.
+
+ghost use Rattle.std.specs.Prelude.{◌≡◌};
+ghost use Rattle.pdb_tpi.specs.Record.{type_of};
+ghost use Rattle.pdb_handles.specs.Copied.{CopiesOrLacks};
+ghost use Rattle.pdb_handles.specs.Lists.{dimensions_of, methods_of, unique_name_of};
+ghost use Rattle.pdb_handles.specs.Records.{FieldsOrLacks, arguments_of, fields_of_record, fields_told, if_copied, type_name};
+ghost use Rattle.pdb_handles.specs.Roles.{IsAnswered};
+ghost use Rattle.pdb_handles.specs.Row.{row_of};
+
+use pdb_handles::copied::copy_if;
+use pdb_handles::fields::{FieldRow, fields_of, write_found};
+use pdb_handles::lists::{copy_dimensions_of, copy_unique_name, methods_of};
+use pdb_handles::records::{arguments_of, copy_type_name, type_in, write_type_row};
+use pdb_handles::{Fault, Row};
+use std::alloc::Global;
+
+/// Writes the numbers in the record of a type.
+#[unsafe(no_mangle)]
+pub extern "C" fn pdb_type_parse(
+    alloc: Global,
+    bytes: &[u8],
+    index: u32,
+    row: &mut Row,
+    fault: &mut Fault,
+) -> u32
+    ensures answer { IsAnswered (λ value. row_of value) (type_of index bytes.now) row.old fault.new row.new }
+    ensures status { result ≡ fault.new.status }
+{
+    write_type_row(alloc, bytes, index, row).tell(fault)
+}
+
+/// Copies the name in the record of a type.
+#[unsafe(no_mangle)]
+pub extern "C" fn pdb_type_name(
+    alloc: Global,
+    bytes: &[u8],
+    index: u32,
+    room: &mut [u8],
+    length: &mut usize,
+    fault: &mut Fault,
+) -> u32
+    ensures answer { CopiesOrLacks (record { fault = fault.new; length = length.new; room = room.new }) room.old
+        (if_copied room.old (type_name index bytes.now)) }
+    ensures status { result ≡ fault.new.status }
+{
+    copy_type_name(type_in(alloc, bytes, index), room, length).tell(fault)
+}
+
+/// Copies the types of the arguments that a record lists.
+#[unsafe(no_mangle)]
+pub extern "C" fn pdb_type_arguments(
+    alloc: Global,
+    bytes: &[u8],
+    index: u32,
+    room: &mut [u32],
+    length: &mut usize,
+    fault: &mut Fault,
+) -> u32
+    ensures answer { CopiesOrLacks (record { fault = fault.new; length = length.new; room = room.new }) room.old
+        (if_copied room.old (arguments_of index bytes.now)) }
+    ensures status { result ≡ fault.new.status }
+{
+    copy_if(arguments_of(alloc, bytes, index), room, length).tell(fault)
+}
+
+/// Writes the methods in the record of a list of methods, each as a `Row`.
+#[unsafe(no_mangle)]
+pub extern "C" fn pdb_type_methods(
+    alloc: Global,
+    bytes: &[u8],
+    index: u32,
+    room: &mut [Row],
+    length: &mut usize,
+    fault: &mut Fault,
+) -> u32
+    ensures answer { CopiesOrLacks (record { fault = fault.new; length = length.new; room = room.new }) room.old
+        (if_copied room.old (methods_of index bytes.now)) }
+    ensures status { result ≡ fault.new.status }
+{
+    copy_if(methods_of(alloc, bytes, index), room, length).tell(fault)
+}
+
+/// Copies the size of an array in bytes up to each dimension, the innermost first, each including
+/// those before it.
+#[unsafe(no_mangle)]
+pub extern "C" fn pdb_type_dimensions(
+    alloc: Global,
+    bytes: &[u8],
+    index: u32,
+    room: &mut [u32],
+    length: &mut usize,
+    fault: &mut Fault,
+) -> u32
+    ensures answer { CopiesOrLacks (record { fault = fault.new; length = length.new; room = room.new }) room.old
+        (if_copied room.old (dimensions_of index bytes.now)) }
+    ensures status { result ≡ fault.new.status }
+{
+    copy_dimensions_of(type_in(alloc, bytes, index), room, length).tell(fault)
+}
+
+/// Copies the unique name in the record of a class, a union or an enumeration.
+#[unsafe(no_mangle)]
+pub extern "C" fn pdb_type_unique_name(
+    alloc: Global,
+    bytes: &[u8],
+    index: u32,
+    room: &mut [u8],
+    length: &mut usize,
+    fault: &mut Fault,
+) -> u32
+    ensures answer { CopiesOrLacks (record { fault = fault.new; length = length.new; room = room.new }) room.old
+        (if_copied room.old (unique_name_of index bytes.now)) }
+    ensures status { result ≡ fault.new.status }
+{
+    copy_unique_name(type_in(alloc, bytes, index), room, length).tell(fault)
+}
+
+/// Writes the fields in the record of a list of fields, and the bytes of their names, one name
+/// after another.
+#[unsafe(no_mangle)]
+pub extern "C" fn pdb_type_fields(
+    alloc: Global,
+    bytes: &[u8],
+    index: u32,
+    rows: &mut [FieldRow],
+    count: &mut usize,
+    names: &mut [u8],
+    size: &mut usize,
+    fault: &mut Fault,
+) -> u32
+    ensures answer { FieldsOrLacks
+        (record { fault = fault.new; rows = rows.new; count = count.new; names = names.new; size = size.new })
+        rows.old names.old (fields_told rows.old names.old (fields_of_record index bytes.now)) }
+    ensures status { result ≡ fault.new.status }
+{
+    write_found(fields_of(alloc, bytes, index), rows, count, names, size).tell(fault)
+}
