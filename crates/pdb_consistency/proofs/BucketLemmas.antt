@@ -1,10 +1,12 @@
 -- The buckets of a string table.
-use Rattle.std.proofs.Common.{Bool, true, false, ◌∷◌, length, if◌then◌else◌, ◌≡◌, ℕ, ◌+◌, ◌*◌, ◌==◌, ◌&&◌, not, List, [], refl, sym, ap, ◌∙◌, Option, Ok}
+use Rattle.std.proofs.Common.{Bool, true, false, ◌∷◌, length, if◌then◌else◌, ◌≡◌, ℕ, ◌+◌, ◌*◌, ◌==◌, ◌&&◌, not, List}
+use Rattle.std.proofs.Common.{[], refl, sym, ap, ◌∙◌, Option, Ok}
 use Rattle.std.specs.Bool.{then_some}
 use Rattle.std.specs.Option.{option_to_list}
 use Rattle.pdb_base.specs.Reading.{word_at}
 use Rattle.pdb_consistency.specs.Mismatch.{asked_of, with_further}
-use Rattle.pdb_consistency.specs.StringTable.{are_buckets_cut, names_mismatches_in, begins_name, bucket_byte, bucket_count, bucket_mismatch, buckets_byte}
+use Rattle.pdb_consistency.specs.StringTable.{are_buckets_cut, names_mismatches_in, begins_name, bucket_byte}
+use Rattle.pdb_consistency.specs.StringTable.{bucket_count, bucket_mismatch, buckets_byte}
 use Rattle.pdb_consistency.specs.StringTable.{buckets_mismatches, count_mismatch, in_names, names_in_buckets}
 use Rattle.pdb_consistency.specs.Words.{mismatches_at}
 use Rattle.pdb_consistency.specs.declared.inconsistency.Inconsistency.TheVariants.{BucketsCut, NameCount, NameOffset}
@@ -14,7 +16,8 @@ use Rattle.pdb_consistency.proofs.MismatchLemmas.{asked_in_one, asked_in_two, to
 
 pub bucket_told : (number : ℕ) (stream : List ℕ) (place byte offset : ℕ) (given : Option Mismatch)
     → byte ≡ bucket_byte stream place → offset ≡ word_at byte stream
-    → given ≡ then_some (not (offset == 0) && not (begins_name stream offset)) (in_names number byte (NameOffset offset))
+    → given ≡ then_some (not (offset == 0) && not (begins_name stream offset))
+    (in_names number byte (NameOffset offset))
     → given ≡ bucket_mismatch number stream place
 bucket_told number stream place byte offset given at read is = is ∙ rw (read, at) refl
 
@@ -40,7 +43,8 @@ if_so true xs ys is = refl
 if_so false xs ys is = absurd cc
 
 -- a string table that is cut has that mismatch alone
-pub cut_told : (extent : Extent) (number : ℕ) (stream : List ℕ) (test : Bool) (cut : Mismatch) (none kept : List Mismatch)
+pub cut_told : (extent : Extent) (number : ℕ) (stream : List ℕ) (test : Bool) (cut : Mismatch)
+    (none kept : List Mismatch)
     → test ≡ are_buckets_cut stream → test ≡ true → cut ≡ in_names number (length stream) BucketsCut → none ≡ []
     → told (with_further extent none (cut ∷ [])) ≡ Ok kept
     → told (asked_of extent (names_mismatches_in number stream)) ≡ Ok kept

@@ -3,7 +3,8 @@ use Rattle.std.proofs.Common.{◌≡◌, ℕ, ◌/◌, ◌≤◌, List, [], leng
 use Rattle.std.specs.Option.{option_to_list}
 use Rattle.pdb_tpi.specs.declared.header.Header.{Header}
 use Rattle.pdb_tpi.specs.Table.{Table, count_of}
-use Rattle.pdb_consistency.specs.Hashes.{count_mismatch_of, hashes_mismatches, offsets_mismatches, part_in, value_mismatch}
+use Rattle.pdb_consistency.specs.Hashes.{count_mismatch_of, hashes_mismatches, offsets_mismatches, part_in}
+use Rattle.pdb_consistency.specs.Hashes.{value_mismatch}
 use Rattle.pdb_consistency.specs.Hashes.{values_mismatches}
 use Rattle.pdb_consistency.specs.Mismatch.{asked_of, with_further}
 use Rattle.pdb_consistency.specs.Words.{mismatches_at}

@@ -1,11 +1,13 @@
 -- What a file that has a layout begins with.
-use Rattle.std.proofs.Common.{◌≡◌, ℕ, ◌<◌, ◌≤◌, Bool, true, false, ◌&&◌, nat_le, List, length, refl, arith, inl, inr, Ok}
+use Rattle.std.proofs.Common.{◌≡◌, ℕ, ◌<◌, ◌≤◌, Bool, true, false, ◌&&◌, nat_le, List, length, refl, arith, inl, inr}
+use Rattle.std.proofs.Common.{Ok}
 use Rattle.std.proofs.lemmas.Bool.{cases_lt, leb-true, lt-ltb}
 use Rattle.pdb_base.specs.Answer.{required}
 use Rattle.pdb_base.specs.Refusal.{Refusal}
 use Rattle.pdb_base.proofs.lemmas.Collected.{bind_ok, ok_is}
 use Rattle.pdb_msf.specs.Directory.{directory_of}
-use Rattle.pdb_msf.specs.Header.{Head, fields_of, geometry_of, head_of, is_page_size, location_pages, magic_of, opened, opening}
+use Rattle.pdb_msf.specs.Header.{Head, fields_of, geometry_of, head_of, is_page_size, location_pages, magic_of, opened}
+use Rattle.pdb_msf.specs.Header.{opening}
 use Rattle.pdb_msf.specs.Layout.{LayoutValue, layout_of}
 use Rattle.pdb_msf.specs.Pages.{page_numbers, words}
 use Rattle.pdb_msf.specs.declared.header.Geometry.{Geometry}

@@ -1,5 +1,6 @@
 -- Mismatches that are added one after another.
-use Rattle.std.proofs.Common.{◌≡◌, List, [], ◌∷◌, ◌++◌, take, refl, sym, ap, ◌∙◌, append_assoc, Bool, true, false, not, Ok}
+use Rattle.std.proofs.Common.{◌≡◌, List, [], ◌∷◌, ◌++◌, take, refl, sym, ap, ◌∙◌, append_assoc, Bool, true, false, not}
+use Rattle.std.proofs.Common.{Ok}
 use Rattle.std.specs.List.{filter}
 use Rattle.std.proofs.lemmas.List.{append-nil}
 use Rattle.std.proofs.lemmas.List.Sums.{fold-append}
@@ -23,7 +24,8 @@ all_kept kept [] = sym (append-nil kept)
 all_kept kept (x ∷ xs) = all_kept (kept ++ x ∷ []) xs ∙ append_assoc kept (x ∷ []) xs
 
 -- an error stays
-first_error : (kept : Mismatch) (xs : List Mismatch) → warns kept ≡ false → with_further First (kept ∷ []) xs ≡ kept ∷ []
+first_error : (kept : Mismatch) (xs : List Mismatch) → warns kept ≡ false
+    → with_further First (kept ∷ []) xs ≡ kept ∷ []
 first_error kept [] error = refl
 first_error kept (x ∷ xs) error = rw error (first_error kept xs error)
 
@@ -60,8 +62,9 @@ abbrev pub told : List Mismatch → Answer (List Mismatch)
 told mismatches = Ok mismatches
 
 -- `xs` are the first of those that are left, and are added
-pub further_more : (extent : Extent) (before left xs rest new all : List Mismatch) → with_further extent before left ≡ all
-    → left ≡ xs ++ rest → told (with_further extent before xs) ≡ Ok new → with_further extent new rest ≡ all
+pub further_more : (extent : Extent) (before left xs rest new all : List Mismatch)
+    → with_further extent before left ≡ all → left ≡ xs ++ rest
+    → told (with_further extent before xs) ≡ Ok new → with_further extent new rest ≡ all
 further_more extent before left xs rest new all so_far first is =
     let same = ok_is (with_further extent before xs) new is in
     let together = rw first at so_far in
@@ -74,7 +77,8 @@ further_end extent before left all so_far none =
     let same = rw none at so_far in ap told (sym same ∙ refl)
 
 -- all that are asked for were added, some after others
-pub asked_in_two : (extent : Extent) (first second one both : List Mismatch) → told (with_further extent [] first) ≡ Ok one
+pub asked_in_two : (extent : Extent) (first second one both : List Mismatch)
+    → told (with_further extent [] first) ≡ Ok one
     → told (with_further extent one second) ≡ Ok both → told (asked_of extent (first ++ second)) ≡ Ok both
 asked_in_two extent first second one both before behind =
     let is = ok_is (with_further extent [] first) one before in
@@ -88,8 +92,8 @@ asked_end extent kept left all so_far none =
     ap told (sym (asked_are extent all)) ∙ further_end extent kept left (with_further extent [] all) so_far none
 
 -- all that are asked for were added at once
-pub asked_in_one : (extent : Extent) (none all kept : List Mismatch) → none ≡ [] → told (with_further extent none all) ≡ Ok kept
-    → told (asked_of extent all) ≡ Ok kept
+pub asked_in_one : (extent : Extent) (none all kept : List Mismatch) → none ≡ []
+    → told (with_further extent none all) ≡ Ok kept → told (asked_of extent all) ≡ Ok kept
 asked_in_one extent none all kept empty added = ap told (sym (asked_are extent all)) ∙ rw empty at added
 
 -- some mismatches were added, and then others

@@ -42,7 +42,8 @@ entry_few : (pages_used page_size size : ℕ) (place : Answer StreamPlace) (word
     >>= λ e. Ok e.pages) ≡ Ok numbers
     → length numbers ≤ size + 1
 entry_few pages_used page_size size (Ok place) words entry numbers gives sized is =
-    let read = bind_ok (page_numbers pages_used (pages page_size place.size) (words place) >>= λ xs. Ok (entry place xs))
+    let read = bind_ok
+    (page_numbers pages_used (pages page_size place.size) (words place) >>= λ xs. Ok (entry place xs))
     (λ e. Ok e.pages) numbers is in
     let all = bind_ok (page_numbers pages_used (pages page_size place.size) (words place))
     (λ xs. Ok (entry place xs)) read.0 read.1 in

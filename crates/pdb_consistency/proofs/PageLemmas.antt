@@ -1,5 +1,6 @@
 -- The pages that have an owner, marked in a list.
-use Rattle.std.proofs.Common.{◌≡◌, ◌≢◌, ℕ, ◌<◌, Bool, true, false, ◌&&◌, ◌||◌, nat_lt, eqb, List, [], ◌∷◌, ◌++◌, length, drop}
+use Rattle.std.proofs.Common.{◌≡◌, ◌≢◌, ℕ, ◌<◌, Bool, true, false, ◌&&◌, ◌||◌, nat_lt, eqb, List, [], ◌∷◌, ◌++◌, length}
+use Rattle.std.proofs.Common.{drop}
 use Rattle.std.proofs.Common.{get_or, set, suc, zero, replicate, refl, sym, ap, ◌∙◌, arith, inl, inr, Ok, Option, ◌+◌}
 use Rattle.std.proofs.lemmas.List.{at_drop_more, get_or-set_other, length-replicate, length-set}
 use Rattle.std.proofs.lemmas.Grind.{get_or-set_at}
@@ -31,7 +32,8 @@ none_marked (suc count) zero = refl
 none_marked (suc count) (suc page) = none_marked count page
 
 pub marked_none : (count : ℕ) (owned : List Bool) → owned ≡ replicate count false → IsMarked count [] owned
-marked_none count owned is = rw is (record { many = length-replicate count false; each = λ page below. none_marked count page })
+marked_none count owned is = rw is
+    (record { many = length-replicate count false; each = λ page below. none_marked count page })
 
 one_marked : (count : ℕ) (before : List PageOwner) (owned : List Bool) (owner : PageOwner) (page : ℕ) (same : Bool)
     → IsMarked count before owned → page < count → eqb owner.page page ≡ same
@@ -70,8 +72,8 @@ pub shared_more : (extent : Extent) (page_size count i : ℕ) (before owners : L
     → mismatch ≡ at_page (get_or owners i d) (PageShared (get_or owners i d).page)
     → given ≡ then_some is mismatch → told (with_further extent now (option_to_list given)) ≡ Ok new
     → with_further extent new (shared_pages page_size count (get_or owners i d ∷ before) (drop (i + 1) owners)) ≡ all
-shared_more extent page_size count i before owners d owned now new all is marked mismatch given within are left mark test made
-    some added =
+shared_more extent page_size count i before owners d owned now new all is marked mismatch given within are left mark
+    test made some added =
     let owner = get_or owners i d in
     let owned_is = test ∙ owned_by_mark page_size count before owned owner.page marked are mark in
     let same : option_to_list (then_some (is_owned page_size count before owner.page)

@@ -1,5 +1,6 @@
 -- The first of two lists of numbers that is not below another number.
-use Rattle.std.proofs.Common.{◌≡◌, ℕ, ◌+◌, ◌<◌, Bool, true, false, nat_le, List, [], ◌∷◌, ◌++◌, length, drop, get_or, refl, sym, ap, ◌∙◌}
+use Rattle.std.proofs.Common.{◌≡◌, ℕ, ◌+◌, ◌<◌, Bool, true, false, nat_le, List, [], ◌∷◌, ◌++◌, length, drop, get_or}
+use Rattle.std.proofs.Common.{refl, sym, ap, ◌∙◌}
 use Rattle.std.proofs.Common.{Option, Some, None, append_assoc, if◌then◌else◌}
 use Rattle.std.proofs.lemmas.List.{at_drop_more}
 use Rattle.pdb_values.specs.TypeView.{fields_value, type_value}
@@ -44,7 +45,8 @@ fields_next : (fields : List TypeData) (behind : List (Option ℕ)) (i : ℕ) (f
     ≡ field_references (type_value field) ++ fields_then (drop (i + 1) fields) behind
 fields_next fields behind i field within is =
     at_drop_more (λ xs. fields_then xs behind) fields i field within
-    ∙ append_assoc (field_references (type_value (get_or fields i field))) (fields_references (fields_value (drop (i + 1) fields))) behind
+    ∙ append_assoc (field_references (type_value (get_or fields i field)))
+    (fields_references (fields_value (drop (i + 1) fields))) behind
     ∙ ap (λ (f : TypeData). field_references (type_value f) ++ fields_then (drop (i + 1) fields) behind) (sym is)
 
 pub field_passes : (least i : ℕ) (fields : List TypeData) (behind : List (Option ℕ)) (all : Option ℕ) (field : TypeData)

@@ -15,7 +15,8 @@ parts_size header = sum (sizes_before header) + header.debug_header_size
 -- the mismatch of a stream of a size, if it has a header that says another one
 abbrev pub sized_mismatch : ℕ → Answer DBIHeader → Option Mismatch
 sized_mismatch size (Ok header) =
-    then_some (not (parts_size header == size)) (record { stream = Some 3; index = None; byte = None; what = DebugSizes })
+    then_some (not (parts_size header == size))
+    (record { stream = Some 3; index = None; byte = None; what = DebugSizes })
 sized_mismatch size (Err refusal) = None
 
 abbrev pub debug_sizes_mismatch : List ℕ → Option Mismatch

@@ -1,4 +1,4 @@
--- What owns each page of a file: the header, the free page maps, what locates the directory, the directory, or a stream.
+-- What owns each page of a file: what locates the directory, the directory, or a stream.
 use Rattle.std.specs.Prelude.{ℕ, ◌*◌, List, [], ◌++◌, length, map, min, slice_index, Some, None, Ok, Err}
 use Rattle.std.specs.List.{flat_map, range_with_len}
 use Rattle.pdb_base.specs.Answer.{Answer}

@@ -13,7 +13,8 @@ use Rattle.pdb_tpi.specs.Steps.{walk}
 use Rattle.pdb_tpi.specs.Table.{Table}
 use Rattle.pdb_consistency.specs.References.{first_from, id_reference_from, references_of}
 use Rattle.pdb_consistency.specs.declared.inconsistency.Inconsistency.{Inconsistency}
-use Rattle.pdb_consistency.specs.declared.inconsistency.Inconsistency.TheVariants.{KindNotRead, RecordUnaligned, ReferenceNotBelow}
+use Rattle.pdb_consistency.specs.declared.inconsistency.Inconsistency.TheVariants.{KindNotRead, RecordUnaligned}
+use Rattle.pdb_consistency.specs.declared.inconsistency.Inconsistency.TheVariants.{ReferenceNotBelow}
 use Rattle.pdb_consistency.specs.declared.mismatch.Mismatch.{Mismatch}
 
 -- ---- one record
@@ -25,7 +26,7 @@ is_not_read kind (unimplemented_type_kind other) =
     (other == kind && not (kind == pointer_leaf)) && not (kind == field_list_leaf)
 is_not_read kind refusal = false
 
--- what is inconsistent in a record of a kind: an index to which it refers, as `wrong` finds it in the value, or the kind
+-- what is inconsistent in a record of a kind: an index to which it refers, which `wrong` gives, or the kind
 abbrev pub value_inconsistency : {A : Type 0} → ℕ → (A → Option ℕ) → Answer A → Option Inconsistency
 value_inconsistency kind wrong (Ok value) = option_map (λ index. ReferenceNotBelow index) (wrong value)
 value_inconsistency kind wrong (Err refusal) = then_some (is_not_read kind refusal) (KindNotRead kind)
@@ -55,7 +56,8 @@ at_byte stream index byte what = record { stream = Some stream; index = Some ind
 
 -- the mismatches of two things that may be inconsistent
 abbrev pub both_mismatches : (Inconsistency → Mismatch) → Option Inconsistency → Option Inconsistency → List Mismatch
-both_mismatches mismatch one other = option_to_list (option_map mismatch one) ++ option_to_list (option_map mismatch other)
+both_mismatches mismatch one other =
+    option_to_list (option_map mismatch one) ++ option_to_list (option_map mismatch other)
 
 -- the mismatches of the record of an index: what `of_item` says, and its size
 abbrev pub record_mismatches : ℕ → Table → (ℕ → List ℕ → Option Inconsistency) → ℕ → List ℕ → List Mismatch

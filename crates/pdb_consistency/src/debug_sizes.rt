@@ -30,8 +30,8 @@ fn parts_size(header: &DBIHeader) -> u64
 }
 
 /// Returns the mismatch of stream 3 if its parts do not have as many bytes together as the stream:
-/// the header, and the parts whose sizes it says (`NewDBIHdr` in Microsoft's dbi.h). An empty stream
-/// 3 has no header, and one whose header can't be read has no sizes.
+/// the header, and the parts whose sizes it says (`NewDBIHdr` in Microsoft's dbi.h). An empty
+/// stream 3 has no header, and one whose header can't be read has no sizes.
 pub fn check_debug_sizes(stream: &Stream) -> Option<Mismatch>
     ensures { result ≡ debug_sizes_mismatch stream.now }
 {

@@ -24,8 +24,8 @@ fn part_start(part: Slice) -> u32
     }
 }
 
-/// Returns the bytes of a part of the hash stream, as many of them as there are. A part whose offset
-/// is negative has none.
+/// Returns the bytes of a part of the hash stream, as many of them as there are. A part whose
+/// offset is negative has none.
 #[tactic(auto, using(std::proofs::lemmas::List::drop_min, std::proofs::lemmas::List::take_min))]
 fn part_in(hashes: &[u8], part: Slice) -> &[u8]
     ensures { result.now ≡ part_in part.offset part.size hashes.now }
@@ -107,7 +107,7 @@ fn add_values<I: ItemIndex>(
     Ok(())
 }
 
-/// Returns whether the record of an index stands at an offset behind the header of its table.
+/// Returns whether the record of an index begins at an offset behind the header of its table.
 fn is_record_at<I: ItemIndex>(table: &OpenTable<I>, index: u32, offset: u32) -> bool
     ensures { result ≡ is_record_at table.now.table.header.header_size offset (located table.now.table index) }
 {
@@ -160,11 +160,11 @@ fn add_offsets<I: ItemIndex>(
     Ok(())
 }
 
-/// Returns what is inconsistent in the bytes of the hash stream of a number, which goes with a table,
-/// or the first of it: that there is not one hash value of four bytes for each index that the table
-/// counts, a hash value that is not below the number of buckets, at its record, and a place of a
-/// record that is not where the record begins, each with its byte in the hash stream. The format is
-/// that of `TpiHash` in Microsoft's tpi.h.
+/// Returns what is inconsistent in the bytes of the hash stream of a number, which goes with a
+/// table: that there is not one hash value of four bytes for each index that the table counts, a
+/// hash value that is not below the number of buckets, at its record, and a place of a record that
+/// is not where the record begins, each with its byte in the hash stream. All are returned, or one,
+/// as `extent` says. The format is that of `TpiHash` in Microsoft's tpi.h.
 ///
 /// A table that has learned all its records is looked up in constant time, and the work is then
 /// linear in the hash stream.

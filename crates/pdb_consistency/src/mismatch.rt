@@ -9,7 +9,7 @@ ghost use Rattle.pdb_consistency.specs.declared.mismatch.Extent.TheVariants as e
 use crate::inconsistency::Inconsistency;
 use pdb_base::Result;
 
-/// How many of the mismatches are asked for.
+/// How many of the mismatches a check returns.
 #[derive(Clone, Copy, Debug, PartialEq, Eq)]
 pub enum Extent {
     /// The first error alone, or the first warning if there is no error, so that no list is kept.
@@ -34,7 +34,7 @@ pub struct Mismatch {
     pub what: Inconsistency,
 }
 
-/// Adds a mismatch to those before it, if there is one and it is asked for.
+/// Adds a mismatch to those before it, if there is one, as far as the extent goes.
 pub(crate) fn add(
     mismatches: &mut Vec<Mismatch>,
     extent: Extent,

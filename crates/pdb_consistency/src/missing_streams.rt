@@ -64,8 +64,8 @@ fn add_missing(
     Ok(())
 }
 
-/// Returns the streams that have a name in stream 1 and that the layout does not have, or the first
-/// of them.
+/// Returns the streams that have a name in stream 1 and that the layout does not have. All are
+/// returned, or one, as `extent` says.
 ///
 /// # Errors
 /// Fails with `OutOfMemory` if an allocation fails.
@@ -90,9 +90,9 @@ pub fn check_named_streams(
     Ok(mismatches)
 }
 
-/// Returns the streams to which stream 3 gives a role, and that the layout does not have, or the
-/// first of them: those of the symbols, by the header, and those of the debug header (`NewDBIHdr`
-/// and `DBGTYPE` in Microsoft's dbi.h).
+/// Returns the streams to which stream 3 gives a role and that the layout does not have: those of
+/// the symbols, by the header, and those of the debug header (`NewDBIHdr` and `DBGTYPE` in
+/// Microsoft's dbi.h). All are returned, or one, as `extent` says.
 ///
 /// # Errors
 /// Fails with `OutOfMemory` if an allocation fails.

@@ -177,8 +177,8 @@ fn check_layout(
 }
 
 /// Returns the pages of a file that have a second owner, and then those of its streams that it
-/// marks as free, or the first of them, each with the stream and the byte of it that the page
-/// begins with.
+/// marks as free, each with the stream and the byte of it that the page begins with. All are
+/// returned, or one, as `extent` says.
 ///
 /// What owns a page is the header, which is page 0, a free page map (pages 1 and 2 of each
 /// `page_size` pages), what locates the directory, the directory, or a stream. They are taken in
@@ -186,8 +186,8 @@ fn check_layout(
 /// Numbers of pages that the file does not have are passed over. A page of stream 0 may be marked
 /// as free, as it is in files of Microsoft's tools. The format is that of Microsoft's msf.cpp.
 ///
-/// The list is empty if the header or the directory can't be read; the pages of a stream that
-/// can't be read are left out. The work is linear in the file and in the sizes of the streams.
+/// The list is empty if the header or the directory can't be read; the pages of a stream that can't
+/// be read are left out. The work is linear in the file and in the sizes of the streams.
 ///
 /// # Errors
 /// Fails with `OutOfMemory` if an allocation fails.

@@ -123,11 +123,12 @@ fn add_record(
     )
 }
 
-/// Returns the mismatches of the records of a table of types in a stream, or the first of them, each
-/// with the index of its record and the byte at which that begins: that the record refers to an
-/// index that is not below its own, or has a kind that this library doesn't read, and that it takes
-/// a number of bytes that is no multiple of four. A record that is refused otherwise is passed
-/// over. The work is linear in the table. The records are those of Microsoft's cvinfo.h.
+/// Returns the mismatches of the records of a table of types in a stream, each with the index of
+/// its record and the byte at which that begins: that the record refers to an index that is not
+/// below its own, or has a kind that this library doesn't read, and that it takes a number of bytes
+/// that is no multiple of four. All are returned, or one, as `extent` says. A record with another
+/// error is passed over. The work is linear in the table. The records are those of Microsoft's
+/// cvinfo.h.
 ///
 /// # Errors
 /// Fails with `OutOfMemory` if an allocation fails.

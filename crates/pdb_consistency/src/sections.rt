@@ -25,10 +25,10 @@ fn section_mismatch(stream: u32, least: u64, place: usize, address: u32) -> Opti
     })
 }
 
-/// Returns the sections that begin below the end of the section before them, or the first of them,
-/// each with its place in the list, from 0 on. Sections ascend by their virtual addresses, and a
-/// section ends where its virtual size says (the Portable Executable specification). The list is
-/// that of a stream.
+/// Returns the sections that begin below the end of the section before them, each with its place in
+/// the list, from 0 on. Sections ascend by their virtual addresses, and a section ends where its
+/// virtual size says (the Portable Executable specification). The list is that of a stream. All are
+/// returned, or one, as `extent` says.
 ///
 /// # Errors
 /// Fails with `OutOfMemory` if an allocation fails.

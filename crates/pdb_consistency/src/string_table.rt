@@ -43,7 +43,7 @@ fn in_names(number: u32, byte: usize, what: Inconsistency) -> Mismatch
     }
 }
 
-/// Returns the byte at which the count of buckets stands.
+/// Returns the byte at which the count of buckets begins.
 fn buckets_byte(stream: &[u8]) -> usize
     requires { 12 ≤ length stream.now }
     ensures byte { result ≡ buckets_byte stream.now }
@@ -60,7 +60,7 @@ fn begins_name(stream: &[u8], offset: u32) -> bool
     offset < word_at(8, stream) && stream[11 + offset as usize] == 0
 }
 
-/// Returns the mismatch of an offset in a bucket, which stands at a byte, if no name begins there.
+/// Returns the mismatch of an offset in the bucket at a byte, if no name begins there.
 fn bucket_mismatch(number: u32, stream: &[u8], byte: usize, offset: u32) -> Option<Mismatch>
     requires { buckets_byte stream.now ≤ length stream.now }
     ensures { result ≡ then_some (not (offset == 0) && not (begins_name stream.now offset))
@@ -100,8 +100,7 @@ fn add_buckets(
     Ok(names)
 }
 
-/// Returns the mismatch of the count of names, which stands at a byte, if another number of buckets
-/// has a name.
+/// Returns the mismatch of the count of names at a byte, if another number of buckets has a name.
 fn count_mismatch(number: u32, byte: usize, count: u32, names: u32) -> Option<Mismatch>
     ensures { result ≡ then_some (not (count == names)) (in_names number byte (NameCount count)) }
 {
@@ -130,11 +129,11 @@ fn check_whole(alloc: Global, number: u32, stream: &[u8], extent: Extent) -> Res
     Ok(mismatches)
 }
 
-/// Returns what is inconsistent in the bytes of a string table, those of the stream of a number, or
-/// the first of it, each with its byte in the stream: that the stream ends before the count of names
-/// that stands behind the buckets, or else a bucket whose offset is not 0 and at which no name
-/// begins, and a count of names that is not that of the buckets with a name. The format is that of
-/// `NMT` in Microsoft's nmt.h.
+/// Returns what is inconsistent in the bytes of a string table, those of the stream of a number,
+/// each with its byte in the stream: that the stream ends before the count of names behind the
+/// buckets, or else a bucket whose offset is not 0 and at which no name begins, and a count of
+/// names that is not that of the buckets with a name. All are returned, or one, as `extent` says.
+/// The format is that of `NMT` in Microsoft's nmt.h.
 ///
 /// # Errors
 /// Fails with `OutOfMemory` if an allocation fails.

@@ -1,7 +1,7 @@
 //! Small files, tables and lists, of which each breaks one relation. The bytes are written by hand.
 
 use crate::{
-    Extent, Inconsistency, Mismatch, check_buckets, check_debug_sizes, check_hashes, check_pages,
+    Extent, Inconsistency, check_buckets, check_debug_sizes, check_hashes, check_pages,
     check_section_order, check_type_records,
 };
 use pdb_base::{Stream, TypeIndex};
@@ -81,8 +81,8 @@ const HASH_DAMAGES: [(usize, u8, u64, Inconsistency); 3] = [
 const NAMES: &[u8] =
     b"\xfe\xef\xfe\xef\x01\0\0\0\x06\0\0\0\0a\0bc\0\x03\0\0\0\x03\0\0\0\0\0\0\0\x01\0\0\0\x02\0\0\0";
 
-/// Offsets in the string table, the byte that is written there, and what is then inconsistent first,
-/// with the byte of the stream.
+/// Offsets in the string table, the byte that is written there, and what is then inconsistent
+/// first, with the byte of the stream.
 const BUCKETS: [(usize, u8, u64, Inconsistency); 4] = [
     // Within `bc`, and behind the names.
     (0x16, 4, 0x16, Inconsistency::NameOffset(4)),
@@ -92,6 +92,14 @@ const BUCKETS: [(usize, u8, u64, Inconsistency); 4] = [
     (0x12, 4, 0x26, Inconsistency::BucketsCut),
 ];
 
+/// Stream 3: a header that says that nothing follows it.
+const DEBUG: &[u8] =
+    b"\xff\xff\xff\xff\0\0\0\0\0\0\0\0\0\0\0\0\0\0\0\0\0\0\0\0\0\0\0\0\0\0\0\0\0\0\0\0\0\0\0\0\0\0\0\0\0\0\0\0\0\0\0\0\0\0\0\0\0\0\0\0\0\0\0\0";
+
+/// Two sections of 0x1000 bytes each, at 0x1000 and 0x2000.
+const SECTIONS: &[u8] =
+    b"\0\0\0\0\0\0\0\0\0\x10\0\0\0\x10\0\0\0\0\0\0\0\0\0\0\0\0\0\0\0\0\0\0\0\0\0\0\0\0\0\0\0\0\0\0\0\0\0\0\0\x10\0\0\0\x20\0\0\0\0\0\0\0\0\0\0\0\0\0\0\0\0\0\0\0\0\0\0\0\0\0\0";
+
 /// Writes a byte at an offset.
 fn write_at(bytes: &mut Vec<u8>, offset: usize, byte: u8) {
     if let Some(place) = bytes.get_mut(offset) {
@@ -99,11 +107,19 @@ fn write_at(bytes: &mut Vec<u8>, offset: usize, byte: u8) {
     }
 }
 
-/// Returns bytes of their own.
-fn owned(alloc: Global, bytes: &[u8]) -> Result<Vec<u8>, Fail> {
-    let mut copy = Vec::new(alloc);
-    copy.extend_from_slice(bytes)?;
-    Ok(copy)
+/// Returns a stream of these bytes. Fails if there are more than 512.
+fn stream(alloc: Global, bytes: &[u8]) -> Result<Stream, Fail> {
+    if bytes.len() > 512 {
+        return Err(Fail::new("a long stream"));
+    }
+    Ok(Stream::new(Vec::from_slice(alloc, bytes)?))
+}
+
+/// Returns a stream of these bytes, of which one is replaced.
+fn stream_with(alloc: Global, bytes: &[u8], offset: usize, byte: u8) -> Result<Stream, Fail> {
+    let mut copy = Vec::from_slice(alloc, bytes)?;
+    write_at(&mut copy, offset, byte);
+    stream(alloc, &copy)
 }
 
 /// Returns the small file.
@@ -139,12 +155,10 @@ fn pages(rt: HostRuntime) -> Result<(), Fail> {
 
 #[test]
 fn records(rt: HostRuntime) -> Result<(), Fail> {
-    let types = TypeInformation::parse(Stream::new(owned(rt.alloc(), TYPES)?))?;
+    let types = TypeInformation::parse(stream(rt.alloc(), TYPES)?)?;
     assert!(rt; check_type_records(rt.alloc(), &types, 2, Extent::All)?.is_empty());
     for (offset, byte, index, place, what) in RECORDS.iter() {
-        let mut bytes = owned(rt.alloc(), TYPES)?;
-        write_at(&mut bytes, *offset, *byte);
-        let types = TypeInformation::parse(Stream::new(bytes))?;
+        let types = TypeInformation::parse(stream_with(rt.alloc(), TYPES, *offset, *byte)?)?;
         let found = check_type_records(rt.alloc(), &types, 2, Extent::First)?;
         assert_eq!(rt; found.len(), 1, "{offset:#x}");
         for mismatch in found.iter() {
@@ -158,7 +172,7 @@ fn records(rt: HostRuntime) -> Result<(), Fail> {
 
 #[test]
 fn hashes(rt: HostRuntime) -> Result<(), Fail> {
-    let types = TypeInformation::parse(Stream::new(owned(rt.alloc(), TYPES)?))?;
+    let types = TypeInformation::parse(stream(rt.alloc(), TYPES)?)?;
     let mut table = OpenTable::new(rt.alloc(), types)?;
     table.learn(TypeIndex(0x1001));
     assert!(rt; check_hashes(rt.alloc(), 7, &table, HASHES, Extent::All)?.is_empty());
@@ -168,7 +182,7 @@ fn hashes(rt: HostRuntime) -> Result<(), Fail> {
     }
     assert_eq!(rt; found.len(), 1);
     for (offset, byte, place, what) in HASH_DAMAGES.iter() {
-        let mut bytes = owned(rt.alloc(), HASHES)?;
+        let mut bytes = Vec::from_slice(rt.alloc(), HASHES)?;
         write_at(&mut bytes, *offset, *byte);
         let found = check_hashes(rt.alloc(), 7, &table, &bytes, Extent::First)?;
         assert_eq!(rt; found.len(), 1, "{offset}");
@@ -184,7 +198,7 @@ fn hashes(rt: HostRuntime) -> Result<(), Fail> {
 fn buckets(rt: HostRuntime) -> Result<(), Fail> {
     assert!(rt; check_buckets(rt.alloc(), 5, NAMES, Extent::All)?.is_empty());
     for (offset, byte, place, what) in BUCKETS.iter() {
-        let mut bytes = owned(rt.alloc(), NAMES)?;
+        let mut bytes = Vec::from_slice(rt.alloc(), NAMES)?;
         write_at(&mut bytes, *offset, *byte);
         let found = check_buckets(rt.alloc(), 5, &bytes, Extent::First)?;
         assert_eq!(rt; found.len(), 1, "{offset:#x}");
@@ -198,15 +212,10 @@ fn buckets(rt: HostRuntime) -> Result<(), Fail> {
 
 #[test]
 fn debug_sizes(rt: HostRuntime) -> Result<(), Fail> {
-    let mut bytes = vec![in rt.alloc(); 0xff; 4]?;
-    for _ in 4..64 {
-        bytes.push(0)?;
-    }
-    let header = Stream::new(owned(rt.alloc(), &bytes)?);
+    let header = stream(rt.alloc(), DEBUG)?;
     assert!(rt; check_debug_sizes(&header).is_none());
     // The size of the section contributions.
-    write_at(&mut bytes, 28, 1);
-    match check_debug_sizes(&Stream::new(bytes)) {
+    match check_debug_sizes(&stream_with(rt.alloc(), DEBUG, 28, 1)?) {
         Some(mismatch) => assert_eq!(rt; mismatch.what, Inconsistency::DebugSizes),
         None => assert!(rt; false),
     }
@@ -215,18 +224,11 @@ fn debug_sizes(rt: HostRuntime) -> Result<(), Fail> {
 
 #[test]
 fn sections(rt: HostRuntime) -> Result<(), Fail> {
-    // Two sections of 0x1000 bytes each, at 0x1000 and 0x2000.
-    let mut bytes = vec![in rt.alloc(); 0; 80]?;
-    write_at(&mut bytes, 9, 0x10);
-    write_at(&mut bytes, 13, 0x10);
-    write_at(&mut bytes, 49, 0x10);
-    write_at(&mut bytes, 53, 0x20);
-    let headers = section_headers(rt.alloc(), &Stream::new(owned(rt.alloc(), &bytes)?))?;
+    let headers = section_headers(rt.alloc(), &stream(rt.alloc(), SECTIONS)?)?;
     assert!(rt; check_section_order(rt.alloc(), &headers, 9, Extent::All)?.is_empty());
     // The first one becomes a byte longer.
-    write_at(&mut bytes, 8, 1);
-    let headers = section_headers(rt.alloc(), &Stream::new(bytes))?;
-    let found: Vec<Mismatch> = check_section_order(rt.alloc(), &headers, 9, Extent::All)?;
+    let headers = section_headers(rt.alloc(), &stream_with(rt.alloc(), SECTIONS, 8, 1)?)?;
+    let found = check_section_order(rt.alloc(), &headers, 9, Extent::All)?;
     assert_eq!(rt; found.len(), 1);
     for mismatch in found.iter() {
         assert_eq!(rt; mismatch.what, Inconsistency::SectionsOverlap);

@@ -7,7 +7,8 @@ use Rattle.pdb_consistency.proofs.pages.add_free.Goals as goal
 pub loop-owner-preserved : goal.loop-owner-preserved
 loop-owner-preserved c =
     free_more _ _ _ c.loop-owner.owner-index _ _ _ _ _ _ _ _ _ c.loop-owner-test.true c.loop-owner.invariant
-    c.active_map-map.ensures c.is_used_but_free-is_free.ensures c.at_page-free.ensures c.then_some.ensures c.in_ok-add.ensures
+    c.active_map-map.ensures c.is_used_but_free-is_free.ensures c.at_page-free.ensures c.then_some.ensures
+    c.in_ok-add.ensures
 
 pub returns : goal.returns
 returns c =

@@ -14,7 +14,8 @@ loop-owner-preserved c =
       _,
       marked_more _ before.0 _ _ _ before.1 c.mark-marked.ensures.after,
       shared_more _ _ _ c.loop-owner.owner-index before.0 _ _ _ _ _ _ _ _ _ _ c.loop-owner-test.true before.1 before.2
-          c.mark-marked.ensures.before c.is_owned-is_shared.ensures c.at_page-shared.ensures c.then_some.ensures c.in_ok-add.ensures,
+          c.mark-marked.ensures.before c.is_owned-is_shared.ensures c.at_page-shared.ensures c.then_some.ensures
+          c.in_ok-add.ensures,
     )
 
 pub returns : goal.returns
