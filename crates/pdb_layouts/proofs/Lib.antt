@@ -1,5 +1,6 @@
 pub mod ClassLemmas
 pub mod ExpandedLemmas
 pub mod MatchLemmas
+pub mod ResultLemmas
 pub mod SelectedLemmas
 pub mod ShownLemmas
