@@ -8,7 +8,7 @@ ghost use Rattle.pdb_values.specs.TypeValue.{TypeValue};
 ghost use Rattle.pdb_values.specs.TypeView.{type_value};
 ghost use Rattle.pdb_handles.specs.Copied.{CopiesOrLacks};
 ghost use Rattle.pdb_handles.specs.Lists.{dimensions_in, method_row, methods_of, unique_name_in};
-ghost use Rattle.pdb_handles.specs.Records.{if_copied, shown_copied};
+ghost use Rattle.pdb_handles.specs.Records.{shown_copied};
 
 use crate::copied::{copy_name, copy_nothing, copy_out};
 use crate::fault::{Fault, NONE};
@@ -52,17 +52,6 @@ pub fn methods_of(alloc: Global, bytes: &[u8], index: u32) -> Result<Option<Vec<
     }
 }
 
-/// Copies the dimensions of a type into the caller's array, if it is an array.
-fn copy_dimensions(value: &TypeData<'_>, room: &mut [u32], length: &mut usize) -> Fault
-    ensures { record { fault = result; length = length.new; room = room.new }
-        ≡ if_copied room.old (Ok (dimensions_in (type_value value.now))) }
-{
-    match value {
-        TypeData::Array(array) => copy_out(&array.dimensions, room, length),
-        _ => copy_nothing(Fault::status(NONE), length),
-    }
-}
-
 /// Returns the unique name of a type, if it has one.
 fn unique_name<'t>(value: &TypeData<'t>) -> Option<RawString<'t>>
     ensures { option_map text_bytes result ≡ unique_name_in (type_value value.now) }
@@ -87,7 +76,8 @@ pub fn copy_dimensions_of(
         (shown_copied room.old dimensions_in meant) }
 {
     match parsed {
-        Ok(value) => copy_dimensions(&value, room, length),
+        Ok(TypeData::Array(array)) => copy_out(&array.dimensions, room, length),
+        Ok(_) => copy_nothing(Fault::status(NONE), length),
         Err(error) => copy_nothing(Fault::of(&error), length),
     }
 }
