@@ -302,21 +302,49 @@ enum pdb_part {
     PDB_PART_NEW_FRAMES = 14
 };
 
-/* The first fault of a part of a file. */
+/* What can be inconsistent in a file whose parts can be read. The brackets say what `number` is. */
+enum pdb_inconsistency {
+    PDB_NO_INCONSISTENCY = 0,      /* the part can't be read, for the reason in `fault` */
+    PDB_DIRECTORY_TOO_LARGE = 1,   /* the directory is larger than the file */
+    PDB_STREAMS_TOO_LARGE = 2,     /* the streams together are larger than the file */
+    PDB_OUT_OF_ORDER = 3,          /* OMAP records or frames are not in increasing order */
+    PDB_PAGE_SHARED = 4,           /* a page has two owners [the page] */
+    PDB_PAGE_FREE = 5,             /* a page is in use and marked as free; a warning [the page] */
+    PDB_STREAM_MISSING = 6,        /* a stream with a name or a role is missing [its number] */
+    PDB_DEBUG_SIZES = 7,           /* the parts of stream 3 do not add up to its size */
+    PDB_REFERENCE_NOT_BELOW = 8,   /* a record refers to an index that is not below its own [it] */
+    PDB_RECORD_UNALIGNED = 9,      /* a record takes no multiple of four bytes; a warning */
+    PDB_KIND_NOT_READ = 10,        /* a record kind that is not read; a warning [the kind] */
+    PDB_HASH_COUNT = 11,           /* not one hash value for each record [their number] */
+    PDB_HASH_TOO_LARGE = 12,       /* a hash value that is not below the number of buckets [it] */
+    PDB_INDEX_OFFSET = 13,         /* a stored place is not that of its record [the index] */
+    PDB_BUCKETS_CUT = 14,          /* the string table ends before its buckets do */
+    PDB_NAME_OFFSET = 15,          /* a bucket's offset at which no name begins [the offset] */
+    PDB_NAME_COUNT = 16,           /* the buckets hold another number of names [the table's] */
+    PDB_SECTIONS_OVERLAP = 17      /* a section begins below the end of the one before it */
+};
+
+/* What is wrong in a part of a file, and where. */
 typedef struct pdb_finding {
-    uint64_t index;      /* the index of the record at which the fault is, 0 if it is at none */
-    uint64_t byte;       /* the byte of the stream at which that record begins, 0 if it is at
-                            none */
-    uint32_t part;       /* a value of enum pdb_part */
-    uint32_t has_stream; /* 0 or 1 */
-    uint32_t stream;     /* the number of the stream in which the fault is, 0 if it is in none */
-    uint32_t has_index;  /* 0 or 1: whether the fault is at a record */
-    pdb_fault fault;     /* why the part can't be read; pdb_error_text tells it */
+    uint64_t index;     /* the index of the record */
+    uint64_t byte;      /* the byte of the stream: of a record, that at which its length begins */
+    uint64_t file_byte; /* that byte's place in the file */
+    uint32_t part;      /* a value of enum pdb_part */
+    uint32_t has_stream; /* each flag is 0 or 1; what it says not to be there is 0 */
+    uint32_t stream;
+    uint32_t has_index;
+    uint32_t has_byte;
+    uint32_t has_file_byte;
+    uint32_t is_warning;    /* whether files of known tools have it too, which are whole */
+    uint32_t inconsistency; /* a value of enum pdb_inconsistency */
+    uint32_t number;        /* the number that goes with it */
+    pdb_fault fault;        /* why the part can't be read; its status is PDB_OK if it can */
 } pdb_finding;
 
-/* Writes what is wrong in a file: for each part that can't be read, its first fault. The file is
- * whole exactly if there is none, and then the length is 0. There are at most 15. */
-uint32_t pdb_validate(const uint8_t *file, size_t file_length, pdb_finding *room,
+/* Writes what is wrong in a file: the first error of each part, or its first warning if it has no
+ * error; or everything, unless `every` is 0. The file is whole exactly if nothing of it is an
+ * error. */
+uint32_t pdb_validate(const uint8_t *file, size_t file_length, uint32_t every, pdb_finding *room,
                       size_t room_length, size_t *length, pdb_fault *fault);
 
 /* ---- the streams of a file */
@@ -1142,7 +1170,8 @@ uint32_t pdb_id_list(const uint8_t *record, size_t record_length, uint32_t *room
 
 /* Opens the table of types in a stream, which is copied, and finds its definitions in one walk. The
  * table has to end where the stream does; a record that can't be read defines nothing. */
-uint32_t pdb_definitions_open(const uint8_t *stream, size_t stream_length, pdb_definitions *definitions,
+uint32_t pdb_definitions_open(const uint8_t *stream, size_t stream_length,
+                              pdb_definitions *definitions,
                               pdb_fault *fault);
 
 /* Copies the indexes of all definitions of a name, in increasing order. There may be none, and then

@@ -83,6 +83,27 @@ class Part(IntEnum):
     NEW_FRAMES = 14
 
 
+class Inconsistency(IntEnum):
+    NO_INCONSISTENCY = 0
+    DIRECTORY_TOO_LARGE = 1
+    STREAMS_TOO_LARGE = 2
+    OUT_OF_ORDER = 3
+    PAGE_SHARED = 4
+    PAGE_FREE = 5
+    STREAM_MISSING = 6
+    DEBUG_SIZES = 7
+    REFERENCE_NOT_BELOW = 8
+    RECORD_UNALIGNED = 9
+    KIND_NOT_READ = 10
+    HASH_COUNT = 11
+    HASH_TOO_LARGE = 12
+    INDEX_OFFSET = 13
+    BUCKETS_CUT = 14
+    NAME_OFFSET = 15
+    NAME_COUNT = 16
+    SECTIONS_OVERLAP = 17
+
+
 class StreamNumber(IntEnum):
     TYPES_STREAM = 2
     IDS_STREAM = 4
@@ -290,10 +311,16 @@ class Finding(Structure):
     _fields_ = [
         ("index", c_uint64),
         ("byte", c_uint64),
+        ("file_byte", c_uint64),
         ("part", c_uint32),
         ("has_stream", c_uint32),
         ("stream", c_uint32),
         ("has_index", c_uint32),
+        ("has_byte", c_uint32),
+        ("has_file_byte", c_uint32),
+        ("is_warning", c_uint32),
+        ("inconsistency", c_uint32),
+        ("number", c_uint32),
         ("fault", Fault),
     ]
 
@@ -471,7 +498,7 @@ FUNCTIONS = {
     "pdb_identity_of": (c_uint32, [c_void_p, c_size_t, c_void_p, c_void_p]),
     "pdb_key": (c_uint32, [c_void_p, c_uint32, c_void_p, c_size_t, c_void_p, c_void_p]),
     "pdb_format_of": (c_uint32, [c_void_p, c_size_t]),
-    "pdb_validate": (c_uint32, [c_void_p, c_size_t, c_void_p, c_size_t, c_void_p, c_void_p]),
+    "pdb_validate": (c_uint32, [c_void_p, c_size_t, c_uint32, c_void_p, c_size_t, c_void_p, c_void_p]),
     "pdb_bytes_open": (c_uint32, [c_void_p, c_size_t, c_void_p, c_void_p]),
     "pdb_bytes_stream": (c_uint32, [c_void_p, c_void_p, c_size_t, c_uint32, c_size_t, c_void_p, c_size_t, c_void_p, c_void_p]),
     "pdb_bytes_named_stream": (c_uint32, [c_void_p, c_size_t, c_void_p, c_size_t, c_void_p, c_size_t, c_void_p, c_void_p]),

@@ -5,35 +5,53 @@ from typing import List, Optional
 
 from . import _sys
 from ._library import Lent, PdbError, items, library
-from ._sys import Part
+from ._sys import Inconsistency, Part
 
 
 @dataclass(frozen=True)
 class Finding:
-    """The first fault of a part of a file."""
+    """What is wrong in a part of a file, and where."""
 
     part: Part
     stream: Optional[int]  # the number of the stream in which the fault is
     index: Optional[int]  # the index of the record at which the fault is
-    byte: Optional[int]  # the byte of the stream at which that record begins
-    error: PdbError  # why the part can't be read
+    byte: Optional[int]  # the byte of the stream: of a record, that at which its length begins
+    file_byte: Optional[int]  # that byte's place in the file
+    is_warning: bool  # whether files of known tools have it too, which are whole
+    inconsistency: Optional[Inconsistency]  # what is inconsistent, if the part can be read
+    number: int  # the number that goes with it, or 0
+    error: Optional[PdbError]  # why the part can't be read, if it can't
 
     def __str__(self) -> str:
         at = "" if self.index is None else f" at {self.index:#x}"
-        return f"{self.part.name.lower()}{at}: {self.error}"
+        if self.inconsistency is None:
+            return f"{self.part.name.lower()}{at}: {self.error}"
+        what = self.inconsistency.name.lower().replace("_", " ")
+        return f"{self.part.name.lower()}{at}: {what}" + (f" ({self.number})" if self.number else "")
 
 
 def _finding(it: _sys.Finding) -> Finding:
     stream = it.stream if it.has_stream else None
-    index, byte = (it.index, it.byte) if it.has_index else (None, None)
-    return Finding(Part(it.part), stream, index, byte, PdbError(it.fault, stream))
+    what = Inconsistency(it.inconsistency) if it.inconsistency else None
+    return Finding(
+        Part(it.part),
+        stream,
+        it.index if it.has_index else None,
+        it.byte if it.has_byte else None,
+        it.file_byte if it.has_file_byte else None,
+        bool(it.is_warning),
+        what,
+        it.number,
+        None if what else PdbError(it.fault, stream),
+    )
 
 
-def validate(data) -> List[Finding]:
-    """What is wrong in the bytes of a file: for each part that can't be read, its first fault. The file is whole exactly
-    if there is none."""
+def validate(data, every: bool = False) -> List[Finding]:
+    """What is wrong in the bytes of a file: the first error of each part, or its first warning if it has no error; with
+    `every`, everything. The file is whole exactly if all of it are warnings."""
     lent = Lent(data)
     try:
-        return [_finding(it) for it in items(_sys.Finding, library().pdb_validate, lent.at, lent.length)]
+        found = items(_sys.Finding, library().pdb_validate, lent.at, lent.length, int(every))
+        return [_finding(it) for it in found]
     finally:
         lent.release()

@@ -331,6 +331,7 @@ class OfInput(unittest.TestCase):
         (found,) = validate(data.replace(front, front[:108] + b"\x01" + front[109:]))
         self.assertEqual((found.part, found.stream, found.index), (Part.TYPES, 2, 0x1002))
         self.assertEqual((found.byte, found.error.status), (108, Status.TYPE_TOO_SHORT))
+        self.assertEqual((data[found.file_byte - 108 : found.file_byte], found.is_warning), (front[:108], False))
         self.assertIn("[stream 2]", str(found))
 
     def test_damaged_files(self):

@@ -50,4 +50,4 @@ pub use layouts::{Definitions, Extent, Layout, LayoutKind, LayoutRow};
 pub use names::{Name, Names};
 pub use row::{IdShape, Row, Shape};
 pub use types::{Field, Fields, Type, TypeIter, Types};
-pub use validation::{Finding, Part, validate};
+pub use validation::{Finding, Inconsistency, Part, Problem, validate, validate_all};

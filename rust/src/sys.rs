@@ -39,10 +39,16 @@ pub struct Identity {
 pub struct Finding {
     pub index: u64,
     pub byte: u64,
+    pub file_byte: u64,
     pub part: u32,
     pub has_stream: u32,
     pub stream: u32,
     pub has_index: u32,
+    pub has_byte: u32,
+    pub has_file_byte: u32,
+    pub is_warning: u32,
+    pub inconsistency: u32,
+    pub number: u32,
     pub fault: Fault,
 }
 
@@ -279,6 +285,24 @@ pub const PDB_PART_OMAP_TO_SOURCE: u32 = 11;
 pub const PDB_PART_OMAP_FROM_SOURCE: u32 = 12;
 pub const PDB_PART_OLD_FRAMES: u32 = 13;
 pub const PDB_PART_NEW_FRAMES: u32 = 14;
+pub const PDB_NO_INCONSISTENCY: u32 = 0;
+pub const PDB_DIRECTORY_TOO_LARGE: u32 = 1;
+pub const PDB_STREAMS_TOO_LARGE: u32 = 2;
+pub const PDB_OUT_OF_ORDER: u32 = 3;
+pub const PDB_PAGE_SHARED: u32 = 4;
+pub const PDB_PAGE_FREE: u32 = 5;
+pub const PDB_STREAM_MISSING: u32 = 6;
+pub const PDB_DEBUG_SIZES: u32 = 7;
+pub const PDB_REFERENCE_NOT_BELOW: u32 = 8;
+pub const PDB_RECORD_UNALIGNED: u32 = 9;
+pub const PDB_KIND_NOT_READ: u32 = 10;
+pub const PDB_HASH_COUNT: u32 = 11;
+pub const PDB_HASH_TOO_LARGE: u32 = 12;
+pub const PDB_INDEX_OFFSET: u32 = 13;
+pub const PDB_BUCKETS_CUT: u32 = 14;
+pub const PDB_NAME_OFFSET: u32 = 15;
+pub const PDB_NAME_COUNT: u32 = 16;
+pub const PDB_SECTIONS_OVERLAP: u32 = 17;
 
 pub const PDB_TYPES_STREAM: u32 = 2;
 pub const PDB_IDS_STREAM: u32 = 4;
@@ -433,7 +457,7 @@ unsafe extern "C" {
     pub fn pdb_identity_of(file: *const u8, file_length: usize, identity: *mut Identity, fault: *mut Fault) -> u32;
     pub fn pdb_key(identity: *const Identity, form: u32, room: *mut u8, room_length: usize, length: *mut usize, fault: *mut Fault) -> u32;
     pub fn pdb_format_of(file: *const u8, file_length: usize) -> u32;
-    pub fn pdb_validate(file: *const u8, file_length: usize, room: *mut Finding, room_length: usize, length: *mut usize, fault: *mut Fault) -> u32;
+    pub fn pdb_validate(file: *const u8, file_length: usize, every: u32, room: *mut Finding, room_length: usize, length: *mut usize, fault: *mut Fault) -> u32;
     pub fn pdb_bytes_open(bytes: *const u8, bytes_length: usize, file: *mut Handle, fault: *mut Fault) -> u32;
     pub fn pdb_bytes_stream(file: *mut Handle, bytes: *const u8, bytes_length: usize, number: u32, limit: usize, room: *mut u8, room_length: usize, length: *mut usize, fault: *mut Fault) -> u32;
     pub fn pdb_bytes_named_stream(bytes: *const u8, bytes_length: usize, name: *const u8, name_length: usize, room: *mut u8, room_length: usize, length: *mut usize, fault: *mut Fault) -> u32;

@@ -2,25 +2,28 @@ use crate::error::{Error, Result};
 use crate::handle::items;
 use crate::sys;
 
-macro_rules! parts {
-    ($($(#[$about:meta])* $part:ident = $value:ident)*) => {
-        /// The parts of a file.
+/// An enumeration whose values have the numbers of the library's constants.
+macro_rules! numbered {
+    ($(#[$what:meta])* $name:ident { $($(#[$about:meta])* $case:ident = $value:ident)* }) => {
+        $(#[$what])*
         #[derive(Debug, Clone, Copy, PartialEq, Eq, Hash)]
         #[non_exhaustive]
-        pub enum Part { $($(#[$about])* $part,)* }
+        pub enum $name { $($(#[$about])* $case,)* }
 
-        impl Part {
-            fn of(value: u32) -> Part {
+        impl $name {
+            fn of(value: u32) -> $name {
                 match value {
-                    $(sys::$value => Part::$part,)*
-                    _ => unreachable!("the library has no part {value}"),
+                    $(sys::$value => $name::$case,)*
+                    _ => unreachable!("the library has no number {value} here"),
                 }
             }
         }
     };
 }
 
-parts! {
+numbered! {
+/// The parts of a file.
+Part {
     /// The header of the file.
     Header = PDB_PART_HEADER
     /// The directory of streams.
@@ -52,8 +55,59 @@ parts! {
     /// The frames in the newer format.
     NewFrames = PDB_PART_NEW_FRAMES
 }
+}
 
-/// The first fault of a part of a file.
+numbered! {
+/// What can be inconsistent in a file whose parts can be read. What is in parentheses is the
+/// number that goes with it.
+Inconsistency {
+    /// The directory is larger than the file.
+    DirectoryTooLarge = PDB_DIRECTORY_TOO_LARGE
+    /// The streams together are larger than the file.
+    StreamsTooLarge = PDB_STREAMS_TOO_LARGE
+    /// OMAP records or frames are not in increasing order.
+    OutOfOrder = PDB_OUT_OF_ORDER
+    /// A page has two owners (the page).
+    PageShared = PDB_PAGE_SHARED
+    /// A page is in use and marked as free; a warning (the page).
+    PageFree = PDB_PAGE_FREE
+    /// A stream with a name or a role is missing (its number).
+    StreamMissing = PDB_STREAM_MISSING
+    /// The parts of stream 3 do not add up to its size.
+    DebugSizes = PDB_DEBUG_SIZES
+    /// A record refers to an index that is not below its own (it).
+    ReferenceNotBelow = PDB_REFERENCE_NOT_BELOW
+    /// A record takes no multiple of four bytes; a warning.
+    RecordUnaligned = PDB_RECORD_UNALIGNED
+    /// A record kind that is not read; a warning (the kind).
+    KindNotRead = PDB_KIND_NOT_READ
+    /// Not one hash value for each record (their number).
+    HashCount = PDB_HASH_COUNT
+    /// A hash value that is not below the number of buckets (it).
+    HashTooLarge = PDB_HASH_TOO_LARGE
+    /// A stored place is not that of its record (the index).
+    IndexOffset = PDB_INDEX_OFFSET
+    /// The string table ends before its buckets do.
+    BucketsCut = PDB_BUCKETS_CUT
+    /// A bucket's offset at which no name begins (the offset).
+    NameOffset = PDB_NAME_OFFSET
+    /// The buckets hold another number of names (the table's).
+    NameCount = PDB_NAME_COUNT
+    /// A section begins below the end of the one before it.
+    SectionsOverlap = PDB_SECTIONS_OVERLAP
+}
+}
+
+/// What is wrong in a part of a file.
+#[derive(Debug, Clone, Copy, PartialEq, Eq)]
+pub enum Problem {
+    /// The part can't be read, for this reason.
+    Error(Error),
+    /// The part can be read, and this is inconsistent in it, with the number that goes with it, or 0.
+    Inconsistent(Inconsistency, u32),
+}
+
+/// What is wrong in a part of a file, and where.
 #[derive(Debug, Clone, Copy, PartialEq, Eq)]
 pub struct Finding {
     /// The part.
@@ -62,10 +116,14 @@ pub struct Finding {
     pub stream: Option<u32>,
     /// The index of the record at which the fault is, if it is at one.
     pub index: Option<u64>,
-    /// The byte of the stream at which that record begins.
+    /// The byte of the stream at which it is: of a record, that at which its length begins.
     pub byte: Option<u64>,
-    /// Why the part can't be read.
-    pub error: Error,
+    /// That byte's place in the file.
+    pub file_byte: Option<u64>,
+    /// Whether files of known tools have it too, which are whole.
+    pub is_warning: bool,
+    /// What is wrong.
+    pub problem: Problem,
 }
 
 impl Finding {
@@ -74,18 +132,32 @@ impl Finding {
             part: Part::of(found.part),
             stream: (found.has_stream != 0).then_some(found.stream),
             index: (found.has_index != 0).then_some(found.index),
-            byte: (found.has_index != 0).then_some(found.byte),
-            error: Error::of(&found.fault),
+            byte: (found.has_byte != 0).then_some(found.byte),
+            file_byte: (found.has_file_byte != 0).then_some(found.file_byte),
+            is_warning: found.is_warning != 0,
+            problem: match found.inconsistency {
+                sys::PDB_NO_INCONSISTENCY => Problem::Error(Error::of(&found.fault)),
+                what => Problem::Inconsistent(Inconsistency::of(what), found.number),
+            },
         }
     }
 }
 
-/// What is wrong in a file: for each part that can't be read, its first fault. The file is whole exactly if there is
-/// none.
-pub fn validate(file: &[u8]) -> Result<Vec<Finding>> {
+fn findings(file: &[u8], every: u32) -> Result<Vec<Finding>> {
     // SAFETY: the slices are as long as they say, and places that the library writes stay in the call.
     let found = items(|room, size, count, fault| unsafe {
-        sys::pdb_validate(file.as_ptr(), file.len(), room, size, count, fault)
+        sys::pdb_validate(file.as_ptr(), file.len(), every, room, size, count, fault)
     })?;
     Ok(found.unwrap_or_default().iter().map(Finding::of).collect())
+}
+
+/// What is wrong in a file: the first error of each part, or its first warning if it has no error. The file is whole
+/// exactly if all of them are warnings.
+pub fn validate(file: &[u8]) -> Result<Vec<Finding>> {
+    findings(file, 0)
+}
+
+/// Everything that is wrong in a file.
+pub fn validate_all(file: &[u8]) -> Result<Vec<Finding>> {
+    findings(file, 1)
 }

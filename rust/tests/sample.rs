@@ -1,7 +1,7 @@
 //! Reads examples/sample.pdb, and copies of it with damage.
 
 use pdb_container::{
-    Address, Error, Extent, Format, IdShape, KeyForm, LayoutKind, LayoutRow, Part, Pdb, Shape, Types, validate,
+    Address, Error, Extent, Format, IdShape, KeyForm, LayoutKind, LayoutRow, Part, Pdb, Problem, Shape, Types, validate,
 };
 
 fn sample() -> Vec<u8> {
@@ -346,7 +346,7 @@ fn whole_and_not() {
     let found = validate(b"MZ").unwrap();
     assert_eq!(found.len(), 1);
     assert_eq!((found[0].part, found[0].stream, found[0].index), (Part::Header, None, None));
-    assert_eq!(found[0].error, Error::UnrecognizedFileFormat);
+    assert_eq!(found[0].problem, Problem::Error(Error::UnrecognizedFileFormat));
     // The header, two items, and the length of the third, which becomes too short for its kind.
     let front = Pdb::parse(&file).unwrap().stream_prefix(2, 110).unwrap();
     let mut shorter = front.clone();
@@ -355,7 +355,8 @@ fn whole_and_not() {
     assert_eq!(found.len(), 1);
     assert_eq!((found[0].part, found[0].stream, found[0].index), (Part::Types, Some(2), Some(0x1002)));
     assert_eq!(found[0].byte, Some(108));
-    assert_eq!(found[0].error, Error::TypeTooShort);
+    assert_eq!(found[0].problem, Problem::Error(Error::TypeTooShort));
+    assert!(!found[0].is_warning && found[0].file_byte.is_some());
 }
 
 #[test]

@@ -324,7 +324,7 @@ static void ask_definitions(void) {
 static void ask_findings(void) {
     pdb_finding found[16];
     for (size_t cut = 0; cut < 2; cut++) {
-        allowed(pdb_validate(file, cut ? 4095 : file_length, found, 16, &length, &fault), PDB_OK);
+        allowed(pdb_validate(file, cut ? 4095 : file_length, 0, found, 16, &length, &fault), PDB_OK);
         printf("findings %zu\n", length);
         for (size_t i = 0; i < length; i++)
             printf("finding %" PRIu32 " %" PRIu32 ":%" PRIu32 " %" PRIu32 ":0x%" PRIx64 ":%" PRIu64 "\n", found[i].part,

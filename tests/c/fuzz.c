@@ -143,7 +143,7 @@ static void ask_file(const uint8_t *bytes, size_t bytes_length) {
     if (pdb_format_of(bytes, bytes_length) > PDB_FORMAT_IMAGE) abort();
     if (told(pdb_identity_of(bytes, bytes_length, &identity, &fault)) == PDB_OK)
         for (uint32_t form = 0; form < 4; form++) told(pdb_key(&identity, form, BYTES(40), &length, &fault));
-    told(pdb_validate(bytes, bytes_length, ITEMS(pdb_finding, 16), &length, &fault));
+    told(pdb_validate(bytes, bytes_length, 1, ITEMS(pdb_finding, 16), &length, &fault));
     if (told(pdb_file_open(bytes, bytes_length, &file, &fault)) != PDB_OK) return;
     told(pdb_file_page_size(&file, &page_size, &fault));
     told(pdb_file_information(&file, &information, &fault));

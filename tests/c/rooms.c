@@ -42,7 +42,7 @@ typedef uint32_t call(void *room, size_t room_length, size_t *length, uint8_t *n
 
 ONE(error_text, uint8_t, pdb_error_text(&(pdb_fault){PDB_TYPE_NOT_FOUND, 7, 0}, items, room_length, length, &fault))
 ONE(key, uint8_t, pdb_key(&identity, PDB_KEY_GUID, items, room_length, length, &fault))
-ONE(validate, pdb_finding, pdb_validate(bytes, bytes_length - 1024, items, room_length, length, &fault))
+ONE(validate, pdb_finding, pdb_validate(bytes, bytes_length - 1024, 0, items, room_length, length, &fault))
 ONE(file_stream, uint8_t, pdb_file_stream(&file, PDB_TYPES_STREAM, SIZE_MAX, items, room_length, length, &fault))
 ONE(limited_stream, uint8_t, pdb_file_stream(&file, PDB_TYPES_STREAM, 100, items, room_length, length, &fault))
 ONE(named_stream, uint8_t, pdb_file_named_stream(&file, (const uint8_t *)"/names", 6, items, room_length, length, &fault))

@@ -1,13 +1,18 @@
 -- What is found wrong in a file, as a caller sees it.
-use Rattle.std.specs.Prelude.{◌≡◌, ◌↔◌, ℕ, is_some, unwrap_or, List, map, Ok}
+use Rattle.std.specs.Prelude.{ℕ, ◌==◌, if◌then◌else◌, is_some, unwrap_or, List, map, Ok}
 use Rattle.pdb_base.specs.Answer.{Answer}
 use Rattle.pdb_validation.specs.Finding.{Fault}
-use Rattle.pdb_validation.specs.IsWhole.{IsWhole}
+use Rattle.pdb_validation.specs.Problem.{ProblemValue, failure, inconsistent, is_tolerated}
 use Rattle.pdb_validation.specs.Whole.{faults_of}
 use Rattle.pdb_validation.specs.declared.finding.Part.{Part}
 use Rattle.pdb_validation.specs.declared.finding.Part.TheVariants as parts
+use Rattle.pdb_consistency.specs.declared.inconsistency.Inconsistency.{Inconsistency}
+use Rattle.pdb_consistency.specs.declared.inconsistency.Inconsistency.TheVariants as kinds
+use Rattle.pdb_consistency.specs.declared.mismatch.Extent.{Extent}
+use Rattle.pdb_consistency.specs.declared.mismatch.Extent.TheVariants.{First, All}
 use Rattle.pdb_reports.specs.declared.findings.FoundFault.{FoundFault}
-use Rattle.pdb_handles.specs.Fault.{fault_of}
+use Rattle.pdb_reports.specs.declared.findings.ProblemNumbers.{ProblemNumbers}
+use Rattle.pdb_handles.specs.Fault.{fault_of, fine}
 use Rattle.pdb_handles.specs.Frame.{flag}
 
 -- the number of a part
@@ -28,18 +33,71 @@ part_number parts.OmapFromSource = 12
 part_number parts.OldFrames = 13
 part_number parts.NewFrames = 14
 
+-- the number of what is inconsistent
+abbrev pub inconsistency_number : Inconsistency → ℕ
+inconsistency_number kinds.DirectoryTooLarge = 1
+inconsistency_number kinds.StreamsTooLarge = 2
+inconsistency_number kinds.OutOfOrder = 3
+inconsistency_number (kinds.PageShared page) = 4
+inconsistency_number (kinds.PageFree page) = 5
+inconsistency_number (kinds.StreamMissing stream) = 6
+inconsistency_number kinds.DebugSizes = 7
+inconsistency_number (kinds.ReferenceNotBelow index) = 8
+inconsistency_number kinds.RecordUnaligned = 9
+inconsistency_number (kinds.KindNotRead kind) = 10
+inconsistency_number (kinds.HashCount count) = 11
+inconsistency_number (kinds.HashTooLarge value) = 12
+inconsistency_number (kinds.IndexOffset index) = 13
+inconsistency_number kinds.BucketsCut = 14
+inconsistency_number (kinds.NameOffset offset) = 15
+inconsistency_number (kinds.NameCount count) = 16
+inconsistency_number kinds.SectionsOverlap = 17
+
+-- the number that goes with what is inconsistent, or 0
+abbrev pub detail_of : Inconsistency → ℕ
+detail_of (kinds.PageShared page) = page
+detail_of (kinds.PageFree page) = page
+detail_of (kinds.StreamMissing stream) = stream
+detail_of (kinds.ReferenceNotBelow index) = index
+detail_of (kinds.KindNotRead kind) = kind
+detail_of (kinds.HashCount count) = count
+detail_of (kinds.HashTooLarge value) = value
+detail_of (kinds.IndexOffset index) = index
+detail_of (kinds.NameOffset offset) = offset
+detail_of (kinds.NameCount count) = count
+detail_of other = 0
+
+-- what is wrong, in numbers
+abbrev pub problem_numbers : ProblemValue → ProblemNumbers
+problem_numbers (failure refusal) = record { inconsistency = 0; number = 0; fault = fault_of refusal }
+problem_numbers (inconsistent what) = record {
+  inconsistency = inconsistency_number what;
+  number = detail_of what;
+  fault = fine;
+}
+
 -- the fault of a part, for the caller
 abbrev pub finding_of : Fault → FoundFault
 finding_of found = record {
   index = unwrap_or found.index 0;
   byte = unwrap_or found.byte 0;
+  file_byte = unwrap_or found.file_byte 0;
   part = part_number found.part;
   has_stream = flag (is_some found.stream);
   stream = unwrap_or found.stream 0;
   has_index = flag (is_some found.index);
-  fault = fault_of found.refusal;
+  has_byte = flag (is_some found.byte);
+  has_file_byte = flag (is_some found.file_byte);
+  is_warning = flag (is_tolerated found.problem);
+  inconsistency = (problem_numbers found.problem).inconsistency;
+  number = (problem_numbers found.problem).number;
+  fault = (problem_numbers found.problem).fault;
 }
 
+-- how much of each part is told: the first thing for 0, and everything for any other number
+abbrev pub extent_of : ℕ → Extent
+extent_of every = if every == 0 then First else All
+
 -- what is found wrong in a file, for the caller
-abbrev pub findings_said : List ℕ → Answer (List FoundFault)
-findings_said file = Ok (map finding_of (faults_of file))
+abbrev pub findings_said : ℕ → List ℕ → Answer (List FoundFault)
+findings_said every file = Ok (map finding_of (faults_of (extent_of every) file))

@@ -3,21 +3,26 @@
 ghost use Rattle.std.specs.Prelude.{◌≡◌, map, Ok};
 ghost use Rattle.pdb_base.specs.Answer.{Answers};
 ghost use Rattle.pdb_validation.specs.Finding.{finding_view};
-ghost use Rattle.pdb_reports.specs.Findings.{finding_of, findings_said, part_number};
+ghost use Rattle.pdb_validation.specs.Problem.{problem_view};
+ghost use Rattle.pdb_reports.specs.Findings.{detail_of, extent_of, finding_of, findings_said, inconsistency_number};
+ghost use Rattle.pdb_reports.specs.Findings.{part_number, problem_numbers};
 
 use pdb_base::Result;
-use pdb_handles::{Fault, flag};
-use pdb_validation::{Finding, Part, validate};
+use pdb_consistency::{Extent, Inconsistency};
+use pdb_handles::{FINE, Fault, flag};
+use pdb_validation::{Finding, Part, Problem, validate};
 use std::alloc::Global;
 
-/// A part of a file that has an error, and which one.
+/// What is found wrong in a part of a file, and where.
 #[repr(C)]
 #[derive(Clone, Copy)]
 pub struct FoundFault {
     /// The index of the record at which the fault is, or 0.
     pub index: u64,
-    /// The byte of the stream at which that record begins, or 0.
+    /// The byte of the stream at which the fault is, or 0.
     pub byte: u64,
+    /// The byte of the file that is this byte of the stream, or 0.
+    pub file_byte: u64,
     /// The part, numbered as in `pdb_part`.
     pub part: u32,
     /// Whether the fault is in a stream, as 0 or 1.
@@ -26,6 +31,16 @@ pub struct FoundFault {
     pub stream: u32,
     /// Whether the fault is at a record, as 0 or 1.
     pub has_index: u32,
+    /// Whether the fault is at a byte of the stream, as 0 or 1.
+    pub has_byte: u32,
+    /// Whether that byte is in the file, as 0 or 1.
+    pub has_file_byte: u32,
+    /// Whether files of known tools have it too, as 0 or 1.
+    pub is_warning: u32,
+    /// What is inconsistent, numbered as in `pdb_inconsistency`, or 0 for an error.
+    pub inconsistency: u32,
+    /// The number that goes with what is inconsistent, or 0.
+    pub number: u32,
     /// The error of the part.
     pub fault: Fault,
 }
@@ -53,18 +68,95 @@ fn part_number(part: Part) -> u32
     }
 }
 
+/// Returns the number of what is inconsistent.
+fn inconsistency_number(what: Inconsistency) -> u32
+    ensures { result ≡ inconsistency_number what }
+{
+    match what {
+        Inconsistency::DirectoryTooLarge => 1,
+        Inconsistency::StreamsTooLarge => 2,
+        Inconsistency::OutOfOrder => 3,
+        Inconsistency::PageShared(_) => 4,
+        Inconsistency::PageFree(_) => 5,
+        Inconsistency::StreamMissing(_) => 6,
+        Inconsistency::DebugSizes => 7,
+        Inconsistency::ReferenceNotBelow(_) => 8,
+        Inconsistency::RecordUnaligned => 9,
+        Inconsistency::KindNotRead(_) => 10,
+        Inconsistency::HashCount(_) => 11,
+        Inconsistency::HashTooLarge(_) => 12,
+        Inconsistency::IndexOffset(_) => 13,
+        Inconsistency::BucketsCut => 14,
+        Inconsistency::NameOffset(_) => 15,
+        Inconsistency::NameCount(_) => 16,
+        Inconsistency::SectionsOverlap => 17,
+    }
+}
+
+/// Returns the number that goes with what is inconsistent, or 0.
+fn detail_of(what: Inconsistency) -> u32
+    ensures { result ≡ detail_of what }
+{
+    match what {
+        Inconsistency::PageShared(page) | Inconsistency::PageFree(page) => page,
+        Inconsistency::StreamMissing(stream) => stream,
+        Inconsistency::ReferenceNotBelow(index) | Inconsistency::IndexOffset(index) => index,
+        Inconsistency::KindNotRead(kind) => kind as u32,
+        Inconsistency::HashCount(count) | Inconsistency::NameCount(count) => count,
+        Inconsistency::HashTooLarge(value) => value,
+        Inconsistency::NameOffset(offset) => offset,
+        _ => 0,
+    }
+}
+
+/// What is wrong, in numbers.
+#[derive(Clone, Copy)]
+struct ProblemNumbers {
+    /// What is inconsistent, or 0 for an error.
+    inconsistency: u32,
+    /// The number that goes with it.
+    number: u32,
+    /// The error.
+    fault: Fault,
+}
+
+/// Returns what is wrong in numbers.
+fn problem_numbers(problem: &Problem) -> ProblemNumbers
+    ensures { result ≡ problem_numbers (problem_view problem.now) }
+{
+    match problem {
+        Problem::Error(error) => ProblemNumbers {
+            inconsistency: 0,
+            number: 0,
+            fault: Fault::of(error),
+        },
+        Problem::Inconsistent(what) => ProblemNumbers {
+            inconsistency: inconsistency_number(*what),
+            number: detail_of(*what),
+            fault: Fault::status(FINE),
+        },
+    }
+}
+
 /// Converts what was found for the caller.
 fn finding_of(found: &Finding) -> FoundFault
     ensures { result ≡ finding_of (finding_view found.now) }
 {
+    let problem = problem_numbers(&found.problem);
     FoundFault {
         index: found.index.unwrap_or(0),
         byte: found.byte.unwrap_or(0),
+        file_byte: found.file_byte.unwrap_or(0),
         part: part_number(found.part),
         has_stream: flag(found.stream.is_some()),
         stream: found.stream.unwrap_or(0),
         has_index: flag(found.index.is_some()),
-        fault: Fault::of(&found.error),
+        has_byte: flag(found.byte.is_some()),
+        has_file_byte: flag(found.file_byte.is_some()),
+        is_warning: flag(found.problem.is_warning()),
+        inconsistency: problem.inconsistency,
+        number: problem.number,
+        fault: problem.fault,
     }
 }
 
@@ -79,13 +171,25 @@ fn findings_listed(alloc: Global, found: &[Finding]) -> Result<Vec<FoundFault>>
     Ok(rows)
 }
 
-/// Returns what is found wrong in a file: the first fault of each part that has an error.
+/// Returns how much of each part is told: the first thing for 0, and everything for any other
+/// number.
+fn extent_of(every: u32) -> Extent
+    ensures { result ≡ extent_of every }
+{
+    if every == 0 {
+        Extent::First
+    } else {
+        Extent::All
+    }
+}
+
+/// Returns what is found wrong in a file: the first fault of each part, or every one.
 ///
 /// # Errors
 /// Fails only with `OutOfMemory`, if an allocation fails.
-pub fn findings_in(alloc: Global, file: &[u8]) -> Result<Vec<FoundFault>>
-    ensures { Answers (λ rows. rows.items) result (findings_said file.now) }
+pub fn findings_in(alloc: Global, file: &[u8], every: u32) -> Result<Vec<FoundFault>>
+    ensures { Answers (λ rows. rows.items) result (findings_said every file.now) }
 {
-    let found = validate(alloc, file)?;
+    let found = validate(alloc, file, extent_of(every))?;
     findings_listed(alloc, &found)
 }

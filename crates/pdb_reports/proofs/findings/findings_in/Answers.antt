@@ -9,6 +9,6 @@ use Rattle.pdb_reports.proofs.findings.findings_in.Goals as goal
 pub returns : goal.returns
 returns c =
     let found = ok_is _ _ c.in_ok-found.ensures.findings in
-    let rows : map (λ one. finding_of (finding_view one)) c.deref.result.now ≡ map finding_of (faults_of c.args.file.now) =
+    let rows : map (λ one. finding_of (finding_view one)) c.deref.result.now ≡ map finding_of (faults_of c.extent_of.result c.args.file.now) =
     rw c.deref.ensures.value (sym (map-map finding_of finding_view c.in_ok-found.found.items) ∙ ap (map finding_of) (sym found)) in
     rw (← rows) c.findings_listed.ensures
