@@ -1,5 +1,5 @@
+pub mod ToldLemmas
 pub mod WalkLemmas
-pub mod ReadLemmas
 pub mod StreamLemmas
 pub mod SizeLemmas
 pub mod NameLemmas

@@ -1,8 +1,9 @@
+pub mod Problem
 pub mod Finding
-pub mod Outside
-pub mod Tables
-pub mod Streams
 pub mod Sizes
+pub mod Places
+pub mod Streams
+pub mod Tables
 pub mod Names
 pub mod Roles
 pub mod Whole

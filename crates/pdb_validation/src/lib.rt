@@ -5,6 +5,8 @@
 mod checks;
 mod finding;
 mod names;
+mod places;
+mod problem;
 mod read;
 mod roles;
 mod sizes;
@@ -14,4 +16,5 @@ mod tables;
 mod tests;
 
 pub use checks::validate;
-pub use finding::{Finding, Part};
+pub use finding::{Code, Extent, Finding, Part};
+pub use problem::Problem;
