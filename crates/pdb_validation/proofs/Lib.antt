@@ -3,4 +3,5 @@ pub mod WalkLemmas
 pub mod StreamLemmas
 pub mod SizeLemmas
 pub mod NameLemmas
+pub mod SeverityLemmas
 pub mod WholeLemmas

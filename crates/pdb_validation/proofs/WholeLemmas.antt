@@ -19,7 +19,8 @@ use Rattle.pdb_file.specs.DebugHeader.{extra_streams_of}
 use Rattle.pdb_file.specs.declared.debug_header.DBIExtraStreams.{DBIExtraStreams}
 use Rattle.pdb_tpi.specs.Steps.{walk, walk_rest}
 use Rattle.pdb_tpi.specs.Table.{Table, table_of}
-use Rattle.pdb_validation.specs.Finding.{Fault, by_extent, finding_view, stream_fault}
+use Rattle.pdb_validation.proofs.SeverityLemmas.{errors_none}
+use Rattle.pdb_validation.specs.Finding.{Fault, by_extent, error_count, finding_view, stream_fault}
 use Rattle.pdb_validation.specs.IsWhole.{AreAnswered, AreIds, AreNames, AreTypes, HasRole, HasWholeNames, HasWholeParts}
 use Rattle.pdb_validation.specs.IsWhole.{HasWholeRecords, IfRead, IsNumbered, IsReadOrAbsent, IsThere, IsWhole}
 use Rattle.pdb_validation.specs.IsWhole.{IsWholeBehind}
@@ -610,3 +611,13 @@ whole_findings items (Ok findings) extent file is =
           map_none (items findings) (sym same ∙ whole_file extent file whole),
     )
 whole_findings items (Err e) extent file is = tt
+
+pub whole_errors : {X : Type 0} (items : X → List Finding) (result : Result X Error) (extent : Extent)
+    (file : List ℕ) → Answers (λ (findings : X). map finding_view (items findings)) result (said (faults_of extent file))
+    → IfOk result (λ findings. (error_count (map finding_view (items findings)) ≡ 0) ↔ IsWhole file)
+whole_errors items (Ok findings) extent file is =
+    let same : faults_of extent file ≡ map finding_view (items findings) = ok_is _ _ is in
+    let whole = whole_findings items (Ok findings) extent file is in
+    let none = errors_none extent file (items findings) same in
+    (λ zero. whole.0 (none.0 zero), λ w. none.1 (whole.1 w))
+whole_errors items (Err e) extent file is = tt

@@ -1,7 +1,8 @@
 -- What is found wrong in a file.
-use Rattle.std.specs.Prelude.{ℕ, Bool, true, false, List, [], ◌++◌, take, codes, Option, Some, None}
+use Rattle.std.specs.Prelude.{ℕ, ◌-◌, Bool, true, false, List, [], ◌∷◌, ◌++◌, filter, length, take, codes, Option, Some}
+use Rattle.std.specs.Prelude.{None}
 use Rattle.pdb_consistency.specs.Inconsistency.{inconsistency_code}
-use Rattle.pdb_validation.specs.Problem.{ProblemValue, failure, inconsistent, error_code, problem_view}
+use Rattle.pdb_validation.specs.Problem.{ProblemValue, failure, inconsistent, error_code, is_tolerated, problem_view}
 use Rattle.pdb_validation.specs.declared.finding.Code.{Code}
 use Rattle.pdb_validation.specs.declared.finding.Extent.{Extent}
 use Rattle.pdb_validation.specs.declared.finding.Extent.TheVariants as extents
@@ -61,6 +62,13 @@ file_fault part problem = record {
   file_byte = None;
   problem = problem;
 }
+
+-- how many of some faults are warnings, and how many are errors
+abbrev pub warning_count : List Fault → ℕ
+warning_count faults = length (filter (λ fault. is_tolerated fault.problem) faults)
+
+abbrev pub error_count : List Fault → ℕ
+error_count faults = length faults - warning_count faults
 
 -- ---- how much is told of a part
 

@@ -5,7 +5,7 @@ ghost use Rattle.std.specs.Option.{option_to_list};
 ghost use Rattle.pdb_base.specs.Answer.{Answers};
 ghost use Rattle.pdb_msf.specs.Header.{opened};
 ghost use Rattle.pdb_msf.specs.Layout.{layout_of};
-ghost use Rattle.pdb_validation.specs.Finding.{by_extent, file_fault, finding_view};
+ghost use Rattle.pdb_validation.specs.Finding.{by_extent, error_count, file_fault, finding_view};
 ghost use Rattle.pdb_validation.specs.IsWhole.{IsWhole};
 ghost use Rattle.pdb_validation.specs.Problem.{problem_view};
 ghost use Rattle.pdb_validation.specs.Roles.{role_fault};
@@ -248,6 +248,7 @@ pub fn validate(alloc: Global, file: &[u8], extent: Extent) -> Result<Vec<Findin
     ensures findings { Answers (λ findings. map finding_view findings.items) result
         (Ok (faults_of extent file.now)) }
     ensures whole { IfOk result (λ findings. (findings.items ≡ []) ↔ IsWhole file.now) }
+    ensures errors { IfOk result (λ findings. (error_count (map finding_view findings.items) ≡ 0) ↔ IsWhole file.now) }
 {
     check_file(alloc, file, extent)
 }
