@@ -80,3 +80,23 @@ asked_in_two extent first second one both before behind =
     let is = ok_is (with_further extent [] first) one before in
     ap told (sym (asked_are extent (first ++ second)) ∙ sym (further_then extent [] first second)
     ∙ ap (λ (kept : List Mismatch). with_further extent kept second) is) ∙ behind
+
+-- the mismatches from the first on were added, and nothing is left
+pub asked_end : (extent : Extent) (kept left all : List Mismatch)
+    → with_further extent kept left ≡ with_further extent [] all → left ≡ [] → told (asked_of extent all) ≡ Ok kept
+asked_end extent kept left all so_far none =
+    ap told (sym (asked_are extent all)) ∙ further_end extent kept left (with_further extent [] all) so_far none
+
+-- all that are asked for were added at once
+pub asked_in_one : (extent : Extent) (none all kept : List Mismatch) → none ≡ [] → told (with_further extent none all) ≡ Ok kept
+    → told (asked_of extent all) ≡ Ok kept
+asked_in_one extent none all kept empty added = ap told (sym (asked_are extent all)) ∙ rw empty at added
+
+-- some mismatches were added, and then others
+pub further_two : (extent : Extent) (before first second one both : List Mismatch)
+    → told (with_further extent before first) ≡ Ok one → both ≡ with_further extent one second
+    → told (with_further extent before (first ++ second)) ≡ Ok both
+further_two extent before first second one both added others =
+    let is = ok_is (with_further extent before first) one added in
+    ap told (sym (further_then extent before first second)
+    ∙ ap (λ (kept : List Mismatch). with_further extent kept second) is ∙ sym others)

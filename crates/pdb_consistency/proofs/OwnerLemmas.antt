@@ -1,5 +1,5 @@
 -- The pages of a stream, and how many they are.
-use Rattle.std.proofs.Common.{◌≡◌, ℕ, ◌+◌, ◌≤◌, zero, suc, List, [], ◌∷◌, ◌++◌, length, map, drop, refl}
+use Rattle.std.proofs.Common.{◌≡◌, ℕ, ◌+◌, ◌≤◌, List, [], ◌++◌, length, map, drop, refl}
 use Rattle.std.proofs.Common.{sym, ap, ◌∙◌, arith, None, Ok, Err}
 use Rattle.std.specs.List.{flat_map, range_with_len}
 use Rattle.std.proofs.Math.Nat.{div-le_self}
@@ -12,6 +12,7 @@ use Rattle.pdb_msf.specs.Directory.{Entry, entry_of, limited, place_in}
 use Rattle.pdb_msf.specs.Layout.{LayoutValue, pages_by, size_by}
 use Rattle.pdb_msf.specs.Pages.{page_number, page_numbers, pages, words}
 use Rattle.pdb_msf.specs.declared.directory.StreamPlace.{StreamPlace}
+use Rattle.pdb_consistency.proofs.PlaceLemmas.{range_more}
 use Rattle.pdb_consistency.specs.PageOwners.{owners_of_stream, pages_or_none}
 
 pages_near : (page_size size : ℕ) → pages page_size size ≤ size + 1
@@ -76,13 +77,6 @@ no_owners layout n refusal is =
     page_numbers geometry.pages_used (pages geometry.page_size place.size) (words (drop place.start layout.directory))
     >>= λ numbers. Ok (record { size = limited place.size None; pages = numbers })) refusal is in
     rw none refl
-
-range_more : (from count last : ℕ) → from + count ≡ last
-    → range_with_len from (count + 1) ≡ range_with_len from count ++ last ∷ []
-range_more from zero last here = let same : from ≡ last = omega arith in rw same refl
-range_more from (suc count) last here =
-    let next : suc count + 1 ≡ suc (count + 1) = omega arith in
-    rw next (ap (λ (ns : List ℕ). from ∷ ns) (range_more (from + 1) count last (omega (arith, here))))
 
 -- the pages of one stream more
 pub owners_more : {A : Type 0} (of : ℕ → List A) (front old new : List A) (n : ℕ)

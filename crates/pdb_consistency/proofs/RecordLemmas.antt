@@ -1,5 +1,5 @@
 -- A walk over the records of a table that adds the mismatches of each.
-use Rattle.std.proofs.Common.{◌≡◌, ℕ, suc, ◌+◌, ◌-◌, ◌≤◌, List, [], ◌++◌, length, drop, refl, sym, ap, ◌∙◌, arith}
+use Rattle.std.proofs.Common.{◌≡◌, ℕ, suc, ◌+◌, ◌-◌, ◌≤◌, List, [], ◌++◌, length, drop, refl, ap, ◌∙◌, arith}
 use Rattle.std.proofs.Common.{Option, Some, None, Ok, Err}
 use Rattle.std.proofs.Math.Seq.{drop-cons}
 use Rattle.std.proofs.Math.ListN.{drop_of_length-le}
@@ -18,7 +18,7 @@ use Rattle.pdb_consistency.specs.Records.{size_inconsistency, table_mismatches}
 use Rattle.pdb_consistency.specs.declared.inconsistency.Inconsistency.{Inconsistency}
 use Rattle.pdb_consistency.specs.declared.mismatch.Extent.{Extent}
 use Rattle.pdb_consistency.specs.declared.mismatch.Mismatch.{Mismatch}
-use Rattle.pdb_consistency.proofs.MismatchLemmas.{asked_are, further_end, further_more, told}
+use Rattle.pdb_consistency.proofs.MismatchLemmas.{asked_end, further_more, told}
 
 abbrev pub OfItem : Type 0
 OfItem = ℕ → List ℕ → Option Inconsistency
@@ -89,8 +89,7 @@ adding_past : (extent : Extent) (stream : ℕ) (of_item : OfItem) (table : Table
     → length (walk stand.table) ≤ steps_taken stand
     → told (asked_of extent (table_mismatches stream of_item table)) ≡ Ok kept
 adding_past extent stream of_item table kept stand are past =
-    ap told (sym (asked_are extent (table_mismatches stream of_item table)))
-    ∙ further_end extent kept (left_mismatches stream table of_item stand) _ are.left
+    asked_end extent kept (left_mismatches stream table of_item stand) (table_mismatches stream of_item table) are.left
     (rw (drop_of_length-le (walk stand.table) past) refl)
 
 -- behind the last record

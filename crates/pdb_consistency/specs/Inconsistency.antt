@@ -6,7 +6,7 @@ use Rattle.pdb_consistency.specs.declared.inconsistency.Inconsistency.TheVariant
 use Rattle.pdb_consistency.specs.declared.inconsistency.Inconsistency.TheVariants.{StreamMissing, DebugSizes}
 use Rattle.pdb_consistency.specs.declared.inconsistency.Inconsistency.TheVariants.{ReferenceNotBelow, RecordUnaligned}
 use Rattle.pdb_consistency.specs.declared.inconsistency.Inconsistency.TheVariants.{KindNotRead, HashCount, HashTooLarge}
-use Rattle.pdb_consistency.specs.declared.inconsistency.Inconsistency.TheVariants.{IndexOffset, NameOffset, NameCount}
+use Rattle.pdb_consistency.specs.declared.inconsistency.Inconsistency.TheVariants.{IndexOffset, BucketsCut, NameOffset, NameCount}
 use Rattle.pdb_consistency.specs.declared.inconsistency.Inconsistency.TheVariants.{SectionsOverlap}
 
 -- the code of an inconsistency, under which programs tell of it
@@ -24,6 +24,7 @@ inconsistency_code (KindNotRead kind) = codes "KIND-NOT-READ"
 inconsistency_code (HashCount count) = codes "HASH-COUNT"
 inconsistency_code (HashTooLarge value) = codes "HASH-TOO-LARGE"
 inconsistency_code (IndexOffset index) = codes "INDEX-OFFSET"
+inconsistency_code BucketsCut = codes "BUCKETS-CUT"
 inconsistency_code (NameOffset offset) = codes "NAME-OFFSET"
 inconsistency_code (NameCount count) = codes "NAME-COUNT"
 inconsistency_code SectionsOverlap = codes "SECTIONS-OVERLAP"

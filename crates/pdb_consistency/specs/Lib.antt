@@ -1,6 +1,12 @@
+pub mod DebugSizes
+pub mod Hashes
 pub mod Inconsistency
 pub mod Mismatch
+pub mod MissingStreams
 pub mod PageOwners
 pub mod Pages
 pub mod Records
 pub mod References
+pub mod Sections
+pub mod StringTable
+pub mod Words

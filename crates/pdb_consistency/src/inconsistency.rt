@@ -31,7 +31,7 @@ pub enum Inconsistency {
     /// A type refers to this index, which is not below its own.
     ReferenceNotBelow(u32),
 
-    /// A record ends at a byte that is no multiple of four.
+    /// A record takes a number of bytes, with those of its length, that is no multiple of four.
     RecordUnaligned,
 
     /// A record has this kind, which the library does not read.
@@ -45,6 +45,9 @@ pub enum Inconsistency {
 
     /// The place that is stored for the record of this index is not where the record begins.
     IndexOffset(u32),
+
+    /// The string table ends before its buckets do, or before the count of its names.
+    BucketsCut,
 
     /// The string table's buckets hold this offset, at which no name begins.
     NameOffset(u32),
@@ -75,6 +78,7 @@ impl Inconsistency {
             Inconsistency::HashCount(_) => "HASH-COUNT",
             Inconsistency::HashTooLarge(_) => "HASH-TOO-LARGE",
             Inconsistency::IndexOffset(_) => "INDEX-OFFSET",
+            Inconsistency::BucketsCut => "BUCKETS-CUT",
             Inconsistency::NameOffset(_) => "NAME-OFFSET",
             Inconsistency::NameCount(_) => "NAME-COUNT",
             Inconsistency::SectionsOverlap => "SECTIONS-OVERLAP",

@@ -1,0 +1,52 @@
+-- The buckets of a string table.
+use Rattle.std.proofs.Common.{Bool, true, false, ◌∷◌, length, if◌then◌else◌, ◌≡◌, ℕ, ◌+◌, ◌*◌, ◌==◌, ◌&&◌, not, List, [], refl, sym, ap, ◌∙◌, Option, Ok}
+use Rattle.std.specs.Bool.{then_some}
+use Rattle.std.specs.Option.{option_to_list}
+use Rattle.pdb_base.specs.Reading.{word_at}
+use Rattle.pdb_consistency.specs.Mismatch.{asked_of, with_further}
+use Rattle.pdb_consistency.specs.StringTable.{are_buckets_cut, names_mismatches_in, begins_name, bucket_byte, bucket_count, bucket_mismatch, buckets_byte}
+use Rattle.pdb_consistency.specs.StringTable.{buckets_mismatches, count_mismatch, in_names, names_in_buckets}
+use Rattle.pdb_consistency.specs.Words.{mismatches_at}
+use Rattle.pdb_consistency.specs.declared.inconsistency.Inconsistency.TheVariants.{BucketsCut, NameCount, NameOffset}
+use Rattle.pdb_consistency.specs.declared.mismatch.Extent.{Extent}
+use Rattle.pdb_consistency.specs.declared.mismatch.Mismatch.{Mismatch}
+use Rattle.pdb_consistency.proofs.MismatchLemmas.{asked_in_one, asked_in_two, told}
+
+pub bucket_told : (number : ℕ) (stream : List ℕ) (place byte offset : ℕ) (given : Option Mismatch)
+    → byte ≡ bucket_byte stream place → offset ≡ word_at byte stream
+    → given ≡ then_some (not (offset == 0) && not (begins_name stream offset)) (in_names number byte (NameOffset offset))
+    → given ≡ bucket_mismatch number stream place
+bucket_told number stream place byte offset given at read is = is ∙ rw (read, at) refl
+
+-- the mismatches of the buckets, and then that of the count of names
+pub buckets_told : (extent : Extent) (number : ℕ) (stream : List ℕ) (buckets count stored names : ℕ)
+    (given : Option Mismatch) (none one both : List Mismatch)
+    → buckets ≡ buckets_byte stream → count ≡ word_at buckets stream → none ≡ []
+    → told (with_further extent none (mismatches_at (bucket_mismatch number stream) count)) ≡ Ok one
+    → names ≡ names_in_buckets stream count → stored ≡ word_at (buckets + 4 + 4 * count) stream
+    → given ≡ then_some (not (stored == names)) (in_names number (buckets + 4 + 4 * count) (NameCount stored))
+    → told (with_further extent one (option_to_list given)) ≡ Ok both
+    → told (asked_of extent (buckets_mismatches number stream)) ≡ Ok both
+unfolding buckets_mismatches
+buckets_told extent number stream buckets count stored names given none one both begin many empty added named read is
+    last =
+    let counted : given ≡ count_mismatch number stream = is ∙ rw (named, read, many, begin) refl in
+    asked_in_two extent (mismatches_at (bucket_mismatch number stream) (bucket_count stream))
+    (option_to_list (count_mismatch number stream)) one both
+    (rw (empty, many, begin) at added) (rw counted at last)
+
+if_so : (test : Bool) (xs ys : List Mismatch) → test ≡ true → (if test then xs else ys) ≡ xs
+if_so true xs ys is = refl
+if_so false xs ys is = absurd cc
+
+-- a string table that is cut has that mismatch alone
+pub cut_told : (extent : Extent) (number : ℕ) (stream : List ℕ) (test : Bool) (cut : Mismatch) (none kept : List Mismatch)
+    → test ≡ are_buckets_cut stream → test ≡ true → cut ≡ in_names number (length stream) BucketsCut → none ≡ []
+    → told (with_further extent none (cut ∷ [])) ≡ Ok kept
+    → told (asked_of extent (names_mismatches_in number stream)) ≡ Ok kept
+unfolding names_mismatches_in
+cut_told extent number stream test cut none kept tells is at empty added =
+    let all : names_mismatches_in number stream ≡ cut ∷ [] = if_so (are_buckets_cut stream) _ _ (sym tells ∙ is)
+    ∙ ap (λ (m : Mismatch). m ∷ []) (sym at) in
+    asked_in_one extent none (names_mismatches_in number stream) kept empty
+    (ap (λ (xs : List Mismatch). told (with_further extent none xs)) all ∙ added)
