@@ -5,8 +5,8 @@ use Rattle.pdb_cli.specs.Words.{same}
 use Rattle.pdb_dump.specs.Words.{is_option}
 use Rattle.pdb_dump.specs.declared.command.Validate.{Validate}
 use Rattle.pdb_dump.specs.declared.command.ValidateOptions.{ValidateOptions}
-use Rattle.pdb_validation.specs.declared.finding.Extent.{Extent}
-use Rattle.pdb_validation.specs.declared.finding.Extent.TheVariants as extents
+use Rattle.pdb_consistency.specs.declared.mismatch.Extent.{Extent}
+use Rattle.pdb_consistency.specs.declared.mismatch.Extent.TheVariants as extents
 
 -- whether a word is an option that `validate` takes
 abbrev pub is_known : List ℕ → Bool
@@ -27,7 +27,7 @@ is_given option words = list_any (λ word. same word option) words
 -- how the words say that files are checked
 unfoldable pub options_in : List (List ℕ) → ValidateOptions
 options_in words = record {
-  extent = if is_given (codes "--all") words then extents.Every else extents.First;
+  extent = if is_given (codes "--all") words then extents.All else extents.First;
   is_strict = is_given (codes "--strict") words;
   is_quiet = is_given (codes "--quiet") words;
 }

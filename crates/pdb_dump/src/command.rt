@@ -3,7 +3,7 @@
 use pdb_layouts::Options;
 use pdb_mapping::MapStreams;
 use pdb_summary::KeyStyle;
-use pdb_validation::Extent;
+use pdb_consistency::Extent;
 
 /// The name of a command.
 #[derive(Clone, Copy, Debug, PartialEq, Eq)]

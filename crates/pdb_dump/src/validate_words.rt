@@ -8,7 +8,7 @@ ghost use Rattle.pdb_dump.specs.ValidateWords.{is_unknown, options_in, paths_in,
 
 use crate::command::{Validate, ValidateOptions};
 use crate::words::{any_is, is_option};
-use pdb_validation::Extent;
+use pdb_consistency::Extent;
 use std::alloc::Global;
 
 /// Returns whether a word is an option that `validate` doesn't take.
@@ -51,7 +51,7 @@ fn options_in(words: &[&str]) -> ValidateOptions
     ensures { result ≡ options_in (map (λ word. word.now) words.now) }
 {
     let extent = if any_is(words, "--all") {
-        Extent::Every
+        Extent::All
     } else {
         Extent::First
     };

@@ -4,4 +4,5 @@ pub mod StreamLemmas
 pub mod SizeLemmas
 pub mod NameLemmas
 pub mod SeverityLemmas
+pub mod RelationLemmas
 pub mod WholeLemmas

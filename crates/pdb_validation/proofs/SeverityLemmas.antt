@@ -18,7 +18,7 @@ use Rattle.pdb_file.specs.declared.debug_header.DBIExtraStreams.{DBIExtraStreams
 use Rattle.pdb_msf.specs.Header.{Head, opened}
 use Rattle.pdb_msf.specs.Layout.{LayoutValue, layout_of, stream_by}
 use Rattle.pdb_tpi.specs.Table.{Table, table_of}
-use Rattle.pdb_validation.specs.Finding.{Fault, by_extent, error_count, finding_view, stream_fault, warning_count}
+use Rattle.pdb_validation.specs.Finding.{Fault, by_extent, errors_in, stream_fault}
 use Rattle.pdb_validation.specs.IsWhole.{IsWhole}
 use Rattle.pdb_validation.specs.Names.{fault_of_answer, named_fault, names_fault, string_table_fault}
 use Rattle.pdb_validation.specs.Names.{string_table_number, whole_names}
@@ -32,10 +32,10 @@ use Rattle.pdb_validation.specs.Streams.{bytes_fault, fault_there, if_read, stre
 use Rattle.pdb_validation.specs.Tables.{fault_at, fault_behind, id_faults, id_in, ids_faults, item_fault, item_faults}
 use Rattle.pdb_validation.specs.Tables.{missing_fault, record_faults, refusal_fault, table_faults, type_faults, type_in}
 use Rattle.pdb_validation.specs.Tables.{types_faults}
-use Rattle.pdb_validation.specs.Whole.{faults_behind, faults_by, faults_of, faults_of_ids, faults_of_types, fixed_faults}
+use Rattle.pdb_validation.specs.Whole.{faults_behind, faults_by, faults_of, faults_of_ids, faults_of_types, fixed_faults, refused_faults}
 use Rattle.pdb_validation.specs.Whole.{opened_faults, part_faults, sized_faults, with_role, with_roles}
-use Rattle.pdb_validation.specs.declared.finding.Extent.{Extent}
-use Rattle.pdb_validation.specs.declared.finding.Extent.TheVariants as extents
+use Rattle.pdb_consistency.specs.declared.mismatch.Extent.{Extent}
+use Rattle.pdb_consistency.specs.declared.mismatch.Extent.TheVariants as extents
 use Rattle.pdb_validation.specs.declared.finding.Finding.{Finding}
 use Rattle.pdb_validation.specs.declared.finding.Part.{Part}
 use Rattle.pdb_validation.specs.declared.finding.Part.TheVariants as parts
@@ -68,7 +68,7 @@ with_one xs o are is = both xs (option_to_list o) are (listed o is)
 told : (extent : Extent) (faults : List Fault) → AreErrors faults → AreErrors (by_extent extent faults)
 told extents.First [] are = tt
 told extents.First (fault ∷ faults) are = (are.0, tt)
-told extents.Every faults are = are
+told extents.All faults are = are
 
 each : (fault : ℕ → Option Fault) (numbers : List ℕ) → ((n : ℕ) → MaybeError (fault n))
     → AreErrors (flat_map (λ n. option_to_list (fault n)) numbers)
@@ -259,6 +259,10 @@ unfolding ids_faults
 ids_errors pages stream = table_errors parts.Ids 4 (id_faults pages) (table_of stream)
     (λ table. records_errors (item_fault parts.Ids 4 pages table) id_in table (λ i r. refl))
 
+all_in : (faults : List Fault) → AreErrors faults → errors_in faults ≡ faults
+all_in [] are = refl
+all_in (fault ∷ faults) are = rw are.0 (ap (λ (l : List Fault). fault ∷ l) (all_in faults are.1))
+
 -- ---- the whole file
 
 role_added : (layout : LayoutValue) (file : List ℕ) (roles : Option DBIExtraStreams) (part : Part)
@@ -287,45 +291,8 @@ fixed_errors extent layout file =
     (told extent _ (read_errors (ids_faults (stream_pages layout 4)) (stream_by layout file 4 None)
     (ids_errors (stream_pages layout 4))))
 
-sized_errors : (extent : Extent) (layout : LayoutValue) (file : List ℕ)
-    → AreErrors (sized_faults extent layout file)
-unfolding sized_faults part_faults
-sized_errors extent layout file = unless (nat_lt (length file) (streams_size layout)) _ _ refl
-    (roles_added layout file (known_roles layout file) (fixed_faults extent layout file)
-    (fixed_errors extent layout file))
-
-by_errors : (extent : Extent) (file : List ℕ) (answer : Answer LayoutValue)
-    → AreErrors (faults_by extent file answer)
-by_errors extent file (Ok layout) = sized_errors extent layout file
-by_errors extent file (Err refusal) = (refl, tt)
-
-opened_errors : (extent : Extent) (file : List ℕ) → AreErrors (opened_faults extent file)
-unfolding opened_faults
-opened_errors extent file = unless (nat_lt (length file) (directory_size file)) _ _ refl
-    (by_errors extent file (layout_of file))
-
-behind_errors : (extent : Extent) (file : List ℕ) (answer : Answer Head)
-    → AreErrors (faults_behind extent file answer)
-behind_errors extent file (Ok head) = opened_errors extent file
-behind_errors extent file (Err refusal) = (refl, tt)
-
-all_errors : (extent : Extent) (file : List ℕ) → AreErrors (faults_of extent file)
-unfolding faults_of
-all_errors extent file = behind_errors extent file (opened file)
-
-no_warning : (faults : List Fault) → AreErrors faults → warning_count faults ≡ 0
-no_warning [] are = refl
-no_warning (fault ∷ faults) are = rw are.0 (no_warning faults are.1)
-
-empty_of : (findings : List Finding) → length (map finding_view findings) ≡ 0 → findings ≡ []
-empty_of [] is = refl
-empty_of (finding ∷ findings) is = absurd (omega (arith, is))
-
--- a list of faults has no error exactly if it is empty
-pub errors_none : (extent : Extent) (file : List ℕ) (findings : List Finding)
-    → faults_of extent file ≡ map finding_view findings
-    → (error_count (map finding_view findings) ≡ 0) ↔ (findings ≡ [])
-errors_none extent file findings same =
-    let none : warning_count (map finding_view findings) ≡ 0 =
-    ap warning_count (sym same) ∙ no_warning (faults_of extent file) (all_errors extent file) in
-    (λ zero. empty_of findings (omega (arith, zero, none)), λ empty. rw empty refl)
+pub refused_errors : (extent : Extent) (layout : LayoutValue) (file : List ℕ)
+    → errors_in (refused_faults extent layout file) ≡ refused_faults extent layout file
+unfolding refused_faults
+refused_errors extent layout file = all_in _ (roles_added layout file (known_roles layout file)
+    (fixed_faults extent layout file) (fixed_errors extent layout file))

@@ -7,27 +7,27 @@ use Rattle.std.proofs.lemmas.List.{append-nil}
 use Rattle.pdb_base.specs.Answer.{Answer}
 use Rattle.pdb_base.proofs.lemmas.Collected.{ok_is}
 use Rattle.pdb_validation.specs.Finding.{Fault, by_extent, is_enough}
-use Rattle.pdb_validation.specs.declared.finding.Extent.{Extent}
-use Rattle.pdb_validation.specs.declared.finding.Extent.TheVariants as extents
+use Rattle.pdb_consistency.specs.declared.mismatch.Extent.{Extent}
+use Rattle.pdb_consistency.specs.declared.mismatch.Extent.TheVariants as extents
 
 -- a fault, or none, before others that are told too
 one_more : (extent : Extent) (one : Option Fault) (others : List Fault) → is_enough extent one ≡ false
     → by_extent extent (option_to_list one ++ others) ≡ option_to_list one ++ by_extent extent others
 one_more extents.First None others more = refl
 one_more extents.First (Some fault) others more = absurd (false≢true (sym more))
-one_more extents.Every one others more = refl
+one_more extents.All one others more = refl
 
 -- a fault before others that are not told
 one_enough : (extent : Extent) (one : Option Fault) (others : List Fault) → is_enough extent one ≡ true
     → by_extent extent (option_to_list one ++ others) ≡ option_to_list one
 one_enough extents.First None others enough = absurd (false≢true enough)
 one_enough extents.First (Some fault) others enough = refl
-one_enough extents.Every one others enough = absurd (false≢true enough)
+one_enough extents.All one others enough = absurd (false≢true enough)
 
 pub told_alone : (extent : Extent) (one : Option Fault) → by_extent extent (option_to_list one) ≡ option_to_list one
 told_alone extents.First None = refl
 told_alone extents.First (Some fault) = refl
-told_alone extents.Every one = refl
+told_alone extents.All one = refl
 
 -- So far `now` is told of a part, of which `left` is left; in the end `all` is told behind `before`.
 abbrev pub IsTelling : Extent → List Fault → List Fault → List Fault → List Fault → Type 0
@@ -74,7 +74,7 @@ telling_last extent before all now left one telling last =
 
 nothing_told : (extent : Extent) → by_extent extent [] ≡ []
 nothing_told extents.First = refl
-nothing_told extents.Every = refl
+nothing_told extents.All = refl
 
 -- nothing is left
 pub telling_none : (extent : Extent) (before all now left : List Fault) → IsTelling extent before all now left

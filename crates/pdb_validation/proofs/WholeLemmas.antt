@@ -1,6 +1,6 @@
 -- A file has no fault exactly if it is whole.
 use Rattle.std.proofs.Common.{◌≡◌, ◌↔◌, inl, inr, ℕ, zero, suc, ◌+◌, ◌<◌, ◌≤◌, List, [], ◌∷◌, ◌++◌, length, map, refl}
-use Rattle.std.proofs.Common.{sym, ap, ◌∙◌, arith, Option, Some, None, Ok, Err, Result}
+use Rattle.std.proofs.Common.{sym, ap, ◌∙◌, arith, false, Option, Some, None, Ok, Err, Result}
 use Rattle.std.specs.Prelude.{IsOk, IfOk, nat_lt, min, if◌then◌else◌, slice_get}
 use Rattle.std.specs.List.{flat_map, range_with_len}
 use Rattle.std.specs.Option.{option_map, option_to_list}
@@ -19,15 +19,18 @@ use Rattle.pdb_file.specs.DebugHeader.{extra_streams_of}
 use Rattle.pdb_file.specs.declared.debug_header.DBIExtraStreams.{DBIExtraStreams}
 use Rattle.pdb_tpi.specs.Steps.{walk, walk_rest}
 use Rattle.pdb_tpi.specs.Table.{Table, table_of}
-use Rattle.pdb_validation.proofs.SeverityLemmas.{errors_none}
-use Rattle.pdb_validation.specs.Finding.{Fault, by_extent, error_count, finding_view, stream_fault}
+use Rattle.pdb_validation.proofs.RelationLemmas.{counted_none, none_with, uncounted, with_none}
+use Rattle.pdb_validation.proofs.SeverityLemmas.{refused_errors}
+use Rattle.pdb_validation.specs.Finding.{Fault, by_extent, error_count, errors_in, finding_view, stream_fault}
 use Rattle.pdb_validation.specs.IsWhole.{AreAnswered, AreIds, AreNames, AreTypes, HasRole, HasWholeNames, HasWholeParts}
 use Rattle.pdb_validation.specs.IsWhole.{HasWholeRecords, IfRead, IsNumbered, IsReadOrAbsent, IsThere, IsWhole}
 use Rattle.pdb_validation.specs.IsWhole.{IsWholeBehind}
 use Rattle.pdb_validation.specs.Names.{fault_of_answer, named_fault, names_fault, string_table_fault}
 use Rattle.pdb_validation.specs.Names.{string_table_number, whole_names}
 use Rattle.pdb_validation.specs.Places.{PagesValue, stream_pages}
-use Rattle.pdb_validation.specs.Problem.{ProblemValue}
+use Rattle.pdb_validation.specs.Problem.{ProblemValue, is_tolerated}
+use Rattle.pdb_validation.specs.Relations.{AreConsistent, container_relations, name_relations, related_faults}
+use Rattle.pdb_validation.specs.Relations.{role_relations, table_relations}
 use Rattle.pdb_space.specs.StringTable.{names_of}
 use Rattle.pdb_validation.proofs.NameLemmas.{names_whole, whole_from_names}
 use Rattle.pdb_validation.specs.Roles.{known_roles, numbered_fault, role_fault, role_index, role_problem, roles_fault}
@@ -37,9 +40,9 @@ use Rattle.pdb_validation.specs.Tables.{fault_behind, id_faults, id_in, ids_faul
 use Rattle.pdb_validation.specs.Tables.{missing_fault, record_faults, refusal_fault, table_faults, type_faults, type_in}
 use Rattle.pdb_validation.specs.Tables.{types_faults}
 use Rattle.pdb_validation.specs.Whole.{faults_behind, faults_by, faults_of, faults_of_ids, faults_of_types, fixed_faults}
-use Rattle.pdb_validation.specs.Whole.{opened_faults, part_faults, sized_faults, with_role, with_roles}
-use Rattle.pdb_validation.specs.declared.finding.Extent.{Extent}
-use Rattle.pdb_validation.specs.declared.finding.Extent.TheVariants as extents
+use Rattle.pdb_validation.specs.Whole.{opened_faults, part_faults, refused_faults, sized_faults, with_role, with_roles}
+use Rattle.pdb_consistency.specs.declared.mismatch.Extent.{Extent}
+use Rattle.pdb_consistency.specs.declared.mismatch.Extent.TheVariants as extents
 use Rattle.pdb_validation.specs.declared.finding.Finding.{Finding}
 use Rattle.pdb_validation.specs.declared.finding.Part.{Part}
 use Rattle.pdb_validation.specs.declared.finding.Part.TheVariants as parts
@@ -68,11 +71,11 @@ last_none xs o is = none_in o (behind_none xs (option_to_list o) is)
 none_told : (extent : Extent) (faults : List Fault) → by_extent extent faults ≡ [] → faults ≡ []
 none_told extents.First [] is = refl
 none_told extents.First (fault ∷ faults) is = absurd cc
-none_told extents.Every faults is = is
+none_told extents.All faults is = is
 
 told_none : (extent : Extent) (faults : List Fault) → faults ≡ [] → by_extent extent faults ≡ []
 told_none extents.First faults none = rw none refl
-told_none extents.Every faults none = none
+told_none extents.All faults none = none
 
 -- ---- one stream
 
@@ -485,25 +488,69 @@ none_fixed extent layout file none =
 
 -- ---- the whole file
 
--- the parts behind a test, if the test fails, and no parts else
-behind_test : (small large : ℕ) (fault : Fault) (faults : List Fault)
-    → (if nat_lt small large then fault ∷ [] else faults) ≡ [] → (large ≤ small) × (faults ≡ [])
-behind_test small large fault faults is = elim (cases_lt small large) [
-  | inl under ↦ let test = lt-ltb small large under in absurd (some_none _ (rw test at is))
+-- the parts behind a test have no errors, if the test fails, and no parts else
+behind_test : (small large : ℕ) (fault : Fault) (faults : List Fault) → is_tolerated fault.problem ≡ false
+    → errors_in (if nat_lt small large then fault ∷ [] else faults) ≡ [] → (large ≤ small) × (errors_in faults ≡ [])
+behind_test small large fault faults wrong is = elim (cases_lt small large) [
+  | inl under ↦ let test = lt-ltb small large under in absurd (some_none _ (rw (test, wrong) at is))
   | inr over ↦ let test = le-ltb small large over in (over, rw test at is)
 ]
 
-test_behind : (small large : ℕ) (fault : Fault) (faults : List Fault) → large ≤ small → faults ≡ []
-    → (if nat_lt small large then fault ∷ [] else faults) ≡ []
-test_behind small large fault faults over none = let test = le-ltb small large over in rw (test, none) refl
+test_behind : (small large : ℕ) (fault : Fault) (faults : List Fault) → large ≤ small → errors_in faults ≡ []
+    → errors_in (if nat_lt small large then fault ∷ [] else faults) ≡ []
+test_behind small large fault faults over none = let test = le-ltb small large over in rw test none
 
-no_part_faults : (extent : Extent) (layout : LayoutValue) (file : List ℕ) → sized_faults extent layout file ≡ []
-    → HasWholeParts layout file
+-- the parts, each by itself
+refused_none : (extent : Extent) (layout : LayoutValue) (file : List ℕ) → refused_faults extent layout file ≡ []
+    → NoneFixed layout file × NoneByRole layout file (known_roles layout file)
+unfolding refused_faults
+refused_none extent layout file is =
+    let all = roles_none layout file (known_roles layout file) (fixed_faults extent layout file) is in
+    (fixed_none extent layout file all.0, all.1)
+
+none_refused_of : (extent : Extent) (layout : LayoutValue) (file : List ℕ) → NoneFixed layout file
+    → ((part : Part) → role_fault layout file part (known_roles layout file) ≡ None)
+    → refused_faults extent layout file ≡ []
+unfolding refused_faults
+none_refused_of extent layout file fixed each =
+    none_roles layout file (known_roles layout file) (fixed_faults extent layout file)
+    (none_fixed extent layout file fixed) each
+
+-- the relations between them
+record AreAgreed (extent : Extent) (layout : LayoutValue) (file : List ℕ) (faults : List Fault) : Type 0 where
+  pub none : errors_in faults ≡ []
+  pub pages : AreConsistent (container_relations file)
+  pub tables : AreConsistent (table_relations layout file)
+  pub names : AreConsistent (name_relations layout file)
+  pub roles : AreConsistent (role_relations layout file)
+
+related_agree : (extent : Extent) (layout : LayoutValue) (file : List ℕ) (faults : List Fault)
+    → errors_in (related_faults extent layout file faults) ≡ [] → AreAgreed extent layout file faults
+unfolding related_faults
+related_agree extent layout file faults is =
+    let roles = with_none extent layout (role_relations layout file) _ is in
+    let names = with_none extent layout (name_relations layout file) _ roles.0 in
+    let tables = with_none extent layout (table_relations layout file) _ names.0 in
+    let pages = with_none extent layout (container_relations file) faults tables.0 in
+    record { none = pages.0; pages = pages.1; tables = tables.1; names = names.1; roles = roles.1 }
+
+agreed : (extent : Extent) (layout : LayoutValue) (file : List ℕ) (faults : List Fault)
+    → AreAgreed extent layout file faults → errors_in (related_faults extent layout file faults) ≡ []
+unfolding related_faults
+agreed extent layout file faults are =
+    none_with extent layout (role_relations layout file) _
+    (none_with extent layout (name_relations layout file) _
+    (none_with extent layout (table_relations layout file) _
+    (none_with extent layout (container_relations file) faults are.none are.pages) are.tables) are.names) are.roles
+
+no_part_faults : (extent : Extent) (layout : LayoutValue) (file : List ℕ)
+    → errors_in (sized_faults extent layout file) ≡ [] → HasWholeParts layout file
 unfolding sized_faults part_faults names_fault roles_fault faults_of_types faults_of_ids
 no_part_faults extent layout file is =
-    let sized = behind_test (length file) (streams_size layout) _ (part_faults extent layout file) is in
-    let all = roles_none layout file (known_roles layout file) (fixed_faults extent layout file) sized.1 in
-    let fixed = fixed_none extent layout file all.0 in
+    let sized = behind_test (length file) (streams_size layout) _ (part_faults extent layout file) refl is in
+    let agree = related_agree extent layout file (refused_faults extent layout file) sized.1 in
+    let all = refused_none extent layout file (sym (refused_errors extent layout file) ∙ agree.none) in
+    let fixed = all.0 in
     record {
       streams_fit = sized.0;
       streams = streams_read layout file fixed.streams;
@@ -519,10 +566,14 @@ no_part_faults extent layout file is =
           (ids_stream (stream_pages layout 4)) (stream_by layout file 4 None) fixed.ids;
       by_role = λ part. role_whole layout file part (known_roles layout file)
           (by_part layout file (known_roles layout file) all.1 part);
+      pages_agree = agree.pages;
+      tables_agree = agree.tables;
+      names_agree = agree.names;
+      roles_agree = agree.roles;
     }
 
 whole_parts : (extent : Extent) (layout : LayoutValue) (file : List ℕ) → HasWholeParts layout file
-    → sized_faults extent layout file ≡ []
+    → errors_in (sized_faults extent layout file) ≡ []
 unfolding sized_faults part_faults names_fault roles_fault faults_of_types faults_of_ids
 whole_parts extent layout file whole =
     let fixed : NoneFixed layout file = record {
@@ -539,40 +590,46 @@ whole_parts extent layout file whole =
       ids = so_within [] (ids_faults (stream_pages layout 4)) (λ stream. AreIds (table_of stream))
           (stream_ids (stream_pages layout 4)) (stream_by layout file 4 None) whole.ids;
     } in
+    let none = none_refused_of extent layout file fixed
+    (λ part. whole_role layout file part (known_roles layout file) (whole.by_role part)) in
     test_behind (length file) (streams_size layout) _ (part_faults extent layout file) whole.streams_fit
-    (none_roles layout file (known_roles layout file) (fixed_faults extent layout file)
-    (none_fixed extent layout file fixed) (λ part. whole_role layout file part (known_roles layout file)
-    (whole.by_role part)))
+    (agreed extent layout file (refused_faults extent layout file) (record {
+      none = ap errors_in none;
+      pages = whole.pages_agree;
+      tables = whole.tables_agree;
+      names = whole.names_agree;
+      roles = whole.roles_agree;
+    }))
 
-none_by : (extent : Extent) (file : List ℕ) (answer : Answer LayoutValue) → faults_by extent file answer ≡ []
-    → IsWholeBehind file answer
+none_by : (extent : Extent) (file : List ℕ) (answer : Answer LayoutValue)
+    → errors_in (faults_by extent file answer) ≡ [] → IsWholeBehind file answer
 none_by extent file (Ok layout) is = no_part_faults extent layout file is
 none_by extent file (Err refusal) is = absurd cc
 
 whole_by : (extent : Extent) (file : List ℕ) (answer : Answer LayoutValue) → IsWholeBehind file answer
-    → faults_by extent file answer ≡ []
+    → errors_in (faults_by extent file answer) ≡ []
 whole_by extent file (Ok layout) whole = whole_parts extent layout file whole
 whole_by extent file (Err refusal) whole = absurd whole
 
-none_opened : (extent : Extent) (file : List ℕ) → opened_faults extent file ≡ [] → IsWhole file
+none_opened : (extent : Extent) (file : List ℕ) → errors_in (opened_faults extent file) ≡ [] → IsWhole file
 unfolding opened_faults
 none_opened extent file is =
-    let fits = behind_test (length file) (directory_size file) _ (faults_by extent file (layout_of file)) is in
+    let fits = behind_test (length file) (directory_size file) _ (faults_by extent file (layout_of file)) refl is in
     record { directory_fits = fits.0; parts = none_by extent file (layout_of file) fits.1 }
 
-opened_none : (extent : Extent) (file : List ℕ) → IsWhole file → opened_faults extent file ≡ []
+opened_none : (extent : Extent) (file : List ℕ) → IsWhole file → errors_in (opened_faults extent file) ≡ []
 unfolding opened_faults
 opened_none extent file whole =
     test_behind (length file) (directory_size file) _ (faults_by extent file (layout_of file)) whole.directory_fits
     (whole_by extent file (layout_of file) whole.parts)
 
-none_behind_header : (extent : Extent) (file : List ℕ) (answer : Answer Head) → faults_behind extent file answer ≡ []
-    → IsWhole file
+none_behind_header : (extent : Extent) (file : List ℕ) (answer : Answer Head)
+    → errors_in (faults_behind extent file answer) ≡ [] → IsWhole file
 none_behind_header extent file (Ok head) is = none_opened extent file is
 none_behind_header extent file (Err refusal) is = absurd cc
 
 whole_behind_header : (extent : Extent) (file : List ℕ) (answer : Answer Head) → IsOk answer → IsWhole file
-    → faults_behind extent file answer ≡ []
+    → errors_in (faults_behind extent file answer) ≡ []
 whole_behind_header extent file (Ok head) is whole = opened_none extent file whole
 whole_behind_header extent file (Err refusal) is whole = absurd (false≢true is)
 
@@ -586,38 +643,24 @@ opened_by : (file : List ℕ) → IsWholeBehind file (layout_of file) → IsOk (
 unfolding layout_of
 opened_by file whole = first_ok file (opened file) _ whole
 
-pub no_faults : (extent : Extent) (file : List ℕ) → faults_of extent file ≡ [] → IsWhole file
+pub no_errors : (extent : Extent) (file : List ℕ) → errors_in (faults_of extent file) ≡ [] → IsWhole file
 unfolding faults_of
-no_faults extent file is = none_behind_header extent file (opened file) is
+no_errors extent file is = none_behind_header extent file (opened file) is
 
-pub whole_file : (extent : Extent) (file : List ℕ) → IsWhole file → faults_of extent file ≡ []
+pub whole_file : (extent : Extent) (file : List ℕ) → IsWhole file → errors_in (faults_of extent file) ≡ []
 unfolding faults_of
 whole_file extent file whole = whole_behind_header extent file (opened file) (opened_by file whole.parts) whole
-
-map_none : (findings : List Finding) → map finding_view findings ≡ [] → findings ≡ []
-map_none [] is = refl
-map_none (finding ∷ findings) is = absurd cc
 
 abbrev said : List Fault → Answer (List Fault)
 said faults = Ok faults
 
 pub whole_findings : {X : Type 0} (items : X → List Finding) (result : Result X Error) (extent : Extent)
     (file : List ℕ) → Answers (λ (findings : X). map finding_view (items findings)) result (said (faults_of extent file))
-    → IfOk result (λ findings. (items findings ≡ []) ↔ IsWhole file)
+    → IfOk result (λ findings. (error_count (map finding_view (items findings)) ≡ 0) ↔ IsWhole file)
 whole_findings items (Ok findings) extent file is =
     let same : faults_of extent file ≡ map finding_view (items findings) = ok_is _ _ is in (
-      λ none. no_faults extent file (same ∙ ap (λ (l : List Finding). map finding_view l) none),
+      λ none. no_errors extent file (ap errors_in same ∙ uncounted (map finding_view (items findings)) none),
       λ whole.
-          map_none (items findings) (sym same ∙ whole_file extent file whole),
+          counted_none (map finding_view (items findings)) (sym (ap errors_in same) ∙ whole_file extent file whole),
     )
 whole_findings items (Err e) extent file is = tt
-
-pub whole_errors : {X : Type 0} (items : X → List Finding) (result : Result X Error) (extent : Extent)
-    (file : List ℕ) → Answers (λ (findings : X). map finding_view (items findings)) result (said (faults_of extent file))
-    → IfOk result (λ findings. (error_count (map finding_view (items findings)) ≡ 0) ↔ IsWhole file)
-whole_errors items (Ok findings) extent file is =
-    let same : faults_of extent file ≡ map finding_view (items findings) = ok_is _ _ is in
-    let whole = whole_findings items (Ok findings) extent file is in
-    let none = errors_none extent file (items findings) same in
-    (λ zero. whole.0 (none.0 zero), λ w. none.1 (whole.1 w))
-whole_errors items (Err e) extent file is = tt

@@ -1,11 +1,11 @@
 -- What is found wrong in a file.
-use Rattle.std.specs.Prelude.{ℕ, ◌-◌, Bool, true, false, List, [], ◌∷◌, ◌++◌, filter, length, take, codes, Option, Some}
+use Rattle.std.specs.Prelude.{ℕ, ◌-◌, Bool, true, false, not, List, [], ◌∷◌, ◌++◌, filter, length, take, codes, Option, Some}
 use Rattle.std.specs.Prelude.{None}
 use Rattle.pdb_consistency.specs.Inconsistency.{inconsistency_code}
 use Rattle.pdb_validation.specs.Problem.{ProblemValue, failure, inconsistent, error_code, is_tolerated, problem_view}
 use Rattle.pdb_validation.specs.declared.finding.Code.{Code}
-use Rattle.pdb_validation.specs.declared.finding.Extent.{Extent}
-use Rattle.pdb_validation.specs.declared.finding.Extent.TheVariants as extents
+use Rattle.pdb_consistency.specs.declared.mismatch.Extent.{Extent}
+use Rattle.pdb_consistency.specs.declared.mismatch.Extent.TheVariants as extents
 use Rattle.pdb_validation.specs.declared.finding.Finding.{Finding}
 use Rattle.pdb_validation.specs.declared.finding.Part.{Part}
 use Rattle.pdb_validation.specs.declared.finding.Part.TheVariants as parts
@@ -63,6 +63,10 @@ file_fault part problem = record {
   problem = problem;
 }
 
+-- those of some faults that are errors
+abbrev pub errors_in : List Fault → List Fault
+errors_in faults = filter (λ fault. not (is_tolerated fault.problem)) faults
+
 -- how many of some faults are warnings, and how many are errors
 abbrev pub warning_count : List Fault → ℕ
 warning_count faults = length (filter (λ fault. is_tolerated fault.problem) faults)
@@ -75,7 +79,7 @@ error_count faults = length faults - warning_count faults
 -- the faults of a part that are told: the first of them, or every one
 abbrev pub by_extent : Extent → List Fault → List Fault
 by_extent extents.First faults = take 1 faults
-by_extent extents.Every faults = faults
+by_extent extents.All faults = faults
 
 -- whether no more of a part is told than what is found of it, if anything is
 abbrev pub is_enough : Extent → Option Fault → Bool

@@ -10,6 +10,8 @@ use Rattle.pdb_tpi.specs.Steps.{walk, walk_rest}
 use Rattle.pdb_tpi.specs.Table.{Table, table_of}
 use Rattle.pdb_space.specs.StringTable.{name_of, names_of}
 use Rattle.pdb_validation.specs.Names.{string_table_number}
+use Rattle.pdb_validation.specs.Relations.{AreConsistent, container_relations, name_relations, role_relations}
+use Rattle.pdb_validation.specs.Relations.{table_relations}
 use Rattle.pdb_validation.specs.Roles.{known_roles, role_index, role_problem}
 use Rattle.pdb_validation.specs.Sizes.{directory_size, streams_size}
 use Rattle.pdb_validation.specs.Tables.{id_in, type_in}
@@ -80,7 +82,7 @@ HasRole layout file part (Some roles) = IsNumbered layout file part (stream_numb
 -- of each that is there can be read. Stream 1 is there and names streams, and a string table that it names is one.
 -- Stream 3, if it is there, has a header and roles. The tables of types and of ids, if they are there, have whole
 -- records. Each stream that has a role of a part is there, and its bytes are section headers, an OMAP table or frames
--- by that role, in their order.
+-- by that role, in their order. Nothing that is inconsistent between these parts is an error.
 pub record HasWholeParts (layout : LayoutValue) (file : List ℕ) : Type 0 where
   pub streams_fit : streams_size layout ≤ length file
   pub streams : (n : ℕ) → n < 0xffff → IsReadOrAbsent (stream_by layout file n None)
@@ -89,6 +91,10 @@ pub record HasWholeParts (layout : LayoutValue) (file : List ℕ) : Type 0 where
   pub types : IfRead (λ stream. AreTypes (table_of stream)) (stream_by layout file 2 None)
   pub ids : IfRead (λ stream. AreIds (table_of stream)) (stream_by layout file 4 None)
   pub by_role : (part : Part) → HasRole layout file part (known_roles layout file)
+  pub pages_agree : AreConsistent (container_relations file)
+  pub tables_agree : AreConsistent (table_relations layout file)
+  pub names_agree : AreConsistent (name_relations layout file)
+  pub roles_agree : AreConsistent (role_relations layout file)
 
 -- The header and the directory of a file can be read, and the parts behind them are whole.
 abbrev pub IsWholeBehind : List ℕ → Answer LayoutValue → Type 0

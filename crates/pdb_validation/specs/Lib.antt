@@ -6,5 +6,6 @@ pub mod Streams
 pub mod Tables
 pub mod Names
 pub mod Roles
+pub mod Relations
 pub mod Whole
 pub mod IsWhole

@@ -53,6 +53,7 @@ inconsistency_text (kinds.HashTooLarge value) =
     codes "hash value " ++ decimal value ++ codes " is not below the number of buckets"
 inconsistency_text (kinds.IndexOffset index) =
     codes "the place of index " ++ hexadecimal index ++ codes " is not that of its record"
+inconsistency_text kinds.BucketsCut = codes "the string table ends before its buckets do"
 inconsistency_text (kinds.NameOffset offset) = codes "no name begins at offset " ++ decimal offset
 inconsistency_text (kinds.NameCount count) = codes "the buckets do not hold " ++ decimal count ++ codes " names"
 inconsistency_text kinds.SectionsOverlap = codes "the section begins below the end of the one before it"

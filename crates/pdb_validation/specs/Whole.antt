@@ -10,11 +10,12 @@ use Rattle.pdb_validation.specs.Finding.{Fault, by_extent, file_fault}
 use Rattle.pdb_validation.specs.Names.{names_fault}
 use Rattle.pdb_validation.specs.Places.{stream_pages}
 use Rattle.pdb_validation.specs.Problem.{failure, inconsistent}
+use Rattle.pdb_validation.specs.Relations.{related_faults}
 use Rattle.pdb_validation.specs.Roles.{known_roles, role_fault, roles_fault}
 use Rattle.pdb_validation.specs.Sizes.{directory_size, streams_nameable, streams_size}
 use Rattle.pdb_validation.specs.Streams.{if_read, streams_faults}
 use Rattle.pdb_validation.specs.Tables.{ids_faults, types_faults}
-use Rattle.pdb_validation.specs.declared.finding.Extent.{Extent}
+use Rattle.pdb_consistency.specs.declared.mismatch.Extent.{Extent}
 use Rattle.pdb_validation.specs.declared.finding.Part.{Part}
 use Rattle.pdb_validation.specs.declared.finding.Part.TheVariants as parts
 
@@ -47,8 +48,13 @@ with_roles layout file roles faults =
     (with_role layout file roles parts.OriginalSectionHeaders
     (with_role layout file roles parts.SectionHeaders faults)))))
 
+-- the faults of all parts, each by itself
+unfoldable pub refused_faults : Extent → LayoutValue → List ℕ → List Fault
+refused_faults extent layout file = with_roles layout file (known_roles layout file) (fixed_faults extent layout file)
+
+-- the same, and behind them what is inconsistent between the parts
 unfoldable pub part_faults : Extent → LayoutValue → List ℕ → List Fault
-part_faults extent layout file = with_roles layout file (known_roles layout file) (fixed_faults extent layout file)
+part_faults extent layout file = related_faults extent layout file (refused_faults extent layout file)
 
 -- the faults of all parts, unless the streams are larger than the file, which is then the only one
 unfoldable pub sized_faults : Extent → LayoutValue → List ℕ → List Fault

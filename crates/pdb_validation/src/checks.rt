@@ -10,19 +10,20 @@ ghost use Rattle.pdb_validation.specs.IsWhole.{IsWhole};
 ghost use Rattle.pdb_validation.specs.Problem.{problem_view};
 ghost use Rattle.pdb_validation.specs.Roles.{role_fault};
 ghost use Rattle.pdb_validation.specs.Whole.{faults_by, faults_of, faults_of_ids, faults_of_types, fixed_faults};
-ghost use Rattle.pdb_validation.specs.Whole.{opened_faults, part_faults, sized_faults, with_roles};
+ghost use Rattle.pdb_validation.specs.Whole.{opened_faults, part_faults, refused_faults, sized_faults, with_roles};
 
-use crate::finding::{Extent, Finding, Part, add, in_file};
+use crate::finding::{Finding, Part, add, in_file};
 use crate::names::check_names;
 use crate::places::StreamPages;
 use crate::problem::Problem;
 use crate::read::read;
+use crate::relations::add_relations;
 use crate::roles::{check_role, check_roles, known_roles};
 use crate::sizes::{directory_size, nameable, streams_size};
 use crate::streams::add_streams;
 use crate::tables::{add_ids, add_types};
 use pdb_base::{Error, Result};
-use pdb_consistency::Inconsistency;
+use pdb_consistency::{Extent, Inconsistency};
 use pdb_file::{DBIExtraStreams, ID_STREAM, PDB, TYPE_STREAM};
 use pdb_msf::Layout;
 use std::alloc::Global;
@@ -131,16 +132,29 @@ fn add_roles(
     add_role(alloc, layout, file, roles, Part::NewFrames, findings)
 }
 
-/// Returns the findings of all parts of a file whose directory can be read.
+/// Returns the findings of each part of a file whose directory can be read, by itself.
+#[tactic(auto, unfolding(crate::specs::Whole::refused_faults))]
+fn check_each(alloc: Global, layout: &Layout, file: &[u8], extent: Extent) -> Result<Vec<Finding>>
+    requires { 0 < layout.now.head.geometry.page_size }
+    ensures { Answers (λ findings. map finding_view findings.items) result
+        (Ok (refused_faults extent layout.now file.now)) }
+{
+    let mut findings = check_fixed(alloc, layout, file, extent)?;
+    let roles = known_roles(alloc, layout, file)?;
+    add_roles(alloc, layout, file, &roles, &mut findings)?;
+    Ok(findings)
+}
+
+/// Returns the findings of all parts of a file whose directory can be read, and then what is
+/// inconsistent between them.
 #[tactic(auto, unfolding(crate::specs::Whole::part_faults))]
 fn check_parts(alloc: Global, layout: &Layout, file: &[u8], extent: Extent) -> Result<Vec<Finding>>
     requires { 0 < layout.now.head.geometry.page_size }
     ensures { Answers (λ findings. map finding_view findings.items) result
         (Ok (part_faults extent layout.now file.now)) }
 {
-    let mut findings = check_fixed(alloc, layout, file, extent)?;
-    let roles = known_roles(alloc, layout, file)?;
-    add_roles(alloc, layout, file, &roles, &mut findings)?;
+    let mut findings = check_each(alloc, layout, file, extent)?;
+    add_relations(alloc, layout, file, extent, &mut findings)?;
     Ok(findings)
 }
 
@@ -217,7 +231,7 @@ fn check_file(alloc: Global, file: &[u8], extent: Extent) -> Result<Vec<Finding>
 }
 
 /// Returns what is found wrong in a file: the first fault of each part that breaks the definitions
-/// of this library, or every one. Either list is empty exactly if the file is whole.
+/// of this library, or every one. Either list has no error exactly if the file is whole.
 ///
 /// These parts are checked:
 /// - the header; if it has an error, nothing else is checked;
@@ -238,6 +252,11 @@ fn check_file(alloc: Global, file: &[u8], extent: Extent) -> Result<Vec<Finding>
 ///   tables, whose sources must not decrease, and the frames of both formats, whose starts must
 ///   increase.
 ///
+/// Behind these comes what is inconsistent between the parts, as `pdb_consistency` says it, each in a
+/// list of its own: pages with two owners or marked as free, the references, sizes and kinds of
+/// records, streams that have a name or a role and are missing, the buckets of the string table, the
+/// sizes in stream 3, and sections that overlap. Some of it is no more than a warning.
+///
 /// Streams are read one at a time: each for its bytes, and again for the parts that it holds. Since
 /// they are read only if they are no larger together than the file, and so is the directory, the
 /// work is linear in the size of the file. Each table is walked once.
@@ -247,8 +266,7 @@ fn check_file(alloc: Global, file: &[u8], extent: Extent) -> Result<Vec<Finding>
 pub fn validate(alloc: Global, file: &[u8], extent: Extent) -> Result<Vec<Finding>>
     ensures findings { Answers (λ findings. map finding_view findings.items) result
         (Ok (faults_of extent file.now)) }
-    ensures whole { IfOk result (λ findings. (findings.items ≡ []) ↔ IsWhole file.now) }
-    ensures errors { IfOk result (λ findings. (error_count (map finding_view findings.items) ≡ 0) ↔ IsWhole file.now) }
+    ensures whole { IfOk result (λ findings. (error_count (map finding_view findings.items) ≡ 0) ↔ IsWhole file.now) }
 {
     check_file(alloc, file, extent)
 }

@@ -9,17 +9,8 @@ ghost use Rattle.pdb_validation.specs.Problem.{problem_view};
 
 use crate::problem::{Problem, error_code};
 use pdb_base::Result;
+use pdb_consistency::Extent;
 use std::fmt;
-
-/// How much is told of each part of a file.
-#[derive(Clone, Copy, Debug, PartialEq, Eq)]
-pub enum Extent {
-    /// The first thing that is wrong in the part.
-    First,
-
-    /// Everything that is wrong in it.
-    Every,
-}
 
 /// A part of a program database.
 #[derive(Clone, Copy, Debug, PartialEq, Eq)]

@@ -8,6 +8,7 @@ mod names;
 mod places;
 mod problem;
 mod read;
+mod relations;
 mod roles;
 mod sizes;
 mod streams;
@@ -16,5 +17,6 @@ mod tables;
 mod tests;
 
 pub use checks::validate;
-pub use finding::{Code, Extent, Finding, Part};
+pub use finding::{Code, Finding, Part};
+pub use pdb_consistency::{Extent, Inconsistency};
 pub use problem::Problem;

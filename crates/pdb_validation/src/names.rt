@@ -27,7 +27,7 @@ const HEADER_SIZE: usize = 12;
 /// Reads the names of streams, and returns the number of the stream of the string table, if there
 /// is one.
 #[tactic(auto, unfolding(crate::specs::Names::string_table_number))]
-fn string_table_number(alloc: Global, stream: Stream) -> Result<Option<u32>>
+pub(crate) fn string_table_number(alloc: Global, stream: Stream) -> Result<Option<u32>>
     ensures { Answers (λ number. number) result (string_table_number stream) }
 {
     let information = PDBInformation::parse(stream)?;

@@ -83,6 +83,7 @@ fn write_inconsistency<W: fmt::Write>(what: Inconsistency, f: &mut fmt::Formatte
                 "the place of index 0x{index:x} is not that of its record"
             )
         }
+        Inconsistency::BucketsCut => f.write_str("the string table ends before its buckets do"),
         Inconsistency::NameOffset(offset) => write!(f, "no name begins at offset {offset}"),
         Inconsistency::NameCount(count) => write!(f, "the buckets do not hold {count} names"),
         Inconsistency::SectionsOverlap => {

@@ -123,7 +123,7 @@ fn check_role_bytes(alloc: Global, part: Part, stream: Stream) -> Result<Option<
 
 /// Returns the stream that has the role by which a part is found.
 #[tactic(auto, unfolding(crate::specs::Roles::role_index))]
-fn role_index(part: Part, roles: &DBIExtraStreams) -> StreamIndex
+pub(crate) fn role_index(part: Part, roles: &DBIExtraStreams) -> StreamIndex
     ensures { result.0 ≡ role_index part roles.now }
 {
     match part {

@@ -6,10 +6,11 @@ ghost use Rattle.pdb_base.specs.Answer.{Answers};
 ghost use Rattle.pdb_validation.specs.Finding.{by_extent, finding_view};
 ghost use Rattle.pdb_validation.specs.Streams.{bytes_fault, streams_faults};
 
-use crate::finding::{Extent, Finding, Part, add_until, in_stream};
+use crate::finding::{Finding, Part, add_until, in_stream};
 use crate::problem::Problem;
 use crate::read::read;
 use pdb_base::{Error, Result};
+use pdb_consistency::Extent;
 use pdb_msf::Layout;
 use std::alloc::Global;
 

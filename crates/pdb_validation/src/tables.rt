@@ -12,10 +12,11 @@ ghost use Rattle.pdb_validation.specs.Tables.{is_for_kind, missing_fault, opened
 ghost use Rattle.pdb_validation.specs.Tables.{refusal_in, refused, type_faults, type_in, types_faults, unless_unread};
 ghost use Rattle.pdb_validation.specs.declared.finding.Part.TheVariants as parts;
 
-use crate::finding::{Extent, Finding, Part, add, add_until, in_stream};
+use crate::finding::{Finding, Part, add, add_until, in_stream};
 use crate::places::StreamPages;
 use crate::problem::Problem;
 use pdb_base::{Error, FallibleIterator, IdIndex, Result, Stream, TypeIndex};
+use pdb_consistency::Extent;
 use pdb_file::{ID_STREAM, TYPE_STREAM};
 use pdb_tpi::constants::{LF_FIELDLIST, LF_POINTER};
 use pdb_tpi::{IdInformation, Item, OpenTable, TypeInformation};

@@ -130,7 +130,7 @@ fn small_file(alloc: Global) -> Result<Vec<u8>, Fail> {
 
 #[test]
 fn whole(rt: HostRuntime) -> Result<(), Fail> {
-    let findings = validate(rt.alloc(), &small_file(rt.alloc())?, Extent::Every)?;
+    let findings = validate(rt.alloc(), &small_file(rt.alloc())?, Extent::All)?;
     assert!(rt; findings.is_empty());
     Ok(())
 }
@@ -184,6 +184,6 @@ fn every_one(rt: HostRuntime) -> Result<(), Fail> {
         }
     }
     assert_eq!(rt; validate(rt.alloc(), &file, Extent::First)?.len(), 2);
-    assert_eq!(rt; validate(rt.alloc(), &file, Extent::Every)?.len(), 3);
+    assert_eq!(rt; validate(rt.alloc(), &file, Extent::All)?.len(), 3);
     Ok(())
 }

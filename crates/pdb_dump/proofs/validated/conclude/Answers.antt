@@ -1,3 +1,5 @@
+use Rattle.std.proofs.Common.{sym, ◌∙◌}
+use Rattle.std.proofs.lemmas.Bool.{false≢true}
 use Rattle.pdb_dump.proofs.ValidateLemmas.{judged_other, judged_passed}
 use Rattle.pdb_dump.proofs.validated.conclude.Goals as goal
 
@@ -19,6 +21,6 @@ returns g c = λ file faults whole. record {
   writes = rw faults c.write_findings-written.ensures;
   ended = c.end-status.result;
   ends = c.end-status.ensures;
-  judged = rw faults (judged_other _ _ c.end-status.result (λ has. c.if-has_passed.false (c.has_passed.ensures.1 has)));
+  judged = rw faults (judged_other _ _ c.end-status.result (λ has. false≢true (sym c.if-has_passed.false ∙ c.has_passed.ensures.1 has)));
   whole = rw faults whole;
 }
