@@ -224,9 +224,9 @@ def finding_lines(data):
     for part in (data, data[:4095]):
         faults = Reading(part).faults
         yield f"findings {len(faults)}"
-        for code, stream, index, byte in faults:
+        for part, _, stream, index, byte, _ in faults:
             in_stream, at_record = (int(number is not None) for number in (stream, index))
-            yield f"finding {PARTS.index(code)} {in_stream}:{stream or 0} {at_record}:{index or 0:#x}:{byte or 0}"
+            yield f"finding {PARTS.index(part)} {in_stream}:{stream or 0} {at_record}:{index or 0:#x}:{byte or 0}"
 
 
 def lines(page_size, data):

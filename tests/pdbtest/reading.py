@@ -1,12 +1,47 @@
-"""The reader of whole files: from the format's rules, each part of a file that is refused."""
+"""The reader of whole files: from the format's rules, what is wrong in each part of a file."""
 
 import functools
 import struct
+from typing import NamedTuple
 
 from pdbtest import records
-from pdbtest.msf import DEBUG, EOF, IDS, INFORMATION, TYPES, Msf, Refused, word
+from pdbtest.msf import DEBUG, EOF, IDS, INFORMATION, PAST_END, TYPES, Msf, Refused, word
 from pdbtest.roles import NO_STREAM, role_numbers
 from pdbtest.tables import Leaf, item_places, kind_at, table_of
+
+
+OUT_OF_ORDER = "the records are out of order"
+CONTINUATION = "a list that is continued by no list below it"
+
+# What the text of an error begins with, and the end of its code.
+ENDS = {
+    EOF: "-CUT",
+    PAST_END: "-CUT",
+    "MSF referred to page number": "-PAGE-RANGE",
+    "The MSF header specifies an invalid page size": "-PAGE-SIZE",
+    "The requested stream": "-MISSING",
+}
+
+
+class Fault(NamedTuple):
+    """What is wrong in a part of a file, and where."""
+
+    part: str
+    code: str
+    stream: int | None = None
+    index: int | None = None
+    byte: int | None = None
+    file_byte: int | None = None
+
+
+def code_of(part, index, why):
+    """The code of what is wrong, which says what its text says."""
+    if why == OUT_OF_ORDER:
+        return "OUT-OF-ORDER"
+    if part == "SIZES":
+        return why
+    end = next((end for front, end in ENDS.items() if why.startswith(front)), "")
+    return part + ("" if index is None else "-RECORD") + end
 
 
 def front(data, place, size):
@@ -43,8 +78,14 @@ def read_string_table(stream):
         raise Refused(EOF)
     signature, version, size = struct.unpack_from("<3I", stream)
     names = stream[12 : 12 + size]
-    if signature != 0xEFFEEFFE or version not in (1, 2) or len(names) < size or size and names[-1]:
+    if signature != 0xEFFEEFFE:
         raise Refused("no string table")
+    if len(names) < size:
+        raise Refused(EOF)
+    if version not in (1, 2):
+        raise Refused("a string table of another version")
+    if size and names[-1]:
+        raise Refused(EOF)
 
 
 def read_sections(stream):
@@ -59,7 +100,7 @@ def read_omap(stream):
         raise Refused("OMAP stream has an invalid length or alignment for its records")
     sources = [source for source, _ in struct.iter_unpack("<2I", stream)]
     if sources != sorted(sources):
-        raise Refused("OMAP table that is not sorted")
+        raise Refused(OUT_OF_ORDER)
 
 
 def read_frames(stream, size):
@@ -68,21 +109,21 @@ def read_frames(stream, size):
         raise Refused(EOF)
     starts = [int.from_bytes(stream[at : at + 4], "little") for at in range(0, len(stream), size)]
     if any(one >= next_one for one, next_one in zip(starts, starts[1:])):
-        raise Refused("frames in no order")
+        raise Refused(OUT_OF_ORDER)
 
 
 def items(stream, begin, minimum, maximum):
-    """The index, the place and the bytes of each record, and None where there is none but has to be one."""
+    """The index, the place and the bytes of each record; in the end why there is none where there has to be one."""
     index, place = minimum, begin
     try:
         for start, end in item_places(stream, begin):
             yield index, place, stream[start:end]
             index, place = index + 1, end
-    except Refused:
-        yield index, place, None
+    except Refused as refusal:
+        yield index, place, str(refusal)
         return
     if index < maximum:
-        yield index, place, None
+        yield index, place, EOF
 
 
 # The parts that streams in roles are, and how each is read.
@@ -98,10 +139,10 @@ PARTS = ["HEADER", "DIRECTORY", "SIZES", "STREAM", "NAMES", "STRING-TABLE", "ROL
 
 
 class Reading:
-    """What is wrong in a file: for each part that is refused its code, its stream, and the index and the place of its
-    record."""
+    """What is wrong in a file: of each part the first fault, or every one."""
 
-    def __init__(self, data):
+    def __init__(self, data, is_every=False):
+        self.is_every = is_every
         self.faults = []
         self.streams = {}  # the bytes of each stream that can be read, None where they can't be
         if self.open(data):
@@ -110,60 +151,64 @@ class Reading:
             numbers = self.read_roles()
             self.read_types()
             self.read_ids()
-            for code, (role, read) in IN_ROLES.items():
+            for part, (role, read) in IN_ROLES.items():
                 if role in numbers:
-                    self.read_part(code, numbers[role], read)
+                    self.read_part(part, numbers[role], read)
 
-    def add(self, code, stream=None, index=None, byte=None):
-        """Adds a part that is refused."""
-        self.faults.append((code, stream, index, byte))
+    def add(self, part, why, stream=None, index=None, byte=None):
+        """Adds what is wrong in a part, unless the part is done. Returns whether it is done now."""
+        file_byte = None
+        if byte is not None:
+            pages, size = self.msf.stream(stream)
+            if byte < size:
+                file_byte = pages[byte // self.msf.page_size] * self.msf.page_size + byte % self.msf.page_size
+        self.faults.append(Fault(part, code_of(part, index, why), stream, index, byte, file_byte))
+        return not self.is_every
 
     def open(self, data):
         """Whether a file can be opened, and says no sizes that are larger than it."""
         try:
             self.msf = Msf(data)
-        except Refused:
-            self.add("HEADER")
+        except Refused as refusal:
+            self.add("HEADER", str(refusal))
             return False
         if self.msf.directory_size > len(data):
-            self.add("SIZES")
+            self.add("SIZES", "DIRECTORY-TOO-LARGE")
             return False
         try:
             directory = self.msf.directory
-        except Refused:
-            self.add("DIRECTORY")
+        except Refused as refusal:
+            self.add("DIRECTORY", str(refusal))
             return False
         self.sizes = self.msf.sizes if len(directory) >= 4 else []
         self.count = min(self.msf.count, NO_STREAM) if len(directory) >= 4 else NO_STREAM
         sized = zip(self.sizes[: self.count], self.msf.starts if self.sizes else [])
         if sum(size or 0 for size, start in sized if start <= len(directory)) > len(data):
-            self.add("SIZES")
+            self.add("SIZES", "STREAMS-TOO-LARGE")
             return False
         return True
 
     def read_streams(self):
-        """The streams, of which the first that can't be read is told."""
-        is_told = False
+        """The streams, and which can't be read."""
+        is_done = False
         for number in range(self.count):
             if number < len(self.sizes) and self.sizes[number] is None:
                 continue
             try:
                 self.streams[number] = self.msf.bytes_of(number)
-            except Refused:
+            except Refused as refusal:
                 self.streams[number] = None
-                if not is_told:
-                    self.add("STREAM", number)
-                is_told = True
+                is_done = is_done or self.add("STREAM", str(refusal), number)
 
-    def read_part(self, code, number, read):
+    def read_part(self, part, number, read):
         """What is read of a stream, or None where it can't be read or is refused. It is a fault if it is absent."""
         if number not in self.streams:
-            self.add(code, number)
+            self.add(part, "The requested stream is missing", number)
         elif self.streams[number] is not None:
             try:
                 return read(self.streams[number])
-            except Refused:
-                self.add(code, number)
+            except Refused as refusal:
+                self.add(part, str(refusal), number)
         return None
 
     def read_names(self):
@@ -177,30 +222,30 @@ class Reading:
         return DEBUG in self.streams and self.read_part("ROLES", DEBUG, role_numbers) or {}
 
     def read_types(self):
-        """The types, of which the first that is refused is told."""
+        """The types, and which are refused."""
         table = TYPES in self.streams and self.read_part("TYPES", TYPES, table_of)
         if not table:
             return
         _, minimum, maximum = table
         kinds = []
         for index, byte, record in items(self.streams[TYPES], *table):
-            is_refused = record is None
-            if record is not None:
+            why = record
+            if isinstance(record, bytes):
                 kinds.append(kind_at(record, 0))
-                is_refused, continuation = records.type_fault(record)
+                why, continuation = records.type_fault(record)
                 if continuation is not None:
                     is_below = minimum <= continuation < min(index, maximum)
-                    is_refused = not is_below or kinds[continuation - minimum] != Leaf.LF_FIELDLIST
-            if is_refused:
-                self.add("TYPES", TYPES, index, byte)
+                    is_list = is_below and kinds[continuation - minimum] == Leaf.LF_FIELDLIST
+                    why = None if is_list else CONTINUATION
+            if why is not None and self.add("TYPES", why, TYPES, index, byte):
                 return
 
     def read_ids(self):
-        """The ids, of which the first that is refused is told."""
+        """The ids, and which are refused."""
         table = IDS in self.streams and self.read_part("IDS", IDS, table_of)
         if not table:
             return
         for index, byte, record in items(self.streams[IDS], *table):
-            if record is None or records.id_fault(record):
-                self.add("IDS", IDS, index, byte)
+            why = records.id_fault(record) if isinstance(record, bytes) else record
+            if why is not None and self.add("IDS", why, IDS, index, byte):
                 return

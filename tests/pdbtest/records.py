@@ -184,23 +184,23 @@ def read_fields(cursor):
 
 @functools.lru_cache(1 << 17)
 def type_fault(record):
-    """Whether the record of a type is refused, and the index of the list that continues it."""
+    """Why the record of a type is refused, or None, and the index of the list that continues it."""
     cursor = Cursor(record)
     try:
         if cursor.leaf == Leaf.LF_FIELDLIST:
-            return False, read_fields(cursor)
+            return None, read_fields(cursor)
         cursor.read(TYPES.get(cursor.leaf, ()))
-    except Refused:
-        return True, None
-    return False, None
+    except Refused as refusal:
+        return str(refusal), None
+    return None, None
 
 
 @functools.lru_cache(1 << 17)
 def id_fault(record):
-    """Whether the record of an id is refused."""
+    """Why the record of an id is refused, or None."""
     cursor = Cursor(record)
     try:
         cursor.read(IDS.get(cursor.leaf, ()))
-    except Refused:
-        return True
-    return False
+    except Refused as refusal:
+        return str(refusal)
+    return None

@@ -3,6 +3,7 @@
 use pdb_layouts::Options;
 use pdb_mapping::MapStreams;
 use pdb_summary::KeyStyle;
+use pdb_consistency::Extent;
 
 /// The name of a command.
 #[derive(Clone, Copy, Debug, PartialEq, Eq)]
@@ -131,11 +132,22 @@ pub struct Identify<'w> {
     pub expected: Option<&'w str>,
 }
 
+/// How `validate` checks whether a file is whole, and what it tells of it.
+#[derive(Clone, Copy, Debug, PartialEq, Eq)]
+pub struct ValidateOptions {
+    /// Whether the first thing that is wrong in each part is told, or everything.
+    pub extent: Extent,
+    /// Whether a warning makes the status 1, as an error does.
+    pub is_strict: bool,
+    /// Whether only the status is wanted.
+    pub is_quiet: bool,
+}
+
 /// The arguments of `validate`, which checks whether files are whole.
 #[derive(Debug, Drop)]
 pub struct Validate<'w> {
-    /// Whether only the status is wanted.
-    pub is_quiet: bool,
+    /// How the files are checked.
+    pub options: ValidateOptions,
     /// The paths of the files, or `-` for standard input.
     pub paths: Vec<&'w str>,
 }

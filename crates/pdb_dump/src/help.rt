@@ -20,7 +20,7 @@ FILE is a path, or `-` for standard input.
   ask                             the answers to questions on standard input, a line each
   id [--format F] .. FILE..       the key under which symbol servers keep each file
   extract .. FILE STREAM          the bytes of a stream, which is a number, a role or a name
-  validate [--quiet] FILE..       whether each file is whole, and what is wrong in it
+  validate .. FILE..              whether each file is whole, and what is wrong in it
   layout .. FILE NAME..           where the members of classes are, and the holes between them
 
 S is the number of a stream, I an index and RVA an address, in decimal, or in hexadecimal after 0x. A stream
@@ -44,7 +44,7 @@ pub fn usage_of(verb: Verb) -> &'static str {
             "pdbdump id [--format key|ssqp|breakpad|guid] [--name NAME] [--expect KEY] FILE.."
         }
         Verb::Extract => "pdbdump extract [--skip N] [--take N] FILE STREAM > OUT",
-        Verb::Validate => "pdbdump validate [--quiet] FILE..",
+        Verb::Validate => "pdbdump validate [--all] [--strict] [--quiet] FILE..",
         Verb::Layout => {
             "pdbdump layout [--style c|dt] [--sort size|holes|name] [--expand N] [--holes] FILE NAME.."
         }
@@ -111,12 +111,16 @@ STREAM is the number of a stream, a role as `summary` shows it (types, ids, omap
 stream (/names, srcsrv). There is no form in JSON."
         }
         Verb::Validate => {
-            "For each file a line that says whether it is whole, behind a line for each part that is refused, with its
-first fault: the code of the part, the error, the number of the stream, and the index and the byte of the record.
-A file is whole if no part of it is refused that this program reads: the header, the directory, the sizes and the bytes
-of all streams, the names, the roles, each record of both tables of a kind that is read, the section headers,
-the OMAP tables and the frames. With --json each line is an object. With --quiet nothing is written. The status is 0
-if all files are whole, and else 1."
+            "For each file a line that says whether it is whole, behind a line for each part in which something is wrong, with
+the first of it: whether it is an error or a warning, its code, what is wrong, the number of the stream, the index
+and the byte of the record, and the byte of the file where that is.
+A file is whole if there is no error in any part that this program reads: the header, the directory, the sizes and the
+bytes of all streams, the names, the roles, each record of both tables of a kind that is read, the section headers,
+the OMAP tables and the frames.
+--all     everything that is wrong in each part
+--strict  a warning makes the status 1 too
+--quiet   nothing is written
+With --json each line is an object. The status is 0 if all files are whole, and else 1."
         }
         Verb::Layout => {
             "The layout of each class or union that NAME means: its members with their places and sizes, and the bytes and

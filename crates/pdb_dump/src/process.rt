@@ -1,7 +1,7 @@
 //! The program on the channels of its process.
 
 use crate::asking::serve_questions;
-use crate::command::{Call, Command, Extract, Identify, Layouts, Misuse, Task, Validate, Verb};
+use crate::command::{Call, Command, Extract, Identify, Layouts, Misuse, Task, Validate, ValidateOptions, Verb};
 use crate::extracted::serve_extract;
 use crate::help::{HELP, meaning_of, usage_of};
 use crate::id_words::{WordsApart, identify_of, words_apart};
@@ -152,7 +152,7 @@ fn extract_file<P: Files + Input + Print + Eprint + AllocGlobal>(
 /// `-`, and returns the status for that file.
 fn validate_file<P: Files + Input + Print + Eprint + AllocGlobal>(
     process: &P,
-    is_quiet: bool,
+    options: ValidateOptions,
     path: &str,
     form: Form,
 ) -> u8 {
@@ -161,11 +161,11 @@ fn validate_file<P: Files + Input + Print + Eprint + AllocGlobal>(
     let mut err = Output::new(Errors { process });
     if path == "-" {
         let mut input = process.reader();
-        return serve_validate(alloc, is_quiet, form, path, &mut input, &mut out, &mut err);
+        return serve_validate(alloc, options, form, path, &mut input, &mut out, &mut err);
     }
     match fs::open(process, path) {
         Ok(mut input) => serve_validate(
-            alloc, is_quiet, form, path, &mut input, &mut out, &mut err,
+            alloc, options, form, path, &mut input, &mut out, &mut err,
         ),
         Err(fault) => tell(alloc, &Error::from(fault), &mut err),
     }
@@ -178,12 +178,12 @@ fn call_validate<P: Files + Input + Print + Eprint + AllocGlobal>(
     words: &[&str],
     form: Form,
 ) -> Result<u8> {
-    let Some(Validate { is_quiet, paths }) = validate_of(process.alloc(), plain)? else {
+    let Some(Validate { options, paths }) = validate_of(process.alloc(), plain)? else {
         return tell_misuse(process, Misuse::Arguments(Verb::Validate), words);
     };
     let mut status = 0;
     for path in paths.iter() {
-        status = status.max(validate_file(process, is_quiet, path, form));
+        status = status.max(validate_file(process, options, path, form));
     }
     Ok(status)
 }

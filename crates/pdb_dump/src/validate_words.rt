@@ -4,17 +4,18 @@ ghost use Rattle.std.specs.Prelude.{◌≡◌, map, IfOk};
 ghost use Rattle.std.specs.Option.{option_map};
 ghost use Rattle.std.specs.List.{list_any};
 ghost use Rattle.pdb_base.specs.Memory.{FailsOnlyForMemory};
-ghost use Rattle.pdb_dump.specs.ValidateWords.{is_unknown, paths_in, validate_of, validate_view};
+ghost use Rattle.pdb_dump.specs.ValidateWords.{is_unknown, options_in, paths_in, validate_of, validate_view};
 
-use crate::command::Validate;
+use crate::command::{Validate, ValidateOptions};
 use crate::words::{any_is, is_option};
+use pdb_consistency::Extent;
 use std::alloc::Global;
 
 /// Returns whether a word is an option that `validate` doesn't take.
 fn is_unknown(word: &str) -> bool
     ensures { result ≡ is_unknown word.now }
 {
-    is_option(word) && word != "--quiet"
+    is_option(word) && word != "--all" && word != "--strict" && word != "--quiet"
 }
 
 /// Returns whether one of the words is an option that `validate` doesn't take.
@@ -44,8 +45,25 @@ fn paths_in<'w>(alloc: Global, words: &[&'w str]) -> pdb_container::Result<Vec<&
     Ok(paths)
 }
 
+/// Returns how the words say that files are checked.
+#[tactic(auto, unfolding(crate::specs::ValidateWords::options_in), using(crate::proofs::ValidateLemmas::any_said))]
+fn options_in(words: &[&str]) -> ValidateOptions
+    ensures { result ≡ options_in (map (λ word. word.now) words.now) }
+{
+    let extent = if any_is(words, "--all") {
+        Extent::All
+    } else {
+        Extent::First
+    };
+    ValidateOptions {
+        extent,
+        is_strict: any_is(words, "--strict"),
+        is_quiet: any_is(words, "--quiet"),
+    }
+}
+
 /// Returns the arguments of `validate` from the words behind its name, or None if it doesn't take
-/// them: `--quiet` and paths in any order, at least one path.
+/// them: `--all`, `--strict`, `--quiet` and paths in any order, at least one path.
 ///
 /// # Errors
 /// Fails with `OutOfMemory` if an allocation fails.
@@ -65,6 +83,8 @@ pub fn validate_of<'w>(
     if paths.is_empty() {
         return Ok(None);
     }
-    let is_quiet = any_is(words, "--quiet");
-    Ok(Some(Validate { is_quiet, paths }))
+    Ok(Some(Validate {
+        options: options_in(words),
+        paths,
+    }))
 }

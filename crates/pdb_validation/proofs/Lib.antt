@@ -1,6 +1,8 @@
+pub mod ToldLemmas
 pub mod WalkLemmas
-pub mod ReadLemmas
 pub mod StreamLemmas
 pub mod SizeLemmas
 pub mod NameLemmas
+pub mod SeverityLemmas
+pub mod RelationLemmas
 pub mod WholeLemmas

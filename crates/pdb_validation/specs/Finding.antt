@@ -1,18 +1,24 @@
 -- What is found wrong in a file.
-use Rattle.std.specs.Prelude.{ℕ, List, codes, Option, Some, None}
-use Rattle.pdb_base.specs.Refusal.{Refusal, refusal_of}
+use Rattle.std.specs.Prelude.{ℕ, ◌-◌, Bool, true, false, not, List, [], ◌∷◌, ◌++◌, filter, length, take, codes, Option, Some}
+use Rattle.std.specs.Prelude.{None}
+use Rattle.pdb_consistency.specs.Inconsistency.{inconsistency_code}
+use Rattle.pdb_validation.specs.Problem.{ProblemValue, failure, inconsistent, error_code, is_tolerated, problem_view}
+use Rattle.pdb_validation.specs.declared.finding.Code.{Code}
+use Rattle.pdb_consistency.specs.declared.mismatch.Extent.{Extent}
+use Rattle.pdb_consistency.specs.declared.mismatch.Extent.TheVariants as extents
 use Rattle.pdb_validation.specs.declared.finding.Finding.{Finding}
 use Rattle.pdb_validation.specs.declared.finding.Part.{Part}
 use Rattle.pdb_validation.specs.declared.finding.Part.TheVariants as parts
 
--- a part of a file that is refused: the number of the stream, the index of the record and the byte of the stream at
--- which the fault is, if there are such, and the refusal
+-- a part of a file in which something is wrong: the number of the stream, the index of the record, and the byte of
+-- the stream and of the file at which the fault is, if there are such, and what is wrong
 pub record Fault : Type 0 where
   pub part : Part
   pub stream : Option ℕ
   pub index : Option ℕ
   pub byte : Option ℕ
-  pub refusal : Refusal
+  pub file_byte : Option ℕ
+  pub problem : ProblemValue
 
 abbrev pub finding_view : Finding → Fault
 finding_view finding = record {
@@ -20,38 +26,99 @@ finding_view finding = record {
   stream = finding.stream;
   index = finding.index;
   byte = finding.byte;
-  refusal = refusal_of finding.error;
+  file_byte = finding.file_byte;
+  problem = problem_view finding.problem;
 }
 
 -- the fault of a part that a stream holds
-abbrev pub stream_fault : Part → ℕ → Refusal → Fault
-stream_fault part stream refusal =
-    record { part = part; stream = Some stream; index = None; byte = None; refusal = refusal }
+abbrev pub stream_fault : Part → ℕ → ProblemValue → Fault
+stream_fault part stream problem = record {
+  part = part;
+  stream = Some stream;
+  index = None;
+  byte = None;
+  file_byte = None;
+  problem = problem;
+}
 
--- the fault of a record of a stream, which begins at that byte
-abbrev pub record_fault : Part → ℕ → ℕ → ℕ → Refusal → Fault
-record_fault part stream index byte refusal =
-    record { part = part; stream = Some stream; index = Some index; byte = Some byte; refusal = refusal }
+-- the fault of a record of a stream, which begins at that byte of the stream and of the file
+abbrev pub record_fault : Part → ℕ → ℕ → ℕ → Option ℕ → ProblemValue → Fault
+record_fault part stream index byte file_byte problem = record {
+  part = part;
+  stream = Some stream;
+  index = Some index;
+  byte = Some byte;
+  file_byte = file_byte;
+  problem = problem;
+}
 
 -- the fault of a part that no stream holds
-abbrev pub file_fault : Part → Refusal → Fault
-file_fault part refusal =
-    record { part = part; stream = None; index = None; byte = None; refusal = refusal }
+abbrev pub file_fault : Part → ProblemValue → Fault
+file_fault part problem = record {
+  part = part;
+  stream = None;
+  index = None;
+  byte = None;
+  file_byte = None;
+  problem = problem;
+}
+
+-- those of some faults that are errors
+abbrev pub errors_in : List Fault → List Fault
+errors_in faults = filter (λ fault. not (is_tolerated fault.problem)) faults
+
+-- how many of some faults are warnings, and how many are errors
+abbrev pub warning_count : List Fault → ℕ
+warning_count faults = length (filter (λ fault. is_tolerated fault.problem) faults)
+
+abbrev pub error_count : List Fault → ℕ
+error_count faults = length faults - warning_count faults
+
+-- ---- how much is told of a part
+
+-- the faults of a part that are told: the first of them, or every one
+abbrev pub by_extent : Extent → List Fault → List Fault
+by_extent extents.First faults = take 1 faults
+by_extent extents.All faults = faults
+
+-- whether no more of a part is told than what is found of it, if anything is
+abbrev pub is_enough : Extent → Option Fault → Bool
+is_enough extents.First (Some fault) = true
+is_enough extent fault = false
+
+-- ---- codes
 
 -- the code of a part, under which programs tell of its faults
-abbrev pub code_of : Part → List ℕ
-code_of parts.Header = codes "HEADER"
-code_of parts.Directory = codes "DIRECTORY"
-code_of parts.Sizes = codes "SIZES"
-code_of parts.Stream = codes "STREAM"
-code_of parts.Names = codes "NAMES"
-code_of parts.StringTable = codes "STRING-TABLE"
-code_of parts.Roles = codes "ROLES"
-code_of parts.Types = codes "TYPES"
-code_of parts.Ids = codes "IDS"
-code_of parts.SectionHeaders = codes "SECTION-HEADERS"
-code_of parts.OriginalSectionHeaders = codes "ORIGINAL-SECTION-HEADERS"
-code_of parts.OmapToSource = codes "OMAP-TO-SOURCE"
-code_of parts.OmapFromSource = codes "OMAP-FROM-SOURCE"
-code_of parts.OldFrames = codes "OLD-FRAMES"
-code_of parts.NewFrames = codes "NEW-FRAMES"
+abbrev pub part_code : Part → List ℕ
+part_code parts.Header = codes "HEADER"
+part_code parts.Directory = codes "DIRECTORY"
+part_code parts.Sizes = codes "SIZES"
+part_code parts.Stream = codes "STREAM"
+part_code parts.Names = codes "NAMES"
+part_code parts.StringTable = codes "STRING-TABLE"
+part_code parts.Roles = codes "ROLES"
+part_code parts.Types = codes "TYPES"
+part_code parts.Ids = codes "IDS"
+part_code parts.SectionHeaders = codes "SECTION-HEADERS"
+part_code parts.OriginalSectionHeaders = codes "ORIGINAL-SECTION-HEADERS"
+part_code parts.OmapToSource = codes "OMAP-TO-SOURCE"
+part_code parts.OmapFromSource = codes "OMAP-FROM-SOURCE"
+part_code parts.OldFrames = codes "OLD-FRAMES"
+part_code parts.NewFrames = codes "NEW-FRAMES"
+
+-- that a fault is at a record
+abbrev pub record_code : Option ℕ → List ℕ
+record_code (Some index) = codes "-RECORD"
+record_code None = []
+
+-- The code of a fault: of an error the code of its part, that it is at a record if it is, and which error it is; of
+-- what is inconsistent its own.
+abbrev pub code_by : Part → Option ℕ → ProblemValue → List ℕ
+code_by part index (failure refusal) = part_code part ++ record_code index ++ error_code refusal
+code_by part index (inconsistent what) = inconsistency_code what
+
+abbrev pub fault_code : Fault → List ℕ
+fault_code fault = code_by fault.part fault.index fault.problem
+
+abbrev pub code_text : Code → List ℕ
+code_text code = code.part.now ++ code.record.now ++ code.kind.now

@@ -3,16 +3,16 @@ use Rattle.std.specs.Prelude.{◌≡◌, ℕ, ◌+◌, ◌<◌, ◌≤◌, List,
 use Rattle.pdb_base.specs.Answer.{Answer}
 use Rattle.pdb_base.specs.Index.{stream_number}
 use Rattle.pdb_base.specs.Refusal.{stream_not_found}
-use Rattle.pdb_msf.specs.Directory.{directory_of}
-use Rattle.pdb_msf.specs.File.{stream_of}
-use Rattle.pdb_msf.specs.Header.{Head, opened}
+use Rattle.pdb_msf.specs.Layout.{LayoutValue, layout_of, stream_by}
 use Rattle.pdb_file.specs.DebugHeader.{extra_streams_of}
 use Rattle.pdb_file.specs.declared.debug_header.DBIExtraStreams.{DBIExtraStreams}
 use Rattle.pdb_tpi.specs.Steps.{walk, walk_rest}
 use Rattle.pdb_tpi.specs.Table.{Table, table_of}
 use Rattle.pdb_space.specs.StringTable.{name_of, names_of}
 use Rattle.pdb_validation.specs.Names.{string_table_number}
-use Rattle.pdb_validation.specs.Roles.{known_roles, role_answer, role_index}
+use Rattle.pdb_validation.specs.Relations.{AreConsistent, container_relations, name_relations, role_relations}
+use Rattle.pdb_validation.specs.Relations.{table_relations}
+use Rattle.pdb_validation.specs.Roles.{known_roles, role_index, role_problem}
 use Rattle.pdb_validation.specs.Sizes.{directory_size, streams_size}
 use Rattle.pdb_validation.specs.Tables.{id_in, type_in}
 use Rattle.pdb_validation.specs.declared.finding.Part.{Part}
@@ -61,43 +61,47 @@ HasWholeNames (Ok names) = (offset : ℕ) → offset < length names → IsOk (na
 HasWholeNames (Err refusal) = ⊥
 
 -- The names of streams are there. If one of them is that of the string table, there is one in its stream.
-abbrev pub AreNames : List ℕ → Head → Answer (Option ℕ) → Type 0
-AreNames file head (Ok None) = ⊤
-AreNames file head (Ok (Some number)) = IsThere (λ stream. HasWholeNames (names_of stream))
-    (stream_of file head number None)
-AreNames file head (Err refusal) = ⊥
+abbrev pub AreNames : LayoutValue → List ℕ → Answer (Option ℕ) → Type 0
+AreNames layout file (Ok None) = ⊤
+AreNames layout file (Ok (Some number)) = IsThere (λ stream. HasWholeNames (names_of stream))
+    (stream_by layout file number None)
+AreNames layout file (Err refusal) = ⊥
 
--- The stream of a number is there, and its bytes mean something by the role of the part, if there is a number.
-abbrev pub IsNumbered : List ℕ → Head → Part → Option ℕ → Type 0
-IsNumbered file head part None = ⊤
-IsNumbered file head part (Some number) =
-    IsThere (λ stream. IsOk (role_answer part stream)) (stream_of file head number None)
+-- The stream of a number is there, and nothing is wrong with its bytes by the role of the part, if there is a number.
+abbrev pub IsNumbered : LayoutValue → List ℕ → Part → Option ℕ → Type 0
+IsNumbered layout file part None = ⊤
+IsNumbered layout file part (Some number) =
+    IsThere (λ stream. role_problem part stream ≡ None) (stream_by layout file number None)
 
 -- The same for the stream of a role, if the roles are known.
-abbrev pub HasRole : List ℕ → Head → Part → Option DBIExtraStreams → Type 0
-HasRole file head part None = ⊤
-HasRole file head part (Some roles) = IsNumbered file head part (stream_number (role_index part roles))
+abbrev pub HasRole : LayoutValue → List ℕ → Part → Option DBIExtraStreams → Type 0
+HasRole layout file part None = ⊤
+HasRole layout file part (Some roles) = IsNumbered layout file part (stream_number (role_index part roles))
 
--- The parts behind the header of a file are whole: the directory is no larger than the file and can be read. The
--- streams together are no larger than the file, and the bytes of each that is there can be read. Stream 1 is there
--- and names streams, and a string table that it names is one. Stream 3, if it is there, has a header and roles.
--- The tables of types and of ids, if they are there, have whole records. Each stream that has a role of a part is
--- there, and its bytes are section headers, an OMAP table or frames, by that role.
-pub record HasWholeParts (file : List ℕ) (head : Head) : Type 0 where
-  pub directory_fits : directory_size file ≤ length file
-  pub directory : IsOk (directory_of file head)
-  pub streams_fit : streams_size file head ≤ length file
-  pub streams : (n : ℕ) → n < 0xffff → IsReadOrAbsent (stream_of file head n None)
-  pub names : IsThere (λ stream. AreNames file head (string_table_number stream)) (stream_of file head 1 None)
-  pub roles : IfRead (λ stream. IsOk (extra_streams_of stream)) (stream_of file head 3 None)
-  pub types : IfRead (λ stream. AreTypes (table_of stream)) (stream_of file head 2 None)
-  pub ids : IfRead (λ stream. AreIds (table_of stream)) (stream_of file head 4 None)
-  pub by_role : (part : Part) → HasRole file head part (known_roles file head)
+-- The parts behind the directory of a file are whole: the streams together are no larger than the file, and the bytes
+-- of each that is there can be read. Stream 1 is there and names streams, and a string table that it names is one.
+-- Stream 3, if it is there, has a header and roles. The tables of types and of ids, if they are there, have whole
+-- records. Each stream that has a role of a part is there, and its bytes are section headers, an OMAP table or frames
+-- by that role, in their order. Nothing that is inconsistent between these parts is an error.
+pub record HasWholeParts (layout : LayoutValue) (file : List ℕ) : Type 0 where
+  pub streams_fit : streams_size layout ≤ length file
+  pub streams : (n : ℕ) → n < 0xffff → IsReadOrAbsent (stream_by layout file n None)
+  pub names : IsThere (λ stream. AreNames layout file (string_table_number stream)) (stream_by layout file 1 None)
+  pub roles : IfRead (λ stream. IsOk (extra_streams_of stream)) (stream_by layout file 3 None)
+  pub types : IfRead (λ stream. AreTypes (table_of stream)) (stream_by layout file 2 None)
+  pub ids : IfRead (λ stream. AreIds (table_of stream)) (stream_by layout file 4 None)
+  pub by_role : (part : Part) → HasRole layout file part (known_roles layout file)
+  pub pages_agree : AreConsistent (container_relations file)
+  pub tables_agree : AreConsistent (table_relations layout file)
+  pub names_agree : AreConsistent (name_relations layout file)
+  pub roles_agree : AreConsistent (role_relations layout file)
 
--- A file is whole: its header can be read, and the parts behind that are whole.
-abbrev pub IsWholeBehind : List ℕ → Answer Head → Type 0
-IsWholeBehind file (Ok head) = HasWholeParts file head
+-- The header and the directory of a file can be read, and the parts behind them are whole.
+abbrev pub IsWholeBehind : List ℕ → Answer LayoutValue → Type 0
+IsWholeBehind file (Ok layout) = HasWholeParts layout file
 IsWholeBehind file (Err refusal) = ⊥
 
-abbrev pub IsWhole : List ℕ → Type 0
-IsWhole file = IsWholeBehind file (opened file)
+-- A file is whole: its directory is no larger than the file, and its parts are whole.
+pub record IsWhole (file : List ℕ) : Type 0 where
+  pub directory_fits : directory_size file ≤ length file
+  pub parts : IsWholeBehind file (layout_of file)

@@ -1,9 +1,11 @@
+pub mod Problem
 pub mod Finding
-pub mod Outside
-pub mod Tables
-pub mod Streams
 pub mod Sizes
+pub mod Places
+pub mod Streams
+pub mod Tables
 pub mod Names
 pub mod Roles
+pub mod Relations
 pub mod Whole
 pub mod IsWhole

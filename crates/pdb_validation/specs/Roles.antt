@@ -1,11 +1,11 @@
 -- Stream 3 and the streams to which it gives roles.
-use Rattle.std.specs.Prelude.{ℕ, ◌+◌, Bool, true, ◌&&◌, nat_le, List, [], ◌∷◌, map, Option, Some, None, Ok, Err, codes}
+use Rattle.std.specs.Prelude.{ℕ, ◌+◌, Bool, true, ◌&&◌, nat_le, if◌then◌else◌, List, [], ◌∷◌, map, Option, Some, None, Ok, Err}
+use Rattle.std.specs.Option.{option_map}
 use Rattle.std.specs.Result.{result_ok}
-use Rattle.pdb_base.specs.Answer.{Answer, ◌>>=◌, required}
+use Rattle.pdb_base.specs.Answer.{Answer}
 use Rattle.pdb_base.specs.Index.{no_stream, stream_number}
-use Rattle.pdb_base.specs.Refusal.{unimplemented_feature}
-use Rattle.pdb_msf.specs.File.{stream_of}
-use Rattle.pdb_msf.specs.Header.{Head}
+use Rattle.pdb_consistency.specs.declared.inconsistency.Inconsistency.TheVariants as kinds
+use Rattle.pdb_msf.specs.Layout.{LayoutValue, stream_by}
 use Rattle.pdb_file.specs.DebugHeader.{extra_streams_of}
 use Rattle.pdb_file.specs.SectionHeaders.{section_headers_of}
 use Rattle.pdb_file.specs.declared.debug_header.DBIExtraStreams.{DBIExtraStreams}
@@ -13,9 +13,10 @@ use Rattle.pdb_frames.specs.Merge.{by_heads}
 use Rattle.pdb_frames.specs.Table.{frame_table_of}
 use Rattle.pdb_frames.specs.declared.frame_data.FrameData.{FrameData}
 use Rattle.pdb_space.specs.Omap.{OmapValue, omap_table_of}
-use Rattle.pdb_validation.specs.Finding.{Fault}
+use Rattle.pdb_validation.specs.Finding.{Fault, stream_fault}
 use Rattle.pdb_validation.specs.Names.{fault_of_answer}
-use Rattle.pdb_validation.specs.Streams.{fault_there, fault_within}
+use Rattle.pdb_validation.specs.Problem.{ProblemValue, failure, inconsistent}
+use Rattle.pdb_validation.specs.Streams.{fault_there, if_read}
 use Rattle.pdb_validation.specs.declared.finding.Part.{Part}
 use Rattle.pdb_validation.specs.declared.finding.Part.TheVariants as parts
 
@@ -34,30 +35,35 @@ starts_rise frames = rises 1 0 (map (λ frame. frame.code_start) frames)
 
 -- ---- the bytes of one stream
 
-unfoldable pub sections_answer : List ℕ → Answer (Unit {0})
-sections_answer stream = section_headers_of stream >>= λ sections. Ok tt
+-- what is wrong where an answer is a refusal; or else within its value
+abbrev pub problem_in : {A : Type 0} → (A → Option ProblemValue) → Answer A → Option ProblemValue
+problem_in within (Ok x) = within x
+problem_in within (Err refusal) = Some (failure refusal)
+
+abbrev pub unless_sorted : Bool → Option ProblemValue
+unless_sorted is_sorted = if is_sorted then None else Some (inconsistent kinds.OutOfOrder)
+
+unfoldable pub sections_problem : List ℕ → Option ProblemValue
+sections_problem stream = problem_in (λ sections. None) (section_headers_of stream)
 
 -- an OMAP table whose sources don't decrease
-unfoldable pub omap_answer : List ℕ → Answer (Unit {0})
-omap_answer stream = do
-  table ← omap_table_of stream
-  required (sources_rise table) (unimplemented_feature (codes "OMAP table that is not sorted"))
+unfoldable pub omap_problem : List ℕ → Option ProblemValue
+omap_problem stream = problem_in (λ table. unless_sorted (sources_rise table)) (omap_table_of stream)
 
 -- frames whose starts increase; one of the two streams is absent, so that the order is that of the other
-unfoldable pub frames_answer : Option (List ℕ) → Option (List ℕ) → Answer (Unit {0})
-frames_answer old new = do
-  frames ← frame_table_of old new
-  required (starts_rise (by_heads frames.old frames.new)) (unimplemented_feature (codes "frames that are not sorted"))
+unfoldable pub frames_problem : Option (List ℕ) → Option (List ℕ) → Option ProblemValue
+frames_problem old new =
+    problem_in (λ frames. unless_sorted (starts_rise (by_heads frames.old frames.new))) (frame_table_of old new)
 
--- what the bytes of a stream mean by its role
-unfoldable pub role_answer : Part → List ℕ → Answer (Unit {0})
-role_answer parts.SectionHeaders stream = sections_answer stream
-role_answer parts.OriginalSectionHeaders stream = sections_answer stream
-role_answer parts.OmapToSource stream = omap_answer stream
-role_answer parts.OmapFromSource stream = omap_answer stream
-role_answer parts.OldFrames stream = frames_answer (Some stream) None
-role_answer parts.NewFrames stream = frames_answer None (Some stream)
-role_answer other stream = Ok tt
+-- what is wrong with the bytes of a stream by its role
+unfoldable pub role_problem : Part → List ℕ → Option ProblemValue
+role_problem parts.SectionHeaders stream = sections_problem stream
+role_problem parts.OriginalSectionHeaders stream = sections_problem stream
+role_problem parts.OmapToSource stream = omap_problem stream
+role_problem parts.OmapFromSource stream = omap_problem stream
+role_problem parts.OldFrames stream = frames_problem (Some stream) None
+role_problem parts.NewFrames stream = frames_problem None (Some stream)
+role_problem other stream = None
 
 -- ---- the streams by their roles
 
@@ -72,26 +78,26 @@ role_index parts.NewFrames roles = roles.framedata.0
 role_index other roles = no_stream
 
 -- the fault of the stream with a number; none, if there is no number
-abbrev pub numbered_fault : List ℕ → Head → Part → Option ℕ → Option Fault
-numbered_fault file head part None = None
-numbered_fault file head part (Some number) =
-    fault_there part number (λ stream. fault_of_answer part number (role_answer part stream))
-    (stream_of file head number None)
+abbrev pub numbered_fault : LayoutValue → List ℕ → Part → Option ℕ → Option Fault
+numbered_fault layout file part None = None
+numbered_fault layout file part (Some number) =
+    fault_there part number (λ stream. option_map (stream_fault part number) (role_problem part stream))
+    (stream_by layout file number None)
 
 -- the fault of the stream of a role, if the roles are known
-abbrev pub role_fault : List ℕ → Head → Part → Option DBIExtraStreams → Option Fault
-role_fault file head part None = None
-role_fault file head part (Some roles) = numbered_fault file head part (stream_number (role_index part roles))
+abbrev pub role_fault : LayoutValue → List ℕ → Part → Option DBIExtraStreams → Option Fault
+role_fault layout file part None = None
+role_fault layout file part (Some roles) = numbered_fault layout file part (stream_number (role_index part roles))
 
 -- the roles that stream 3 gives, if its bytes can be read and give roles
 abbrev pub roles_in : Answer (List ℕ) → Option DBIExtraStreams
 roles_in (Ok stream) = result_ok (extra_streams_of stream)
 roles_in (Err refusal) = None
 
-unfoldable pub known_roles : List ℕ → Head → Option DBIExtraStreams
-known_roles file head = roles_in (stream_of file head 3 None)
+unfoldable pub known_roles : LayoutValue → List ℕ → Option DBIExtraStreams
+known_roles layout file = roles_in (stream_by layout file 3 None)
 
 -- the fault of stream 3, whose header or roles are refused
-unfoldable pub roles_fault : List ℕ → Head → Option Fault
-roles_fault file head = fault_within (λ stream. fault_of_answer parts.Roles 3 (extra_streams_of stream))
-    (stream_of file head 3 None)
+unfoldable pub roles_fault : LayoutValue → List ℕ → Option Fault
+roles_fault layout file = if_read None (λ stream. fault_of_answer parts.Roles 3 (extra_streams_of stream))
+    (stream_by layout file 3 None)

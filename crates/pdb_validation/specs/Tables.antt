@@ -1,6 +1,7 @@
 -- The records of the tables of types and of ids: which of them is refused first.
-use Rattle.std.specs.Prelude.{ℕ, ◌+◌, ◌-◌, ◌==◌, Bool, false, ◌&&◌, not, nat_lt, if◌then◌else◌, List, [], ◌∷◌, length}
+use Rattle.std.specs.Prelude.{ℕ, ◌+◌, ◌-◌, ◌==◌, Bool, false, ◌&&◌, not, nat_lt, if◌then◌else◌, List, [], ◌∷◌, ◌++◌, length}
 use Rattle.std.specs.Prelude.{Option, Some, None, Ok, Err}
+use Rattle.std.specs.Option.{option_to_list}
 use Rattle.pdb_base.specs.Answer.{Answer, ◌>>=◌, required}
 use Rattle.pdb_base.specs.Refusal.{Refusal, unexpected_eof, unimplemented_type_kind}
 use Rattle.pdb_records.specs.Fields.{field_list_leaf}
@@ -15,6 +16,8 @@ use Rattle.pdb_tpi.specs.Table.{Table, table_of}
 use Rattle.pdb_tpi.specs.Walk.{fault_of}
 use Rattle.pdb_values.specs.TypeValue.{TypeValue, field_list}
 use Rattle.pdb_validation.specs.Finding.{Fault, record_fault, stream_fault}
+use Rattle.pdb_validation.specs.Places.{PagesValue, file_byte}
+use Rattle.pdb_validation.specs.Problem.{failure}
 use Rattle.pdb_validation.specs.declared.finding.Part.{Part}
 use Rattle.pdb_validation.specs.declared.finding.Part.TheVariants as parts
 
@@ -67,25 +70,30 @@ id_in index item = unless_unread (kind_of item) (id_of item)
 
 -- ---- all records
 
--- the fault of an answer that is a refusal, or else what comes after it
-abbrev pub fault_or : {A : Type 0} → (Refusal → Fault) → Answer A → Option Fault → Option Fault
-fault_or fault (Ok x) others = others
-fault_or fault (Err refusal) others = Some (fault refusal)
+-- the fault of an answer that is a refusal
+abbrev pub refusal_fault : {A : Type 0} → (Refusal → Fault) → Answer A → Option Fault
+refusal_fault fault (Ok x) = None
+refusal_fault fault (Err refusal) = Some (fault refusal)
 
--- The fault of the first item that is refused, or else the fault behind the items. The first item has that index.
-abbrev pub first_refused : {A : Type 0} → (ℕ → Refusal → Fault) → (ℕ → List ℕ → Answer A) → ℕ → List (List ℕ)
-    → Option Fault → Option Fault
-first_refused fault means index [] behind = behind
-first_refused fault means index (item ∷ items) behind =
-    fault_or (fault index) (means index item) (first_refused fault means (index + 1) items behind)
+-- The faults of the items that are refused, and then the fault behind the items. The first item has that index.
+abbrev pub item_faults : {A : Type 0} → (ℕ → Refusal → Fault) → (ℕ → List ℕ → Answer A) → ℕ → List (List ℕ)
+    → Option Fault → List Fault
+item_faults fault means index [] behind = option_to_list behind
+item_faults fault means index (item ∷ items) behind =
+    option_to_list (refusal_fault (fault index) (means index item)) ++ item_faults fault means (index + 1) items behind
 
 -- the byte of its stream at which the item of an index begins, behind the header and the items before it
 abbrev pub byte_of : Table → ℕ → ℕ
 byte_of table index = position_of table (index - table.header.minimum_index)
 
--- the fault of the record of an index
-abbrev pub item_fault : Part → ℕ → Table → ℕ → Refusal → Fault
-item_fault part stream table index refusal = record_fault part stream index (byte_of table index) refusal
+-- the fault of the record of an index, which begins at that byte of a stream that has those pages
+abbrev pub fault_at : Part → ℕ → PagesValue → ℕ → ℕ → Refusal → Fault
+fault_at part stream pages index byte refusal =
+    record_fault part stream index byte (file_byte pages byte) (failure refusal)
+
+-- the same for the record of an index of a table
+abbrev pub item_fault : Part → ℕ → PagesValue → Table → ℕ → Refusal → Fault
+item_fault part stream pages table index refusal = fault_at part stream pages index (byte_of table index) refusal
 
 -- the fault that a table has no item of an index that its header counts
 abbrev pub missing_fault : (ℕ → Refusal → Fault) → ℕ → ℕ → Option Fault
@@ -96,10 +104,10 @@ abbrev pub fault_behind : (ℕ → Refusal → Fault) → ℕ → ℕ → List �
 fault_behind fault index maximum [] = missing_fault fault index maximum
 fault_behind fault index maximum (byte ∷ rest) = Some (fault index (fault_of (byte ∷ rest)))
 
--- the first fault of the records of a table
-unfoldable pub records_fault : {A : Type 0} → (ℕ → Refusal → Fault) → (ℕ → List ℕ → Answer A) → Table → Option Fault
-records_fault fault means table =
-    first_refused fault means table.header.minimum_index (walk table)
+-- the faults of the records of a table
+unfoldable pub record_faults : {A : Type 0} → (ℕ → Refusal → Fault) → (ℕ → List ℕ → Answer A) → Table → List Fault
+record_faults fault means table =
+    item_faults fault means table.header.minimum_index (walk table)
     (fault_behind fault (table.header.minimum_index + length (walk table)) table.header.maximum_index (walk_rest table))
 
 -- ---- the tables
@@ -108,18 +116,21 @@ records_fault fault means table =
 unfoldable pub opened_table : List ℕ → Answer WalkPosition
 opened_table stream = table_of stream >>= λ table. Ok (first_stand table)
 
--- the fault of a table: that of its header, or that of its records
-abbrev pub table_fault : Part → ℕ → (Table → Option Fault) → Answer Table → Option Fault
-table_fault part number within (Ok table) = within table
-table_fault part number within (Err refusal) = Some (stream_fault part number refusal)
+-- the faults of a table: that of its header, or those of its records
+abbrev pub table_faults : Part → ℕ → (Table → List Fault) → Answer Table → List Fault
+table_faults part number within (Ok table) = within table
+table_faults part number within (Err refusal) = stream_fault part number (failure refusal) ∷ []
 
--- the first fault of the table of types in a stream
-unfoldable pub types_fault : List ℕ → Option Fault
-types_fault stream =
-    table_fault parts.Types 2 (λ table. records_fault (item_fault parts.Types 2 table) (type_in table) table)
-    (table_of stream)
+-- the faults of the records of a table of types, and of a table of ids
+abbrev pub type_faults : PagesValue → Table → List Fault
+type_faults pages table = record_faults (item_fault parts.Types 2 pages table) (type_in table) table
 
--- the first fault of the table of ids in a stream
-unfoldable pub ids_fault : List ℕ → Option Fault
-ids_fault stream =
-    table_fault parts.Ids 4 (λ table. records_fault (item_fault parts.Ids 4 table) id_in table) (table_of stream)
+abbrev pub id_faults : PagesValue → Table → List Fault
+id_faults pages table = record_faults (item_fault parts.Ids 4 pages table) id_in table
+
+-- the faults of the table of types in a stream that has those pages, and of the table of ids
+unfoldable pub types_faults : PagesValue → List ℕ → List Fault
+types_faults pages stream = table_faults parts.Types 2 (type_faults pages) (table_of stream)
+
+unfoldable pub ids_faults : PagesValue → List ℕ → List Fault
+ids_faults pages stream = table_faults parts.Ids 4 (id_faults pages) (table_of stream)

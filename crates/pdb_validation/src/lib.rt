@@ -5,7 +5,10 @@
 mod checks;
 mod finding;
 mod names;
+mod places;
+mod problem;
 mod read;
+mod relations;
 mod roles;
 mod sizes;
 mod streams;
@@ -14,4 +17,6 @@ mod tables;
 mod tests;
 
 pub use checks::validate;
-pub use finding::{Finding, Part};
+pub use finding::{Code, Finding, Part};
+pub use pdb_consistency::{Extent, Inconsistency};
+pub use problem::Problem;

@@ -4,17 +4,17 @@ ghost use Rattle.std.specs.Prelude.{◌≡◌, ◌≤◌, length, Ok};
 ghost use Rattle.pdb_base.specs.Reading.{word_at};
 ghost use Rattle.std.specs.Option.{option_map};
 ghost use Rattle.pdb_base.specs.Answer.{Answers, Gives};
-ghost use Rattle.pdb_msf.specs.File.{ReadsFile};
 ghost use Rattle.pdb_validation.specs.Finding.{finding_view};
 ghost use Rattle.pdb_validation.specs.Names.{last_name, named_fault, names_fault, string_table_fault};
 ghost use Rattle.pdb_validation.specs.Names.{string_table_number, whole_names};
 
 use crate::finding::{Finding, Part, in_stream};
+use crate::problem::Problem;
 use crate::read::read;
 use byteorder::{ByteOrder, LittleEndian};
 use pdb_base::{Error, Result, Stream};
-use pdb_file::{PDB, PDBInformation};
-use pdb_msf::Source;
+use pdb_file::PDBInformation;
+use pdb_msf::Layout;
 use pdb_space::{StringRef, StringTable};
 use std::alloc::Global;
 
@@ -27,7 +27,7 @@ const HEADER_SIZE: usize = 12;
 /// Reads the names of streams, and returns the number of the stream of the string table, if there
 /// is one.
 #[tactic(auto, unfolding(crate::specs::Names::string_table_number))]
-fn string_table_number(alloc: Global, stream: Stream) -> Result<Option<u32>>
+pub(crate) fn string_table_number(alloc: Global, stream: Stream) -> Result<Option<u32>>
     ensures { Answers (λ number. number) result (string_table_number stream) }
 {
     let information = PDBInformation::parse(stream)?;
@@ -71,57 +71,56 @@ fn check_names_in(stream: Stream) -> Result<()>
 
 /// Returns the finding of the string table in the stream of a number, if it has an error.
 #[tactic(auto, unfolding(crate::specs::Names::string_table_fault))]
-fn check_string_table<S: Source>(
+fn check_string_table(
     alloc: Global,
-    pdb: &mut PDB<S>,
+    layout: &Layout,
+    file: &[u8],
     number: u32,
 ) -> Result<Option<Finding>>
-    ensures { ReadsFile S.state pdb.old pdb.new (option_map finding_view) result
-        (λ file head. Ok (string_table_fault file head number)) }
+    ensures { Answers (option_map finding_view) result (Ok (string_table_fault layout.now file.now number)) }
 {
-    match read(alloc, pdb, number)? {
+    match read(alloc, layout, file, number)? {
         Ok(stream) => match check_names_in(stream) {
             Ok(()) => Ok(None),
-            Err(error) => Ok(Some(in_stream(Part::StringTable, number, error))),
+            Err(error) => Ok(Some(in_stream(Part::StringTable, number, Problem::Error(error)))),
         },
         Err(Error::StreamNotFound(missing)) => Ok(Some(in_stream(
             Part::StringTable,
             number,
-            Error::StreamNotFound(missing),
+            Problem::Error(Error::StreamNotFound(missing)),
         ))),
         Err(_) => Ok(None),
     }
 }
 
 /// Returns the finding of the string table in the stream that stream 1 names, if it has an error.
-fn check_named<S: Source>(
+fn check_named(
     alloc: Global,
-    pdb: &mut PDB<S>,
+    layout: &Layout,
+    file: &[u8],
     stream: Stream,
 ) -> Result<Option<Finding>>
-    ensures { ReadsFile S.state pdb.old pdb.new (option_map finding_view) result
-        (λ file head. Ok (named_fault file head (string_table_number stream))) }
+    ensures { Answers (option_map finding_view) result (Ok (named_fault layout.now file.now (string_table_number stream))) }
 {
     match string_table_number(alloc, stream) {
-        Ok(Some(number)) => check_string_table(alloc, pdb, number),
+        Ok(Some(number)) => check_string_table(alloc, layout, file, number),
         Ok(None) => Ok(None),
         Err(Error::OutOfMemory) => Err(Error::OutOfMemory),
-        Err(error) => Ok(Some(in_stream(Part::Names, INFORMATION_STREAM, error))),
+        Err(error) => Ok(Some(in_stream(Part::Names, INFORMATION_STREAM, Problem::Error(error)))),
     }
 }
 
 /// Returns the finding of stream 1, of its names, or of the string table, if one has an error.
 #[tactic(auto, unfolding(crate::specs::Names::names_fault))]
-pub(crate) fn check_names<S: Source>(alloc: Global, pdb: &mut PDB<S>) -> Result<Option<Finding>>
-    ensures { ReadsFile S.state pdb.old pdb.new (option_map finding_view) result
-        (λ file head. Ok (names_fault file head)) }
+pub(crate) fn check_names(alloc: Global, layout: &Layout, file: &[u8]) -> Result<Option<Finding>>
+    ensures { Answers (option_map finding_view) result (Ok (names_fault layout.now file.now)) }
 {
-    match read(alloc, pdb, INFORMATION_STREAM)? {
-        Ok(stream) => check_named(alloc, pdb, stream),
+    match read(alloc, layout, file, INFORMATION_STREAM)? {
+        Ok(stream) => check_named(alloc, layout, file, stream),
         Err(Error::StreamNotFound(missing)) => Ok(Some(in_stream(
             Part::Names,
             INFORMATION_STREAM,
-            Error::StreamNotFound(missing),
+            Problem::Error(Error::StreamNotFound(missing)),
         ))),
         Err(_) => Ok(None),
     }

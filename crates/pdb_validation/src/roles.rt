@@ -2,36 +2,51 @@
 
 ghost use Rattle.std.specs.Prelude.{◌≡◌, Ok, Some};
 ghost use Rattle.std.specs.Option.{option_map};
-ghost use Rattle.pdb_base.specs.Answer.{Answers, Gives};
-ghost use Rattle.pdb_msf.specs.File.{ReadsFile};
+ghost use Rattle.pdb_base.specs.Answer.{Answers};
 ghost use Rattle.pdb_file.specs.DebugHeader.{extra_streams_of};
-ghost use Rattle.pdb_validation.specs.Finding.{finding_view};
+ghost use Rattle.pdb_validation.specs.Finding.{finding_view, stream_fault};
 ghost use Rattle.pdb_validation.specs.Names.{fault_of_answer};
-ghost use Rattle.pdb_validation.specs.Roles.{frames_answer, known_roles, numbered_fault, omap_answer, role_answer};
-ghost use Rattle.pdb_validation.specs.Roles.{role_fault, role_index, roles_fault, sections_answer, sources_rise};
-ghost use Rattle.pdb_validation.specs.Roles.{starts_rise};
+ghost use Rattle.pdb_validation.specs.Problem.{problem_view};
+ghost use Rattle.pdb_validation.specs.Roles.{frames_problem, known_roles, numbered_fault, omap_problem, role_fault};
+ghost use Rattle.pdb_validation.specs.Roles.{role_index, role_problem, roles_fault, sections_problem, sources_rise};
+ghost use Rattle.pdb_validation.specs.Roles.{starts_rise, unless_sorted};
 ghost use Rattle.pdb_validation.specs.declared.finding.Part.TheVariants as parts;
 
 use crate::finding::{Finding, Part, in_stream};
+use crate::problem::Problem;
 use crate::read::read;
 use pdb_base::{Error, FallibleIterator, Result, Stream, StreamIndex};
+use pdb_consistency::Inconsistency;
+use pdb_file::DBIExtraStreams;
 use pdb_file::section_headers::section_headers;
-use pdb_file::{DBIExtraStreams, PDB};
 use pdb_frames::{FrameDataIter, FrameTable};
-use pdb_msf::Source;
+use pdb_msf::Layout;
 use pdb_space::OMAPTable;
 use std::alloc::Global;
 
 /// The number of the stream of debug information.
 const DEBUG_STREAM: u32 = 3;
 
-/// Checks that the stream of section headers holds whole headers.
-#[tactic(auto, unfolding(crate::specs::Roles::sections_answer))]
-fn check_sections(alloc: Global, stream: &Stream) -> Result<()>
-    ensures { Answers (λ done. done) result (sections_answer stream.now) }
+/// Returns what is wrong in a list of records: that it is out of order, unless it is sorted.
+fn unless_sorted(is_sorted: bool) -> Option<Problem>
+    ensures { option_map problem_view result ≡ unless_sorted is_sorted }
 {
-    section_headers(alloc, stream)?;
-    Ok(())
+    if is_sorted {
+        return None;
+    }
+    Some(Problem::Inconsistent(Inconsistency::OutOfOrder))
+}
+
+/// Returns what is wrong in a stream of section headers.
+#[tactic(auto, unfolding(crate::specs::Roles::sections_problem))]
+fn check_sections(alloc: Global, stream: &Stream) -> Result<Option<Problem>>
+    ensures { Answers (option_map problem_view) result (Ok (sections_problem stream.now)) }
+{
+    match section_headers(alloc, stream) {
+        Ok(_) => Ok(None),
+        Err(Error::OutOfMemory) => Err(Error::OutOfMemory),
+        Err(error) => Ok(Some(Problem::Error(error))),
+    }
 }
 
 /// Returns whether the sources of an OMAP table don't decrease.
@@ -48,17 +63,15 @@ fn sources_rise(table: &OMAPTable) -> bool
     true
 }
 
-/// Checks that the stream of an OMAP table holds whole records, and that their sources don't
-/// decrease.
-#[tactic(auto, unfolding(crate::specs::Roles::omap_answer))]
-fn check_omap(stream: Stream) -> Result<()>
-    ensures { Gives (λ done. done) result (omap_answer stream) }
+/// Returns what is wrong in the stream of an OMAP table, whose sources must not decrease.
+#[tactic(auto, unfolding(crate::specs::Roles::omap_problem))]
+fn check_omap(stream: Stream) -> Option<Problem>
+    ensures { option_map problem_view result ≡ omap_problem stream }
 {
-    let table = OMAPTable::parse(stream)?;
-    if !sources_rise(&table) {
-        return Err(Error::UnimplementedFeature("OMAP table that is not sorted"));
+    match OMAPTable::parse(stream) {
+        Ok(table) => unless_sorted(sources_rise(&table)),
+        Err(error) => Some(Problem::Error(error)),
     }
-    Ok(())
 }
 
 /// Returns whether each of some frames starts above the one before it.
@@ -80,38 +93,37 @@ fn starts_rise(mut frames: FrameDataIter<'_>) -> bool
     }
 }
 
-/// Checks that a stream of frames holds whole records, and that each starts above the one before
-/// it. One of the streams is absent.
-#[tactic(auto, unfolding(crate::specs::Roles::frames_answer))]
-fn check_frames(old: Option<Stream>, new: Option<Stream>) -> Result<()>
-    ensures { Gives (λ done. done) result (frames_answer old new) }
+/// Returns what is wrong in a stream of frames, each of which must start above the one before it.
+/// One of the streams is absent.
+#[tactic(auto, unfolding(crate::specs::Roles::frames_problem))]
+fn check_frames(old: Option<Stream>, new: Option<Stream>) -> Option<Problem>
+    ensures { option_map problem_view result ≡ frames_problem old new }
 {
-    let frames = FrameTable::parse(old, new)?;
-    if !starts_rise(frames.iter()) {
-        return Err(Error::UnimplementedFeature("frames that are not sorted"));
+    match FrameTable::parse(old, new) {
+        Ok(frames) => unless_sorted(starts_rise(frames.iter())),
+        Err(error) => Some(Problem::Error(error)),
     }
-    Ok(())
 }
 
-/// Checks the bytes of a stream by its role.
-#[tactic(auto, unfolding(crate::specs::Roles::role_answer))]
-fn check_role_bytes(alloc: Global, part: Part, stream: Stream) -> Result<()>
-    ensures { Answers (λ done. done) result (role_answer part stream) }
+/// Returns what is wrong in the bytes of a stream by its role.
+#[tactic(auto, unfolding(crate::specs::Roles::role_problem))]
+fn check_role_bytes(alloc: Global, part: Part, stream: Stream) -> Result<Option<Problem>>
+    ensures { Answers (option_map problem_view) result (Ok (role_problem part stream)) }
 {
     match part {
         Part::SectionHeaders => check_sections(alloc, &stream),
         Part::OriginalSectionHeaders => check_sections(alloc, &stream),
-        Part::OmapToSource => check_omap(stream),
-        Part::OmapFromSource => check_omap(stream),
-        Part::OldFrames => check_frames(Some(stream), None),
-        Part::NewFrames => check_frames(None, Some(stream)),
-        _ => Ok(()),
+        Part::OmapToSource => Ok(check_omap(stream)),
+        Part::OmapFromSource => Ok(check_omap(stream)),
+        Part::OldFrames => Ok(check_frames(Some(stream), None)),
+        Part::NewFrames => Ok(check_frames(None, Some(stream))),
+        _ => Ok(None),
     }
 }
 
 /// Returns the stream that has the role by which a part is found.
 #[tactic(auto, unfolding(crate::specs::Roles::role_index))]
-fn role_index(part: Part, roles: &DBIExtraStreams) -> StreamIndex
+pub(crate) fn role_index(part: Part, roles: &DBIExtraStreams) -> StreamIndex
     ensures { result.0 ≡ role_index part roles.now }
 {
     match part {
@@ -125,68 +137,67 @@ fn role_index(part: Part, roles: &DBIExtraStreams) -> StreamIndex
     }
 }
 
-/// Returns the finding of the bytes of a stream that has a role, if they have an error.
+/// Returns the finding of the bytes of a stream that has a role, if something is wrong with them.
 fn check_bytes_of(alloc: Global, part: Part, number: u32, stream: Stream) -> Result<Option<Finding>>
     ensures { Answers (option_map finding_view) result
-        (Ok (fault_of_answer part number (role_answer part stream))) }
+        (Ok (option_map (stream_fault part number) (role_problem part stream))) }
 {
-    match check_role_bytes(alloc, part, stream) {
-        Ok(()) => Ok(None),
-        Err(Error::OutOfMemory) => Err(Error::OutOfMemory),
-        Err(error) => Ok(Some(in_stream(part, number, error))),
+    match check_role_bytes(alloc, part, stream)? {
+        Some(problem) => Ok(Some(in_stream(part, number, problem))),
+        None => Ok(None),
     }
 }
 
 /// Returns the finding of the stream with a number, if it has an error.
-fn check_numbered<S: Source>(
+fn check_numbered(
     alloc: Global,
-    pdb: &mut PDB<S>,
+    layout: &Layout,
+    file: &[u8],
     part: Part,
     number: u32,
 ) -> Result<Option<Finding>>
-    ensures { ReadsFile S.state pdb.old pdb.new (option_map finding_view) result
-        (λ file head. Ok (numbered_fault file head part (Some number))) }
+    ensures { Answers (option_map finding_view) result (Ok (numbered_fault layout.now file.now part (Some number))) }
 {
-    match read(alloc, pdb, number)? {
+    match read(alloc, layout, file, number)? {
         Ok(stream) => check_bytes_of(alloc, part, number, stream),
         Err(Error::StreamNotFound(missing)) => Ok(Some(in_stream(
             part,
             number,
-            Error::StreamNotFound(missing),
+            Problem::Error(Error::StreamNotFound(missing)),
         ))),
         Err(_) => Ok(None),
     }
 }
 
 /// Returns the finding of the stream of a role, if it has an error.
-pub(crate) fn check_role<S: Source>(
+pub(crate) fn check_role(
     alloc: Global,
-    pdb: &mut PDB<S>,
+    layout: &Layout,
+    file: &[u8],
     roles: &Option<DBIExtraStreams>,
     part: Part,
 ) -> Result<Option<Finding>>
-    ensures { ReadsFile S.state pdb.old pdb.new (option_map finding_view) result
-        (λ file head. Ok (role_fault file head part roles.now)) }
+    ensures { Answers (option_map finding_view) result (Ok (role_fault layout.now file.now part roles.now)) }
 {
     let Some(roles) = roles else {
         return Ok(None);
     };
     match role_index(part, roles).msf_number() {
-        Some(number) => check_numbered(alloc, pdb, part, number),
+        Some(number) => check_numbered(alloc, layout, file, part, number),
         None => Ok(None),
     }
 }
 
 /// Returns the roles that stream 3 gives, if its bytes can be read and give roles.
 #[tactic(auto, unfolding(crate::specs::Roles::known_roles))]
-pub(crate) fn known_roles<S: Source>(
+pub(crate) fn known_roles(
     alloc: Global,
-    pdb: &mut PDB<S>,
+    layout: &Layout,
+    file: &[u8],
 ) -> Result<Option<DBIExtraStreams>>
-    ensures { ReadsFile S.state pdb.old pdb.new (λ roles. roles) result
-        (λ file head. Ok (known_roles file head)) }
+    ensures { Answers (λ roles. roles) result (Ok (known_roles layout.now file.now)) }
 {
-    match read(alloc, pdb, DEBUG_STREAM)? {
+    match read(alloc, layout, file, DEBUG_STREAM)? {
         Ok(stream) => Ok(DBIExtraStreams::new(&stream).ok()),
         Err(_) => Ok(None),
     }
@@ -198,17 +209,16 @@ fn check_debug_stream(stream: &Stream) -> Option<Finding>
 {
     match DBIExtraStreams::new(stream) {
         Ok(_) => None,
-        Err(error) => Some(in_stream(Part::Roles, DEBUG_STREAM, error)),
+        Err(error) => Some(in_stream(Part::Roles, DEBUG_STREAM, Problem::Error(error))),
     }
 }
 
 /// Returns the finding of stream 3, if its header or its roles have an error.
 #[tactic(auto, unfolding(crate::specs::Roles::roles_fault))]
-pub(crate) fn check_roles<S: Source>(alloc: Global, pdb: &mut PDB<S>) -> Result<Option<Finding>>
-    ensures { ReadsFile S.state pdb.old pdb.new (option_map finding_view) result
-        (λ file head. Ok (roles_fault file head)) }
+pub(crate) fn check_roles(alloc: Global, layout: &Layout, file: &[u8]) -> Result<Option<Finding>>
+    ensures { Answers (option_map finding_view) result (Ok (roles_fault layout.now file.now)) }
 {
-    match read(alloc, pdb, DEBUG_STREAM)? {
+    match read(alloc, layout, file, DEBUG_STREAM)? {
         Ok(stream) => Ok(check_debug_stream(&stream)),
         Err(_) => Ok(None),
     }

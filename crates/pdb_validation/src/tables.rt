@@ -1,19 +1,22 @@
 //! The records of the tables of types and of ids.
 
-ghost use Rattle.std.specs.Prelude.{◌≡◌, Ok, Err};
+ghost use Rattle.std.specs.Prelude.{◌≡◌, ◌++◌, map, Ok, Err};
 ghost use Rattle.std.specs.Option.{option_map};
 ghost use Rattle.pdb_base.specs.Answer.{Answers, Gives};
 ghost use Rattle.pdb_base.specs.Refusal.{refusal_of};
 ghost use Rattle.pdb_tpi.specs.Item.{bytes_of, index_of};
 ghost use Rattle.pdb_values.specs.TypeView.{type_value};
-ghost use Rattle.pdb_validation.specs.Finding.{finding_view, record_fault};
-ghost use Rattle.pdb_validation.specs.Tables.{continued_in, continues_at, id_in, ids_fault, is_for_kind, item_fault};
-ghost use Rattle.pdb_validation.specs.Tables.{missing_fault, opened_table, read_in, records_fault, refusal_in, refused};
-ghost use Rattle.pdb_validation.specs.Tables.{type_in, types_fault, unless_unread};
+ghost use Rattle.pdb_validation.specs.Finding.{by_extent, finding_view};
+ghost use Rattle.pdb_validation.specs.Tables.{continued_in, continues_at, fault_at, id_faults, id_in, ids_faults};
+ghost use Rattle.pdb_validation.specs.Tables.{is_for_kind, missing_fault, opened_table, read_in, refusal_fault};
+ghost use Rattle.pdb_validation.specs.Tables.{refusal_in, refused, type_faults, type_in, types_faults, unless_unread};
 ghost use Rattle.pdb_validation.specs.declared.finding.Part.TheVariants as parts;
 
-use crate::finding::{Finding, Part, at_record, in_stream};
+use crate::finding::{Finding, Part, add, add_until, in_stream};
+use crate::places::StreamPages;
+use crate::problem::Problem;
 use pdb_base::{Error, FallibleIterator, IdIndex, Result, Stream, TypeIndex};
+use pdb_consistency::Extent;
 use pdb_file::{ID_STREAM, TYPE_STREAM};
 use pdb_tpi::constants::{LF_FIELDLIST, LF_POINTER};
 use pdb_tpi::{IdInformation, Item, OpenTable, TypeInformation};
@@ -109,21 +112,94 @@ fn id_error(alloc: Global, item: &Item<'_, IdIndex>) -> Result<Option<Error>>
     }
 }
 
+/// Returns the finding of the record of an index, which begins at that byte of a stream that has
+/// those pages.
+fn at_record(
+    part: Part,
+    stream: u32,
+    pages: &StreamPages,
+    index: u64,
+    byte: u64,
+    error: Error,
+) -> Finding
+    ensures { finding_view result ≡ fault_at part stream pages.now index byte (refusal_of error) }
+{
+    Finding {
+        part,
+        stream: Some(stream),
+        index: Some(index),
+        byte: Some(byte),
+        file_byte: pages.file_byte(byte),
+        problem: Problem::Error(error),
+    }
+}
+
+/// Returns the finding of the record of a type, which begins at that byte, if it has an error.
+fn check_type(
+    alloc: Global,
+    types: &OpenTable<TypeIndex>,
+    item: &Item<'_, TypeIndex>,
+    pages: &StreamPages,
+    index: u64,
+    byte: u64,
+) -> Result<Option<Finding>>
+    ensures { Answers (option_map finding_view) result
+        (Ok (refusal_fault (fault_at parts.Types 2 pages.now index byte)
+        (type_in types.now.table (index_of item.now).0 (bytes_of item.now)))) }
+{
+    match type_error(alloc, types, item)? {
+        Some(error) => Ok(Some(at_record(Part::Types, TYPE_STREAM, pages, index, byte, error))),
+        None => Ok(None),
+    }
+}
+
+/// Returns the finding of the record of an id, which begins at that byte, if it has an error.
+fn check_id(
+    alloc: Global,
+    item: &Item<'_, IdIndex>,
+    pages: &StreamPages,
+    index: u64,
+    byte: u64,
+) -> Result<Option<Finding>>
+    ensures { Answers (option_map finding_view) result
+        (Ok (refusal_fault (fault_at parts.Ids 4 pages.now index byte)
+        (id_in (index_of item.now).0 (bytes_of item.now)))) }
+{
+    match id_error(alloc, item)? {
+        Some(error) => Ok(Some(at_record(Part::Ids, ID_STREAM, pages, index, byte, error))),
+        None => Ok(None),
+    }
+}
+
 /// Returns the finding that a table ends at a byte before an index that its header counts, if it
 /// does.
-fn missing(part: Part, stream: u32, index: u64, byte: u64, maximum: u32) -> Option<Finding>
-    ensures { option_map finding_view result ≡ missing_fault (λ i. record_fault part stream i byte) index maximum }
+fn missing(
+    part: Part,
+    stream: u32,
+    pages: &StreamPages,
+    index: u64,
+    byte: u64,
+    maximum: u32,
+) -> Option<Finding>
+    ensures { option_map finding_view result
+        ≡ missing_fault (λ i. fault_at part stream pages.now i byte) index maximum }
 {
     if index < maximum as u64 {
-        return Some(at_record(part, stream, index, byte, Error::UnexpectedEof));
+        return Some(at_record(part, stream, pages, index, byte, Error::UnexpectedEof));
     }
     None
 }
 
-/// Returns the finding of the first record of a table of types that has an error, if there is one.
-fn check_type_records(alloc: Global, types: &OpenTable<TypeIndex>) -> Result<Option<Finding>>
-    ensures { Answers (option_map finding_view) result
-        (Ok (records_fault (item_fault parts.Types 2 types.now.table) (type_in types.now.table) types.now.table)) }
+/// Adds the findings of the records of a table of types that have an error.
+fn add_type_records(
+    alloc: Global,
+    types: &OpenTable<TypeIndex>,
+    pages: &StreamPages,
+    extent: Extent,
+    findings: &mut Vec<Finding>,
+) -> Result<()>
+    ensures { Answers (λ done. map finding_view findings.new.items) result
+        (Ok (map finding_view findings.old.items ++ by_extent extent (type_faults pages.now types.now.table))) }
 {
     let mut items = types.items().iter();
     loop {
@@ -131,23 +207,34 @@ fn check_type_records(alloc: Global, types: &OpenTable<TypeIndex>) -> Result<Opt
         let byte = position as u64;
         match items.next() {
             Ok(Some(item)) => {
-                if let Some(error) = type_error(alloc, types, &item)? {
-                    return Ok(Some(at_record(Part::Types, TYPE_STREAM, index, byte, error)));
+                let found = check_type(alloc, types, &item, pages, index, byte)?;
+                if add_until(extent, findings, found)? {
+                    return Ok(());
                 }
             }
             Ok(None) => {
                 let maximum = types.items().header().maximum_index;
-                return Ok(missing(Part::Types, TYPE_STREAM, index, byte, maximum));
+                let found = missing(Part::Types, TYPE_STREAM, pages, index, byte, maximum);
+                return add(findings, found);
             }
-            Err(error) => return Ok(Some(at_record(Part::Types, TYPE_STREAM, index, byte, error))),
+            Err(error) => {
+                let found = at_record(Part::Types, TYPE_STREAM, pages, index, byte, error);
+                return add(findings, Some(found));
+            }
         }
     }
 }
 
-/// Returns the finding of the first record of a table of ids that has an error, if there is one.
-fn check_id_records(alloc: Global, ids: &IdInformation) -> Result<Option<Finding>>
-    ensures { Answers (option_map finding_view) result
-        (Ok (records_fault (item_fault parts.Ids 4 ids.now) id_in ids.now)) }
+/// Adds the findings of the records of a table of ids that have an error.
+fn add_id_records(
+    alloc: Global,
+    ids: &IdInformation,
+    pages: &StreamPages,
+    extent: Extent,
+    findings: &mut Vec<Finding>,
+) -> Result<()>
+    ensures { Answers (λ done. map finding_view findings.new.items) result
+        (Ok (map finding_view findings.old.items ++ by_extent extent (id_faults pages.now ids.now))) }
 {
     let mut items = ids.iter();
     loop {
@@ -155,15 +242,20 @@ fn check_id_records(alloc: Global, ids: &IdInformation) -> Result<Option<Finding
         let byte = position as u64;
         match items.next() {
             Ok(Some(item)) => {
-                if let Some(error) = id_error(alloc, &item)? {
-                    return Ok(Some(at_record(Part::Ids, ID_STREAM, index, byte, error)));
+                let found = check_id(alloc, &item, pages, index, byte)?;
+                if add_until(extent, findings, found)? {
+                    return Ok(());
                 }
             }
             Ok(None) => {
                 let maximum = ids.header().maximum_index;
-                return Ok(missing(Part::Ids, ID_STREAM, index, byte, maximum));
+                let found = missing(Part::Ids, ID_STREAM, pages, index, byte, maximum);
+                return add(findings, found);
             }
-            Err(error) => return Ok(Some(at_record(Part::Ids, ID_STREAM, index, byte, error))),
+            Err(error) => {
+                let found = at_record(Part::Ids, ID_STREAM, pages, index, byte, error);
+                return add(findings, Some(found));
+            }
         }
     }
 }
@@ -180,25 +272,46 @@ fn open_types(alloc: Global, stream: Stream) -> Result<OpenTable<TypeIndex>>
     Ok(types)
 }
 
-/// Checks the table of types in a stream: its header and each of its records.
-#[tactic(auto, unfolding(crate::specs::Tables::opened_table, crate::specs::Tables::types_fault))]
-pub(crate) fn check_types(alloc: Global, stream: Stream) -> Result<Option<Finding>>
-    ensures { Answers (option_map finding_view) result (Ok (types_fault stream)) }
+/// Adds the findings of the table of types in a stream that has those pages: that of its header, or
+/// those of its records.
+#[tactic(auto, unfolding(crate::specs::Tables::opened_table, crate::specs::Tables::types_faults))]
+pub(crate) fn add_types(
+    alloc: Global,
+    stream: Stream,
+    pages: &StreamPages,
+    extent: Extent,
+    findings: &mut Vec<Finding>,
+) -> Result<()>
+    ensures { Answers (λ done. map finding_view findings.new.items) result
+        (Ok (map finding_view findings.old.items ++ by_extent extent (types_faults pages.now stream))) }
 {
     match open_types(alloc, stream) {
-        Ok(types) => check_type_records(alloc, &types),
+        Ok(types) => add_type_records(alloc, &types, pages, extent, findings),
         Err(Error::OutOfMemory) => Err(Error::OutOfMemory),
-        Err(error) => Ok(Some(in_stream(Part::Types, TYPE_STREAM, error))),
+        Err(error) => {
+            let found = in_stream(Part::Types, TYPE_STREAM, Problem::Error(error));
+            add(findings, Some(found))
+        }
     }
 }
 
-/// Checks the table of ids in a stream: its header and each of its records.
-#[tactic(auto, unfolding(crate::specs::Tables::ids_fault))]
-pub(crate) fn check_ids(alloc: Global, stream: Stream) -> Result<Option<Finding>>
-    ensures { Answers (option_map finding_view) result (Ok (ids_fault stream)) }
+/// Adds the findings of the table of ids in a stream that has those pages, as `add_types` does.
+#[tactic(auto, unfolding(crate::specs::Tables::ids_faults))]
+pub(crate) fn add_ids(
+    alloc: Global,
+    stream: Stream,
+    pages: &StreamPages,
+    extent: Extent,
+    findings: &mut Vec<Finding>,
+) -> Result<()>
+    ensures { Answers (λ done. map finding_view findings.new.items) result
+        (Ok (map finding_view findings.old.items ++ by_extent extent (ids_faults pages.now stream))) }
 {
     match IdInformation::parse(stream) {
-        Ok(ids) => check_id_records(alloc, &ids),
-        Err(error) => Ok(Some(in_stream(Part::Ids, ID_STREAM, error))),
+        Ok(ids) => add_id_records(alloc, &ids, pages, extent, findings),
+        Err(error) => {
+            let found = in_stream(Part::Ids, ID_STREAM, Problem::Error(error));
+            add(findings, Some(found))
+        }
     }
 }

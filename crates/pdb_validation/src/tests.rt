@@ -1,6 +1,6 @@
 //! A small file that is whole, and damages of each of its parts. The bytes are written by hand.
 
-use crate::{Part, validate};
+use crate::{Extent, Part, validate};
 use std::alloc::Global;
 use std::test::Fail;
 
@@ -83,17 +83,17 @@ const DAMAGES: [(usize, u8, Part); 17] = [
     (0x1800, 0x02, Part::OldFrames),
 ];
 
-/// Offsets in the file, the byte that is written there, and the stream, the index and the place in
-/// that stream of the record that then has an error.
-const DAMAGED_RECORDS: [(usize, u8, u32, u64, u64); 4] = [
-    // The length of type 0x1000.
-    (0xa38, 0x01, 2, 0x1000, 0x38),
+/// Offsets in the file, the byte that is written there, and of the record that then has an error its
+/// index, its place in its stream and in the file, and the code of the finding.
+const DAMAGED_RECORDS: [(usize, u8, u64, u64, Option<u64>, &str); 4] = [
+    // The length of type 0x1000, and so the record.
+    (0xa38, 0x01, 0x1000, 0x38, Some(0xa38), "TYPES-RECORD"),
     // The list that continues type 0x1002, which becomes that list itself.
-    (0xa4e, 0x02, 2, 0x1002, 0x46),
-    // The end of the indexes of types, behind which there is no record.
-    (0xa0c, 0x04, 2, 0x1003, 0x52),
-    // The length of id 0x1000.
-    (0xe38, 0x01, 4, 0x1000, 0x38),
+    (0xa4e, 0x02, 0x1002, 0x46, Some(0xa46), "TYPES-RECORD"),
+    // The end of the indexes of types, behind which there is no record and no byte.
+    (0xa0c, 0x04, 0x1003, 0x52, None, "TYPES-RECORD-CUT"),
+    // The length of id 0x1000, which then reaches past the end.
+    (0xe38, 0x09, 0x1000, 0x38, Some(0xe38), "IDS-RECORD-CUT"),
 ];
 
 /// Adds a page that begins with these bytes.
@@ -130,7 +130,7 @@ fn small_file(alloc: Global) -> Result<Vec<u8>, Fail> {
 
 #[test]
 fn whole(rt: HostRuntime) -> Result<(), Fail> {
-    let findings = validate(rt.alloc(), &small_file(rt.alloc())?)?;
+    let findings = validate(rt.alloc(), &small_file(rt.alloc())?, Extent::All)?;
     assert!(rt; findings.is_empty());
     Ok(())
 }
@@ -142,7 +142,7 @@ fn damaged(rt: HostRuntime) -> Result<(), Fail> {
         if let Some(place) = file.get_mut(*offset) {
             *place = *byte;
         }
-        let findings = validate(rt.alloc(), &file)?;
+        let findings = validate(rt.alloc(), &file, Extent::First)?;
         match findings.first() {
             Some(finding) => assert_eq!(rt; finding.part, *part, "{offset:#x}"),
             None => assert!(rt; false, "{offset:#x}"),
@@ -153,20 +153,37 @@ fn damaged(rt: HostRuntime) -> Result<(), Fail> {
 
 #[test]
 fn damaged_records(rt: HostRuntime) -> Result<(), Fail> {
-    for (offset, value, stream, index, byte) in DAMAGED_RECORDS.iter() {
+    for (offset, value, index, byte, file_byte, code) in DAMAGED_RECORDS.iter() {
         let mut file = small_file(rt.alloc())?;
         if let Some(place) = file.get_mut(*offset) {
             *place = *value;
         }
-        let findings = validate(rt.alloc(), &file)?;
+        let findings = validate(rt.alloc(), &file, Extent::First)?;
         match findings.first() {
             Some(finding) => {
-                assert_eq!(rt; finding.stream, Some(*stream), "{offset:#x}");
                 assert_eq!(rt; finding.index, Some(*index), "{offset:#x}");
                 assert_eq!(rt; finding.byte, Some(*byte), "{offset:#x}");
+                assert_eq!(rt; finding.file_byte, *file_byte, "{offset:#x}");
+                let text = format!(in rt.alloc(); "{}", finding.code())?;
+                assert_eq!(rt; text.as_str(), *code, "{offset:#x}");
             }
             None => assert!(rt; false, "{offset:#x}"),
         }
     }
+    Ok(())
+}
+
+/// Type 0x1001 becomes a list of arguments that ends before their number, so that type 0x1002 is
+/// continued by no field list; and stream 9 has a page that is none.
+#[test]
+fn every_one(rt: HostRuntime) -> Result<(), Fail> {
+    let mut file = small_file(rt.alloc())?;
+    for (offset, value) in [(0xa44, 0x01), (0x44c, 0x00)] {
+        if let Some(place) = file.get_mut(offset) {
+            *place = value;
+        }
+    }
+    assert_eq!(rt; validate(rt.alloc(), &file, Extent::First)?.len(), 2);
+    assert_eq!(rt; validate(rt.alloc(), &file, Extent::All)?.len(), 3);
     Ok(())
 }

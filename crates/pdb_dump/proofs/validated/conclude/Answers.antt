@@ -1,15 +1,17 @@
 use Rattle.std.proofs.Common.{sym, ◌∙◌}
-use Rattle.pdb_dump.proofs.ValidateLemmas.{judged_other, judged_whole}
+use Rattle.std.proofs.lemmas.Bool.{false≢true}
+use Rattle.pdb_dump.proofs.ValidateLemmas.{judged_other, judged_passed}
 use Rattle.pdb_dump.proofs.validated.conclude.Goals as goal
 
-pub returns-then-is_empty : goal.returns-then-is_empty
-returns-then-is_empty g c = λ file faults whole. record {
+pub returns-then-has_passed : goal.returns-then-has_passed
+returns-then-has_passed g c = λ file faults whole. record {
   written = c.write_findings-written.new.out;
   result = c.write_findings-written.result;
   writes = rw faults c.write_findings-written.ensures;
   ended = c.end-status.result;
   ends = c.end-status.ensures;
-  judged = judged_whole c.args.findings.now file c.end-status.result (sym c.is_empty.ensures ∙ c.if-is_empty.true) whole;
+  judged = rw faults (judged_passed _ _ c.end-status.result (c.has_passed.ensures.0 c.if-has_passed.true));
+  whole = rw faults whole;
 }
 
 pub returns : goal.returns
@@ -19,5 +21,6 @@ returns g c = λ file faults whole. record {
   writes = rw faults c.write_findings-written.ensures;
   ended = c.end-status.result;
   ends = c.end-status.ensures;
-  judged = judged_other c.args.findings.now file c.end-status.result (sym c.is_empty.ensures ∙ c.if-is_empty.false) whole;
+  judged = rw faults (judged_other _ _ c.end-status.result (λ has. false≢true (sym c.if-has_passed.false ∙ c.has_passed.ensures.1 has)));
+  whole = rw faults whole;
 }

@@ -1,6 +1,6 @@
 use Rattle.std.proofs.Common.{◌≡◌, ◌*◌, ◌≤◌}
 use Rattle.pdb_validation.specs.Sizes.{layout_sizes}
-use Rattle.pdb_validation.proofs.sizes.layout_sizes.Given as goal
+use Rattle.pdb_validation.proofs.sizes.streams_size.Given as goal
 
 abbrev pub invariant-loop-number : goal.invariant-loop-number
 invariant-loop-number l = record {

@@ -1,0 +1,179 @@
+-- What is inconsistent between the parts of a file, as far as these can be read.
+use Rattle.std.specs.Prelude.{◌≡◌, ℕ, not, filter, ⊤, List, [], ◌∷◌, ◌++◌, map, Option, Some, None, Ok, Err}
+use Rattle.std.specs.Option.{option_to_list}
+use Rattle.pdb_base.specs.Answer.{Answer}
+use Rattle.pdb_base.specs.Index.{stream_number}
+use Rattle.pdb_msf.specs.Layout.{LayoutValue, stream_by}
+use Rattle.pdb_file.specs.DbiHeader.{dbi_header_of}
+use Rattle.pdb_file.specs.DebugHeader.{extra_streams_of}
+use Rattle.pdb_file.specs.Information.{information_of}
+use Rattle.pdb_file.specs.SectionHeaders.{section_headers_of}
+use Rattle.pdb_file.specs.StreamNames.{stream_names_of}
+use Rattle.pdb_file.specs.declared.debug_header.DBIExtraStreams.{DBIExtraStreams}
+use Rattle.pdb_tpi.specs.Table.{Table, table_of}
+use Rattle.pdb_consistency.specs.DebugSizes.{debug_sizes_mismatch}
+use Rattle.pdb_consistency.specs.Mismatch.{asked_of, warns}
+use Rattle.pdb_consistency.specs.MissingStreams.{indexes_mismatches, names_mismatches, role_indexes, symbol_indexes}
+use Rattle.pdb_consistency.specs.Pages.{page_mismatches}
+use Rattle.pdb_consistency.specs.Records.{ids_mismatches, types_mismatches}
+use Rattle.pdb_consistency.specs.Sections.{section_mismatches}
+use Rattle.pdb_consistency.specs.StringTable.{names_mismatches_in}
+use Rattle.pdb_consistency.specs.declared.mismatch.Extent.{Extent}
+use Rattle.pdb_consistency.specs.declared.mismatch.Mismatch.{Mismatch}
+use Rattle.pdb_validation.specs.Finding.{Fault}
+use Rattle.pdb_validation.specs.Names.{string_table_number}
+use Rattle.pdb_validation.specs.Places.{file_byte, stream_pages}
+use Rattle.pdb_validation.specs.Problem.{inconsistent}
+use Rattle.pdb_validation.specs.Roles.{known_roles, role_index}
+use Rattle.pdb_validation.specs.declared.finding.Part.{Part}
+use Rattle.pdb_validation.specs.declared.finding.Part.TheVariants as parts
+
+-- ---- what is told
+
+-- the byte of the file that is a byte of a stream, if there are such
+abbrev pub place_of : LayoutValue → Option ℕ → Option ℕ → Option ℕ
+place_of layout None byte = None
+place_of layout (Some number) None = None
+place_of layout (Some number) (Some byte) = file_byte (stream_pages layout number) byte
+
+-- what is inconsistent, as a fault of a part
+abbrev pub mismatch_fault : LayoutValue → Part → Mismatch → Fault
+mismatch_fault layout part mismatch = record {
+  part = part;
+  stream = mismatch.stream;
+  index = mismatch.index;
+  byte = mismatch.byte;
+  file_byte = place_of layout mismatch.stream mismatch.byte;
+  problem = inconsistent mismatch.what;
+}
+
+-- all that is inconsistent in a part
+pub record Relation : Type 0 where
+  pub part : Part
+  pub mismatches : List Mismatch
+
+abbrev pub relation : Part → List Mismatch → Relation
+relation part mismatches = record { part = part; mismatches = mismatches }
+
+-- what is told of a relation: the first error, or else the first warning; or everything
+abbrev pub relation_faults : Extent → LayoutValue → Relation → List Fault
+relation_faults extent layout related =
+    map (mismatch_fault layout related.part) (asked_of extent related.mismatches)
+
+-- faults, and behind them those of relations
+abbrev pub with_relations : Extent → LayoutValue → List Relation → List Fault → List Fault
+with_relations extent layout [] faults = faults
+with_relations extent layout (related ∷ more) faults =
+    with_relations extent layout more (faults ++ relation_faults extent layout related)
+
+-- Nothing that is inconsistent is an error.
+abbrev pub IsConsistent : Relation → Type 0
+IsConsistent related = filter (λ mismatch. not (warns mismatch)) related.mismatches ≡ []
+
+abbrev pub AreConsistent : List Relation → Type 0
+AreConsistent [] = ⊤
+AreConsistent (related ∷ more) = IsConsistent related × AreConsistent more
+
+-- ---- the relations
+
+-- the mismatches within what can be read
+abbrev pub if_answered : {A : Type 0} → (A → List Mismatch) → Answer A → List Mismatch
+if_answered within (Ok x) = within x
+if_answered within (Err refusal) = []
+
+-- the same within a table in a stream
+abbrev pub in_table : (Table → List Mismatch) → Answer (List ℕ) → List Mismatch
+in_table within stream = if_answered (λ bytes. if_answered within (table_of bytes)) stream
+
+-- the end of the indexes of types; each index is below it, if there is no table of types
+abbrev pub end_of : Answer Table → ℕ
+end_of (Ok table) = table.header.maximum_index
+end_of (Err refusal) = 0xffffffff
+
+abbrev pub end_in : Answer (List ℕ) → ℕ
+end_in (Ok stream) = end_of (table_of stream)
+end_in (Err refusal) = 0xffffffff
+
+unfoldable pub types_end : LayoutValue → List ℕ → ℕ
+types_end layout file = end_in (stream_by layout file 2 None)
+
+-- the records of types, and of ids
+unfoldable pub types_relation : LayoutValue → List ℕ → List Mismatch
+types_relation layout file = in_table (types_mismatches 2) (stream_by layout file 2 None)
+
+unfoldable pub ids_relation : LayoutValue → List ℕ → List Mismatch
+ids_relation layout file = in_table (ids_mismatches 4 (types_end layout file)) (stream_by layout file 4 None)
+
+-- the streams that have names
+unfoldable pub named_streams : LayoutValue → List ℕ → List Mismatch
+named_streams layout stream =
+    if_answered (λ information. if_answered (names_mismatches layout) (stream_names_of information))
+    (information_of stream)
+
+unfoldable pub names_relation : LayoutValue → List ℕ → List Mismatch
+names_relation layout file = if_answered (named_streams layout) (stream_by layout file 1 None)
+
+-- the string table, if stream 1 names one
+abbrev pub buckets_of : LayoutValue → List ℕ → Option ℕ → List Mismatch
+buckets_of layout file None = []
+buckets_of layout file (Some number) = if_answered (names_mismatches_in number) (stream_by layout file number None)
+
+unfoldable pub buckets_relation : LayoutValue → List ℕ → List Mismatch
+buckets_relation layout file =
+    if_answered (λ stream. if_answered (buckets_of layout file) (string_table_number stream))
+    (stream_by layout file 1 None)
+
+-- the sizes in the header of stream 3, and the streams that have roles
+unfoldable pub sizes_relation : LayoutValue → List ℕ → List Mismatch
+sizes_relation layout file =
+    if_answered (λ stream. option_to_list (debug_sizes_mismatch stream)) (stream_by layout file 3 None)
+
+unfoldable pub roles_in_stream : LayoutValue → List ℕ → List Mismatch
+roles_in_stream layout stream =
+    if_answered (λ header. if_answered (λ roles.
+    indexes_mismatches layout 3 (symbol_indexes header) ++ indexes_mismatches layout 3 (role_indexes roles))
+    (extra_streams_of stream)) (dbi_header_of stream)
+
+unfoldable pub roles_relation : LayoutValue → List ℕ → List Mismatch
+roles_relation layout file = if_answered (roles_in_stream layout) (stream_by layout file 3 None)
+
+-- the sections in the stream of a role
+abbrev pub sections_in : LayoutValue → List ℕ → Option ℕ → List Mismatch
+sections_in layout file None = []
+sections_in layout file (Some number) =
+    if_answered (λ stream. if_answered (section_mismatches number 0 0) (section_headers_of stream))
+    (stream_by layout file number None)
+
+abbrev pub sections_by : LayoutValue → List ℕ → Part → Option DBIExtraStreams → List Mismatch
+sections_by layout file part None = []
+sections_by layout file part (Some roles) = sections_in layout file (stream_number (role_index part roles))
+
+unfoldable pub sections_relation : LayoutValue → List ℕ → Part → List Mismatch
+sections_relation layout file part = sections_by layout file part (known_roles layout file)
+
+-- ---- by kinds of parts
+
+unfoldable pub container_relations : List ℕ → List Relation
+container_relations file = relation parts.Stream (page_mismatches file) ∷ []
+
+unfoldable pub table_relations : LayoutValue → List ℕ → List Relation
+table_relations layout file =
+    relation parts.Types (types_relation layout file) ∷ relation parts.Ids (ids_relation layout file) ∷ []
+
+unfoldable pub name_relations : LayoutValue → List ℕ → List Relation
+name_relations layout file =
+    relation parts.Names (names_relation layout file) ∷ relation parts.StringTable (buckets_relation layout file) ∷ []
+
+unfoldable pub role_relations : LayoutValue → List ℕ → List Relation
+role_relations layout file =
+    relation parts.Roles (sizes_relation layout file) ∷ relation parts.Roles (roles_relation layout file)
+    ∷ relation parts.SectionHeaders (sections_relation layout file parts.SectionHeaders)
+    ∷ relation parts.OriginalSectionHeaders (sections_relation layout file parts.OriginalSectionHeaders) ∷ []
+
+-- faults, and behind them those of all relations
+unfoldable pub related_faults : Extent → LayoutValue → List ℕ → List Fault → List Fault
+related_faults extent layout file faults =
+    with_relations extent layout (role_relations layout file)
+    (with_relations extent layout (name_relations layout file)
+    (with_relations extent layout (table_relations layout file)
+    (with_relations extent layout (container_relations file) faults)))

@@ -1,0 +1,134 @@
+//! Where the bytes of a stream are in a file.
+
+ghost use Rattle.std.specs.Prelude.{◌≡◌, ◌<◌, Ok, IfOk, OnOk};
+ghost use Rattle.pdb_base.specs.Answer.{Answers};
+ghost use Rattle.pdb_base.specs.Memory.{FailsOnlyForMemory};
+ghost use Rattle.pdb_validation.specs.Places.{file_byte, stream_pages};
+ghost use Rattle.pdb_validation.specs.Relations.{place_of};
+
+use crate::sizes::size_or_none;
+use pdb_base::{Error, Result};
+use pdb_msf::Layout;
+use std::alloc::Global;
+use std::marker::Model;
+
+/// The pages over which a stream is scattered.
+#[derive(Drop)]
+pub(crate) struct StreamPages {
+    page_size: u32,
+    size: u32,
+    numbers: Vec<u32>,
+}
+
+impl Model for StreamPages {
+    ghost use Rattle.std.specs.Prelude.{◌<◌};
+    ghost use Rattle.pdb_validation.specs.Places.{PagesValue};
+
+    ghost Value = { PagesValue };
+
+    ghost view = { λ p. record { page_size = p.page_size; size = p.size; numbers = p.numbers.items } };
+
+    ghost invariant = { λ p. 0 < p.page_size };
+}
+
+impl StreamPages {
+    /// Returns the pages of a stream, which are none if there is no such stream.
+    #[tactic(auto, unfolding(crate::specs::Places::stream_pages))]
+    pub(crate) fn of(alloc: Global, layout: &Layout, number: u32) -> Result<StreamPages>
+        requires { 0 < layout.now.head.geometry.page_size }
+        ensures { Answers (λ pages. pages) result (Ok (stream_pages layout.now number)) }
+    {
+        let page_size = layout.page_size();
+        let size = size_or_none(layout, number);
+        match layout.stream_pages(alloc, number) {
+            Ok(numbers) => Ok(StreamPages {
+                page_size,
+                size,
+                numbers,
+            }),
+            Err(Error::OutOfMemory) => Err(Error::OutOfMemory),
+            Err(_) => Ok(StreamPages {
+                page_size,
+                size,
+                numbers: Vec::new(alloc),
+            }),
+        }
+    }
+
+    /// Returns the byte of the file that is this byte of the stream, or None if the stream has no
+    /// such byte.
+    #[tactic(auto, unfolding(crate::specs::Places::file_byte))]
+    pub(crate) fn file_byte(&self, byte: u64) -> Option<u64>
+        ensures { result ≡ file_byte self.now byte }
+    {
+        if byte >= self.size as u64 {
+            return None;
+        }
+        let page_size = self.page_size as u64;
+        match self.numbers.get((byte / page_size) as usize) {
+            Some(page) => Some(*page as u64 * page_size + byte % page_size),
+            None => None,
+        }
+    }
+}
+
+/// The pages of the stream that was looked up last.
+#[derive(Drop)]
+pub(crate) struct LastPages {
+    pub(crate) number: u32,
+    pub(crate) pages: StreamPages,
+}
+
+impl LastPages {
+    /// Returns the pages of stream 0.
+    pub(crate) fn first(alloc: Global, layout: &Layout) -> Result<LastPages>
+        requires { 0 < layout.now.head.geometry.page_size }
+        ensures last { IfOk result (λ last. last.pages ≡ stream_pages layout.now last.number) }
+        ensures memory { FailsOnlyForMemory result }
+    {
+        Ok(LastPages {
+            number: 0,
+            pages: StreamPages::of(alloc, layout, 0)?,
+        })
+    }
+
+    /// Looks the pages of a stream up, unless they are those of the last one.
+    fn turn_to(&mut self, alloc: Global, layout: &Layout, number: u32) -> Result<()>
+        requires sized { 0 < layout.now.head.geometry.page_size }
+        requires last { self.old.pages ≡ stream_pages layout.now self.old.number }
+        ensures last { OnOk result (self.new.pages ≡ stream_pages layout.now number) }
+        ensures number { OnOk result (self.new.number ≡ number) }
+        ensures memory { FailsOnlyForMemory result }
+    {
+        if self.number == number {
+            return Ok(());
+        }
+        self.pages = StreamPages::of(alloc, layout, number)?;
+        self.number = number;
+        Ok(())
+    }
+
+    /// Returns the byte of the file that is a byte of a stream, if there are such.
+    pub(crate) fn place_of(
+        &mut self,
+        alloc: Global,
+        layout: &Layout,
+        stream: Option<u32>,
+        byte: Option<u64>,
+    ) -> Result<Option<u64>>
+        requires sized { 0 < layout.now.head.geometry.page_size }
+        requires last { self.old.pages ≡ stream_pages layout.now self.old.number }
+        ensures place { IfOk result (λ place. place ≡ place_of layout.now stream byte) }
+        ensures last { OnOk result (self.new.pages ≡ stream_pages layout.now self.new.number) }
+        ensures memory { FailsOnlyForMemory result }
+    {
+        let Some(number) = stream else {
+            return Ok(None);
+        };
+        let Some(byte) = byte else {
+            return Ok(None);
+        };
+        self.turn_to(alloc, layout, number)?;
+        Ok(self.pages.file_byte(byte))
+    }
+}

@@ -1,0 +1,432 @@
+//! What is inconsistent between the parts of a file, as far as these can be read.
+
+ghost use Rattle.std.specs.Prelude.{◌≡◌, ◌<◌, ◌++◌, map, Ok, IfOk, OnOk};
+ghost use Rattle.pdb_base.specs.Answer.{Answers};
+ghost use Rattle.pdb_base.specs.Index.{stream_number};
+ghost use Rattle.pdb_base.specs.Memory.{FailsOnlyForMemory};
+ghost use Rattle.pdb_consistency.specs.Mismatch.{asked_of};
+ghost use Rattle.pdb_validation.specs.Finding.{finding_view};
+ghost use Rattle.pdb_validation.specs.Places.{stream_pages};
+ghost use Rattle.pdb_validation.specs.Relations.{buckets_of, buckets_relation, container_relations};
+ghost use Rattle.pdb_validation.specs.Relations.{ids_relation, mismatch_fault, name_relations};
+ghost use Rattle.pdb_validation.specs.Relations.{named_streams, names_relation, role_relations, roles_in_stream};
+ghost use Rattle.pdb_validation.specs.Relations.{roles_relation, sections_by, sections_in, sections_relation};
+ghost use Rattle.pdb_validation.specs.Relations.{sizes_relation, table_relations, types_end};
+ghost use Rattle.pdb_validation.specs.Relations.{related_faults, types_relation, with_relations};
+
+use crate::finding::{Finding, Part};
+use crate::names::string_table_number;
+use crate::places::LastPages;
+use crate::problem::Problem;
+use crate::read::read;
+use crate::roles::{known_roles, role_index};
+use pdb_base::{Error, Result, Stream, StreamIndex};
+use pdb_consistency::{
+    Extent, Mismatch, check_buckets, check_debug_sizes, check_id_records, check_named_streams,
+    check_pages, check_roles, check_section_order, check_type_records,
+};
+use pdb_file::section_headers::section_headers;
+use pdb_file::{DBIExtraStreams, DBIHeader, ID_STREAM, PDBInformation, TYPE_STREAM};
+use pdb_msf::Layout;
+use pdb_tpi::{IdInformation, TypeInformation};
+use std::alloc::Global;
+
+/// The number of the stream that identifies the file and names streams.
+const INFORMATION_STREAM: u32 = 1;
+
+/// The number of the stream of debug information.
+const DEBUG_STREAM: u32 = 3;
+
+/// The end of the indexes of types where there is no table of types.
+const NO_END: u32 = 0xffff_ffff;
+
+/// Returns what is inconsistent, as a finding of a part.
+fn finding_of(
+    alloc: Global,
+    layout: &Layout,
+    part: Part,
+    mismatch: Mismatch,
+    last: &mut LastPages,
+) -> Result<Finding>
+    requires sized { 0 < layout.now.head.geometry.page_size }
+    requires last { last.old.pages ≡ stream_pages layout.now last.old.number }
+    ensures finding { IfOk result (λ finding. finding_view finding ≡ mismatch_fault layout.now part mismatch) }
+    ensures memory { FailsOnlyForMemory result }
+    ensures kept { OnOk result (last.new.pages ≡ stream_pages layout.now last.new.number) }
+{
+    let file_byte = last.place_of(alloc, layout, mismatch.stream, mismatch.byte)?;
+    Ok(Finding {
+        part,
+        stream: mismatch.stream,
+        index: mismatch.index,
+        byte: mismatch.byte,
+        file_byte,
+        problem: Problem::Inconsistent(mismatch.what),
+    })
+}
+
+/// Adds what is inconsistent in a part.
+#[tactic(auto, using(crate::proofs::RelationLemmas::mismatches_more))]
+fn add_mismatches(
+    alloc: Global,
+    layout: &Layout,
+    part: Part,
+    mismatches: &[Mismatch],
+    findings: &mut Vec<Finding>,
+) -> Result<()>
+    requires { 0 < layout.now.head.geometry.page_size }
+    ensures ok { OnOk result (map finding_view findings.new.items
+        ≡ map finding_view findings.old.items ++ map (mismatch_fault layout.now part) mismatches.now) }
+    ensures memory { FailsOnlyForMemory result }
+{
+    let mut last = LastPages::first(alloc, layout)?;
+    for mismatch in mismatches {
+        let finding = finding_of(alloc, layout, part, *mismatch, &mut last)?;
+        findings.push(finding)?;
+    }
+    Ok(())
+}
+
+/// Returns what is inconsistent in the records of types.
+#[tactic(auto, unfolding(crate::specs::Relations::types_relation), using(crate::proofs::RelationLemmas::nothing_asked))]
+fn type_mismatches(
+    alloc: Global,
+    layout: &Layout,
+    file: &[u8],
+    extent: Extent,
+) -> Result<Vec<Mismatch>>
+    ensures { Answers (λ mismatches. mismatches.items) result
+        (Ok (asked_of extent (types_relation layout.now file.now))) }
+{
+    let Ok(stream) = read(alloc, layout, file, TYPE_STREAM)? else {
+        return Ok(Vec::new(alloc));
+    };
+    match TypeInformation::parse(stream) {
+        Ok(types) => check_type_records(alloc, &types, TYPE_STREAM, extent),
+        Err(_) => Ok(Vec::new(alloc)),
+    }
+}
+
+/// Returns the end of the indexes of types.
+#[tactic(auto, unfolding(crate::specs::Relations::types_end))]
+fn types_end(alloc: Global, layout: &Layout, file: &[u8]) -> Result<u32>
+    ensures { Answers (λ end. end) result (Ok (types_end layout.now file.now)) }
+{
+    let Ok(stream) = read(alloc, layout, file, TYPE_STREAM)? else {
+        return Ok(NO_END);
+    };
+    match TypeInformation::parse(stream) {
+        Ok(types) => Ok(types.header().maximum_index),
+        Err(_) => Ok(NO_END),
+    }
+}
+
+/// Returns what is inconsistent in the records of ids.
+#[tactic(auto, unfolding(crate::specs::Relations::ids_relation), using(crate::proofs::RelationLemmas::nothing_asked))]
+fn id_mismatches(
+    alloc: Global,
+    layout: &Layout,
+    file: &[u8],
+    extent: Extent,
+) -> Result<Vec<Mismatch>>
+    ensures { Answers (λ mismatches. mismatches.items) result
+        (Ok (asked_of extent (ids_relation layout.now file.now))) }
+{
+    let end = types_end(alloc, layout, file)?;
+    let Ok(stream) = read(alloc, layout, file, ID_STREAM)? else {
+        return Ok(Vec::new(alloc));
+    };
+    match IdInformation::parse(stream) {
+        Ok(ids) => check_id_records(alloc, &ids, end, ID_STREAM, extent),
+        Err(_) => Ok(Vec::new(alloc)),
+    }
+}
+
+/// Returns what is inconsistent in the names of streams that stream 1 has.
+#[tactic(auto, unfolding(crate::specs::Relations::named_streams), using(crate::proofs::RelationLemmas::nothing_asked))]
+fn named_mismatches(
+    alloc: Global,
+    layout: &Layout,
+    stream: Stream,
+    extent: Extent,
+) -> Result<Vec<Mismatch>>
+    ensures { Answers (λ mismatches. mismatches.items) result
+        (Ok (asked_of extent (named_streams layout.now stream))) }
+{
+    let Ok(information) = PDBInformation::parse(stream) else {
+        return Ok(Vec::new(alloc));
+    };
+    match information.stream_names(alloc) {
+        Ok(names) => check_named_streams(alloc, layout, &names, extent),
+        Err(Error::OutOfMemory) => Err(Error::OutOfMemory),
+        Err(_) => Ok(Vec::new(alloc)),
+    }
+}
+
+/// Returns which of the streams that have names are missing.
+#[tactic(auto, unfolding(crate::specs::Relations::names_relation), using(crate::proofs::RelationLemmas::nothing_asked))]
+fn name_mismatches(
+    alloc: Global,
+    layout: &Layout,
+    file: &[u8],
+    extent: Extent,
+) -> Result<Vec<Mismatch>>
+    ensures { Answers (λ mismatches. mismatches.items) result
+        (Ok (asked_of extent (names_relation layout.now file.now))) }
+{
+    match read(alloc, layout, file, INFORMATION_STREAM)? {
+        Ok(stream) => named_mismatches(alloc, layout, stream, extent),
+        Err(_) => Ok(Vec::new(alloc)),
+    }
+}
+
+/// Returns what is inconsistent in the string table in the stream of a number, if there is one.
+#[tactic(auto, using(crate::proofs::RelationLemmas::nothing_asked))]
+fn buckets_of(
+    alloc: Global,
+    layout: &Layout,
+    file: &[u8],
+    number: Option<u32>,
+    extent: Extent,
+) -> Result<Vec<Mismatch>>
+    ensures { Answers (λ mismatches. mismatches.items) result
+        (Ok (asked_of extent (buckets_of layout.now file.now number))) }
+{
+    let Some(number) = number else {
+        return Ok(Vec::new(alloc));
+    };
+    match read(alloc, layout, file, number)? {
+        Ok(stream) => check_buckets(alloc, number, stream.as_slice(), extent),
+        Err(_) => Ok(Vec::new(alloc)),
+    }
+}
+
+/// Returns what is inconsistent in the string table that stream 1 names.
+#[tactic(auto, unfolding(crate::specs::Relations::buckets_relation), using(crate::proofs::RelationLemmas::nothing_asked))]
+fn bucket_mismatches(
+    alloc: Global,
+    layout: &Layout,
+    file: &[u8],
+    extent: Extent,
+) -> Result<Vec<Mismatch>>
+    ensures { Answers (λ mismatches. mismatches.items) result
+        (Ok (asked_of extent (buckets_relation layout.now file.now))) }
+{
+    let Ok(stream) = read(alloc, layout, file, INFORMATION_STREAM)? else {
+        return Ok(Vec::new(alloc));
+    };
+    match string_table_number(alloc, stream) {
+        Ok(number) => buckets_of(alloc, layout, file, number, extent),
+        Err(Error::OutOfMemory) => Err(Error::OutOfMemory),
+        Err(_) => Ok(Vec::new(alloc)),
+    }
+}
+
+/// Returns whether the sizes in the header of stream 3 don't add up.
+#[tactic(auto, unfolding(crate::specs::Relations::sizes_relation), using(crate::proofs::RelationLemmas::nothing_asked, crate::proofs::RelationLemmas::one_asked))]
+fn size_mismatches(
+    alloc: Global,
+    layout: &Layout,
+    file: &[u8],
+    extent: Extent,
+) -> Result<Vec<Mismatch>>
+    ensures { Answers (λ mismatches. mismatches.items) result
+        (Ok (asked_of extent (sizes_relation layout.now file.now))) }
+{
+    let Ok(stream) = read(alloc, layout, file, DEBUG_STREAM)? else {
+        return Ok(Vec::new(alloc));
+    };
+    match check_debug_sizes(&stream) {
+        Some(mismatch) => Ok(vec![in alloc; mismatch]?),
+        None => Ok(Vec::new(alloc)),
+    }
+}
+
+/// Returns which of the streams that have roles in these bytes of stream 3 are missing.
+#[tactic(auto, unfolding(crate::specs::Relations::roles_in_stream), using(crate::proofs::RelationLemmas::nothing_asked))]
+fn roles_in_stream(
+    alloc: Global,
+    layout: &Layout,
+    stream: &Stream,
+    extent: Extent,
+) -> Result<Vec<Mismatch>>
+    ensures { Answers (λ mismatches. mismatches.items) result
+        (Ok (asked_of extent (roles_in_stream layout.now stream.now))) }
+{
+    let Ok(header) = DBIHeader::parse(stream) else {
+        return Ok(Vec::new(alloc));
+    };
+    match DBIExtraStreams::new(stream) {
+        Ok(roles) => check_roles(alloc, layout, &header, &roles, extent),
+        Err(_) => Ok(Vec::new(alloc)),
+    }
+}
+
+/// Returns which of the streams that have roles are missing.
+#[tactic(auto, unfolding(crate::specs::Relations::roles_relation), using(crate::proofs::RelationLemmas::nothing_asked))]
+fn role_mismatches(
+    alloc: Global,
+    layout: &Layout,
+    file: &[u8],
+    extent: Extent,
+) -> Result<Vec<Mismatch>>
+    ensures { Answers (λ mismatches. mismatches.items) result
+        (Ok (asked_of extent (roles_relation layout.now file.now))) }
+{
+    match read(alloc, layout, file, DEBUG_STREAM)? {
+        Ok(stream) => roles_in_stream(alloc, layout, &stream, extent),
+        Err(_) => Ok(Vec::new(alloc)),
+    }
+}
+
+/// Returns which of the sections in the stream of a number overlap, if there is a number.
+#[tactic(auto, using(crate::proofs::RelationLemmas::nothing_asked))]
+fn sections_in(
+    alloc: Global,
+    layout: &Layout,
+    file: &[u8],
+    number: Option<u32>,
+    extent: Extent,
+) -> Result<Vec<Mismatch>>
+    ensures { Answers (λ mismatches. mismatches.items) result
+        (Ok (asked_of extent (sections_in layout.now file.now number))) }
+{
+    let Some(number) = number else {
+        return Ok(Vec::new(alloc));
+    };
+    let Ok(stream) = read(alloc, layout, file, number)? else {
+        return Ok(Vec::new(alloc));
+    };
+    match section_headers(alloc, &stream) {
+        Ok(sections) => check_section_order(alloc, &sections, number, extent),
+        Err(Error::OutOfMemory) => Err(Error::OutOfMemory),
+        Err(_) => Ok(Vec::new(alloc)),
+    }
+}
+
+/// Returns which of the sections in the stream of a role overlap.
+#[tactic(auto, unfolding(crate::specs::Relations::sections_relation), using(crate::proofs::RelationLemmas::nothing_asked))]
+fn section_mismatches(
+    alloc: Global,
+    layout: &Layout,
+    file: &[u8],
+    part: Part,
+    extent: Extent,
+) -> Result<Vec<Mismatch>>
+    ensures { Answers (λ mismatches. mismatches.items) result
+        (Ok (asked_of extent (sections_relation layout.now file.now part))) }
+{
+    match known_roles(alloc, layout, file)? {
+        Some(roles) => {
+            let number = role_index(part, &roles).msf_number();
+            sections_in(alloc, layout, file, number, extent)
+        }
+        None => Ok(Vec::new(alloc)),
+    }
+}
+
+/// Adds what is inconsistent in the pages of a file.
+#[tactic(auto, unfolding(crate::specs::Relations::container_relations))]
+fn add_container_relations(
+    alloc: Global,
+    layout: &Layout,
+    file: &[u8],
+    extent: Extent,
+    findings: &mut Vec<Finding>,
+) -> Result<()>
+    requires { 0 < layout.now.head.geometry.page_size }
+    ensures { Answers (λ done. map finding_view findings.new.items) result
+        (Ok (with_relations extent layout.now (container_relations file.now) (map finding_view findings.old.items))) }
+{
+    let mismatches = check_pages(alloc, file, extent)?;
+    add_mismatches(alloc, layout, Part::Stream, &mismatches, findings)
+}
+
+/// Adds what is inconsistent in the tables of types and of ids.
+#[tactic(auto, unfolding(crate::specs::Relations::table_relations))]
+fn add_table_relations(
+    alloc: Global,
+    layout: &Layout,
+    file: &[u8],
+    extent: Extent,
+    findings: &mut Vec<Finding>,
+) -> Result<()>
+    requires { 0 < layout.now.head.geometry.page_size }
+    ensures { Answers (λ done. map finding_view findings.new.items) result
+        (Ok (with_relations extent layout.now (table_relations layout.now file.now)
+        (map finding_view findings.old.items))) }
+{
+    let types = type_mismatches(alloc, layout, file, extent)?;
+    add_mismatches(alloc, layout, Part::Types, &types, findings)?;
+    let ids = id_mismatches(alloc, layout, file, extent)?;
+    add_mismatches(alloc, layout, Part::Ids, &ids, findings)
+}
+
+/// Adds what is inconsistent in the names of streams and the string table.
+#[tactic(auto, unfolding(crate::specs::Relations::name_relations))]
+fn add_name_relations(
+    alloc: Global,
+    layout: &Layout,
+    file: &[u8],
+    extent: Extent,
+    findings: &mut Vec<Finding>,
+) -> Result<()>
+    requires { 0 < layout.now.head.geometry.page_size }
+    ensures { Answers (λ done. map finding_view findings.new.items) result
+        (Ok (with_relations extent layout.now (name_relations layout.now file.now)
+        (map finding_view findings.old.items))) }
+{
+    let names = name_mismatches(alloc, layout, file, extent)?;
+    add_mismatches(alloc, layout, Part::Names, &names, findings)?;
+    let buckets = bucket_mismatches(alloc, layout, file, extent)?;
+    add_mismatches(alloc, layout, Part::StringTable, &buckets, findings)
+}
+
+/// Adds what is inconsistent in stream 3 and the streams of its roles.
+#[tactic(auto, unfolding(crate::specs::Relations::role_relations))]
+fn add_role_relations(
+    alloc: Global,
+    layout: &Layout,
+    file: &[u8],
+    extent: Extent,
+    findings: &mut Vec<Finding>,
+) -> Result<()>
+    requires { 0 < layout.now.head.geometry.page_size }
+    ensures { Answers (λ done. map finding_view findings.new.items) result
+        (Ok (with_relations extent layout.now (role_relations layout.now file.now)
+        (map finding_view findings.old.items))) }
+{
+    let sizes = size_mismatches(alloc, layout, file, extent)?;
+    add_mismatches(alloc, layout, Part::Roles, &sizes, findings)?;
+    let roles = role_mismatches(alloc, layout, file, extent)?;
+    add_mismatches(alloc, layout, Part::Roles, &roles, findings)?;
+    let sections = section_mismatches(alloc, layout, file, Part::SectionHeaders, extent)?;
+    add_mismatches(alloc, layout, Part::SectionHeaders, &sections, findings)?;
+    let original = section_mismatches(alloc, layout, file, Part::OriginalSectionHeaders, extent)?;
+    add_mismatches(
+        alloc,
+        layout,
+        Part::OriginalSectionHeaders,
+        &original,
+        findings,
+    )
+}
+
+/// Adds what is inconsistent between the parts of a file, as far as these can be read.
+#[tactic(auto, unfolding(crate::specs::Relations::related_faults))]
+pub(crate) fn add_relations(
+    alloc: Global,
+    layout: &Layout,
+    file: &[u8],
+    extent: Extent,
+    findings: &mut Vec<Finding>,
+) -> Result<()>
+    requires { 0 < layout.now.head.geometry.page_size }
+    ensures { Answers (λ done. map finding_view findings.new.items) result
+        (Ok (related_faults extent layout.now file.now (map finding_view findings.old.items))) }
+{
+    add_container_relations(alloc, layout, file, extent, findings)?;
+    add_table_relations(alloc, layout, file, extent, findings)?;
+    add_name_relations(alloc, layout, file, extent, findings)?;
+    add_role_relations(alloc, layout, file, extent, findings)
+}
