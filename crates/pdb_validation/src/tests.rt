@@ -1,20 +1,20 @@
 //! A small file that is whole, and damages of each of its parts. The bytes are written by hand.
 
-use crate::{Extent, Part, validate};
+use crate::{Extent, Finding, Part, validate};
 use std::alloc::Global;
 use std::test::Fail;
 
 /// The size of a page in bytes.
 const PAGE_SIZE: usize = 512;
 
-/// The header: page size 512, free page map 1, 13 pages used, a directory of 80 bytes, and page 3,
+/// The header: page size 512, free page map 1, 14 pages used, a directory of 80 bytes, and page 3,
 /// which says where the directory is.
 const HEADER: &[u8] =
-    b"Microsoft C/C++ MSF 7.00\r\n\x1aDS\0\0\0\x00\x02\0\0\x01\0\0\0\x0d\0\0\0\x50\0\0\0\0\0\0\0\x03\0\0\0";
+    b"Microsoft C/C++ MSF 7.00\r\n\x1aDS\0\0\0\x00\x02\0\0\x01\0\0\0\x0e\0\0\0\x50\0\0\0\0\0\0\0\x03\0\0\0";
 
 /// The directory: ten streams with their sizes, and a page for each but stream 0, which is empty.
 const DIRECTORY: [u32; 20] = [
-    10, 0, 67, 82, 86, 66, 15, 40, 16, 64, 32, 4, 5, 6, 7, 8, 9, 10, 11, 12,
+    10, 0, 67, 82, 86, 66, 27, 40, 16, 64, 32, 4, 5, 6, 7, 8, 9, 10, 11, 12,
 ];
 
 /// Stream 1: the numbers of the file, and a table that names stream 5 `/names`.
@@ -33,8 +33,8 @@ const DEBUG: &[u8] =
 const IDS: &[u8] =
     b"\x0b\xca\x31\x01\x38\0\0\0\x00\x10\0\0\x01\x10\0\0\0\0\0\0\0\0\0\0\0\0\0\0\0\0\0\0\0\0\0\0\0\0\0\0\0\0\0\0\0\0\0\0\0\0\0\0\0\0\0\0\x08\0\x05\x16\0\0\0\0a\0";
 
-/// Stream 5: a string table.
-const NAMES: &[u8] = b"\xfe\xef\xfe\xef\x01\0\0\0\x03\0\0\0\0a\0";
+/// Stream 5: a string table, with one bucket.
+const NAMES: &[u8] = b"\xfe\xef\xfe\xef\x01\0\0\0\x03\0\0\0\0a\0\x01\0\0\0\x01\0\0\0\x01\0\0\0";
 
 /// Stream 7: an OMAP table.
 const OMAP: &[u8] = b"\x01\0\0\0\x02\0\0\0\x03\0\0\0\x04\0\0\0";
@@ -55,11 +55,11 @@ const DAMAGES: [(usize, u8, Part); 17] = [
     // The page of the directory.
     (0x600, 0x00, Part::Directory),
     // The size of stream 9, which becomes larger than the file.
-    (0x429, 0x80, Part::Sizes),
+    (0x1a29, 0x80, Part::Sizes),
     // The size of stream 9, which then ends within a frame.
-    (0x428, 0xff, Part::OldFrames),
+    (0x1a28, 0xff, Part::OldFrames),
     // The page of stream 9.
-    (0x44c, 0x00, Part::Stream),
+    (0x1a4c, 0x00, Part::Stream),
     // The size of the names in stream 1.
     (0x81c, 0xff, Part::Names),
     // The signature of the string table.
@@ -75,7 +75,7 @@ const DAMAGES: [(usize, u8, Part); 17] = [
     // The length of id 0x1000.
     (0xe38, 0x01, Part::Ids),
     // The size of the section headers.
-    (0x41c, 0x27, Part::SectionHeaders),
+    (0x1a1c, 0x27, Part::SectionHeaders),
     // The first source of the OMAP table.
     (0x1400, 0x09, Part::OmapToSource),
     // The starts of the first frames.
@@ -114,8 +114,8 @@ fn small_file(alloc: Global) -> Result<Vec<u8>, Fail> {
     let mut file = Vec::new(alloc);
     push_page(&mut file, HEADER)?;
     push_page(&mut file, b"")?;
-    push_page(&mut file, &directory)?;
-    push_page(&mut file, b"\x02\0\0\0")?;
+    push_page(&mut file, b"")?;
+    push_page(&mut file, b"\x0d\0\0\0")?;
     push_page(&mut file, INFORMATION)?;
     push_page(&mut file, TYPES)?;
     push_page(&mut file, DEBUG)?;
@@ -125,13 +125,25 @@ fn small_file(alloc: Global) -> Result<Vec<u8>, Fail> {
     push_page(&mut file, OMAP)?;
     push_page(&mut file, NEW_FRAMES)?;
     push_page(&mut file, OLD_FRAMES)?;
+    push_page(&mut file, &directory)?;
     Ok(file)
+}
+
+/// Returns how many of some findings are errors: the records of the small file are not aligned.
+fn error_count(findings: &[Finding]) -> usize {
+    let mut count = 0usize;
+    for finding in findings {
+        if !finding.problem.is_warning() {
+            count = count.saturating_add(1);
+        }
+    }
+    count
 }
 
 #[test]
 fn whole(rt: HostRuntime) -> Result<(), Fail> {
     let findings = validate(rt.alloc(), &small_file(rt.alloc())?, Extent::All)?;
-    assert!(rt; findings.is_empty());
+    assert_eq!(rt; error_count(&findings), 0);
     Ok(())
 }
 
@@ -178,12 +190,15 @@ fn damaged_records(rt: HostRuntime) -> Result<(), Fail> {
 #[test]
 fn every_one(rt: HostRuntime) -> Result<(), Fail> {
     let mut file = small_file(rt.alloc())?;
-    for (offset, value) in [(0xa44, 0x01), (0x44c, 0x00)] {
+    for (offset, value) in [(0xa44, 0x01), (0x1a4c, 0x00)] {
         if let Some(place) = file.get_mut(offset) {
             *place = value;
         }
     }
-    assert_eq!(rt; validate(rt.alloc(), &file, Extent::First)?.len(), 2);
-    assert_eq!(rt; validate(rt.alloc(), &file, Extent::All)?.len(), 3);
+    assert_eq!(rt;
+        error_count(&validate(rt.alloc(), &file, Extent::First)?),
+        2
+    );
+    assert_eq!(rt; error_count(&validate(rt.alloc(), &file, Extent::All)?), 3);
     Ok(())
 }
