@@ -350,7 +350,8 @@ uint32_t pdb_validate(const uint8_t *file, size_t file_length, uint32_t every, p
 /* ---- the streams of a file */
 
 /* The calls that are given the bytes of a file, for programs that keep the bytes themselves. The
- * functions after them pass on those of a pdb_file. */
+ * functions after them pass on those of a pdb_file; one that isn't open has none, which is no
+ * program database. */
 uint32_t pdb_bytes_open(const uint8_t *bytes, size_t bytes_length, pdb_file *file,
                         pdb_fault *fault);
 uint32_t pdb_bytes_stream(pdb_file *file, const uint8_t *bytes, size_t bytes_length,

@@ -22,8 +22,7 @@ pub extern "C" fn pdb_error_text(
         (text_copied room.old (fault_text about.now)) }
     ensures status { result ≡ fault.new.status }
 {
-    let error = told(about.status, about.first, about.second);
-    copy_text_of(alloc, error, room, length).tell(fault)
+    copy_text_of(alloc, told(about), room, length).tell(fault)
 }
 
 /// Returns the version of the library: 10,000 times the major number, plus 100 times the minor one,

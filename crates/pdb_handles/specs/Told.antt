@@ -1,5 +1,5 @@
 -- Which refusal a fault stands for, so that refusals can be told apart and shown as text.
-use Rattle.std.specs.Prelude.{◌≡◌, ℕ, zero, suc, ◌<◌, ◌^◌, ◌==◌, ◌&&◌, nat_lt, if◌then◌else◌, ⊤, List, [], ◌∷◌, Contains, slice_get, Option, Some, None, option_map}
+use Rattle.std.specs.Prelude.{◌≡◌, Bool, ℕ, zero, suc, ◌<◌, ◌^◌, ◌==◌, ◌&&◌, nat_lt, if◌then◌else◌, ⊤, List, [], ◌∷◌, Contains, slice_get, Option, Some, None, option_map}
 use Rattle.std.specs.declared.io.ErrorKind.{ErrorKind}
 use Rattle.std.specs.declared.io.ErrorKind.TheVariants as kinds
 use Rattle.pdb_base.specs.Refusal.{Refusal, unrecognized_file_format, stream_name_not_found, unexpected_eof, global_symbols_not_found, symbol_too_short, type_too_short, address_map_not_found, lines_not_found, invalid_compressed_annotation, out_of_memory, page_reference_out_of_range, invalid_page_size, stream_not_found, unimplemented_symbol_kind, type_not_found, unimplemented_type_kind, not_a_cross_module_ref, cross_module_ref_not_found, unexpected_numeric_prefix, unimplemented_debug_subsection, unimplemented_file_checksum_kind, invalid_file_checksum_offset, unknown_binary_annotation, type_not_indexed, invalid_stream_length, unimplemented_feature, invalid_type_information_header, io_error}
@@ -7,7 +7,7 @@ use Rattle.pdb_base.specs.ErrorText.{text_of}
 use Rattle.pdb_handles.specs.declared.fault.Fault.{Fault}
 use Rattle.pdb_handles.specs.Fault.{fault_of, texts}
 
--- the refusal that a status stands for, if any, with the two numbers that go with it
+-- the refusal that a status can stand for, if any, by the two numbers that go with it
 abbrev pub Tells : Type 0
 Tells = ℕ → ℕ → Option Refusal
 
@@ -15,17 +15,17 @@ Tells = ℕ → ℕ → Option Refusal
 abbrev pub none : Tells
 none first second = None
 
--- a refusal with no number, for which both numbers are 0
+-- a refusal with no number
 abbrev pub plain : Refusal → Tells
-plain refusal first second = if first == 0 && second == 0 then Some refusal else None
+plain refusal first second = Some refusal
 
--- a refusal with one number, for which the second number is 0
+-- a refusal with one number
 abbrev pub numbered : (ℕ → Refusal) → Tells
-numbered refusal first second = if second == 0 then Some (refusal first) else None
+numbered refusal first second = Some (refusal first)
 
 -- a refusal with one number, which must be below a bound
 abbrev pub below : ℕ → (ℕ → Refusal) → Tells
-below bound refusal first second = if nat_lt first bound && second == 0 then Some (refusal first) else None
+below bound refusal first second = if nat_lt first bound then Some (refusal first) else None
 
 -- the text with this number; numbers begin at 1
 abbrev pub text_numbered : ℕ → Option (List ℕ)
@@ -34,7 +34,7 @@ text_numbered (suc place) = slice_get texts place
 
 -- a refusal with a text
 abbrev pub worded : (List ℕ → Refusal) → Tells
-worded refusal first second = if second == 0 then option_map refusal (text_numbered first) else None
+worded refusal first second = option_map refusal (text_numbered first)
 
 -- the kind with this number; numbers begin at 1
 abbrev pub kind_numbered : ℕ → Option ErrorKind
@@ -43,7 +43,7 @@ kind_numbered (suc place) = slice_get (kinds.UnexpectedEof ∷ kinds.OutOfMemory
 
 -- an error of a source
 abbrev pub of_source : Tells
-of_source first second = if second == 0 then option_map io_error (kind_numbered first) else None
+of_source first second = option_map io_error (kind_numbered first)
 
 -- the refusal for each status, from 0 on
 abbrev pub tellings : List Tells
@@ -62,9 +62,22 @@ abbrev pub told_by : Option Tells → Tells
 told_by None = none
 told_by (Some telling) = telling
 
--- the refusal that a fault stands for
+-- the refusal that a fault can stand for
+abbrev pub candidate : Fault → Option Refusal
+candidate fault = told_by (slice_get tellings fault.status) fault.first fault.second
+
+-- whether two faults have the same numbers
+abbrev pub is_same : Fault → Fault → Bool
+is_same one other = one.status == other.status && one.first == other.first && one.second == other.second
+
+-- a refusal, if its fault is this one
+abbrev pub if_told : Fault → Option Refusal → Option Refusal
+if_told fault (Some refusal) = if is_same (fault_of refusal) fault then Some refusal else None
+if_told fault None = None
+
+-- the refusal that a fault stands for: the one that has this fault
 unfoldable pub refusal_told : Fault → Option Refusal
-refusal_told fault = told_by (slice_get tellings fault.status) fault.first fault.second
+refusal_told fault = if_told fault (candidate fault)
 
 -- A refusal that this library returns: its text is one of the library's, its numbers of 16 and of 8 bits
 -- are below their bounds, and an error of a source is one that bytes in memory give.

@@ -3,8 +3,9 @@
 ghost use Rattle.std.specs.Prelude.{◌≡◌, ◌==◌, ◌&&◌, ◌^◌, nat_lt, if◌then◌else◌, Some, None};
 ghost use Rattle.std.specs.Option.{option_map};
 ghost use Rattle.pdb_base.specs.Refusal.{refusal_of};
-ghost use Rattle.pdb_handles.specs.Told.{kind_numbered, of_source, plain, refusal_told, text_numbered};
+ghost use Rattle.pdb_handles.specs.Told.{candidate, is_same, kind_numbered, refusal_told, text_numbered};
 
+use crate::fault::Fault;
 use pdb_base::Error;
 use std::io;
 use std::io::ErrorKind;
@@ -46,104 +47,81 @@ fn kind_numbered(number: u32) -> Option<ErrorKind>
     }
 }
 
-/// Returns an error that names no number, if both numbers are 0.
-fn plain(error: Error, first: u32, second: u32) -> Option<Error>
-    ensures { option_map refusal_of result ≡ plain (refusal_of error) first second }
+/// Returns the number that an error names, if it fits 16 bits.
+fn below_u16(first: u32) -> Option<u16>
+    ensures { result ≡ (if nat_lt first (2 ^ 16) then Some first else None) }
 {
-    if first == 0 && second == 0 {
-        return Some(error);
-    }
-    None
-}
-
-/// Returns an error that names one number, if the second number is 0.
-fn numbered(error: Error, second: u32) -> Option<Error>
-    ensures { option_map refusal_of result ≡ (if second == 0 then Some (refusal_of error) else None) }
-{
-    if second == 0 {
-        return Some(error);
-    }
-    None
-}
-
-/// Returns the number that an error names, if it fits 16 bits and the second number is 0.
-fn below_u16(first: u32, second: u32) -> Option<u16>
-    ensures { result ≡ (if nat_lt first (2 ^ 16) && second == 0 then Some first else None) }
-{
-    if first < 0x1_0000 && second == 0 {
+    if first < 0x1_0000 {
         return Some(first as u16);
     }
     None
 }
 
-/// Returns the number that an error names, if it fits 8 bits and the second number is 0.
-fn below_u8(first: u32, second: u32) -> Option<u8>
-    ensures { result ≡ (if nat_lt first (2 ^ 8) && second == 0 then Some first else None) }
+/// Returns the number that an error names, if it fits 8 bits.
+fn below_u8(first: u32) -> Option<u8>
+    ensures { result ≡ (if nat_lt first (2 ^ 8) then Some first else None) }
 {
-    if first < 0x100 && second == 0 {
+    if first < 0x100 {
         return Some(first as u8);
     }
     None
 }
 
-/// Returns the text that an error has, if the first number is that of a text and the second is 0.
-fn worded(first: u32, second: u32) -> Option<&'static str>
-    ensures { option_map (λ text. text.now) result ≡ (if second == 0 then text_numbered first else None) }
-{
-    if second == 0 {
-        return text_numbered(first);
-    }
-    None
-}
-
-/// Returns an I/O error, if the first number is that of a kind and the second is 0.
-fn of_source(first: u32, second: u32) -> Option<Error>
-    ensures { option_map refusal_of result ≡ of_source first second }
-{
-    if second != 0 {
-        return None;
-    }
-    let kind = kind_numbered(first)?;
-    Some(Error::IoError(io::Error::from(kind)))
-}
-
-/// Returns the error that a status and its two numbers report, or None if they report none.
-#[tactic(auto, unfolding(crate::specs::Told::refusal_told))]
-pub fn told(status: u32, first: u32, second: u32) -> Option<Error>
-    ensures { option_map refusal_of result ≡ refusal_told (record { status = status; first = first; second = second }) }
+/// Returns the error that a status and its first two numbers can report.
+fn candidate(status: u32, first: u32, second: u32) -> Option<Error>
+    ensures { option_map refusal_of result ≡ candidate (record { status = status; first = first; second = second }) }
 {
     if status > 28 {
         return None;
     }
     match status {
-        1 => plain(Error::UnrecognizedFileFormat, first, second),
-        2 => numbered(Error::PageReferenceOutOfRange(first), second),
-        3 => numbered(Error::InvalidPageSize(first), second),
-        4 => numbered(Error::StreamNotFound(first), second),
-        5 => plain(Error::StreamNameNotFound, first, second),
-        6 => Some(Error::InvalidStreamLength(worded(first, second)?)),
-        7 => of_source(first, second),
-        8 => plain(Error::UnexpectedEof, first, second),
-        9 => Some(Error::UnimplementedFeature(worded(first, second)?)),
-        10 => plain(Error::GlobalSymbolsNotFound, first, second),
-        11 => plain(Error::SymbolTooShort, first, second),
-        12 => Some(Error::UnimplementedSymbolKind(below_u16(first, second)?)),
-        13 => Some(Error::InvalidTypeInformationHeader(worded(first, second)?)),
-        14 => plain(Error::TypeTooShort, first, second),
-        15 => numbered(Error::TypeNotFound(first), second),
+        1 => Some(Error::UnrecognizedFileFormat),
+        2 => Some(Error::PageReferenceOutOfRange(first)),
+        3 => Some(Error::InvalidPageSize(first)),
+        4 => Some(Error::StreamNotFound(first)),
+        5 => Some(Error::StreamNameNotFound),
+        6 => Some(Error::InvalidStreamLength(text_numbered(first)?)),
+        7 => Some(Error::IoError(io::Error::from(kind_numbered(first)?))),
+        8 => Some(Error::UnexpectedEof),
+        9 => Some(Error::UnimplementedFeature(text_numbered(first)?)),
+        10 => Some(Error::GlobalSymbolsNotFound),
+        11 => Some(Error::SymbolTooShort),
+        12 => Some(Error::UnimplementedSymbolKind(below_u16(first)?)),
+        13 => Some(Error::InvalidTypeInformationHeader(text_numbered(first)?)),
+        14 => Some(Error::TypeTooShort),
+        15 => Some(Error::TypeNotFound(first)),
         16 => Some(Error::TypeNotIndexed(first, second)),
-        17 => Some(Error::UnimplementedTypeKind(below_u16(first, second)?)),
-        18 => numbered(Error::NotACrossModuleRef(first), second),
-        19 => numbered(Error::CrossModuleRefNotFound(first), second),
-        20 => Some(Error::UnexpectedNumericPrefix(below_u16(first, second)?)),
-        21 => plain(Error::AddressMapNotFound, first, second),
-        22 => numbered(Error::UnimplementedDebugSubsection(first), second),
-        23 => Some(Error::UnimplementedFileChecksumKind(below_u8(first, second)?)),
-        24 => numbered(Error::InvalidFileChecksumOffset(first), second),
-        25 => plain(Error::LinesNotFound, first, second),
-        26 => plain(Error::InvalidCompressedAnnotation, first, second),
-        27 => numbered(Error::UnknownBinaryAnnotation(first), second),
-        28 => plain(Error::OutOfMemory, first, second),
+        17 => Some(Error::UnimplementedTypeKind(below_u16(first)?)),
+        18 => Some(Error::NotACrossModuleRef(first)),
+        19 => Some(Error::CrossModuleRefNotFound(first)),
+        20 => Some(Error::UnexpectedNumericPrefix(below_u16(first)?)),
+        21 => Some(Error::AddressMapNotFound),
+        22 => Some(Error::UnimplementedDebugSubsection(first)),
+        23 => Some(Error::UnimplementedFileChecksumKind(below_u8(first)?)),
+        24 => Some(Error::InvalidFileChecksumOffset(first)),
+        25 => Some(Error::LinesNotFound),
+        26 => Some(Error::InvalidCompressedAnnotation),
+        27 => Some(Error::UnknownBinaryAnnotation(first)),
+        28 => Some(Error::OutOfMemory),
         _ => None,
     }
+}
+
+/// Returns whether two faults have the same numbers.
+fn is_same(one: Fault, other: &Fault) -> bool
+    ensures { result ≡ is_same one other.now }
+{
+    one.status == other.status && one.first == other.first && one.second == other.second
+}
+
+/// Returns the error that a fault reports, or None if it reports none.
+#[tactic(auto, unfolding(crate::specs::Told::refusal_told))]
+pub fn told(about: &Fault) -> Option<Error>
+    ensures { option_map refusal_of result ≡ refusal_told about.now }
+{
+    let error = candidate(about.status, about.first, about.second)?;
+    if is_same(Fault::of(&error), about) {
+        return Some(error);
+    }
+    None
 }
