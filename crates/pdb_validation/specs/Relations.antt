@@ -12,6 +12,7 @@ use Rattle.pdb_file.specs.StreamNames.{stream_names_of}
 use Rattle.pdb_file.specs.declared.debug_header.DBIExtraStreams.{DBIExtraStreams}
 use Rattle.pdb_tpi.specs.Table.{Table, table_of}
 use Rattle.pdb_consistency.specs.DebugSizes.{debug_sizes_mismatch}
+use Rattle.pdb_consistency.specs.Hashes.{hashes_mismatches}
 use Rattle.pdb_consistency.specs.Mismatch.{asked_of, warns}
 use Rattle.pdb_consistency.specs.MissingStreams.{indexes_mismatches, names_mismatches, role_indexes, symbol_indexes}
 use Rattle.pdb_consistency.specs.Pages.{page_mismatches}
@@ -104,6 +105,18 @@ types_relation layout file = in_table (types_mismatches 2) (stream_by layout fil
 unfoldable pub ids_relation : LayoutValue → List ℕ → List Mismatch
 ids_relation layout file = in_table (ids_mismatches 4 (types_end layout file)) (stream_by layout file 4 None)
 
+-- the hash stream of a table, if there is one
+abbrev pub hashes_by : LayoutValue → List ℕ → Table → Option ℕ → List Mismatch
+hashes_by layout file table None = []
+hashes_by layout file table (Some number) =
+    if_answered (hashes_mismatches number table) (stream_by layout file number None)
+
+-- the hash stream of the table in a stream
+unfoldable pub hashes_relation : LayoutValue → List ℕ → ℕ → List Mismatch
+hashes_relation layout file number =
+    in_table (λ table. hashes_by layout file table (stream_number table.header.tpi_hash_stream))
+    (stream_by layout file number None)
+
 -- the streams that have names
 unfoldable pub named_streams : LayoutValue → List ℕ → List Mismatch
 named_streams layout stream =
@@ -158,7 +171,8 @@ container_relations file = relation parts.Stream (page_mismatches file) ∷ []
 
 unfoldable pub table_relations : LayoutValue → List ℕ → List Relation
 table_relations layout file =
-    relation parts.Types (types_relation layout file) ∷ relation parts.Ids (ids_relation layout file) ∷ []
+    relation parts.Types (types_relation layout file) ∷ relation parts.Types (hashes_relation layout file 2)
+    ∷ relation parts.Ids (ids_relation layout file) ∷ relation parts.Ids (hashes_relation layout file 4) ∷ []
 
 unfoldable pub name_relations : LayoutValue → List ℕ → List Relation
 name_relations layout file =

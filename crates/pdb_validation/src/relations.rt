@@ -7,7 +7,7 @@ ghost use Rattle.pdb_base.specs.Memory.{FailsOnlyForMemory};
 ghost use Rattle.pdb_consistency.specs.Mismatch.{asked_of};
 ghost use Rattle.pdb_validation.specs.Finding.{finding_view};
 ghost use Rattle.pdb_validation.specs.Places.{stream_pages};
-ghost use Rattle.pdb_validation.specs.Relations.{buckets_of, buckets_relation, container_relations};
+ghost use Rattle.pdb_validation.specs.Relations.{buckets_of, buckets_relation, container_relations, hashes_by, hashes_relation};
 ghost use Rattle.pdb_validation.specs.Relations.{ids_relation, mismatch_fault, name_relations};
 ghost use Rattle.pdb_validation.specs.Relations.{named_streams, names_relation, role_relations, roles_in_stream};
 ghost use Rattle.pdb_validation.specs.Relations.{roles_relation, sections_by, sections_in, sections_relation};
@@ -20,15 +20,15 @@ use crate::places::LastPages;
 use crate::problem::Problem;
 use crate::read::read;
 use crate::roles::{known_roles, role_index};
-use pdb_base::{Error, Result, Stream, StreamIndex};
+use pdb_base::{Error, IdIndex, ItemIndex, Result, Stream, StreamIndex, TypeIndex};
 use pdb_consistency::{
-    Extent, Mismatch, check_buckets, check_debug_sizes, check_id_records, check_named_streams,
-    check_pages, check_roles, check_section_order, check_type_records,
+    Extent, Mismatch, check_buckets, check_debug_sizes, check_hashes, check_id_records,
+    check_named_streams, check_pages, check_roles, check_section_order, check_type_records,
 };
 use pdb_file::section_headers::section_headers;
 use pdb_file::{DBIExtraStreams, DBIHeader, ID_STREAM, PDBInformation, TYPE_STREAM};
 use pdb_msf::Layout;
-use pdb_tpi::{IdInformation, TypeInformation};
+use pdb_tpi::{IdInformation, ItemInformation, OpenTable, TypeInformation};
 use std::alloc::Global;
 
 /// The number of the stream that identifies the file and names streams.
@@ -103,6 +103,51 @@ fn type_mismatches(
     };
     match TypeInformation::parse(stream) {
         Ok(types) => check_type_records(alloc, &types, TYPE_STREAM, extent),
+        Err(_) => Ok(Vec::new(alloc)),
+    }
+}
+
+/// Returns what is inconsistent in the hash stream of a table, if it has one.
+#[tactic(auto, using(crate::proofs::RelationLemmas::nothing_asked))]
+fn hash_mismatches<I: ItemIndex>(
+    alloc: Global,
+    layout: &Layout,
+    file: &[u8],
+    table: ItemInformation<I>,
+    extent: Extent,
+) -> Result<Vec<Mismatch>>
+    ensures { Answers (λ mismatches. mismatches.items) result
+        (Ok (asked_of extent (hashes_by layout.now file.now table (stream_number table.header.tpi_hash_stream)))) }
+{
+    let header = table.header();
+    let Some(number) = StreamIndex(header.tpi_hash_stream).msf_number() else {
+        return Ok(Vec::new(alloc));
+    };
+    let Ok(hashes) = read(alloc, layout, file, number)? else {
+        return Ok(Vec::new(alloc));
+    };
+    let mut open = OpenTable::new(alloc, table)?;
+    open.learn(I::from(header.maximum_index.saturating_sub(1)));
+    check_hashes(alloc, number, &open, hashes.as_slice(), extent)
+}
+
+/// Returns what is inconsistent in the hash stream of the table in a stream.
+#[tactic(auto, unfolding(crate::specs::Relations::hashes_relation), using(crate::proofs::RelationLemmas::nothing_asked))]
+fn hash_mismatches_in<I: ItemIndex>(
+    alloc: Global,
+    layout: &Layout,
+    file: &[u8],
+    number: u32,
+    extent: Extent,
+) -> Result<Vec<Mismatch>>
+    ensures { Answers (λ mismatches. mismatches.items) result
+        (Ok (asked_of extent (hashes_relation layout.now file.now number))) }
+{
+    let Ok(stream) = read(alloc, layout, file, number)? else {
+        return Ok(Vec::new(alloc));
+    };
+    match ItemInformation::<I>::parse(stream) {
+        Ok(table) => hash_mismatches(alloc, layout, file, table, extent),
         Err(_) => Ok(Vec::new(alloc)),
     }
 }
@@ -358,8 +403,12 @@ fn add_table_relations(
 {
     let types = type_mismatches(alloc, layout, file, extent)?;
     add_mismatches(alloc, layout, Part::Types, &types, findings)?;
+    let hashes = hash_mismatches_in::<TypeIndex>(alloc, layout, file, TYPE_STREAM, extent)?;
+    add_mismatches(alloc, layout, Part::Types, &hashes, findings)?;
     let ids = id_mismatches(alloc, layout, file, extent)?;
-    add_mismatches(alloc, layout, Part::Ids, &ids, findings)
+    add_mismatches(alloc, layout, Part::Ids, &ids, findings)?;
+    let hashes = hash_mismatches_in::<IdIndex>(alloc, layout, file, ID_STREAM, extent)?;
+    add_mismatches(alloc, layout, Part::Ids, &hashes, findings)
 }
 
 /// Adds what is inconsistent in the names of streams and the string table.
