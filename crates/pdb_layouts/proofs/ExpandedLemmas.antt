@@ -1,5 +1,6 @@
 -- Rows that are shown behind others.
-use Rattle.std.proofs.Common.{◌≡◌, ◌⊎◌, ◌∙◌, inl, inr, refl, sym, ap, subst, ℕ, ◌+◌, ◌<◌, ◌≤◌, ◌==◌, arith, Bool, true, false}
+use Rattle.std.proofs.Common.{◌≡◌, ◌⊎◌, ◌∙◌, inl, inr, refl, sym, ap, subst, ℕ, ◌+◌, ◌<◌, ◌≤◌, ◌==◌, arith, Bool}
+use Rattle.std.proofs.Common.{true, false}
 use Rattle.std.proofs.Common.{List, [], ◌∷◌, ◌++◌, append_assoc, length, Some, None, Ok}
 use Rattle.std.proofs.lemmas.Bool.Decides.{Decides-eqb, nat_tests}
 use Rattle.std.proofs.lemmas.List.{append-nil, length-append}
@@ -11,7 +12,8 @@ use Rattle.pdb_tpi.specs.Table.{Table}
 use Rattle.pdb_types.specs.Layout.{HasGaps, layout_value}
 use Rattle.pdb_types.specs.declared.layout.Layout.{Layout}
 use Rattle.pdb_layouts.specs.Classes.{class_layout}
-use Rattle.pdb_layouts.specs.Expanded.{AreExpandedRows, AreShown, FollowsRow, HasClass, HasNoClass, IsBetween, IsExpanded}
+use Rattle.pdb_layouts.specs.Expanded.{AreExpandedRows, AreShown, FollowsRow, HasClass, HasNoClass, IsBetween}
+use Rattle.pdb_layouts.specs.Expanded.{IsExpanded}
 use Rattle.pdb_layouts.specs.Expanded.{ends, follows_cut, holds, inner_start, inner_type, leaves_out, none, rows_at}
 use Rattle.pdb_layouts.specs.LayoutRow.{AreRowsOf}
 
@@ -50,7 +52,8 @@ none_shown depth deepest left old = record {
 }
 
 -- rows that are deeper are none of the class itself
-none_at : (depth deepest : ℕ) (rows : List ShownRow) → All (IsBetween (depth + 1) deepest) rows → rows_at depth rows ≡ []
+none_at : (depth deepest : ℕ) (rows : List ShownRow) → All (IsBetween (depth + 1) deepest) rows
+    → rows_at depth rows ≡ []
 none_at depth deepest [] between = refl
 none_at depth deepest (row ∷ rows) between =
     let head : IsBetween (depth + 1) deepest row = All-head (IsBetween (depth + 1) deepest) row rows between in
@@ -129,12 +132,13 @@ pub held : (table : Table) (asked asked' : ℕ) (row : ShownRow) (start : ℕ) (
     → between ≡ cut → start ≡ inner_start row.start row.row → rows ≡ all → HasClass table row.row layout
     → AreRowsOf layout all → AreExpandedRows table asked' (row.depth + 1) start between cut' rows old new
     → FollowsRow table asked row cut cut' old new
-held table asked asked' row start cut between cut' all rows old new layout below same also at are has rows_are expanded =
+held table asked asked' row start cut between cut' all rows old new layout below same also at are has fit expanded =
     let inner = rw (same, also, at, are) at expanded.expanded in record {
       added = expanded.added;
       is = expanded.is;
       goes_on = λ first before shown was.
-          holds row.depth row.start first cut cut' before shown row.row layout all expanded.added was below has rows_are inner;
+          holds row.depth row.start first cut cut' before shown row.row layout all expanded.added was
+          below has fit inner;
     }
 
 -- rows before the first one

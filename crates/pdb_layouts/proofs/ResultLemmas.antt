@@ -9,8 +9,8 @@ use Rattle.pdb_output.specs.Output.{OutputState}
 use Rattle.pdb_rows.specs.declared.form.Form.{Form}
 use Rattle.pdb_tpi.specs.Table.{Table, table_of}
 use Rattle.pdb_types.specs.Definition.{walked}
-use Rattle.pdb_layouts.specs.Shown.{Accounts, AreLayoutsShown, AreNamesMeant, AreTypesShown, IsNameMeant, IsShowResult, IsTold}
-use Rattle.pdb_layouts.specs.Shown.{IsTypeShown, IsWritten, ShowState, Tells}
+use Rattle.pdb_layouts.specs.Shown.{Accounts, AreLayoutsShown, AreNamesMeant, AreTypesShown, IsNameMeant, IsShowResult}
+use Rattle.pdb_layouts.specs.Shown.{IsTold, IsTypeShown, IsWritten, ShowState, Tells}
 use Rattle.pdb_layouts.specs.declared.options.Options.{Options}
 
 -- ---- faults of the table

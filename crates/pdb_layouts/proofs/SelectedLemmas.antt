@@ -1,5 +1,6 @@
 -- The numbers of a range of which something is true.
-use Rattle.std.proofs.Common.{◌≡◌, refl, sym, ap, ◌∙◌, subst, arith, ℕ, zero, suc, ◌+◌, ◌-◌, ◌<◌, ◌≤◌, List, [], ◌∷◌, ◌++◌, add-zero}
+use Rattle.std.proofs.Common.{◌≡◌, refl, sym, ap, ◌∙◌, subst, arith, ℕ, zero, suc, ◌+◌, ◌-◌, ◌<◌, ◌≤◌, List, [], ◌∷◌}
+use Rattle.std.proofs.Common.{◌++◌, add-zero}
 use Rattle.std.specs.List.{range_with_len}
 use Rattle.pdb_layouts.specs.Classes.{IsSelected, none, passed, taken}
 

@@ -1,5 +1,7 @@
 -- Steps of showing layouts.
-use Rattle.std.proofs.Common.{◌≡◌, ◌≢◌, ◌⊎◌, ◌∙◌, ap, sym, subst, refl, inl, inr, ℕ, ◌<◌, Bool, true, false, List, [], ◌++◌, map, arith, length, ◌∷◌, IfSome, Option, Some, None, Ok, Err, Result, Vec, Global, IfOk, OnOk, IfErr}
+use Rattle.std.proofs.Common.{◌≡◌, ◌≢◌, ◌⊎◌, ◌∙◌, ap, sym, subst, refl, inl, inr, ℕ, ◌<◌, Bool, true, false, List, []}
+use Rattle.std.proofs.Common.{◌++◌, map, arith, length, ◌∷◌, IfSome, Option, Some, None, Ok, Err, Result, Vec, Global}
+use Rattle.std.proofs.Common.{IfOk, OnOk, IfErr}
 use Rattle.std.specs.List.{list_any}
 use Rattle.std.specs.Io.KnownBytes.{Appends}
 use Rattle.std.proofs.KnownBytes.{Appends-trans}
@@ -90,7 +92,8 @@ pub meant_nothing : (table : Table) (name found : List ℕ) (progress progress' 
     (record { progress = progress'; out = out; err = err' }) found
 meant_nothing table name found progress progress' out err err' named told = nothing named (told out)
 
-pub names_more : (table : Table) (names all : List (List ℕ)) (name first between found : List ℕ) (old mid new : ShowState)
+pub names_more : (table : Table) (names all : List (List ℕ)) (name first between found : List ℕ)
+    (old mid new : ShowState)
     → all ≡ names ++ name ∷ [] → AreNamesMeant table names first between old mid
     → IsNameMeant table name between mid new found → AreNamesMeant table all first found old new
 names_more table names all name first between found old mid new are before meant =
@@ -105,9 +108,10 @@ pub type_written : (table : Table) (options : Options) (form : Form) (index : �
     → OnOk result (progress'.has_shown ≡ true) → progress'.is_whole ≡ progress.is_whole
     → OnOk result (IsTypeShown table options form index (record { progress = progress; out = out; err = err })
     (record { progress = progress'; out = out'; err = err }))
-type_written table options form index layout text progress progress' out out' err (Ok done) has wanted gets shown whole =
+type_written table options form index layout text progress progress' out out' err (Ok x) has wanted gets shown whole =
     written layout text has wanted (record { written = gets; silent = refl; whole = whole }) shown
-type_written table options form index layout text progress progress' out out' err (Err e) has wanted gets shown whole = tt
+type_written table options form index layout text progress progress' out out' err (Err e) has wanted gets shown whole =
+    tt
 
 pub types_more : (table : Table) (options : Options) (form : Form) (indexes all : List ℕ) (index : ℕ)
     (old mid new : ShowState) → all ≡ indexes ++ index ∷ [] → AreTypesShown table options form indexes old mid

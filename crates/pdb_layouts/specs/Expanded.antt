@@ -84,7 +84,8 @@ pub data IsExpanded (table : Table) (asked : ℕ) : ℕ → ℕ → Bool → Boo
       → IsExpanded table asked depth start cut between before shown → depth < asked → HasClass table row layout
       → AreRowsOf layout all
       → IsExpanded table asked (depth + 1) (inner_start start row) between cut' all added
-      → IsExpanded table asked depth start cut cut' (before ++ row ∷ []) ((shown ++ shown_row depth start row ∷ []) ++ added)
+      → IsExpanded table asked depth start cut cut' (before ++ row ∷ [])
+      ((shown ++ shown_row depth start row ∷ []) ++ added)
 
 -- What is shown behind a row: with the row itself it goes on what was shown of its class.
 pub record FollowsRow (table : Table) (asked : ℕ) (row : ShownRow) (cut cut' : Bool) (old new : List ShownRow)

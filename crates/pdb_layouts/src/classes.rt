@@ -8,7 +8,8 @@ ghost use Rattle.pdb_types.specs.Layout.{HasGaps, layout_value};
 ghost use Rattle.pdb_types.specs.TypeAt.{type_at};
 ghost use Rattle.pdb_values.specs.Text.{text_bytes};
 ghost use Rattle.pdb_values.specs.TypeView.{type_value};
-ghost use Rattle.pdb_layouts.specs.Classes.{AreClasses, IsClass, IsNameWanted, class_defined, class_layout, class_of, class_value, unmodified};
+ghost use Rattle.pdb_layouts.specs.Classes.{AreClasses, IsClass, IsNameWanted, class_defined};
+ghost use Rattle.pdb_layouts.specs.Classes.{class_layout, class_of, class_value, unmodified};
 
 use crate::pattern::matches;
 use pdb_base::{Error, RawString, Result, TypeIndex};

@@ -1,8 +1,10 @@
 //! The fields and gaps of a class with those of the classes within it.
 
-ghost use Rattle.std.specs.Prelude.{◌≡◌, [], ◌+◌, ◌<◌, ◌≤◌, min, true, if◌then◌else◌, IfOk, IsTrue, OnOk};
+ghost use Rattle.std.specs.Prelude.{◌≡◌, [], ◌+◌, ◌<◌, ◌≤◌, min, true, if◌then◌else◌, IfOk};
+ghost use Rattle.std.specs.Prelude.{IsTrue, OnOk};
 ghost use Rattle.std.specs.Option.{option_map};
-ghost use Rattle.pdb_layouts.specs.Expanded.{AreExpanded, AreExpandedRows, AreShown, FollowsRow, inner_start, inner_type};
+ghost use Rattle.pdb_layouts.specs.Expanded.{AreExpanded, AreExpandedRows, AreShown, FollowsRow};
+ghost use Rattle.pdb_layouts.specs.Expanded.{inner_start, inner_type};
 
 use crate::classes::class_layout;
 use crate::layout_row::{LayoutRow, rows_of};

@@ -6,8 +6,10 @@ ghost use Rattle.pdb_base.specs.Memory.{FailsOnlyForMemory};
 ghost use Rattle.pdb_base.specs.declared.error.Error.TheVariants.{OutOfMemory};
 ghost use Rattle.pdb_output.specs.Output.{Gets, OutputState};
 ghost use Rattle.pdb_tpi.specs.Table.{table_of};
-ghost use Rattle.pdb_layouts.specs.Shown.{AreFirst, AreLayoutsShown, AreNamesMeant, AreOrdered, AreTypesShown, HasLayout, IsAnswered};
-ghost use Rattle.pdb_layouts.specs.Shown.{IsNameMeant, IsShowResult, IsStopped, IsTold, IsTypeShown, is_wanted, separator};
+ghost use Rattle.pdb_layouts.specs.Shown.{AreFirst, AreLayoutsShown, AreNamesMeant, AreOrdered};
+ghost use Rattle.pdb_layouts.specs.Shown.{AreTypesShown, HasLayout, IsAnswered};
+ghost use Rattle.pdb_layouts.specs.Shown.{IsNameMeant, IsShowResult, IsStopped, IsTold};
+ghost use Rattle.pdb_layouts.specs.Shown.{IsTypeShown, is_wanted, separator};
 
 use crate::c_style::c_text;
 use crate::classes::{class_layout, class_of, classes_in, type_at};

@@ -46,7 +46,8 @@ abbrev IsWithin : ℕ → ℕ → Entry → Type 0
 IsWithin from to entry = (from ≤ entry.index.0) × (entry.index.0 < to)
 
 names_of : (index : ℕ) (name : TypeName) (other : Option (List ℕ))
-    → All (IsOf index) (entry_of index name ∷ option_map_or (λ text. entry_of index (decorated_name text) ∷ []) other [])
+    → All (IsOf index)
+    (entry_of index name ∷ option_map_or (λ text. entry_of index (decorated_name text) ∷ []) other [])
 names_of index name None = All-cons (IsOf index) (entry_of index name) [] refl (All-nil (IsOf index))
 names_of index name (Some text) =
     let second = entry_of index (decorated_name text) in

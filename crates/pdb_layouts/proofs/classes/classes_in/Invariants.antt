@@ -7,4 +7,5 @@ use Rattle.pdb_layouts.proofs.classes.classes_in.Given as goal
 
 abbrev pub invariant-loop-number : goal.invariant-loop-number
 invariant-loop-number l = IsSelected (IsClass l.types.table (option_map (λ signs. signs.now) l.pattern))
-    (range_with_len l.types.table.header.minimum_index (l.number - l.types.table.header.minimum_index)) (map (λ index. index.0) l.found.items)
+    (range_with_len l.types.table.header.minimum_index (l.number - l.types.table.header.minimum_index))
+    (map (λ index. index.0) l.found.items)

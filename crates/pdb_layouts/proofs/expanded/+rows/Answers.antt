@@ -2,7 +2,8 @@ use Rattle.std.proofs.Common.{◌∙◌, arith, inl, inr, refl}
 use Rattle.std.proofs.lemmas.Grind.{common_steps}
 use Rattle.std.proofs.lemmas.List.{take_more}
 use Rattle.std.proofs.lemmas.Result.{on_ok_weaker}
-use Rattle.pdb_layouts.proofs.ExpandedLemmas.{a_class, held, left_out, no_class, no_layout, no_type, none_expanded, none_shown}
+use Rattle.pdb_layouts.proofs.ExpandedLemmas.{a_class, held, left_out, no_class, no_layout, no_type, none_expanded}
+use Rattle.pdb_layouts.proofs.ExpandedLemmas.{none_shown}
 use Rattle.pdb_layouts.proofs.ExpandedLemmas.{spent_row, step_expanded, step_shown, within}
 use Rattle.pdb_layouts.proofs.expanded.+rows.Goals as goal
 
@@ -29,7 +30,8 @@ push_inner-returns-then-not-take-clause-follows t c =
 
 pub push_inner-returns-clause-rows : goal.push_inner-returns-clause-rows
 push_inner-returns-clause-rows t c =
-    on_ok_weaker _ (within _ _ _ _ _ _ _ _ _ c.take.ensures.asked (grind (arith, common_steps))) c.push_rows.ensures.rows
+    on_ok_weaker _ (within _ _ _ _ _ _ _ _ _ c.take.ensures.asked (grind (arith, common_steps)))
+    c.push_rows.ensures.rows
 
 pub push_inner-returns-clause-follows : goal.push_inner-returns-clause-follows
 push_inner-returns-clause-follows t c =

@@ -11,6 +11,7 @@ decreases-push_rows l = 2 * (256 - l.depth) + 1
 
 abbrev pub invariant-push_rows-loop-row : goal.invariant-push_rows-loop-row
 invariant-push_rows-loop-row l = (l.budget.asked ≡ l.fn.budget.asked)
-    × AreShown l.depth l.fn.budget.asked (take l.row-index l.rows) l.fn.budget.most l.budget.most l.fn.shown.items l.shown.items
-    × AreExpandedRows l.definitions l.fn.budget.asked l.depth l.start l.fn.budget.is_cut l.budget.is_cut (take l.row-index l.rows)
+    × AreShown l.depth l.fn.budget.asked (take l.row-index l.rows) l.fn.budget.most l.budget.most
     l.fn.shown.items l.shown.items
+    × AreExpandedRows l.definitions l.fn.budget.asked l.depth l.start l.fn.budget.is_cut l.budget.is_cut
+    (take l.row-index l.rows) l.fn.shown.items l.shown.items

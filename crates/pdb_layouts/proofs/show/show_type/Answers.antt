@@ -12,6 +12,7 @@ returns-then-not-is_wanted-clause-shown g c =
 
 pub returns-in-Err : goal.returns-in-Err
 returns-in-Err g c = record {
-  shown = type_refused _ _ _ _ _ _ _ _ _ _ _ c.in-Err.ensures.fields c.tell_fault.ensures.told c.tell_fault.ensures.other;
+  shown = type_refused _ _ _ _ _ _ _ _ _ _ _ c.in-Err.ensures.fields c.tell_fault.ensures.told
+      c.tell_fault.ensures.other;
   stopped = stopped_for_memory c.args.out.now _ c.tell_fault.ensures.memory;
 }
