@@ -6,6 +6,7 @@ from typing import NamedTuple
 
 from pdbtest import records
 from pdbtest.msf import DEBUG, EOF, IDS, INFORMATION, PAST_END, TYPES, Msf, Refused, word
+from pdbtest.relations import Relations, named_in, told
 from pdbtest.roles import NO_STREAM, role_numbers
 from pdbtest.tables import Leaf, item_places, kind_at, table_of
 
@@ -44,31 +45,9 @@ def code_of(part, index, why):
     return part + ("" if index is None else "-RECORD") + end
 
 
-def front(data, place, size):
-    """So many bytes from a place on, and the place behind them."""
-    if place + size > len(data):
-        raise Refused(EOF)
-    return data[place : place + size], place + size
-
-
 def names_number(stream):
     """The number of the first stream that stream 1 names /names, None if there is none."""
-    if len(stream) < 32:
-        raise Refused(EOF)
-    names, place = front(stream, 32, word(stream, 28))
-    count = word(stream, place)
-    place += 8
-    word(stream, place - 4)
-    for _ in range(2):
-        _, place = front(stream, place + 4, 4 * word(stream, place))
-    entries, place = front(stream, place, 8 * count)
-    found = []
-    for offset, number in struct.iter_unpack("<2I", entries):
-        end = names.find(b"\0", offset) if offset < len(names) else -1
-        if end < 0:
-            raise Refused(EOF)
-        if names[offset:end] == b"/names":
-            found.append(number)
+    found = [number for name, number in named_in(stream) if name == b"/names"]
     return found[0] if found and found[0] < NO_STREAM else None
 
 
@@ -154,15 +133,23 @@ class Reading:
             for part, (role, read) in IN_ROLES.items():
                 if role in numbers:
                     self.read_part(part, numbers[role], read)
+            for found in Relations(self, data).groups:
+                for part, code, stream, index, byte in told(found, is_every):
+                    self.faults.append(Fault(part, code, stream, index, byte, self.file_byte(stream, byte)))
+
+    def file_byte(self, stream, byte):
+        """Where in the file a byte of a stream is, None if there is no such byte."""
+        if byte is None:
+            return None
+        pages, size = self.msf.stream(stream)
+        if byte >= size:
+            return None
+        return pages[byte // self.msf.page_size] * self.msf.page_size + byte % self.msf.page_size
 
     def add(self, part, why, stream=None, index=None, byte=None):
-        """Adds what is wrong in a part, unless the part is done. Returns whether it is done now."""
-        file_byte = None
-        if byte is not None:
-            pages, size = self.msf.stream(stream)
-            if byte < size:
-                file_byte = pages[byte // self.msf.page_size] * self.msf.page_size + byte % self.msf.page_size
-        self.faults.append(Fault(part, code_of(part, index, why), stream, index, byte, file_byte))
+        """Adds what is wrong in a part. Returns whether no more of it is told."""
+        code = code_of(part, index, why)
+        self.faults.append(Fault(part, code, stream, index, byte, self.file_byte(stream, byte)))
         return not self.is_every
 
     def open(self, data):

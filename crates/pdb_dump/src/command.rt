@@ -1,9 +1,9 @@
 //! The commands of the program and their arguments.
 
+use pdb_consistency::Extent;
 use pdb_layouts::Options;
 use pdb_mapping::MapStreams;
 use pdb_summary::KeyStyle;
-use pdb_consistency::Extent;
 
 /// The name of a command.
 #[derive(Clone, Copy, Debug, PartialEq, Eq)]

@@ -19,7 +19,9 @@ mod validated;
 mod words;
 
 pub use asking::serve_questions;
-pub use command::{Call, Command, Extract, Identify, Layouts, Misuse, Task, Validate, ValidateOptions, Verb};
+pub use command::{
+    Call, Command, Extract, Identify, Layouts, Misuse, Task, Validate, ValidateOptions, Verb,
+};
 pub use extracted::serve_extract;
 pub use id_words::identify_of;
 pub use identified::serve_id;

@@ -1,7 +1,9 @@
 //! The program on the channels of its process.
 
 use crate::asking::serve_questions;
-use crate::command::{Call, Command, Extract, Identify, Layouts, Misuse, Task, Validate, ValidateOptions, Verb};
+use crate::command::{
+    Call, Command, Extract, Identify, Layouts, Misuse, Task, Validate, ValidateOptions, Verb,
+};
 use crate::extracted::serve_extract;
 use crate::help::{HELP, meaning_of, usage_of};
 use crate::id_words::{WordsApart, identify_of, words_apart};
@@ -164,9 +166,7 @@ fn validate_file<P: Files + Input + Print + Eprint + AllocGlobal>(
         return serve_validate(alloc, options, form, path, &mut input, &mut out, &mut err);
     }
     match fs::open(process, path) {
-        Ok(mut input) => serve_validate(
-            alloc, options, form, path, &mut input, &mut out, &mut err,
-        ),
+        Ok(mut input) => serve_validate(alloc, options, form, path, &mut input, &mut out, &mut err),
         Err(fault) => tell(alloc, &Error::from(fault), &mut err),
     }
 }

@@ -1,0 +1,340 @@
+"""The reader of relations: from the format's rules, what is inconsistent between the parts of a file that can be read."""
+
+import struct
+
+from pdbtest import records
+from pdbtest.msf import DEBUG, EOF, IDS, INFORMATION, TYPES, Refused, word
+from pdbtest.roles import NO_STREAM, ROLES, role_numbers
+from pdbtest.tables import Leaf, item_places, kind_at, table_of
+
+NO_TYPE = (0, 0xFFFF)  # indexes that stand for no type, where a record may lack one
+NO_END = 0xFFFFFFFF  # the end of the types where there is no table of them
+
+# Where the indexes stand to which a record of a kind refers: of types, and those that may be none.
+REFERENCES = {
+    **dict.fromkeys([0x1504, 0x1004, 0x1505, 0x1005, 0x1519, 0x1609], ([], [6, 10, 14])),
+    **dict.fromkeys([0x1506, 0x1006], ([6], [])),
+    **dict.fromkeys([0x1507, 0x1007], ([6, 10], [])),
+    **dict.fromkeys([0x1503, 0x1003, 0x1516], ([2, 6], [])),
+    **dict.fromkeys([0x150D, 0x1405, 0x150E, 0x1406, 0x1510, 0x1408, 0x1512, 0x140D, 0x150F, 0x1407], ([4], [])),
+    **dict.fromkeys([0x1511, 0x140B, 0x1400, 0x151A, 0x1409], ([4], [])),
+    **dict.fromkeys([0x1401, 0x1402], ([4, 8], [])),
+    Leaf.LF_POINTER: ([2], []),
+    Leaf.LF_PROCEDURE: ([10], [2]),
+    Leaf.LF_MFUNCTION: ([2, 6, 18], [10]),
+    Leaf.LF_MODIFIER: ([2], []),
+    Leaf.LF_BITFIELD: ([2], []),
+}
+INTRO, PURE_INTRO = 4, 6  # properties of a method that has an offset
+
+
+def listed(record, begin):
+    """The indexes of a list of four bytes each, which begins at a place."""
+    return [word(record, at) for at in range(begin, len(record) - 3, 4)]
+
+
+def of_record(record):
+    """The indexes to which a record refers, or a field that is no list."""
+    kind = kind_at(record, 0)
+    sure, maybe = REFERENCES.get(kind, ([], []))
+    found = [word(record, at) for at in sure]
+    found += [index for index in (word(record, at) for at in maybe) if index not in NO_TYPE]
+    if kind == Leaf.LF_POINTER and word(record, 6) >> 5 & 7 in (2, 3):
+        found.append(word(record, 10))
+    return found
+
+
+def of_fields(record):
+    """The indexes to which a list of fields refers."""
+    cursor, found = records.Cursor(record), []
+    while cursor.at < len(record):
+        start = cursor.at
+        cursor.leaf = cursor.number(2)
+        if cursor.leaf == Leaf.LF_INDEX:
+            cursor.skip(2)
+            found.append(cursor.number(4))
+        else:
+            cursor.read(records.TYPES[cursor.leaf])
+            found += of_record(record[start : cursor.at])
+        cursor.padding()
+    return found
+
+
+def of_methods(record):
+    """The types of the methods of a list."""
+    at, found = 2, []
+    while at < len(record):
+        found.append(word(record, at + 4))
+        at += 12 if record[at] >> 2 & 7 in (INTRO, PURE_INTRO) else 8
+    return found
+
+
+def of_type(record):
+    """The indexes to which the record of a type refers."""
+    kind = kind_at(record, 0)
+    if kind == Leaf.LF_FIELDLIST:
+        return of_fields(record)
+    if kind == Leaf.LF_METHODLIST:
+        return of_methods(record)
+    if kind == Leaf.LF_ARGLIST:
+        return listed(record, 6)[: word(record, 2)]
+    return of_record(record)
+
+
+def of_id(record):
+    """The ids and the types to which the record of an id refers."""
+    kind = kind_at(record, 0)
+    if kind == Leaf.LF_FUNC_ID:
+        return [word(record, 2)], [word(record, 6)]
+    if kind == Leaf.LF_MFUNC_ID:
+        return [], [word(record, 2), word(record, 6)]
+    if kind == Leaf.LF_BUILDINFO:
+        return listed(record, 4)[: kind_at(record, 2)], []
+    if kind == Leaf.LF_SUBSTR_LIST:
+        return listed(record, 6)[: word(record, 2)], []
+    if kind == Leaf.LF_STRING_ID:
+        return [word(record, 2)], []
+    return ([word(record, 6)] if kind == Leaf.LF_UDT_SRC_LINE else []), [word(record, 2)]
+
+
+# What files of known tools have, too.
+WARNINGS = {"PAGE-FREE", "RECORD-UNALIGNED", "KIND-NOT-READ"}
+
+
+def told(found, is_every):
+    """What is told of what was found of one kind: everything; or the first error, or where there is none the first
+    warning."""
+    return found if is_every else sorted(found, key=lambda it: it[1] in WARNINGS)[:1]
+
+
+class Relations:
+    """What is inconsistent in a file whose parts were read: lists of the part, the code, the stream, the index and the
+    byte."""
+
+    def __init__(self, reading, data):
+        self.data, self.msf, self.streams, self.sizes = data, reading.msf, reading.streams, reading.sizes
+        self.count = reading.count if reading.sizes or reading.count < NO_STREAM else 0
+        self.groups = []
+        self.check_pages()
+        self.check_types()
+        self.check_hashes("TYPES", TYPES)
+        self.check_ids()
+        self.check_hashes("IDS", IDS)
+        self.check_names()
+        self.check_roles()
+
+    def begin(self):
+        """Begins another list."""
+        self.groups.append([])
+
+    def add(self, part, code, stream=None, index=None, byte=None):
+        """Adds to the last list."""
+        self.groups[-1].append((part, code, stream, index, byte))
+
+    def owners(self):
+        """Each page of the container and of the streams, with its stream and the byte with which it begins."""
+        yield from ((page, None, None) for page in self.msf.location)
+        yield from ((page, None, None) for page in self.msf.directory_pages)
+        for number in range(self.count):
+            try:
+                pages, _ = self.msf.stream(number)
+            except Refused:
+                continue
+            yield from ((page, number, place * self.msf.page_size) for place, page in enumerate(pages))
+
+    def is_free(self, page):
+        """Whether the map of free pages that is in use has the bit of a page set."""
+        active, size = word(self.data, 36), self.msf.page_size
+        at = (active + page // 8 // size * size) * size + page // 8 % size
+        return active in (1, 2) and at < len(self.data) and self.data[at] >> page % 8 & 1
+
+    def check_pages(self):
+        """Each page has one owner, and none of a stream is free."""
+        self.begin()
+        size, seen, owners = self.msf.page_size, set(), list(self.owners())
+        for page, stream, byte in owners:
+            is_reserved = page == 0 or page % size in (1, 2)
+            if page < -(-len(self.data) // size) and (is_reserved or page in seen):
+                self.add("STREAM", "PAGE-SHARED", stream, None, byte)
+            seen.add(page)
+        for page, stream, byte in owners:
+            if stream and self.is_free(page):
+                self.add("STREAM", "PAGE-FREE", stream, None, byte)
+
+    def table(self, number):
+        """The bytes of a table, and where its items begin and its indexes begin and end."""
+        stream = self.streams.get(number)
+        try:
+            return (stream, *table_of(stream)) if stream else None
+        except Refused:
+            return None
+
+    def check_items(self, part, number, wrong):
+        """The references, the kind and the size of each record of a table."""
+        self.begin()
+        table = self.table(number)
+        if not table:
+            return
+        stream, begin, index, _ = table
+        try:
+            for start, end in item_places(stream, begin):
+                if code := wrong(index, stream[start:end]):
+                    self.add(part, code, number, index, start - 2)
+                if (end - start + 2) % 4:
+                    self.add(part, "RECORD-UNALIGNED", number, index, start - 2)
+                if index == 0xFFFFFFFF:
+                    return
+                index += 1
+        except Refused:
+            pass
+
+    def check_types(self):
+        def wrong(index, record):
+            kind = kind_at(record, 0)
+            if kind != Leaf.LF_FIELDLIST and kind not in records.TYPES:
+                return "KIND-NOT-READ"
+            is_read = records.type_fault(record)[0] is None
+            return "REFERENCE-NOT-BELOW" if is_read and any(it >= index for it in of_type(record)) else None
+
+        self.check_items("TYPES", TYPES, wrong)
+
+    def check_ids(self):
+        types = self.table(TYPES)
+        empty = 0 if self.streams.get(TYPES) == b"" else NO_END
+        end = types[3] if types else empty
+
+        def wrong(index, record):
+            if kind_at(record, 0) not in records.IDS:
+                return "KIND-NOT-READ"
+            if records.id_fault(record) is not None:
+                return None
+            ids, named = of_id(record)
+            is_wrong = any(it >= index for it in ids) or any(it >= end for it in named)
+            return "REFERENCE-NOT-BELOW" if is_wrong else None
+
+        self.check_items("IDS", IDS, wrong)
+
+    def check_hashes(self, part, number):
+        """The hash values of a table, and the places of its records."""
+        self.begin()
+        table = self.table(number)
+        if not table:
+            return
+        stream, begin, minimum, maximum = table
+        hashed = kind_at(stream, 20)
+        hashes = self.streams.get(hashed) if hashed != NO_STREAM else None
+        if hashes is None:
+            return
+        buckets, at, size, place, length = *struct.unpack_from("<IiI", stream, 28), *struct.unpack_from("<iI", stream, 40)
+        values, offsets = (hashes[one : one + many] if one >= 0 else b"" for one, many in ((at, size), (place, length)))
+        if len(values) != 4 * (maximum - minimum):
+            self.add(part, "HASH-COUNT", hashed)
+        for n in range(len(values) // 4):
+            if word(values, 4 * n) >= buckets:
+                self.add(part, "HASH-TOO-LARGE", hashed, minimum + n, max(at, 0) + 4 * n)
+        starts = {}
+        if len(offsets) >= 8:
+            try:
+                for index, (start, _) in zip(range(minimum, maximum), item_places(stream, begin)):
+                    starts[index] = start
+            except Refused:
+                pass
+        for n in range(len(offsets) // 8):
+            index, offset = struct.unpack_from("<2I", offsets, 8 * n)
+            if starts.get(index) != begin + offset + 2:
+                self.add(part, "INDEX-OFFSET", hashed, index, max(place, 0) + 8 * n)
+
+    def is_missing(self, number):
+        """Whether the file has no stream of a number."""
+        return number >= self.msf.count or number < len(self.sizes) and self.sizes[number] is None
+
+    def check_names(self):
+        """The streams that have names, and the buckets of the string table."""
+        self.begin()
+        stream = self.streams.get(INFORMATION)
+        if stream is None:
+            return
+        try:
+            named = named_in(stream)
+        except Refused:
+            return
+        for _, number in named:
+            if number < NO_STREAM and self.is_missing(number):
+                self.add("NAMES", "STREAM-MISSING", INFORMATION)
+        self.begin()
+        tables = [number for name, number in named if name == b"/names"]
+        if tables and tables[0] < NO_STREAM and self.streams.get(tables[0]) is not None:
+            self.check_buckets(tables[0], self.streams[tables[0]])
+
+    def check_buckets(self, number, stream):
+        """The offsets in the buckets of a string table, and their number."""
+
+        def at(place):
+            return int.from_bytes(stream[place : place + 4], "little")
+
+        size = at(8)
+        first, count = 16 + size, at(12 + size)
+        if first + 4 * count + 4 > len(stream):
+            self.add("STRING-TABLE", "BUCKETS-CUT", number, None, len(stream))
+            return
+        buckets = struct.unpack_from(f"<{count}I", stream, first)
+        for place, offset in enumerate(buckets):
+            if offset and not (offset < size and not stream[11 + offset]):
+                self.add("STRING-TABLE", "NAME-OFFSET", number, None, first + 4 * place)
+        if at(first + 4 * count) != sum(map(bool, buckets)):
+            self.add("STRING-TABLE", "NAME-COUNT", number, None, first + 4 * count)
+
+    def check_roles(self):
+        """The sizes in stream 3, the streams with a role, and the order of the sections."""
+        self.begin()
+        debug = self.streams.get(DEBUG)
+        if not debug or len(debug) < 64 or word(debug, 0) != 0xFFFFFFFF:
+            return
+        if 64 + sum(struct.unpack_from("<5I", debug, 24)) + sum(struct.unpack_from("<2I", debug, 48)) != len(debug):
+            self.add("ROLES", "DEBUG-SIZES", DEBUG)
+        try:
+            roles = role_numbers(debug)
+        except Refused:
+            return
+        self.begin()
+        numbers = [kind_at(debug, at) for at in (12, 16, 20)] + [roles.get(role, NO_STREAM) for role in ROLES]
+        for number in numbers:
+            if number != NO_STREAM and self.is_missing(number):
+                self.add("ROLES", "STREAM-MISSING", DEBUG)
+        for part in ("SECTION-HEADERS", "ORIGINAL-SECTION-HEADERS"):
+            number = roles.get(part.lower().replace("-", "_"))
+            sections = self.streams.get(number)
+            if sections is not None and len(sections) % 40 == 0:
+                self.check_sections(part, number, sections)
+
+    def check_sections(self, part, number, sections):
+        """Sections in increasing order, none of which begins below the end of the one before it."""
+        self.begin()
+        least = 0
+        for place, at in enumerate(range(0, len(sections), 40)):
+            size, address = struct.unpack_from("<2I", sections, at + 8)
+            if address < least:
+                self.add(part, "SECTIONS-OVERLAP", number, place)
+            least = address + size
+
+
+def named_in(stream):
+    """The names that stream 1 lists, each with the number of its stream."""
+    if len(stream) < 32:
+        raise Refused(EOF)
+    size = word(stream, 28)
+    place = 32 + size
+    count = word(stream, place)
+    word(stream, place + 4)
+    place += 8
+    for _ in range(2):
+        place += 4 + 4 * word(stream, place)
+    if place + 8 * count > len(stream):
+        raise Refused(EOF)
+    names, found = stream[32 : 32 + size], []
+    for offset, number in struct.iter_unpack("<2I", stream[place : place + 8 * count]):
+        end = names.find(b"\0", offset) if offset < len(names) else -1
+        if end < 0:
+            raise Refused(EOF)
+        found.append((names[offset:end], number))
+    return found
