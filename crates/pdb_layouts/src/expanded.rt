@@ -44,7 +44,7 @@ pub(crate) struct Expansion<'t> {
     /// Its fields and gaps, and behind each field those of its class.
     pub(crate) rows: Vec<ShownRow<'t>>,
 
-    /// Whether a class within was left out that is not deeper than was asked.
+    /// Whether a class within was left out that is not deeper than the depth that was given.
     pub(crate) is_cut: bool,
 }
 
@@ -62,7 +62,7 @@ struct Budget {
 }
 
 impl Budget {
-    /// Returns whether a class within a row that is so deep is left out, whatever it is, since
+    /// Returns whether a class within a field that is so deep is left out, whatever it is, since
     /// another one was already.
     fn is_spent(&self, depth: u32) -> bool
         ensures { IsTrue result → self.now.is_cut ≡ true }
@@ -70,7 +70,7 @@ impl Budget {
         self.is_cut && (self.most == 0 || depth >= MOST_DEPTH)
     }
 
-    /// Takes the fields and gaps of a class within a row that is so deep from those that may yet be
+    /// Takes the fields and gaps of a class within a field that is so deep from those that may yet be
     /// shown, and returns whether it is shown. If there aren't as many, none may be shown any more.
     fn take(&mut self, depth: u32, count: usize, records: usize) -> bool
         ensures asked { self.new.asked ≡ self.old.asked }
@@ -106,7 +106,7 @@ fn inner_type(row: &LayoutRow<'_>) -> Option<TypeIndex>
     }
 }
 
-/// Returns where the class within a row begins, in bytes from the start of the class that is shown.
+/// Returns where the class within a field begins, in bytes from the start of the class that is shown.
 fn inner_start(start: u64, row: &LayoutRow<'_>) -> u64
     ensures { result ≡ inner_start start row.now }
 {

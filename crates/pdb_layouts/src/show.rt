@@ -311,7 +311,8 @@ fn ranks_of<'t>(
     indexes: &[TypeIndex],
     order: Order,
 ) -> Result<Vec<Rank<'t>>>
-    ensures indexes { IfOk result (λ ranks. map (λ rank. rank.index.0) ranks.items ≡ map (λ index. index.0) indexes.now) }
+    ensures indexes { IfOk result
+        (λ ranks. map (λ rank. rank.index.0) ranks.items ≡ map (λ index. index.0) indexes.now) }
     ensures memory { FailsOnlyForMemory result }
 {
     let mut ranks = Vec::new(alloc);
@@ -429,7 +430,7 @@ fn first_types(alloc: Global, types: &OpenTable<TypeIndex>, has_all: bool) -> Re
     }
 }
 
-/// Shows the types of a table that are asked for, and returns whether each name was found and no
+/// Shows the types of a table that are wanted, and returns whether each name was found and no
 /// class had an error.
 fn show_asked<O: Write, E: Write>(
     alloc: Global,

@@ -100,7 +100,8 @@ fn check_named(
     file: &[u8],
     stream: Stream,
 ) -> Result<Option<Finding>>
-    ensures { Answers (option_map finding_view) result (Ok (named_fault layout.now file.now (string_table_number stream))) }
+    ensures { Answers (option_map finding_view) result
+        (Ok (named_fault layout.now file.now (string_table_number stream))) }
 {
     match string_table_number(alloc, stream) {
         Ok(Some(number)) => check_string_table(alloc, layout, file, number),
