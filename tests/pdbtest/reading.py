@@ -85,7 +85,7 @@ def read_omap(stream):
 def read_frames(stream, size):
     """Frames of a size each, whose addresses increase."""
     if len(stream) % size:
-        raise Refused(EOF)
+        raise Refused("a stream with an invalid length")
     starts = [int.from_bytes(stream[at : at + 4], "little") for at in range(0, len(stream), size)]
     if any(one >= next_one for one, next_one in zip(starts, starts[1:])):
         raise Refused(OUT_OF_ORDER)

@@ -1,4 +1,4 @@
-"""The reader of relations: from the format's rules, what is inconsistent between the parts of a file that can be read."""
+"""The reader of relations: from the format's rules, what does not agree between the parts of a file."""
 
 import struct
 
