@@ -1,28 +1,44 @@
 //! Types by their index: those below 0x1000 have no record.
 
-use super::read::{is_said_at, is_value_copied};
-use pdb_base::{Result, TypeIndex};
-use pdb_values::{TypeData, type_data_for_primitive};
+use super::read::{Says, is_read_at, is_refused_at, is_value_copied};
+use pdb_base::{Error, Result, TypeIndex};
+use pdb_values::{
+    BitfieldType, Indirection, PrimitiveKind, PrimitiveType, TypeData, type_data_for_primitive,
+};
 use std::alloc::Global;
 use std::test::Fail;
 
-/// An index, and what its type is, or the text of its error.
-const ROWS: &[(u32, &str)] = &[
-    (
-        0x74,
-        "Primitive(PrimitiveType { kind: I32, indirection: None })",
-    ),
-    (
-        0x674,
-        "Primitive(PrimitiveType { kind: I32, indirection: Some(Near64) })",
-    ),
-    (0x874, "Type 2164 not found"),
-    (0x01, "Type 1 not found"),
-    (
-        0x1000,
-        "Bitfield(BitfieldType { underlying_type: TypeIndex(0x75), length: 3, position: 2 })",
-    ),
+/// A primitive type of 32 bits with a sign, or a pointer to one; or the bit field of the record.
+enum Said {
+    Primitive(Option<Indirection>),
+    Bitfield,
+}
+
+impl Says for Said {
+    fn value<'t>(&self, _alloc: Global) -> Result<TypeData<'t>> {
+        match self {
+            Said::Primitive(indirection) => Ok(TypeData::Primitive(PrimitiveType {
+                kind: PrimitiveKind::I32,
+                indirection: *indirection,
+            })),
+            Said::Bitfield => Ok(TypeData::Bitfield(BitfieldType {
+                underlying_type: TypeIndex(0x75),
+                length: 3,
+                position: 2,
+            })),
+        }
+    }
+}
+
+/// An index, and what its type is.
+const ROWS: &[(u32, Said)] = &[
+    (0x74, Said::Primitive(None)),
+    (0x674, Said::Primitive(Some(Indirection::Near64))),
+    (0x1000, Said::Bitfield),
 ];
+
+/// Indexes without a type.
+const UNKNOWN: &[u32] = &[0x874, 0x01];
 
 /// The record of a bit field.
 const RECORD: &[u8] = b"\x05\x12\x75\x00\x00\x00\x03\x02";
@@ -42,9 +58,14 @@ fn is_primitive_copied(alloc: Global) -> Result<bool> {
 
 #[test]
 fn types_by_index(rt: HostRuntime) -> std::result::Result<(), Fail> {
-    for (index, want) in ROWS {
-        assert!(rt; is_said_at(rt.alloc(), RECORD, *index, want)?, "{index:x}");
+    let alloc = rt.alloc();
+    for (index, said) in ROWS {
+        assert!(rt; is_read_at(alloc, RECORD, *index, said)?, "{index:x}");
     }
-    assert!(rt; is_primitive_copied(rt.alloc())?);
+    for index in UNKNOWN {
+        let want = Error::TypeNotFound(*index);
+        assert!(rt; is_refused_at(alloc, RECORD, *index, &want)?, "{index:x}");
+    }
+    assert!(rt; is_primitive_copied(alloc)?);
     Ok(())
 }

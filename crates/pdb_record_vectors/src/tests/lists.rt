@@ -1,9 +1,16 @@
 //! Records with a list: arrays, arguments, methods and fields.
 
-use super::read::{ends_soon, is_said, is_said_with, is_value_copied, text_of};
-use pdb_base::{ParseBuffer, Result, TypeIndex};
+use super::read::{
+    Says, ends_soon, is_parsed, is_read, is_read_with, is_refused_with, is_value_copied,
+};
+use pdb_base::{Error, ParseBuffer, RawString, Result, TypeIndex, Variant};
+use pdb_flags::FieldAttributes;
 use pdb_records::{parse_type_data, skip_arguments, skip_field_list};
-use pdb_values::TypeData;
+use pdb_values::{
+    ArgumentList, ArrayType, BaseClassType, ClassKind, EnumerateType, FieldList, MemberType,
+    MethodList, MethodListEntry, NestedType, TypeData, VirtualFunctionTablePointerType,
+    VirtualTableShapeType,
+};
 use std::alloc::Global;
 use std::test::Fail;
 
@@ -23,8 +30,45 @@ enum Also {
     GoesOn(Option<TypeIndex>),
 }
 
-/// The bytes of a record, what they say as `Debug` writes it, and what else holds of them.
-type Row = (&'static [u8], &'static str, Also);
+/// A method: its attributes, its type, and its offset in the table of virtual functions.
+type Method = (u16, u32, Option<u32>);
+
+/// A type that is no list of fields.
+enum Field {
+    /// An array: the type of an element, the stride and the dimensions.
+    Array(u32, Option<u32>, &'static [u32]),
+
+    /// A list of arguments.
+    Arguments(&'static [TypeIndex]),
+
+    /// A list of methods.
+    Methods(&'static [Method]),
+
+    /// A value of an enumeration, and its name.
+    Enumerate(Variant, &'static str),
+
+    /// A shape of a table of virtual functions: its count, and the bytes of its descriptors.
+    TableShape(u16, &'static [u8]),
+
+    /// The first four members of the class: a base class, the pointer to a table of virtual functions, a
+    /// data member and a nested type.
+    Base,
+    TablePointer,
+    Member,
+    Nested,
+}
+
+/// What a record says.
+enum Said {
+    /// A type that is no list of fields.
+    One(Field),
+
+    /// A list of fields, and the list that it goes on in.
+    Fields(&'static [Field], Option<TypeIndex>),
+}
+
+/// The bytes of a record, what they say, and what else holds of them.
+type Row = (&'static [u8], Said, Also);
 
 /// The bytes of a list of a class's members, each of another kind and padded or not: a base class,
 /// a table pointer, a data member, a nested type and the value of an enumeration.
@@ -39,17 +83,17 @@ const ROWS: &[Row] = &[
     // Arrays with padding, of the dimensions 0x40, 0x250 and 0xdabd.
     (
         b"\x03\x15\xa0\xdc\x0b\x00\x23\x00\x00\x00\x40\x00\x00\xf1",
-        "Array(ArrayType { element_type: TypeIndex(0xbdca0), indexing_type: TypeIndex(0x23), stride: None, dimensions: [64] })",
+        Said::One(Field::Array(0xbdca0, None, &[0x40])),
         Also::Nothing,
     ),
     (
         b"\x03\x15\xa9\x12\x00\x00\x23\x00\x00\x00\x50\x02\x00\xf1",
-        "Array(ArrayType { element_type: TypeIndex(0x12a9), indexing_type: TypeIndex(0x23), stride: None, dimensions: [592] })",
+        Said::One(Field::Array(0x12a9, None, &[0x250])),
         Also::Nothing,
     ),
     (
         b"\x03\x15\x77\x13\x00\x00\x23\x00\x00\x00\x02\x80\xbd\xda\x00\xf3\xf2\xf1",
-        "Array(ArrayType { element_type: TypeIndex(0x1377), indexing_type: TypeIndex(0x23), stride: None, dimensions: [55997] })",
+        Said::One(Field::Array(0x1377, None, &[0xdabd])),
         Also::Nothing,
     ),
 
@@ -57,149 +101,249 @@ const ROWS: &[Row] = &[
     // dimension 0xffff_ffff, and of three dimensions.
     (
         b"\x03\x15\x77\x13\x00\x00\x23\x00\x00\x00\x02\x80\xbd\xda\x00",
-        "Array(ArrayType { element_type: TypeIndex(0x1377), indexing_type: TypeIndex(0x23), stride: None, dimensions: [55997] })",
+        Said::One(Field::Array(0x1377, None, &[0xdabd])),
         Also::Padded,
     ),
     (
         b"\x03\x10\x77\x13\x00\x00\x23\x00\x00\x00\x40\x00\x00",
-        "Array(ArrayType { element_type: TypeIndex(0x1377), indexing_type: TypeIndex(0x23), stride: None, dimensions: [64] })",
+        Said::One(Field::Array(0x1377, None, &[0x40])),
         Also::Padded,
     ),
     (
         b"\x16\x15\x77\x13\x00\x00\x23\x00\x00\x00\x18\x01\x00\x00\x40\x00\x00",
-        "Array(ArrayType { element_type: TypeIndex(0x1377), indexing_type: TypeIndex(0x23), stride: Some(280), dimensions: [64] })",
+        Said::One(Field::Array(0x1377, Some(0x118), &[0x40])),
         Also::Padded,
     ),
     (
         b"\x03\x15\x77\x13\x00\x00\x23\x00\x00\x00\x04\x80\xff\xff\xff\xff\x00",
-        "Array(ArrayType { element_type: TypeIndex(0x1377), indexing_type: TypeIndex(0x23), stride: None, dimensions: [4294967295] })",
+        Said::One(Field::Array(0x1377, None, &[0xffffffff])),
         Also::Padded,
     ),
     (
         b"\x03\x15\x77\x13\x00\x00\x23\x00\x00\x00\x00\x01\x0a\x80\x03\x00\x00\x00\x00\x00\x00\x00\x02\x00\x00",
-        "Array(ArrayType { element_type: TypeIndex(0x1377), indexing_type: TypeIndex(0x23), stride: None, dimensions: [256, 3, 2] })",
+        Said::One(Field::Array(0x1377, None, &[0x100, 0x3, 0x2])),
         Also::Padded,
     ),
 
     // Lists of arguments, the last two with a byte behind them.
     (
         b"\x01\x12\x00\x00\x00\x00",
-        "ArgumentList(ArgumentList { arguments: [] })",
+        Said::One(Field::Arguments(&[])),
         Also::Nothing,
     ),
     (
         b"\x01\x12\x01\x00\x00\x00\x74\x00\x00\x00",
-        "ArgumentList(ArgumentList { arguments: [TypeIndex(0x74)] })",
+        Said::One(Field::Arguments(&[TypeIndex(0x74)])),
         Also::Nothing,
     ),
     (
         b"\x01\x12\x02\x00\x00\x00\x2e\x10\x00\x00\x2f\x10\x00\x00\x41",
-        "ArgumentList(ArgumentList { arguments: [TypeIndex(0x102e), TypeIndex(0x102f)] })",
+        Said::One(Field::Arguments(&[TypeIndex(0x102e), TypeIndex(0x102f)])),
         Also::Nothing,
     ),
     (
         b"\x01\x12\x02\x00\x00\x00\x74\x00\x00\x00\x75\x00\x00\x00\x41",
-        "ArgumentList(ArgumentList { arguments: [TypeIndex(0x74), TypeIndex(0x75)] })",
+        Said::One(Field::Arguments(&[TypeIndex(0x74), TypeIndex(0x75)])),
         Also::Left(1),
     ),
 
-    // Lists of no method, of one that introduces a place in the table of virtual functions, and of
-    // that one and one that is not virtual.
-    (
-        b"\x06\x12",
-        "MethodList(MethodList { methods: [] })",
-        Also::Nothing,
-    ),
+    // Lists of no method, of one that introduces a place in the table of virtual functions, and of that one
+    // and one that is not virtual.
+    (b"\x06\x12", Said::One(Field::Methods(&[])), Also::Nothing),
     (
         b"\x06\x12\x13\x00\xcd\xab\x30\x10\x00\x00\x18\x01\x00\x00",
-        "MethodList(MethodList { methods: [MethodListEntry { attributes: FieldAttributes(19), method_type: TypeIndex(0x1030), vtable_offset: Some(280) }] })",
+        Said::One(Field::Methods(&[(0x13, 0x1030, Some(0x118))])),
         Also::Nothing,
     ),
     (
         b"\x06\x12\x13\x00\xcd\xab\x30\x10\x00\x00\x18\x01\x00\x00\x03\x00\xff\xff\x31\x10\x00\x00",
-        "MethodList(MethodList { methods: [MethodListEntry { attributes: FieldAttributes(19), method_type: TypeIndex(0x1030), vtable_offset: Some(280) }, \
-         MethodListEntry { attributes: FieldAttributes(3), method_type: TypeIndex(0x1031), vtable_offset: None }] })",
+        Said::One(Field::Methods(&[(0x13, 0x1030, Some(0x118)), (0x3, 0x1031, None)])),
         Also::Nothing,
     ),
 
     // Lists of fields.
-    (
-        b"\x03\x12",
-        "FieldList(FieldList { fields: [], continuation: None })",
-        Also::GoesOn(None),
-    ),
+    (b"\x03\x12", Said::Fields(&[], None), Also::GoesOn(None)),
     (
         b"\x03\x12\x04\x14\x00\x00\x34\x12\x00\x00",
-        "FieldList(FieldList { fields: [], continuation: Some(TypeIndex(0x1234)) })",
+        Said::Fields(&[], Some(TypeIndex(0x1234))),
         Also::GoesOn(Some(TypeIndex(0x1234))),
     ),
     (
         b"\x03\x12\x04\x14\xcd\xab\x34\x12\x00\x00",
-        "FieldList(FieldList { fields: [], continuation: Some(TypeIndex(0x1234)) })",
+        Said::Fields(&[], Some(TypeIndex(0x1234))),
         Also::GoesOn(Some(TypeIndex(0x1234))),
     ),
     (
         b"\x03\x12\x0a\x00\x03\x00\x55\x05\xf2\xf1\x04\x14\x00\x00\x34\x12\x00\x00\x0a\x00\x00\x00",
-        "FieldList(FieldList { fields: [VirtualTableShape(VirtualTableShapeType { count: 3, descriptors: [85, 5] }), \
-         VirtualTableShape(VirtualTableShapeType { count: 0, descriptors: [] })], \
-         continuation: Some(TypeIndex(0x1234)) })",
+        Said::Fields(
+            &[Field::TableShape(3, b"\x55\x05"), Field::TableShape(0, b"")],
+            Some(TypeIndex(0x1234)),
+        ),
         Also::GoesOn(Some(TypeIndex(0x1234))),
     ),
     (
         CONTINUED,
-        "FieldList(FieldList { fields: [Enumerate(EnumerateType { attributes: FieldAttributes(3), value: U16(0), name: RawString([65]) })], \
-         continuation: Some(TypeIndex(0x1000)) })",
+        Said::Fields(
+            &[Field::Enumerate(Variant::U16(0), "A")],
+            Some(TypeIndex(0x1000)),
+        ),
         Also::GoesOn(Some(TypeIndex(0x1000))),
     ),
     (
         MEMBERS,
-        "FieldList(FieldList { fields: [BaseClass(BaseClassType { kind: Class, attributes: FieldAttributes(258), base_class: TypeIndex(0x1027), offset: 4 }), \
-         VirtualFunctionTablePointer(VirtualFunctionTablePointerType { table: TypeIndex(0x102a) }), \
-         Member(MemberType { attributes: FieldAttributes(258), field_type: TypeIndex(0x74), offset: 8, name: RawString([109]) }), \
-         Nested(NestedType { attributes: FieldAttributes(0), nested_type: TypeIndex(0x102b), name: RawString([78]) }), \
-         Enumerate(EnumerateType { attributes: FieldAttributes(3), value: U8(5), name: RawString([65]) })], \
-         continuation: None })",
+        Said::Fields(
+            &[
+                Field::Base,
+                Field::TablePointer,
+                Field::Member,
+                Field::Nested,
+                Field::Enumerate(Variant::U8(5), "A"),
+            ],
+            None,
+        ),
         Also::GoesOn(None),
     ),
     (
         b"\x03\x12\x02\x15\x03\x00\x00\x00A\x00\x02\x15\x03\x00\x01\x80\xff\xffB\x00\xf2\xf1",
-        "FieldList(FieldList { fields: [Enumerate(EnumerateType { attributes: FieldAttributes(3), value: U16(0), name: RawString([65]) }), \
-         Enumerate(EnumerateType { attributes: FieldAttributes(3), value: I16(-1), name: RawString([66]) })], \
-         continuation: None })",
+        Said::Fields(
+            &[
+                Field::Enumerate(Variant::U16(0), "A"),
+                Field::Enumerate(Variant::I16(-1), "B"),
+            ],
+            None,
+        ),
         Also::GoesOn(None),
     ),
     (
         b"\x03\x12\x04\x14\xff\xff\x35\x12\x00\x00\xf1\x02\x15\x03\x00\x05\x00A\x00\x04\x14\x00\x00\x34\x12\x00\x00\xf2\xf1",
-        "FieldList(FieldList { fields: [Enumerate(EnumerateType { attributes: FieldAttributes(3), value: U16(5), name: RawString([65]) })], \
-         continuation: Some(TypeIndex(0x1234)) })",
+        Said::Fields(
+            &[Field::Enumerate(Variant::U16(5), "A")],
+            Some(TypeIndex(0x1234)),
+        ),
         Also::GoesOn(Some(TypeIndex(0x1234))),
     ),
     (
         b"\x03\x12\x06\x12",
-        "FieldList(FieldList { fields: [MethodList(MethodList { methods: [] })], continuation: None })",
+        Said::Fields(&[Field::Methods(&[])], None),
         Also::GoesOn(None),
     ),
     (
         b"\x03\x12\x06\x12\x13\x00\xcd\xab\x30\x10\x00\x00\x18\x01\x00\x00\x03\x00\xff\xff\x31\x10\x00\x00",
-        "FieldList(FieldList { fields: [MethodList(MethodList { methods: [MethodListEntry { attributes: FieldAttributes(19), method_type: TypeIndex(0x1030), vtable_offset: Some(280) }, \
-         MethodListEntry { attributes: FieldAttributes(3), method_type: TypeIndex(0x1031), vtable_offset: None }] })], \
-         continuation: None })",
+        Said::Fields(
+            &[Field::Methods(&[(0x13, 0x1030, Some(0x118)), (0x3, 0x1031, None)])],
+            None,
+        ),
         Also::GoesOn(None),
     ),
     (
         b"\x03\x12\x03\x15\x77\x13\x00\x00\x23\x00\x00\x00\x40\x00\x00\xf1",
-        "FieldList(FieldList { fields: [Array(ArrayType { element_type: TypeIndex(0x1377), indexing_type: TypeIndex(0x23), stride: None, dimensions: [64] })], \
-         continuation: None })",
+        Said::Fields(&[Field::Array(0x1377, None, &[0x40])], None),
         Also::GoesOn(None),
     ),
     (
         b"\x03\x12\x01\x12\x02\x00\x00\x00\x74\x00\x00\x00\x75\x00\x00\x00\x02\x15\x03\x00\x05\x00A\x00",
-        "FieldList(FieldList { fields: [ArgumentList(ArgumentList { arguments: [TypeIndex(0x74), TypeIndex(0x75)] }), \
-         Enumerate(EnumerateType { attributes: FieldAttributes(3), value: U16(5), name: RawString([65]) })], \
-         continuation: None })",
+        Said::Fields(
+            &[
+                Field::Arguments(&[TypeIndex(0x74), TypeIndex(0x75)]),
+                Field::Enumerate(Variant::U16(5), "A"),
+            ],
+            None,
+        ),
         Also::GoesOn(None),
     ),
 ];
+
+/// What a type is that has no list; the pointer to a table of virtual functions, if it has one.
+fn field_value<'t>(field: &Field) -> TypeData<'t> {
+    match field {
+        Field::Enumerate(value, name) => TypeData::Enumerate(EnumerateType {
+            attributes: FieldAttributes::new(3),
+            value: *value,
+            name: RawString::from(*name),
+        }),
+        Field::TableShape(count, descriptors) => {
+            TypeData::VirtualTableShape(VirtualTableShapeType {
+                count: *count,
+                descriptors,
+            })
+        }
+        Field::Base => TypeData::BaseClass(BaseClassType {
+            kind: ClassKind::Class,
+            attributes: FieldAttributes::new(0x0102),
+            base_class: TypeIndex(0x1027),
+            offset: 4,
+        }),
+        Field::Member => TypeData::Member(MemberType {
+            attributes: FieldAttributes::new(0x0102),
+            field_type: TypeIndex(0x74),
+            offset: 8,
+            name: RawString::from("m"),
+        }),
+        Field::Nested => TypeData::Nested(NestedType {
+            attributes: FieldAttributes::new(0),
+            nested_type: TypeIndex(0x102b),
+            name: RawString::from("N"),
+        }),
+        _ => TypeData::VirtualFunctionTablePointer(VirtualFunctionTablePointerType {
+            table: TypeIndex(0x102a),
+        }),
+    }
+}
+
+/// A list of methods.
+fn method_list<'t>(alloc: Global, methods: &[Method]) -> Result<TypeData<'t>> {
+    let mut entries = Vec::new(alloc);
+    for (attributes, method_type, vtable_offset) in methods {
+        entries.push(MethodListEntry {
+            attributes: FieldAttributes::new(*attributes),
+            method_type: TypeIndex(*method_type),
+            vtable_offset: *vtable_offset,
+        })?;
+    }
+    Ok(TypeData::MethodList(MethodList { methods: entries }))
+}
+
+/// What a type is that is no list of fields.
+fn value_of<'t>(alloc: Global, field: &Field) -> Result<TypeData<'t>> {
+    match field {
+        Field::Array(element, stride, dimensions) => Ok(TypeData::Array(ArrayType {
+            element_type: TypeIndex(*element),
+            indexing_type: TypeIndex(0x23),
+            stride: *stride,
+            dimensions: Vec::from_slice(alloc, dimensions)?,
+        })),
+        Field::Arguments(arguments) => Ok(TypeData::ArgumentList(ArgumentList {
+            arguments: Vec::from_slice(alloc, arguments)?,
+        })),
+        Field::Methods(methods) => method_list(alloc, methods),
+        _ => Ok(field_value(field)),
+    }
+}
+
+/// A list of fields.
+fn field_list<'t>(
+    alloc: Global,
+    fields: &[Field],
+    continuation: Option<TypeIndex>,
+) -> Result<TypeData<'t>> {
+    let mut values = Vec::new(alloc);
+    for field in fields {
+        values.push(value_of(alloc, field)?)?;
+    }
+    Ok(TypeData::FieldList(FieldList {
+        fields: values,
+        continuation,
+    }))
+}
+
+impl Says for Said {
+    fn value<'t>(&self, alloc: Global) -> Result<TypeData<'t>> {
+        match self {
+            Said::One(field) => value_of(alloc, field),
+            Said::Fields(fields, continuation) => field_list(alloc, fields, *continuation),
+        }
+    }
+}
 
 /// Whether a copy of a list is equal.
 fn is_list_copied(alloc: Global, data: &TypeData<'_>) -> bool {
@@ -217,30 +361,12 @@ fn is_copied(alloc: Global, data: &TypeData<'_>) -> Result<bool> {
     Ok(is_list_copied(alloc, data) && is_value_copied(alloc, data)?)
 }
 
-/// Whether this text is what `Debug` writes of a list, the list is equal to what its record says
-/// when it is read again, and is copied.
-fn is_list<'t>(
-    alloc: Global,
-    data: &TypeData<'t>,
-    again: &TypeData<'t>,
-    want: &str,
-) -> Result<bool> {
-    let text = text_of(alloc, data)?;
-    Ok(text.as_str() == want && *data == *again && is_copied(alloc, data)?)
-}
-
-/// Whether a record that is in no table says what is wanted, and does so again, and a copy is
-/// equal.
-fn is_read(alloc: Global, record: &[u8], want: &str) -> Result<bool> {
-    let data = parse_type_data(alloc, record)?;
-    is_list(alloc, &data, &parse_type_data(alloc, record)?, want)
-}
-
 /// Whether a record says the same with padding behind it, and is an error with another byte behind
 /// that, or where it is cut.
-fn is_padded(alloc: Global, record: &[u8], want: &str) -> std::result::Result<bool, Fail> {
-    let is_padded = is_said_with(alloc, record, b"\xf3\xf2\xf1\xf0", want)?;
-    let is_longer = is_said_with(alloc, record, b"\xf3\xf2\xf1\xf0\x41", "UnexpectedEof")?;
+fn is_padded(alloc: Global, record: &[u8], said: &Said) -> std::result::Result<bool, Fail> {
+    let is_padded = is_read_with(alloc, record, b"\xf3\xf2\xf1\xf0", said)?;
+    let end = Error::UnexpectedEof;
+    let is_longer = is_refused_with(alloc, record, b"\xf3\xf2\xf1\xf0\x41", &end)?;
     Ok(is_padded && is_longer && ends_soon(alloc, record))
 }
 
@@ -263,12 +389,12 @@ fn continuation_of(alloc: Global, record: &[u8]) -> Result<Option<TypeIndex>> {
 fn does_hold(
     alloc: Global,
     record: &[u8],
-    want: &str,
+    said: &Said,
     also: &Also,
 ) -> std::result::Result<bool, Fail> {
     match also {
         Also::Nothing => Ok(true),
-        Also::Padded => is_padded(alloc, record, want),
+        Also::Padded => is_padded(alloc, record, said),
         Also::Left(length) => Ok(left_behind(record)? == *length),
         Also::GoesOn(index) => Ok(continuation_of(alloc, record)? == *index),
     }
@@ -276,9 +402,10 @@ fn does_hold(
 
 /// Whether a record says what its case has, in a table and alone, and what it says is copied.
 fn is_row(alloc: Global, row: &Row) -> std::result::Result<bool, Fail> {
-    let (record, want, also) = row;
-    let is_said = is_said(alloc, record, want)? && is_read(alloc, record, want)?;
-    Ok(is_said && does_hold(alloc, record, want, also)?)
+    let (record, said, also) = row;
+    let is_read = is_read(alloc, record, said)? && is_parsed(alloc, record, said)?;
+    let is_copied = is_copied(alloc, &said.value(alloc)?)?;
+    Ok(is_read && is_copied && does_hold(alloc, record, said, also)?)
 }
 
 #[test]

@@ -1,8 +1,8 @@
 //! Records without a list: the fields of each record kind. Each field has a value of its own, so
 //! that one read in the place of another shows.
 
-use super::read::{ends_soon, is_said, is_said_with, is_value_copied, record_of, text_of};
-use pdb_base::{RawString, TypeIndex, Variant};
+use super::read::{Says, ends_soon, is_parsed, is_read, is_read_with, is_value_copied, record_of};
+use pdb_base::{Error, RawString, TypeIndex, Variant};
 use pdb_flags::{FieldAttributes, FunctionAttributes, PointerAttributes, TypeProperties};
 use pdb_values::{
     BaseClassType, BitfieldType, ClassKind, ClassType, EnumerateType, EnumerationType,
@@ -69,8 +69,11 @@ enum Want {
     /// Some bits of a member.
     Bitfield(BitfieldType),
 
-    /// The shape of a table of virtual functions.
-    TableShape(VirtualTableShapeType<'static>),
+    /// A pointer: the type that it points to, its attributes, and its class.
+    Pointer(u32, u32, Option<TypeIndex>),
+
+    /// The shape of a table of virtual functions: how many it has, and their descriptors.
+    TableShape(u16, &'static [u8]),
 }
 
 /// The number of a record kind, the bytes behind it, and what they say.
@@ -96,7 +99,10 @@ const VIRTUAL_BASE: &[u8] =
 
 const UNIQUE: Option<&str> = Some("unique");
 
-/// Records of each kind that has no list, except pointers.
+/// The class of pointers to its members.
+const CLASS_INDEX: Option<TypeIndex> = Some(TypeIndex(0x102c));
+
+/// Records of each kind that has no list.
 const ROWS: &[Row] = &[
     // Classes, structs and interfaces.
     (0x1504, CLASS, Want::Class(ClassKind::Class)),
@@ -408,51 +414,56 @@ const ROWS: &[Row] = &[
     ),
 
     // Shapes of tables of virtual functions, the last as Clang writes it.
-    (
-        0x000a,
-        b"\x00\x00",
-        Want::TableShape(VirtualTableShapeType {
-            count: 0,
-            descriptors: b"",
-        }),
-    ),
-    (
-        0x000a,
-        b"\x01\x00\xf5",
-        Want::TableShape(VirtualTableShapeType {
-            count: 1,
-            descriptors: b"\xf5",
-        }),
-    ),
-    (
-        0x000a,
-        b"\x02\x00\x55",
-        Want::TableShape(VirtualTableShapeType {
-            count: 2,
-            descriptors: b"\x55",
-        }),
-    ),
+    (0x000a, b"\x00\x00", Want::TableShape(0, b"")),
+    (0x000a, b"\x01\x00\xf5", Want::TableShape(1, b"\xf5")),
+    (0x000a, b"\x02\x00\x55", Want::TableShape(2, b"\x55")),
     (
         0x000a,
         b"\x03\x00\x55\x05",
-        Want::TableShape(VirtualTableShapeType {
-            count: 3,
-            descriptors: b"\x55\x05",
-        }),
+        Want::TableShape(3, b"\x55\x05"),
     ),
     (
         0x000a,
         b"\x03\x00\x55\x00",
-        Want::TableShape(VirtualTableShapeType {
-            count: 3,
-            descriptors: b"\x55\x00",
-        }),
+        Want::TableShape(3, b"\x55\x00"),
+    ),
+
+    // Pointers of each mode.
+    (
+        0x1002,
+        b"\x74\x00\x00\x00\x0c\x00\x01\x00",
+        Want::Pointer(0x74, 0x0001_000c, None),
+    ),
+    (
+        0x1002,
+        b"\x2b\x10\x00\x00\x2a\x00\x00\x00",
+        Want::Pointer(0x102b, 0x2a, None),
+    ),
+    (
+        0x1002,
+        b"\x2b\x10\x00\x00\x4c\x00\x01\x00\x2c\x10\x00\x00",
+        Want::Pointer(0x102b, 0x0001_004c, CLASS_INDEX),
+    ),
+    (
+        0x1002,
+        b"\x2b\x10\x00\x00\x6c\x1f\x09\x00\x2c\x10\x00\x00",
+        Want::Pointer(0x102b, 0x0009_1f6c, CLASS_INDEX),
+    ),
+    (
+        0x1002,
+        b"\x2b\x10\x00\x00\x8c\x00\x01\x00",
+        Want::Pointer(0x102b, 0x0001_008c, None),
+    ),
+    (
+        0x1002,
+        b"\x2b\x10\x00\x00\x00\x00\x00\x00",
+        Want::Pointer(0x102b, 0, None),
     ),
 ];
 
 /// A class with all that a record can say of it. Its properties are 0x211: it is packed, has nested
 /// types and a unique name.
-fn class(kind: ClassKind) -> TypeData<'static> {
+fn class<'t>(kind: ClassKind) -> TypeData<'t> {
     TypeData::Class(ClassType {
         kind,
         count: 0x0201,
@@ -467,7 +478,7 @@ fn class(kind: ClassKind) -> TypeData<'static> {
 }
 
 /// A class of which little is said.
-fn bare_class(vtable_shape: Option<TypeIndex>) -> TypeData<'static> {
+fn bare_class<'t>(vtable_shape: Option<TypeIndex>) -> TypeData<'t> {
     TypeData::Class(ClassType {
         kind: ClassKind::Class,
         count: 0,
@@ -482,7 +493,7 @@ fn bare_class(vtable_shape: Option<TypeIndex>) -> TypeData<'static> {
 }
 
 /// The structure `H_size`.
-fn h_size() -> TypeData<'static> {
+fn h_size<'t>() -> TypeData<'t> {
     TypeData::Class(ClassType {
         kind: ClassKind::Struct,
         count: 2,
@@ -497,7 +508,7 @@ fn h_size() -> TypeData<'static> {
 }
 
 /// An enumeration, with a unique name or without.
-fn enumeration(properties: u16, unique_name: Option<&'static str>) -> TypeData<'static> {
+fn enumeration<'t>(properties: u16, unique_name: Option<&'static str>) -> TypeData<'t> {
     TypeData::Enumeration(EnumerationType {
         count: 0x0201,
         properties: TypeProperties::new(properties),
@@ -509,7 +520,7 @@ fn enumeration(properties: u16, unique_name: Option<&'static str>) -> TypeData<'
 }
 
 /// A union, with a unique name or without.
-fn union_of(properties: u16, unique_name: Option<&'static str>) -> TypeData<'static> {
+fn union_of<'t>(properties: u16, unique_name: Option<&'static str>) -> TypeData<'t> {
     TypeData::Union(UnionType {
         count: 0x0201,
         properties: TypeProperties::new(properties),
@@ -521,7 +532,7 @@ fn union_of(properties: u16, unique_name: Option<&'static str>) -> TypeData<'sta
 }
 
 /// The value of an enumeration.
-fn enumerate(value: Variant) -> TypeData<'static> {
+fn enumerate<'t>(value: Variant) -> TypeData<'t> {
     TypeData::Enumerate(EnumerateType {
         attributes: FieldAttributes::new(0x0102),
         value,
@@ -530,7 +541,7 @@ fn enumerate(value: Variant) -> TypeData<'static> {
 }
 
 /// A data member.
-fn member() -> TypeData<'static> {
+fn member<'t>() -> TypeData<'t> {
     TypeData::Member(MemberType {
         attributes: FieldAttributes::new(0x0102),
         field_type: TypeIndex(0x101d),
@@ -540,7 +551,7 @@ fn member() -> TypeData<'static> {
 }
 
 /// A data member that the class has once.
-fn static_member() -> TypeData<'static> {
+fn static_member<'t>() -> TypeData<'t> {
     TypeData::StaticMember(StaticMemberType {
         attributes: FieldAttributes::new(0x0102),
         field_type: TypeIndex(0x101e),
@@ -549,7 +560,7 @@ fn static_member() -> TypeData<'static> {
 }
 
 /// A type that is declared in a class.
-fn nested(attributes: u16) -> TypeData<'static> {
+fn nested<'t>(attributes: u16) -> TypeData<'t> {
     TypeData::Nested(NestedType {
         attributes: FieldAttributes::new(attributes),
         nested_type: TypeIndex(0x101c),
@@ -558,7 +569,7 @@ fn nested(attributes: u16) -> TypeData<'static> {
 }
 
 /// Methods of one name.
-fn overloaded() -> TypeData<'static> {
+fn overloaded<'t>() -> TypeData<'t> {
     TypeData::OverloadedMethod(OverloadedMethodType {
         count: 0x0203,
         method_list: TypeIndex(0x101f),
@@ -567,7 +578,7 @@ fn overloaded() -> TypeData<'static> {
 }
 
 /// The one method of a name.
-fn method(attributes: u16, vtable_offset: Option<u32>) -> TypeData<'static> {
+fn method<'t>(attributes: u16, vtable_offset: Option<u32>) -> TypeData<'t> {
     TypeData::Method(MethodType {
         attributes: FieldAttributes::new(attributes),
         method_type: TypeIndex(0x1020),
@@ -577,7 +588,7 @@ fn method(attributes: u16, vtable_offset: Option<u32>) -> TypeData<'static> {
 }
 
 /// The type of a method.
-fn member_function(this_pointer_type: Option<TypeIndex>) -> TypeData<'static> {
+fn member_function<'t>(this_pointer_type: Option<TypeIndex>) -> TypeData<'t> {
     TypeData::MemberFunction(MemberFunctionType {
         return_type: TypeIndex(0x1021),
         class_type: TypeIndex(0x1022),
@@ -590,7 +601,7 @@ fn member_function(this_pointer_type: Option<TypeIndex>) -> TypeData<'static> {
 }
 
 /// The type of a function.
-fn procedure(return_type: Option<TypeIndex>) -> TypeData<'static> {
+fn procedure<'t>(return_type: Option<TypeIndex>) -> TypeData<'t> {
     TypeData::Procedure(ProcedureType {
         return_type,
         attributes: FunctionAttributes::new(0x0107),
@@ -600,7 +611,7 @@ fn procedure(return_type: Option<TypeIndex>) -> TypeData<'static> {
 }
 
 /// A base class or a base interface.
-fn base_class(kind: ClassKind, offset: u32) -> TypeData<'static> {
+fn base_class<'t>(kind: ClassKind, offset: u32) -> TypeData<'t> {
     TypeData::BaseClass(BaseClassType {
         kind,
         attributes: FieldAttributes::new(0x0102),
@@ -610,7 +621,7 @@ fn base_class(kind: ClassKind, offset: u32) -> TypeData<'static> {
 }
 
 /// A virtual base class.
-fn virtual_base_class(direct: bool) -> TypeData<'static> {
+fn virtual_base_class<'t>(direct: bool) -> TypeData<'t> {
     TypeData::VirtualBaseClass(VirtualBaseClassType {
         direct,
         attributes: FieldAttributes::new(0x0102),
@@ -621,49 +632,71 @@ fn virtual_base_class(direct: bool) -> TypeData<'static> {
     })
 }
 
-/// What a record says.
-fn wanted(want: &Want) -> TypeData<'static> {
-    match want {
-        Want::Class(kind) => class(*kind),
-        Want::BareClass(vtable_shape) => bare_class(*vtable_shape),
-        Want::HSize => h_size(),
-        Want::Enumeration(properties, unique_name) => enumeration(*properties, *unique_name),
-        Want::Union(properties, unique_name) => union_of(*properties, *unique_name),
-        Want::Enumerate(value) => enumerate(*value),
-        Want::Member => member(),
-        Want::StaticMember => static_member(),
-        Want::Nested(attributes) => nested(*attributes),
-        Want::Overloaded => overloaded(),
-        Want::Method(attributes, vtable_offset) => method(*attributes, *vtable_offset),
-        Want::MemberFunction(this_pointer_type) => member_function(*this_pointer_type),
-        Want::Procedure(return_type) => procedure(*return_type),
-        Want::BaseClass(kind, offset) => base_class(*kind, *offset),
-        Want::VirtualBaseClass { direct } => virtual_base_class(*direct),
-        Want::TablePointer(pointer) => TypeData::VirtualFunctionTablePointer(*pointer),
-        Want::Modifier(modifier) => TypeData::Modifier(*modifier),
-        Want::Bitfield(bitfield) => TypeData::Bitfield(*bitfield),
-        Want::TableShape(shape) => TypeData::VirtualTableShape(*shape),
+/// A pointer.
+fn pointer<'t>(
+    underlying: u32,
+    word: u32,
+    containing_class: Option<TypeIndex>,
+) -> pdb_base::Result<TypeData<'t>> {
+    match PointerAttributes::new(word) {
+        Some(attributes) => Ok(TypeData::Pointer(PointerType {
+            underlying_type: TypeIndex(underlying),
+            attributes,
+            containing_class,
+        })),
+        None => Err(Error::UnimplementedTypeKind(0x1002)),
     }
 }
 
-/// Whether a record says this with a byte behind it too, and each proper prefix of it ends too
-/// soon.
-fn is_record_of(alloc: Global, record: &[u8], want: &str) -> Result<bool, Fail> {
-    let is_whole = is_said(alloc, record, want)? && is_said_with(alloc, record, b"\x41", want)?;
-    Ok(is_whole && ends_soon(alloc, record))
+impl Says for Want {
+    fn value<'t>(&self, _alloc: Global) -> pdb_base::Result<TypeData<'t>> {
+        match self {
+            Want::Class(kind) => Ok(class(*kind)),
+            Want::BareClass(vtable_shape) => Ok(bare_class(*vtable_shape)),
+            Want::HSize => Ok(h_size()),
+            Want::Enumeration(properties, unique_name) => Ok(enumeration(
+                *properties,
+                *unique_name,
+            )),
+            Want::Union(properties, unique_name) => Ok(union_of(*properties, *unique_name)),
+            Want::Enumerate(value) => Ok(enumerate(*value)),
+            Want::Member => Ok(member()),
+            Want::StaticMember => Ok(static_member()),
+            Want::Nested(attributes) => Ok(nested(*attributes)),
+            Want::Overloaded => Ok(overloaded()),
+            Want::Method(attributes, vtable_offset) => Ok(method(*attributes, *vtable_offset)),
+            Want::MemberFunction(this_pointer_type) => Ok(member_function(*this_pointer_type)),
+            Want::Procedure(return_type) => Ok(procedure(*return_type)),
+            Want::BaseClass(kind, offset) => Ok(base_class(*kind, *offset)),
+            Want::VirtualBaseClass { direct } => Ok(virtual_base_class(*direct)),
+            Want::TablePointer(pointer) => Ok(TypeData::VirtualFunctionTablePointer(*pointer)),
+            Want::Modifier(modifier) => Ok(TypeData::Modifier(*modifier)),
+            Want::Bitfield(bitfield) => Ok(TypeData::Bitfield(*bitfield)),
+            Want::TableShape(count, descriptors) => {
+                Ok(TypeData::VirtualTableShape(VirtualTableShapeType {
+                    count: *count,
+                    descriptors,
+                }))
+            }
+            Want::Pointer(underlying, word, containing_class) => {
+                pointer(*underlying, *word, *containing_class)
+            }
+        }
+    }
 }
 
-/// Whether the record of this kind says this, and a copy of that is equal.
-fn is_told(alloc: Global, leaf: u16, fields: &[u8], want: &TypeData<'_>) -> Result<bool, Fail> {
-    let record = record_of(alloc, leaf, fields)?;
-    let text = text_of(alloc, want)?;
-    Ok(is_record_of(alloc, &record, text.as_str())? && is_value_copied(alloc, want)?)
+/// Whether the record of this kind says this, in a table and alone, and with a byte behind it too,
+/// and each proper prefix of it ends too soon.
+fn is_record_of(alloc: Global, record: &[u8], want: &Want) -> Result<bool, Fail> {
+    let is_whole = is_read(alloc, record, want)? && is_read_with(alloc, record, b"\x41", want)?;
+    Ok(is_whole && is_parsed(alloc, record, want)? && ends_soon(alloc, record))
 }
 
-/// Whether a record says what its case has.
+/// Whether a record says what its case has, and a copy of that is equal.
 fn is_row(alloc: Global, row: &Row) -> Result<bool, Fail> {
     let (leaf, fields, want) = row;
-    is_told(alloc, *leaf, fields, &wanted(want))
+    let record = record_of(alloc, *leaf, fields)?;
+    Ok(is_record_of(alloc, &record, want)? && is_value_copied(alloc, &want.value(alloc)?)?)
 }
 
 #[test]
@@ -671,77 +704,6 @@ fn records(rt: HostRuntime) -> Result<(), Fail> {
     for row in ROWS {
         let (leaf, fields, _) = row;
         assert!(rt; is_row(rt.alloc(), row)?, "{leaf:x} {fields:?}");
-    }
-    Ok(())
-}
-
-/// A shape of three functions, with padding behind it.
-#[test]
-fn padded_table_shape(rt: HostRuntime) -> Result<(), Fail> {
-    let want = "VirtualTableShape(VirtualTableShapeType { count: 3, descriptors: [85, 5] })";
-    assert!(rt; is_said(rt.alloc(), b"\x0a\x00\x03\x00\x55\x05\xf2\xf1", want)?);
-    Ok(())
-}
-
-/// The bytes of a pointer behind its record kind, the type that it points to, its attributes and
-/// its class.
-type PointerRow = (&'static [u8], u32, u32, Option<TypeIndex>);
-
-/// The class of pointers to its members.
-const CLASS_INDEX: Option<TypeIndex> = Some(TypeIndex(0x102c));
-
-/// Pointers of each mode.
-const POINTERS: &[PointerRow] = &[
-    (b"\x74\x00\x00\x00\x0c\x00\x01\x00", 0x74, 0x0001_000c, None),
-    (b"\x2b\x10\x00\x00\x2a\x00\x00\x00", 0x102b, 0x2a, None),
-    (
-        b"\x2b\x10\x00\x00\x4c\x00\x01\x00\x2c\x10\x00\x00",
-        0x102b,
-        0x0001_004c,
-        CLASS_INDEX,
-    ),
-    (
-        b"\x2b\x10\x00\x00\x6c\x1f\x09\x00\x2c\x10\x00\x00",
-        0x102b,
-        0x0009_1f6c,
-        CLASS_INDEX,
-    ),
-    (
-        b"\x2b\x10\x00\x00\x8c\x00\x01\x00",
-        0x102b,
-        0x0001_008c,
-        None,
-    ),
-    (b"\x2b\x10\x00\x00\x00\x00\x00\x00", 0x102b, 0, None),
-];
-
-/// A pointer, if the word is one of attributes.
-fn pointer(
-    underlying: u32,
-    word: u32,
-    containing_class: Option<TypeIndex>,
-) -> Option<TypeData<'static>> {
-    let attributes = PointerAttributes::new(word)?;
-    Some(TypeData::Pointer(PointerType {
-        underlying_type: TypeIndex(underlying),
-        attributes,
-        containing_class,
-    }))
-}
-
-/// Whether the record of a pointer says what its case has.
-fn is_pointer(alloc: Global, row: &PointerRow) -> Result<bool, Fail> {
-    let (fields, underlying, word, containing_class) = row;
-    match pointer(*underlying, *word, *containing_class) {
-        Some(want) => is_told(alloc, 0x1002, fields, &want),
-        None => Ok(false),
-    }
-}
-
-#[test]
-fn pointer_records(rt: HostRuntime) -> Result<(), Fail> {
-    for row in POINTERS {
-        assert!(rt; is_pointer(rt.alloc(), row)?, "{row:?}");
     }
     Ok(())
 }

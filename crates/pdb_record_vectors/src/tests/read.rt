@@ -1,13 +1,12 @@
 //! Records, as the one item of a table.
 
-use super::stream;
+use super::{is_error, stream};
 use pdb_base::{Error, Stream, TypeIndex};
 use pdb_records::parse_type_data;
-use pdb_tpi::{Type, TypeFinder, TypeInformation};
+use pdb_tpi::{TypeFinder, TypeInformation};
 use pdb_values::TypeData;
 use pdb_vectors::item_table;
 use std::alloc::Global;
-use std::fmt::Debug;
 use std::test::Fail;
 
 /// A record behind its length.
@@ -34,72 +33,113 @@ pub(crate) fn record_of(alloc: Global, leaf: u16, fields: &[u8]) -> Result<Vec<u
     Ok(record)
 }
 
-/// A value, as `Debug` writes it.
-pub(crate) fn text_of<T: Debug>(alloc: Global, value: &T) -> pdb_base::Result<String> {
-    Ok(format!(in alloc; "{value:?}")?)
+/// What a record says, for each case a value of its own.
+pub(crate) trait Says {
+    /// The value, made anew.
+    fn value<'t>(&self, alloc: Global) -> pdb_base::Result<TypeData<'t>>;
 }
 
-/// What was read, as `Debug` writes it, or the text of the error.
-pub(crate) fn said_of<T: Debug>(
-    alloc: Global,
-    read: &pdb_base::Result<T>,
-) -> pdb_base::Result<String> {
+/// What is read of a type.
+type Read<'t> = pdb_base::Result<TypeData<'t>>;
+
+/// Whether what was read is this value.
+fn is_value<'t>(read: &Read<'t>, want: &TypeData<'t>) -> bool {
     match read {
-        Ok(data) => text_of(alloc, data),
-        Err(error) => Ok(error.to_string(alloc)?),
+        Ok(data) => *data == *want,
+        Err(_) => false,
     }
 }
 
-/// What a type is, or the text of its error.
-fn item_said(alloc: Global, item: Type<'_>) -> pdb_base::Result<String> {
-    said_of(alloc, &item.parse(alloc))
+/// Whether the type of an index of a finder's table is this value.
+fn is_found<'t>(
+    alloc: Global,
+    finder: &TypeFinder<'t>,
+    index: u32,
+    want: &TypeData<'t>,
+) -> pdb_base::Result<bool> {
+    let item = finder.find(TypeIndex(index))?;
+    Ok(is_value(&item.parse(alloc), want))
 }
 
-/// What the type of an index is, or the text of its error.
-fn found(alloc: Global, finder: &TypeFinder<'_>, index: u32) -> pdb_base::Result<String> {
-    item_said(alloc, finder.find(TypeIndex(index))?)
+/// Whether the type of an index of a table is what a case says.
+fn is_found_in<S: Says>(
+    alloc: Global,
+    table: &TypeInformation,
+    index: u32,
+    said: &S,
+) -> pdb_base::Result<bool> {
+    let want = said.value(alloc)?;
+    is_found(alloc, &table.finder(alloc)?, index, &want)
 }
 
-/// What the type of an index in a table is, or the text of its error.
-fn found_in(alloc: Global, table: &TypeInformation, index: u32) -> pdb_base::Result<String> {
-    found(alloc, &table.finder(alloc)?, index)
-}
-
-/// What the type of an index is, as `Debug` writes it, or the text of its error, in a table whose
-/// one item is this record.
-fn said_at(alloc: Global, record: &[u8], index: u32) -> Result<String, Fail> {
-    let table = TypeInformation::parse(table_of(alloc, record)?)?;
-    Ok(found_in(alloc, &table, index)?)
-}
-
-/// Whether this is what the type of an index is, or the text of its error, in a table whose one
-/// item is this record.
-pub(crate) fn is_said_at(
+/// Whether the type of an index is what a case says, in a table whose one item is this record.
+pub(crate) fn is_read_at<S: Says>(
     alloc: Global,
     record: &[u8],
     index: u32,
-    want: &str,
+    said: &S,
 ) -> Result<bool, Fail> {
-    let said = said_at(alloc, record, index)?;
-    Ok(said.as_str() == want)
+    let table = TypeInformation::parse(table_of(alloc, record)?)?;
+    Ok(is_found_in(alloc, &table, index, said)?)
 }
 
-/// Whether this is what the type of the record is, or the text of its error.
-pub(crate) fn is_said(alloc: Global, record: &[u8], want: &str) -> Result<bool, Fail> {
-    is_said_at(alloc, record, 0x1000, want)
+/// Whether the type of a record is what a case says, in a table whose one item it is.
+pub(crate) fn is_read<S: Says>(alloc: Global, record: &[u8], said: &S) -> Result<bool, Fail> {
+    is_read_at(alloc, record, 0x1000, said)
 }
 
-/// Whether this is what the type of the record with more bytes behind it is, or the text of its
-/// error.
-pub(crate) fn is_said_with(
+/// Whether the type of a record with more bytes behind it is what a case says.
+pub(crate) fn is_read_with<S: Says>(
     alloc: Global,
     record: &[u8],
     more: &[u8],
-    want: &str,
+    said: &S,
 ) -> Result<bool, Fail> {
+    is_read(alloc, &joined(alloc, record, more)?, said)
+}
+
+/// A record with more bytes behind it.
+fn joined(alloc: Global, record: &[u8], more: &[u8]) -> Result<Vec<u8>, Fail> {
     let mut longer = Vec::from_slice(alloc, record)?;
     longer.extend_from_slice(more)?;
-    is_said(alloc, &longer, want)
+    Ok(longer)
+}
+
+/// Whether a record that is in no table says what a case says, and does so again.
+pub(crate) fn is_parsed<S: Says>(alloc: Global, record: &[u8], said: &S) -> pdb_base::Result<bool> {
+    let want = said.value(alloc)?;
+    let read = parse_type_data(alloc, record);
+    Ok(is_value(&read, &want) && is_value(&read, &parse_type_data(alloc, record)?))
+}
+
+/// The error of the type of an index in a finder's table.
+fn error_found(alloc: Global, finder: &TypeFinder<'_>, index: u32) -> Option<Error> {
+    match finder.find(TypeIndex(index)) {
+        Ok(item) => item.parse(alloc).err(),
+        Err(error) => Some(error),
+    }
+}
+
+/// Whether the type of an index has this error, in a table whose one item is this record.
+pub(crate) fn is_refused_at(
+    alloc: Global,
+    record: &[u8],
+    index: u32,
+    want: &Error,
+) -> Result<bool, Fail> {
+    let table = TypeInformation::parse(table_of(alloc, record)?)?;
+    let found = error_found(alloc, &table.finder(alloc)?, index);
+    Ok(matches!(found, Some(error) if is_error(&error, want)))
+}
+
+/// Whether the type of a record with more bytes behind it has this error.
+pub(crate) fn is_refused_with(
+    alloc: Global,
+    record: &[u8],
+    more: &[u8],
+    want: &Error,
+) -> Result<bool, Fail> {
+    is_refused_at(alloc, &joined(alloc, record, more)?, 0x1000, want)
 }
 
 /// Whether a prefix of a record ends too soon.

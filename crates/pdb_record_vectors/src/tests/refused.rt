@@ -1,16 +1,17 @@
 //! Records of types that have an error.
 
-use super::read::is_said;
+use super::read::is_refused_at;
+use pdb_base::Error;
 use std::test::Fail;
 
-const END: &str = "UnexpectedEof";
+const END: Error = Error::UnexpectedEof;
 
-const POINTER: &str = "Support for types of kind 0x1002 is not implemented";
+const POINTER: Error = Error::UnimplementedTypeKind(0x1002);
 
-const PREFIX: &str = "Variable-length numeric parsing encountered an unexpected prefix (0x8005)";
+const PREFIX: Error = Error::UnexpectedNumericPrefix(0x8005);
 
-/// What is wrong with a record, its bytes, and the text of its error.
-const REFUSED: &[(&str, &[u8], &str)] = &[
+/// What is wrong with a record, its bytes, and the error.
+const REFUSED: &[(&str, &[u8], Error)] = &[
     (
         "an array with cut padding",
         b"\x03\x15\xa0\xdc\x0b\x00\x23\x00\x00\x00\x40\x00\x00\xf3",
@@ -34,7 +35,7 @@ const REFUSED: &[(&str, &[u8], &str)] = &[
     (
         "an array of 2^32 bytes, cut behind the dimension",
         b"\x03\x15\x77\x13\x00\x00\x23\x00\x00\x00\x0a\x80\x00\x00\x00\x00\x01\x00\x00\x00",
-        "Unimplemented PDB feature: u64 array sizes",
+        Error::UnimplementedFeature("u64 array sizes"),
     ),
     (
         "an array whose second dimension has a bad prefix",
@@ -118,22 +119,22 @@ const REFUSED: &[(&str, &[u8], &str)] = &[
     (
         "a list of fields in another",
         b"\x03\x12\x03\x12",
-        "Support for types of kind 0x1203 is not implemented",
+        Error::UnimplementedTypeKind(0x1203),
     ),
     (
         "a list of fields behind a field",
         b"\x03\x12\x02\x15\x03\x00\x05\x00A\x00\x03\x12",
-        "Support for types of kind 0x1203 is not implemented",
+        Error::UnimplementedTypeKind(0x1203),
     ),
     (
         "padding before a field",
         b"\x03\x12\xf2\xf1",
-        "Support for types of kind 0xf1f2 is not implemented",
+        Error::UnimplementedTypeKind(0xf1f2),
     ),
     (
         "a field without a record",
         b"\x03\x12\x0e\x00\x00\x00",
-        "Support for types of kind 0x000e is not implemented",
+        Error::UnimplementedTypeKind(0x000e),
     ),
     (
         "a cut name of a field",
@@ -183,7 +184,7 @@ const REFUSED: &[(&str, &[u8], &str)] = &[
     (
         "a continuation outside a list",
         b"\x04\x14\x34\x12\x00\x00",
-        "Support for types of kind 0x1404 is not implemented",
+        Error::UnimplementedTypeKind(0x1404),
     ),
     (
         "a member with a bad prefix",
@@ -193,7 +194,7 @@ const REFUSED: &[(&str, &[u8], &str)] = &[
     (
         "a member with a prefix of numbers that have a sign",
         b"\x0d\x15\x02\x01\x1d\x10\x00\x00\x01\x80\x00\x00A\x00",
-        "Variable-length numeric parsing encountered an unexpected prefix (0x8001)",
+        Error::UnexpectedNumericPrefix(0x8001),
     ),
     (
         "a class with a bad prefix",
@@ -218,17 +219,17 @@ const REFUSED: &[(&str, &[u8], &str)] = &[
     (
         "a label",
         b"\x0e\x00\x00\x00",
-        "Support for types of kind 0x000e is not implemented",
+        Error::UnimplementedTypeKind(0x000e),
     ),
     (
         "a table of virtual functions",
         b"\x1d\x15",
-        "Support for types of kind 0x151d is not implemented",
+        Error::UnimplementedTypeKind(0x151d),
     ),
     (
         "an id in the table of types",
         b"\x01\x16\x00\x00\x00\x00\x02\x10\x00\x00f\x00",
-        "Support for types of kind 0x1601 is not implemented",
+        Error::UnimplementedTypeKind(0x1601),
     ),
 ];
 
@@ -236,7 +237,7 @@ const REFUSED: &[(&str, &[u8], &str)] = &[
 fn refused_types(rt: HostRuntime) -> Result<(), Fail> {
     let alloc = rt.alloc();
     for (name, record, want) in REFUSED {
-        assert!(rt; is_said(alloc, record, want)?, "{name}");
+        assert!(rt; is_refused_at(alloc, record, 0x1000, want)?, "{name}");
     }
     Ok(())
 }
