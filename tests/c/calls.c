@@ -322,13 +322,17 @@ static void ask_definitions(void) {
 
 // What is wrong in the file, and in its first 4095 bytes.
 static void ask_findings(void) {
-    pdb_finding found[16];
+    pdb_finding found[32];
     for (size_t cut = 0; cut < 2; cut++) {
-        allowed(pdb_validate(file, cut ? 4095 : file_length, 0, found, 16, &length, &fault), PDB_OK);
+        allowed(pdb_validate(file, cut ? 4095 : file_length, 0, found, 32, &length, &fault), PDB_OK);
         printf("findings %zu\n", length);
-        for (size_t i = 0; i < length; i++)
-            printf("finding %" PRIu32 " %" PRIu32 ":%" PRIu32 " %" PRIu32 ":0x%" PRIx64 ":%" PRIu64 "\n", found[i].part,
-                   found[i].has_stream, found[i].stream, found[i].has_index, found[i].index, found[i].byte);
+        for (size_t i = 0; i < length; i++) {
+            printf("finding %" PRIu32 " %" PRIu32 ":%" PRIu32 " %" PRIu32 ":0x%" PRIx64, found[i].part,
+                   found[i].has_stream, found[i].stream, found[i].has_index, found[i].index);
+            printf(" %" PRIu32 ":%" PRIu64 " %" PRIu32 ":%" PRIu64, found[i].has_byte, found[i].byte,
+                   found[i].has_file_byte, found[i].file_byte);
+            printf(" %" PRIu32 " %" PRIu32 "\n", found[i].is_warning, found[i].inconsistency);
+        }
     }
 }
 

@@ -8,6 +8,7 @@ from pdbtest.known_file import (
     streams,
 )  # fmt: skip
 from pdbtest.reading import PARTS, Reading
+from pdbtest.relations import INCONSISTENCIES, WARNINGS
 
 FIRST, LAST, STEP = 0x800, 0x5000, 0x80
 NOWHERE = "nowhere"
@@ -224,9 +225,13 @@ def finding_lines(data):
     for part in (data, data[:4095]):
         faults = Reading(part).faults
         yield f"findings {len(faults)}"
-        for part, _, stream, index, byte, _ in faults:
-            in_stream, at_record = (int(number is not None) for number in (stream, index))
-            yield f"finding {PARTS.index(part)} {in_stream}:{stream or 0} {at_record}:{index or 0:#x}:{byte or 0}"
+        for fault in faults:
+            said = [fault.stream, fault.byte, fault.file_byte]
+            stream, byte, file_byte = (f"{int(number is not None)}:{number or 0}" for number in said)
+            index = f"{int(fault.index is not None)}:{fault.index or 0:#x}"
+            numbers = INCONSISTENCIES.index(fault.code) + 1 if fault.code in INCONSISTENCIES else 0
+            is_warning = int(fault.code in WARNINGS)
+            yield f"finding {PARTS.index(fault.part)} {stream} {index} {byte} {file_byte} {is_warning} {numbers}"
 
 
 def lines(page_size, data):

@@ -97,6 +97,13 @@ def of_id(record):
     return ([word(record, 6)] if kind == Leaf.LF_UDT_SRC_LINE else []), [word(record, 2)]
 
 
+# The codes of what can be inconsistent, in the order of their numbers, from 1 on.
+INCONSISTENCIES = [
+    "DIRECTORY-TOO-LARGE", "STREAMS-TOO-LARGE", "OUT-OF-ORDER", "PAGE-SHARED", "PAGE-FREE", "STREAM-MISSING",
+    "DEBUG-SIZES", "REFERENCE-NOT-BELOW", "RECORD-UNALIGNED", "KIND-NOT-READ", "HASH-COUNT", "HASH-TOO-LARGE",
+    "INDEX-OFFSET", "BUCKETS-CUT", "NAME-OFFSET", "NAME-COUNT", "SECTIONS-OVERLAP",
+]  # fmt: skip
+
 # What files of known tools have, too.
 WARNINGS = {"PAGE-FREE", "RECORD-UNALIGNED", "KIND-NOT-READ"}
 
