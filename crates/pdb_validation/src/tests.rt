@@ -21,9 +21,9 @@ const DIRECTORY: [u32; 20] = [
 const INFORMATION: &[u8] =
     b"\x94\x2e\x31\x01\0\0\0\0\x01\0\0\0\0\0\0\0\0\0\0\0\0\0\0\0\0\0\0\0\x07\0\0\0/names\0\x01\0\0\0\x01\0\0\0\x01\0\0\0\x01\0\0\0\0\0\0\0\0\0\0\0\x05\0\0\0";
 
-/// Stream 2: `const int`, an empty field list, and one that it continues.
+/// Stream 2: `const int`, an empty field list, and one that it continues. No stream has hashes.
 const TYPES: &[u8] =
-    b"\x0b\xca\x31\x01\x38\0\0\0\x00\x10\0\0\x03\x10\0\0\0\0\0\0\0\0\0\0\0\0\0\0\0\0\0\0\0\0\0\0\0\0\0\0\0\0\0\0\0\0\0\0\0\0\0\0\0\0\0\0\x08\0\x01\x10\x74\0\0\0\x01\0\x02\0\x03\x12\x0a\0\x03\x12\x04\x14\0\0\x01\x10\0\0";
+    b"\x0b\xca\x31\x01\x38\0\0\0\x00\x10\0\0\x03\x10\0\0\0\0\0\0\xff\xff\0\0\0\0\0\0\0\0\0\0\0\0\0\0\0\0\0\0\0\0\0\0\0\0\0\0\0\0\0\0\0\0\0\0\x08\0\x01\x10\x74\0\0\0\x01\0\x02\0\x03\x12\x0a\0\x03\x12\x04\x14\0\0\x01\x10\0\0";
 
 /// Stream 3: a header, and the roles of streams 6 to 9.
 const DEBUG: &[u8] =
@@ -31,7 +31,7 @@ const DEBUG: &[u8] =
 
 /// Stream 4: the id of a string.
 const IDS: &[u8] =
-    b"\x0b\xca\x31\x01\x38\0\0\0\x00\x10\0\0\x01\x10\0\0\0\0\0\0\0\0\0\0\0\0\0\0\0\0\0\0\0\0\0\0\0\0\0\0\0\0\0\0\0\0\0\0\0\0\0\0\0\0\0\0\x08\0\x05\x16\0\0\0\0a\0";
+    b"\x0b\xca\x31\x01\x38\0\0\0\x00\x10\0\0\x01\x10\0\0\0\0\0\0\xff\xff\0\0\0\0\0\0\0\0\0\0\0\0\0\0\0\0\0\0\0\0\0\0\0\0\0\0\0\0\0\0\0\0\0\0\x08\0\x05\x16\0\0\0\0a\0";
 
 /// Stream 5: a string table, with one bucket.
 const NAMES: &[u8] = b"\xfe\xef\xfe\xef\x01\0\0\0\x03\0\0\0\0a\0\x01\0\0\0\x01\0\0\0\x01\0\0\0";
