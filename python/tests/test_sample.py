@@ -15,7 +15,9 @@ import uuid
 from unittest import mock
 
 import pdb_container
-from pdb_container import Format, IdShape, KeyForm, LayoutKind, Part, Pdb, PdbError, Shape, Status, format_of, validate
+from pdb_container import (
+    Format, IdShape, Inconsistency, KeyForm, LayoutKind, Part, Pdb, PdbError, Shape, Status, format_of, validate,
+)  # fmt: skip
 from pdb_container.__main__ import main
 
 SAMPLE = pathlib.Path(__file__).resolve().parents[2] / "examples" / "sample.pdb"
@@ -328,10 +330,12 @@ class OfInput(unittest.TestCase):
         # The header, two items, and the length of the third, which becomes too short for its kind.
         with pdb_container.open(SAMPLE) as pdb:
             front = bytes(pdb.stream(2, 110))
-        (found,) = validate(data.replace(front, front[:108] + b"\x01" + front[109:]))
+        found, other = validate(data.replace(front, front[:108] + b"\x01" + front[109:]))
         self.assertEqual((found.part, found.stream, found.index), (Part.TYPES, 2, 0x1002))
         self.assertEqual((found.byte, found.error.status), (108, Status.TYPE_TOO_SHORT))
         self.assertEqual((data[found.file_byte - 108 : found.file_byte], found.is_warning), (front[:108], False))
+        # The place that is stored for a later item is not found any more.
+        self.assertEqual((other.part, other.inconsistency, other.error), (Part.TYPES, Inconsistency.INDEX_OFFSET, None))
         self.assertIn("[stream 2]", str(found))
 
     def test_damaged_files(self):

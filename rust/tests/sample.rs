@@ -1,7 +1,8 @@
 //! Reads examples/sample.pdb, and copies of it with damage.
 
 use pdb_container::{
-    Address, Error, Extent, Format, IdShape, KeyForm, LayoutKind, LayoutRow, Part, Pdb, Problem, Shape, Types, validate,
+    Address, Error, Extent, Format, IdShape, Inconsistency, KeyForm, LayoutKind, LayoutRow, Part, Pdb, Problem, Shape,
+    Types, validate,
 };
 
 fn sample() -> Vec<u8> {
@@ -352,11 +353,13 @@ fn whole_and_not() {
     let mut shorter = front.clone();
     shorter[108] = 1;
     let found = validate(&replaced(&file, &front, &shorter)).unwrap();
-    assert_eq!(found.len(), 1);
+    assert_eq!(found.len(), 2);
     assert_eq!((found[0].part, found[0].stream, found[0].index), (Part::Types, Some(2), Some(0x1002)));
     assert_eq!(found[0].byte, Some(108));
     assert_eq!(found[0].problem, Problem::Error(Error::TypeTooShort));
     assert!(!found[0].is_warning && found[0].file_byte.is_some());
+    // The place that is stored for a later item is not found any more.
+    assert!(matches!(found[1].problem, Problem::Inconsistent(Inconsistency::IndexOffset, _)));
 }
 
 #[test]
