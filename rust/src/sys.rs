@@ -285,6 +285,7 @@ pub const PDB_PART_OMAP_TO_SOURCE: u32 = 11;
 pub const PDB_PART_OMAP_FROM_SOURCE: u32 = 12;
 pub const PDB_PART_OLD_FRAMES: u32 = 13;
 pub const PDB_PART_NEW_FRAMES: u32 = 14;
+
 pub const PDB_NO_INCONSISTENCY: u32 = 0;
 pub const PDB_DIRECTORY_TOO_LARGE: u32 = 1;
 pub const PDB_STREAMS_TOO_LARGE: u32 = 2;
