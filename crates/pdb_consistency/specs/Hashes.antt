@@ -47,7 +47,7 @@ value_mismatch number header values place =
 
 -- ---- places of records
 
--- whether a record stands at an offset behind the header of its table; its length stands before it
+-- whether a record begins at an offset behind the header of its table, with its length before it
 abbrev pub is_record_at : ℕ → ℕ → Answer (Option RecordPlace) → Bool
 is_record_at header_size offset (Ok (Some place)) = place.offset == header_size + offset + 2
 is_record_at header_size offset answer = false

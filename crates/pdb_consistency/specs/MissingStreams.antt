@@ -14,7 +14,7 @@ use Rattle.pdb_msf.specs.Layout.{LayoutValue, size_by}
 use Rattle.pdb_consistency.specs.declared.inconsistency.Inconsistency.TheVariants.{StreamMissing}
 use Rattle.pdb_consistency.specs.declared.mismatch.Mismatch.{Mismatch}
 
--- whether the size of a stream is refused since there is no such stream
+-- whether there is no stream whose size this is
 abbrev pub is_missing : Answer ℕ → Bool
 is_missing (Err (stream_not_found number)) = true
 is_missing answer = false

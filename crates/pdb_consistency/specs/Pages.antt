@@ -33,7 +33,7 @@ has_owner page owners = list_any (λ owner. owner.page == page) owners
 abbrev pub is_owned : ℕ → ℕ → List PageOwner → ℕ → Bool
 is_owned page_size count before page = nat_lt page count && (is_reserved page_size page || has_owner page before)
 
--- The pages that have an owner already: the header, the free page maps, or one that stands before in the list. The
+-- The pages that have an owner already: the header, the free page maps, or one that is before it in the list. The
 -- first argument is the size of a page, the second is how many the file has.
 abbrev pub shared_pages : ℕ → ℕ → List PageOwner → List PageOwner → List Mismatch
 shared_pages page_size count before [] = []

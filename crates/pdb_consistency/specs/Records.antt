@@ -19,8 +19,8 @@ use Rattle.pdb_consistency.specs.declared.mismatch.Mismatch.{Mismatch}
 
 -- ---- one record
 
--- whether a record is refused for its kind alone, which is then not read. The kinds of pointers and of field lists are
--- read, and so such a refusal of one of these is that of what it holds.
+-- whether this error of a record is for its kind alone, which is then not read. The kinds of pointers and of field
+-- lists are read, and so such an error of one of these is for what it holds.
 abbrev pub is_not_read : ℕ → Refusal → Bool
 is_not_read kind (unimplemented_type_kind other) =
     (other == kind && not (kind == pointer_leaf)) && not (kind == field_list_leaf)

@@ -12,14 +12,14 @@ use Rattle.pdb_consistency.specs.declared.inconsistency.Inconsistency.{Inconsist
 use Rattle.pdb_consistency.specs.declared.inconsistency.Inconsistency.TheVariants.{BucketsCut, NameCount, NameOffset}
 use Rattle.pdb_consistency.specs.declared.mismatch.Mismatch.{Mismatch}
 
--- the byte of the stream at which the count of buckets stands: behind the header and the names
+-- the byte of the stream of the count of buckets, which follows the header and the names
 abbrev pub buckets_byte : List ℕ → ℕ
 buckets_byte stream = 12 + word_at 8 stream
 
 abbrev pub bucket_count : List ℕ → ℕ
 bucket_count stream = word_at (buckets_byte stream) stream
 
--- the byte at which a bucket stands
+-- the byte at which a bucket begins
 abbrev pub bucket_byte : List ℕ → ℕ → ℕ
 bucket_byte stream place = buckets_byte stream + 4 + 4 * place
 
@@ -27,7 +27,7 @@ bucket_byte stream place = buckets_byte stream + 4 + 4 * place
 abbrev pub bucket_at : List ℕ → ℕ → ℕ
 bucket_at stream place = word_at (bucket_byte stream place) stream
 
--- the count of names, which stands behind the buckets
+-- the count of names, which follows the buckets
 abbrev pub name_count : List ℕ → ℕ
 name_count stream = bucket_at stream (bucket_count stream)
 

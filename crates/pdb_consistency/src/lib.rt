@@ -23,6 +23,6 @@ pub use inconsistency::Inconsistency;
 pub use mismatch::{Extent, Mismatch};
 pub use missing_streams::{check_named_streams, check_roles};
 pub use pages::check_pages;
-pub use records::{check_id_records, check_type_records};
+pub use records::{check_id_records, check_type_records, is_not_read};
 pub use sections::check_section_order;
 pub use string_table::check_buckets;

@@ -20,7 +20,7 @@ use pdb_tpi::{IdInformation, Item, TypeInformation};
 use std::alloc::Global;
 
 /// Returns whether an error is for the kind of a record alone, which is then not read.
-fn is_not_read(kind: u16, error: &Error) -> bool
+pub fn is_not_read(kind: u16, error: &Error) -> bool
     ensures { result ≡ is_not_read kind (refusal_of error.now) }
 {
     match error {
@@ -48,10 +48,11 @@ fn type_inconsistency(alloc: Global, item: &Item<'_, TypeIndex>) -> Result<Optio
         (Ok (type_inconsistency (index_of item.now).0 (bytes_of item.now))) }
 {
     let kind = item.raw_kind();
-    match item.parse(alloc) {
-        Ok(value) => Ok(not_below(first_reference_from(item.index().0, &value))),
+    // The value is borrowed where it is, since it is large to move.
+    match &item.parse(alloc) {
+        Ok(value) => Ok(not_below(first_reference_from(item.index().0, value))),
         Err(Error::OutOfMemory) => Err(Error::OutOfMemory),
-        Err(error) => Ok(is_not_read(kind, &error).then_some(Inconsistency::KindNotRead(kind))),
+        Err(error) => Ok(is_not_read(kind, error).then_some(Inconsistency::KindNotRead(kind))),
     }
 }
 
@@ -66,10 +67,10 @@ fn id_inconsistency(
         (Ok (id_inconsistency types (index_of item.now).0 (bytes_of item.now))) }
 {
     let kind = item.raw_kind();
-    match item.parse(alloc) {
-        Ok(value) => Ok(not_below(id_reference_from(types, item.index().0, &value))),
+    match &item.parse(alloc) {
+        Ok(value) => Ok(not_below(id_reference_from(types, item.index().0, value))),
         Err(Error::OutOfMemory) => Err(Error::OutOfMemory),
-        Err(error) => Ok(is_not_read(kind, &error).then_some(Inconsistency::KindNotRead(kind))),
+        Err(error) => Ok(is_not_read(kind, error).then_some(Inconsistency::KindNotRead(kind))),
     }
 }
 

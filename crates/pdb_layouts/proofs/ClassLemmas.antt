@@ -1,17 +1,22 @@
 -- The layouts of types with modifiers.
 use Rattle.std.proofs.Common.{◌≡◌, ◌⊎◌, inl, inr, refl, sym, ap, ◌∙◌, arith, ℕ, suc, ◌+◌, ◌-◌, ◌<◌, ◌≤◌}
-use Rattle.std.proofs.Common.{Option, Some, None, Ok, Err}
+use Rattle.std.proofs.Common.{Option, Some, None, Ok, Err, List}
 use Rattle.std.specs.Option.{option_map, option_map_or}
+use Rattle.std.proofs.lemmas.Bool.{le-ltb, lt-leb}
 use Rattle.pdb_base.specs.Answer.{Answer, Answers, ◌>>=◌}
 use Rattle.pdb_base.specs.Refusal.{Refusal, refusal_of}
 use Rattle.pdb_base.specs.declared.error.Error.{Error}
 use Rattle.pdb_base.specs.declared.error.Error.TheVariants.{OutOfMemory}
+use Rattle.pdb_tpi.specs.Finder.{item_of}
+use Rattle.pdb_tpi.specs.Record.{type_of}
+use Rattle.pdb_tpi.specs.Steps.{nth_item}
 use Rattle.pdb_tpi.specs.Table.{Table}
+use Rattle.pdb_tpi.proofs.StepLemmas.{nth_further}
 use Rattle.pdb_types.specs.Layout.{LayoutValue, layout_of, layout_value}
 use Rattle.pdb_types.specs.TypeAt.{type_at}
 use Rattle.pdb_types.specs.declared.layout.Layout.{Layout}
 use Rattle.pdb_values.specs.TypeValue.{TypeValue}
-use Rattle.pdb_layouts.specs.Classes.{class_layout, layout_along, layout_or, unmodified}
+use Rattle.pdb_layouts.specs.Classes.{IsClass, IsClassIn, class_layout, layout_along, layout_or, unmodified}
 
 -- the types that are left lead on from an index
 abbrev LeadsOn : Table → ℕ → ℕ → ℕ → Type 0
@@ -59,3 +64,31 @@ unfolding layout_along
 along_end table start k index leads past =
     let none : 16 - k ≡ 0 = omega (arith, past) in
     leads ∙ ap (λ (n : ℕ). layout_along n table index) none
+
+-- ---- the classes of a table
+
+-- no item follows one that is missing
+past_item : (table : Table) (index later : ℕ) (fault : Refusal) → table.header.minimum_index ≤ index
+    → index < table.header.maximum_index → index ≤ later → later < table.header.maximum_index
+    → item_of table index ≡ Err fault → item_of table later ≡ Err fault
+unfolding item_of
+past_item table index later fault least most after below is =
+    let least_too : table.header.minimum_index ≤ later = omega (arith, least, after) in
+    let here : nth_item table (index - table.header.minimum_index) ≡ Err fault =
+    rw (le-ltb index table.header.minimum_index least, lt-leb index table.header.maximum_index most) at is in
+    rw (le-ltb later table.header.minimum_index least_too, lt-leb later table.header.maximum_index below)
+    (nth_further table (index - table.header.minimum_index) (later - table.header.minimum_index) fault here
+    (omega (arith, after)))
+
+none_refused : (pattern : Option (List ℕ)) (item : Answer (List ℕ)) (index : ℕ) (fault : Refusal) → item ≡ Err fault
+    → IsClassIn pattern (item >>= type_of index) → ⊥
+none_refused pattern item index fault is has = rw is at has
+
+-- and no class
+pub past_class : (table : Table) (pattern : Option (List ℕ)) (index later : ℕ) (e : Error)
+    → table.header.minimum_index ≤ index → index < table.header.maximum_index → index ≤ later
+    → later < table.header.maximum_index → item_of table index ≡ Err (refusal_of e) → IsClass table pattern later → ⊥
+unfolding type_at
+past_class table pattern index later e least most after below is =
+    none_refused pattern (item_of table later) later (refusal_of e)
+    (past_item table index later (refusal_of e) least most after below is)

@@ -35,3 +35,25 @@ pub selected_passed : (P : ℕ → Type 0) (a x : ℕ) (selected : List ℕ) →
 selected_passed P a x selected least was not =
     subst (λ all. IsSelected P all selected) (sym (range_next a x least))
     (passed (range_with_len a (x - a)) selected x was not)
+
+-- so many more of which it is false
+selected_more : (P : ℕ → Type 0) (a n more : ℕ) (selected : List ℕ) → IsSelected P (range_with_len a n) selected
+    → ((k : ℕ) → a + n ≤ k → k < a + n + more → P k → ⊥) → IsSelected P (range_with_len a (n + more)) selected
+selected_more P a n zero selected was not =
+    subst (λ m. IsSelected P (range_with_len a m) selected) (sym (add-zero n)) was
+selected_more P a n (suc more) selected was not =
+    let before = selected_more P a n more selected was (λ k least below. not k least (omega (arith, below))) in
+    let next : suc (n + more) ≡ n + suc more = omega arith in
+    subst (λ m. IsSelected P (range_with_len a m) selected) next
+    (subst (λ all. IsSelected P all selected) (sym (range_more a (n + more)))
+    (passed (range_with_len a (n + more)) selected (a + (n + more)) before
+    (not (a + (n + more)) (omega arith) (omega arith))))
+
+pub selected_rest : (P : ℕ → Type 0) (a x end : ℕ) (selected : List ℕ) → a ≤ x → x ≤ end
+    → IsSelected P (range_with_len a (x - a)) selected → ((k : ℕ) → x ≤ k → k < end → P k → ⊥)
+    → IsSelected P (range_with_len a (end - a)) selected
+selected_rest P a x end selected least most was not =
+    let all : x - a + (end - x) ≡ end - a = omega (arith, least, most) in
+    subst (λ m. IsSelected P (range_with_len a m) selected) all
+    (selected_more P a (x - a) (end - x) selected was
+    (λ k above below. not k (omega (arith, above, least)) (omega (arith, below, least, most))))

@@ -67,8 +67,12 @@ abbrev pub IsNameWanted : Option (List ℕ) → List ℕ → Type 0
 IsNameWanted pattern name = IfSome pattern (λ signs. Means signs name)
 
 -- a type is a class or a union that is defined and whose name is wanted
+abbrev pub IsClassIn : Option (List ℕ) → Answer TypeValue → Type 0
+IsClassIn pattern type = IsSomeAnd (class_defined type) (λ said. IsNameWanted pattern said.name)
+
+-- the same of the type of an index
 abbrev pub IsClass : Table → Option (List ℕ) → ℕ → Type 0
-IsClass table pattern index = IsSomeAnd (class_defined (type_at table index)) (λ said. IsNameWanted pattern said.name)
+IsClass table pattern index = IsClassIn pattern (type_at table index)
 
 -- the numbers of a list of which something is true, in their order
 pub data IsSelected (P : ℕ → Type 0) : List ℕ → List ℕ → Type 0 where

@@ -4,16 +4,18 @@ ghost use Rattle.std.specs.Prelude.{◌≡◌, ◌↔◌, map, Ok, IfOk, IfSome,
 ghost use Rattle.std.specs.Option.{option_map};
 ghost use Rattle.pdb_base.specs.Answer.{Answers};
 ghost use Rattle.pdb_base.specs.Memory.{FailsOnlyForMemory};
+ghost use Rattle.pdb_tpi.specs.Item.{bytes_of, index_of};
+ghost use Rattle.pdb_tpi.specs.Record.{type_of};
 ghost use Rattle.pdb_types.specs.Layout.{HasGaps, layout_value};
 ghost use Rattle.pdb_types.specs.TypeAt.{type_at};
 ghost use Rattle.pdb_values.specs.Text.{text_bytes};
 ghost use Rattle.pdb_values.specs.TypeView.{type_value};
-ghost use Rattle.pdb_layouts.specs.Classes.{AreClasses, IsClass, IsNameWanted, class_defined};
+ghost use Rattle.pdb_layouts.specs.Classes.{AreClasses, IsClassIn, IsNameWanted, class_defined};
 ghost use Rattle.pdb_layouts.specs.Classes.{class_layout, class_of, class_value, unmodified};
 
 use crate::pattern::matches;
 use pdb_base::{Error, RawString, Result, TypeIndex};
-use pdb_tpi::OpenTable;
+use pdb_tpi::{OpenTable, Type};
 use pdb_types::{Definitions, Layout};
 use pdb_values::{ClassKind, TypeData};
 use std::alloc::Global;
@@ -73,18 +75,14 @@ fn defined<'t>(value: &TypeData<'t>) -> Option<Class<'t>>
     Some(class)
 }
 
-/// Returns the class or union that a type defines, or None if it defines none. A record that can't
+/// Returns the class or union that a record defines, or None if it defines none. A record that can't
 /// be read defines none.
-fn class_defined<'t>(
-    alloc: Global,
-    types: &'t OpenTable<TypeIndex>,
-    index: TypeIndex,
-) -> Result<Option<Class<'t>>>
-    ensures class { IfOk result
-        (λ class. option_map class_value class ≡ class_defined (type_at types.now.table index.0)) }
+fn class_defined<'t>(alloc: Global, item: &Type<'t>) -> Result<Option<Class<'t>>>
+    ensures class { IfOk result (λ class. option_map class_value class
+        ≡ class_defined (type_of (index_of item.now).0 (bytes_of item.now))) }
     ensures memory { FailsOnlyForMemory result }
 {
-    match type_at(alloc, types, index) {
+    match item.parse(alloc) {
         Ok(value) => Ok(defined(&value)),
         Err(Error::OutOfMemory) => Err(Error::OutOfMemory),
         Err(_) => Ok(None),
@@ -101,18 +99,13 @@ fn is_name_wanted(pattern: Option<&[u8]>, name: RawString<'_>) -> bool
     }
 }
 
-/// Returns whether a type is a class or a union that is defined and whose name is wanted.
-fn is_class(
-    alloc: Global,
-    types: &OpenTable<TypeIndex>,
-    index: TypeIndex,
-    pattern: Option<&[u8]>,
-) -> Result<bool>
-    ensures is { IfOk result (λ is. IsTrue is ↔
-        IsClass types.now.table (option_map (λ signs. signs.now) pattern.entry) index.0) }
+/// Returns whether a record is that of a class or a union that is defined and whose name is wanted.
+fn is_class(alloc: Global, item: &Type<'_>, pattern: Option<&[u8]>) -> Result<bool>
+    ensures is { IfOk result (λ is. IsTrue is ↔ IsClassIn (option_map (λ signs. signs.now) pattern.entry)
+        (type_of (index_of item.now).0 (bytes_of item.now))) }
     ensures memory { FailsOnlyForMemory result }
 {
-    match class_defined(alloc, types, index)? {
+    match class_defined(alloc, item)? {
         Some(class) => Ok(is_name_wanted(pattern, class.name)),
         None => Ok(false),
     }
@@ -135,7 +128,11 @@ pub(crate) fn classes_in(
     let header = types.items().header();
     let mut found = Vec::new(alloc);
     for number in header.minimum_index..header.maximum_index {
-        if !is_class(alloc, types, TypeIndex(number), pattern)? {
+        // No record follows the first that is missing, whatever the header counts.
+        let Ok(item) = types.item(TypeIndex(number)) else {
+            return Ok(found);
+        };
+        if !is_class(alloc, &item, pattern)? {
             continue;
         }
         found.push(TypeIndex(number))?;

@@ -8,6 +8,7 @@ mod indexes;
 mod leaves;
 mod lists;
 mod names;
+mod open_tables;
 mod plain;
 mod primitives;
 mod read;

@@ -5,3 +5,4 @@ pub mod SizeLemmas
 pub mod SpanLemmas
 pub mod GapLemmas
 pub mod LayoutLemmas
+pub mod ListLemmas

@@ -38,10 +38,14 @@ abbrev pub declared_definition : Table → ℕ → Declared → Option ℕ
 declared_definition table index declared =
     if is_forward declared then first_definition table (sought_name declared) else Some index
 
--- the definition of the type of an index, if it is a class, a union or an enumeration and has a definition
+-- the definition of the type of an index that is this one, if it is a class, a union or an enumeration and has
+-- a definition
+abbrev pub definition_by : Table → ℕ → TypeValue → Option ℕ
+definition_by table index value = option_map_or (declared_definition table index) (declaration_of value) None
+
+-- the definition of the type of an index, if there is one
 unfoldable pub definition_of : Table → ℕ → Answer (Option ℕ)
-definition_of table index = type_at table index
-    >>= λ value. Ok (option_map_or (declared_definition table index) (declaration_of value) None)
+definition_of table index = type_at table index >>= λ value. Ok (definition_by table index value)
 
 -- what is made of a table's items if no byte is left behind them, and else the fault at which the walk over
 -- them stops

@@ -1,6 +1,6 @@
 -- The index of the definitions of a table: for each name of a definition an entry with the hash of the name
 -- and the index of the type, sorted.
-use Rattle.std.specs.Prelude.{◌≡◌, ℕ, ◌+◌, ◌*◌, ◌<◌, ◌≤◌, ◌==◌, Bool, true, ◌&&◌, if◌then◌else◌, List, [], ◌∷◌, ◌++◌}
+use Rattle.std.specs.Prelude.{◌≡◌, ℕ, ◌+◌, ◌*◌, ◌<◌, ◌≤◌, ◌==◌, Bool, true, ◌&&◌, ◌||◌, if◌then◌else◌, List, [], ◌∷◌, ◌++◌}
 use Rattle.std.specs.Prelude.{Ok, Err}
 use Rattle.std.specs.List.{All, list_any}
 use Rattle.std.specs.List.Sorted.{IsNonDecreasingBy}
@@ -23,6 +23,10 @@ rank entry = entry.hash * 0x1_0000_0000 + entry.index.0
 -- the entry of a name of a definition
 abbrev pub entry_of : ℕ → TypeName → Entry
 entry_of index name = record { hash = name_hash name; index = record { 0 = index } }
+
+-- whether the records of a kind are lists of arguments, of fields or of methods
+abbrev pub is_list : ℕ → Bool
+is_list kind = kind == 0x1203 || kind == 0x1201 || kind == 0x1206
 
 -- the entries of the names of a definition
 abbrev pub names_entries : ℕ → Declared → List Entry

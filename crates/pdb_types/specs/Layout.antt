@@ -50,7 +50,7 @@ field_of table value = field_from table (place_of value)
 abbrev pub with_field : List FieldValue → Answer (Option FieldValue) → Answer (List FieldValue)
 with_field fields field = field >>= λ one. Ok (fields ++ option_to_list one)
 
--- the fields of records in order, or the first refusal among them
+-- the fields of records in order, or the first error among them
 abbrev pub fields_in : Table → List TypeValue → Answer (List FieldValue)
 fields_in table [] = Ok []
 fields_in table (value ∷ values) = field_of table value >>= λ field. fields_in table values

@@ -5,7 +5,7 @@ use Rattle.pdb_tpi.specs.Table.{Table}
 use Rattle.pdb_types.specs.declared.shortcut.Shortcut.{Shortcut}
 use Rattle.pdb_types.specs.Size.{size_of}
 
--- A type has the size of another one, which has no higher index; or both have the same refusal.
+-- A type has the size of another one, which has no higher index; or the sizes of both fail with the same error.
 pub record IsAsLarge (table : Table) (index other : ℕ) : Type 0 where
   pub low : other ≤ index
   pub same : size_of table index ≡ size_of table other

@@ -7,7 +7,7 @@ use Rattle.pdb_tpi.specs.Table.{Table}
 use Rattle.pdb_types.specs.Size.{size_of}
 use Rattle.pdb_types.specs.TypeAt.{type_at}
 
--- a call fails only with `OutOfMemory`, or with the refusal of a type in the table or of its size
+-- a call fails only with `OutOfMemory`, or with the error of a type in the table or of its size
 abbrev pub FailsAsTable : {X : Type 0} → Table → Result X Error → Type 0
 FailsAsTable table result = IfErr result (λ e. (e ≡ OutOfMemory)
     ⊎ ((index : ℕ) × ((type_at table index ≡ Err (refusal_of e)) ⊎ (size_of table index ≡ Err (refusal_of e)))))

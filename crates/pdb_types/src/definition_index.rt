@@ -5,7 +5,8 @@ ghost use Rattle.pdb_base.specs.Answer.{Answers};
 ghost use Rattle.pdb_types.specs.Definition.{walked};
 ghost use Rattle.pdb_types.specs.DefinitionIndex.{IsIndexOf, index_kept};
 
-use crate::definitions::{Definitions, sorted_entries};
+use crate::definition_walk::DefinitionWalk;
+use crate::definitions::Definitions;
 use crate::entry::Entry;
 use crate::shortcut::Shortcut;
 use pdb_base::{Result, TypeIndex};
@@ -28,10 +29,14 @@ impl DefinitionIndex {
         ensures index { IfOk result (IsIndexOf types.now.table) }
         ensures walked { Answers (λ _. types.now.table) result (walked types.now.table) }
     {
-        let entries = sorted_entries(alloc, types.items())?;
-        let shortcuts = Vec::new(alloc);
-        let index = DefinitionIndex { entries, shortcuts };
-        let shortcuts = Definitions::lent(types, &index).all_shortcuts(alloc)?;
+        let walk = DefinitionWalk::sorted(alloc, types.items())?;
+        let index = DefinitionIndex {
+            entries: walk.entries,
+            shortcuts: Vec::new(alloc),
+        };
+        let has_names = walk.has_wide_enumeration;
+        let shortcuts =
+            Definitions::lent(types, &index).new_shortcuts(alloc, has_names, &walk.modified)?;
         Ok(DefinitionIndex {
             entries: index.entries,
             shortcuts,

@@ -1,25 +1,26 @@
 //! The definitions of the types of a table, by their names.
 
-ghost use Rattle.std.specs.Prelude.{◌≡◌, ◌≤◌, length, drop, map, IfOk, Ok};
+ghost use Rattle.std.specs.Prelude.{◌≡◌, ◌≤◌, length, drop, map, Ok};
 ghost use Rattle.std.specs.Option.{option_map};
 ghost use Rattle.pdb_base.specs.Answer.{Answers};
-ghost use Rattle.pdb_tpi.specs.Steps.{walk_rest};
 ghost use Rattle.pdb_types.specs.Declaration.{source_name, type_name};
-ghost use Rattle.pdb_types.specs.Definition.{all_definitions, defines, definition_of, first_definition, if_none_left, walked};
+ghost use Rattle.pdb_types.specs.Definition.{all_definitions, defines, definition_by, definition_of, first_definition, walked};
 ghost use Rattle.pdb_types.specs.DefinitionIndex.{IsIndexOf};
-ghost use Rattle.pdb_types.specs.Entries.{AreCandidates, IsIndexed, all_entries};
+ghost use Rattle.pdb_types.specs.Entries.{AreCandidates, IsIndexed};
 ghost use Rattle.pdb_types.specs.Shortcut.{AreShortcuts, IsAsLarge};
 ghost use Rattle.pdb_types.specs.TypeAt.{type_at};
+ghost use Rattle.pdb_values.specs.TypeView.{type_value};
 
 use crate::declaration::declaration_of;
 use crate::definition_index::{DefinitionIndex, KeptIndex};
-use crate::entry::{Entry, push_entries};
+use crate::entry::Entry;
 use crate::name_hash::name_hash;
 use crate::shortcut::{Shortcut, end_of};
 use crate::type_at::type_at;
 use crate::type_name::TypeName;
-use pdb_base::{Error, FallibleIterator, Result, TypeIndex};
-use pdb_tpi::{OpenTable, TypeInformation};
+use pdb_base::{Error, Result, TypeIndex};
+use pdb_tpi::OpenTable;
+use pdb_values::TypeData;
 use std::alloc::Global;
 use std::marker::Model;
 
@@ -44,29 +45,6 @@ impl<'t> Model for Definitions<'t> {
     ghost view = { λ d. d.types.now.table };
 
     ghost invariant = { λ d. IsIndexOf d.types.now.table (index_kept d.index) };
-}
-
-/// Returns an entry for each name of a definition in a table, in the order of the types.
-fn entries_in(alloc: Global, table: &TypeInformation) -> Result<Vec<Entry>>
-    ensures { Answers (λ entries. entries.items) result
-        (if_none_left (all_entries table.now) (walk_rest table.now)) }
-{
-    let mut items = table.iter();
-    let mut entries = Vec::new(alloc);
-    while let Some(item) = items.next()? {
-        push_entries(alloc, &item, &mut entries)?;
-    }
-    Ok(entries)
-}
-
-/// Returns the sorted entries of a table.
-pub(crate) fn sorted_entries(alloc: Global, table: &TypeInformation) -> Result<Vec<Entry>>
-    ensures indexed { IfOk result (λ entries. IsIndexed table.now entries.items) }
-    ensures walked { Answers (λ _. table.now) result (walked table.now) }
-{
-    let mut entries = entries_in(alloc, table)?;
-    entries.sort_unstable_by_key(|entry| entry.rank());
-    Ok(entries)
 }
 
 /// Returns the entries from a place on.
@@ -168,6 +146,23 @@ impl<'t> Definitions<'t> {
         Ok(None)
     }
 
+    /// Returns the definition of the type of an index, whose record says this.
+    pub(crate) fn definition_by(
+        &self,
+        alloc: Global,
+        index: TypeIndex,
+        value: &TypeData<'_>,
+    ) -> Result<Option<TypeIndex>>
+        ensures { Answers (option_map (λ index. index.0)) result
+            (Ok (definition_by self.now index.0 (type_value value.now))) }
+    {
+        match declaration_of(value) {
+            Some(names) if names.is_forward() => self.first_definition(alloc, names.sought_name()),
+            Some(_) => Ok(Some(index)),
+            None => Ok(None),
+        }
+    }
+
     /// Returns the definition of a class, a union or an enumeration: the index itself, or for a
     /// forward reference that of the first type in the table that defines its unique name, or its
     /// name if it has no unique name. Returns None for a forward reference that the table doesn't
@@ -181,11 +176,7 @@ impl<'t> Definitions<'t> {
         ensures { Answers (option_map (λ index. index.0)) result (definition_of self.now index.0) }
     {
         let value = type_at(self.types, alloc, index)?;
-        match declaration_of(&value) {
-            Some(names) if names.is_forward() => self.first_definition(alloc, names.sought_name()),
-            Some(_) => Ok(Some(index)),
-            None => Ok(None),
-        }
+        self.definition_by(alloc, index, &value)
     }
 
     /// Returns the indexes of all definitions of a name in increasing order. The name is the one

@@ -1,18 +1,16 @@
 //! The entries of the index of definitions.
 
-ghost use Rattle.std.specs.Prelude.{◌≡◌, ◌++◌, OnOk};
+ghost use Rattle.std.specs.Prelude.{◌≡◌, ◌++◌, OnOk, Ok};
 ghost use Rattle.pdb_base.specs.Memory.{FailsOnlyForMemory};
-ghost use Rattle.pdb_tpi.specs.Item.{bytes_of, index_of};
-ghost use Rattle.pdb_tpi.specs.Record.{type_of};
 ghost use Rattle.pdb_types.specs.Declaration.{declaration_value, type_name};
 ghost use Rattle.pdb_types.specs.Entries.{entries_of, entry_of, names_entries, rank};
+ghost use Rattle.pdb_values.specs.TypeView.{type_value};
 
 use crate::declaration::{Declaration, declaration_of};
 use crate::name_hash::name_hash;
 use crate::type_name::TypeName;
-use pdb_base::{Error, Result, TypeIndex};
-use pdb_tpi::Type;
-use std::alloc::Global;
+use pdb_base::{Result, TypeIndex};
+use pdb_values::TypeData;
 
 /// How many indexes there are.
 const INDEXES: u128 = 0x1_0000_0000;
@@ -61,17 +59,17 @@ fn push_names(index: TypeIndex, names: &Declaration<'_>, entries: &mut Vec<Entry
 ///
 /// # Errors
 /// Fails with `OutOfMemory` if an allocation fails.
-pub(crate) fn push_entries(alloc: Global, item: &Type<'_>, entries: &mut Vec<Entry>) -> Result<()>
-    ensures ok { OnOk result (entries.new.items ≡
-        entries.old.items ++ entries_of (index_of item.now).0 (type_of (index_of item.now).0 (bytes_of item.now))) }
+pub(crate) fn push_entries(
+    index: TypeIndex,
+    value: &TypeData<'_>,
+    entries: &mut Vec<Entry>,
+) -> Result<()>
+    ensures ok { OnOk result
+        (entries.new.items ≡ entries.old.items ++ entries_of index.0 (Ok (type_value value.now))) }
     ensures memory { FailsOnlyForMemory result }
 {
-    match item.parse(alloc) {
-        Ok(value) => match declaration_of(&value) {
-            Some(names) if !names.is_forward() => push_names(item.index(), &names, entries),
-            _ => Ok(()),
-        },
-        Err(Error::OutOfMemory) => Err(Error::OutOfMemory),
-        Err(_) => Ok(()),
+    match declaration_of(value) {
+        Some(names) if !names.is_forward() => push_names(index, &names, entries),
+        _ => Ok(()),
     }
 }

@@ -6,6 +6,7 @@
 mod declaration;
 mod declarator;
 mod definition_index;
+mod definition_walk;
 mod definitions;
 mod entry;
 mod extent;

@@ -23,8 +23,8 @@ fn kind_byte(name: TypeName<'_>) -> u8
     }
 }
 
-/// Returns the hash of a name: SipHash-1-3 of its bytes and of a byte for its kind. No way is known
-/// to make many names of one hash of 64 bits, as there is for a hash that is only quick.
+/// Returns the hash of a name: SipHash-1-3 of its bytes and of a byte for its kind, under the key of
+/// zeros. It is not linear as a quick hash is, so that names of one hash have to be searched for.
 #[tactic(auto, unfolding(crate::specs::NameHash::name_hash))]
 pub(crate) fn name_hash(name: TypeName<'_>) -> u64
     ensures { result ≡ name_hash (type_name name.entry) }

@@ -1,6 +1,6 @@
 //! Shortcuts along types of which each is as large as another one.
 
-ghost use Rattle.std.specs.Prelude.{◌<◌, IfOk, IfSome, ℕ};
+ghost use Rattle.std.specs.Prelude.{IfOk, IfSome, OnOk};
 ghost use Rattle.pdb_base.specs.Memory.{FailsOnlyForMemory};
 ghost use Rattle.pdb_tpi.specs.Table.{Table};
 ghost use Rattle.pdb_types.specs.Shortcut.{AreShortcuts, IsAsLarge};
@@ -8,16 +8,12 @@ ghost use Rattle.pdb_types.specs.Shortcut.{AreShortcuts, IsAsLarge};
 use crate::definitions::Definitions;
 use crate::size_source::SizeSource;
 use pdb_base::{Error, FallibleIterator, Result, TypeIndex};
-use pdb_tpi::TypeInformation;
-use pdb_values::TypeData;
 use std::alloc::Global;
 
-/// The record kinds of a type with a modifier, of a bit field, and of an enumeration.
+/// The record kinds of a type with a modifier and of a bit field.
 const MODIFIER: u16 = 0x1001;
 
 const BIT_FIELD: u16 = 0x1205;
-
-const ENUMERATION: u16 = 0x1507;
 
 /// How many types are from the start of a shortcut to its end, or to the start of the next one.
 const RUN: usize = 8;
@@ -44,35 +40,6 @@ pub(crate) fn end_of(shortcuts: &[Shortcut], index: TypeIndex) -> TypeIndex
 /// the next; among these may be types with names.
 fn is_of_run(kind: u16, has_names: bool) -> bool {
     has_names || kind == MODIFIER || kind == BIT_FIELD
-}
-
-/// Returns whether a type is an enumeration over a type of the table, whose least index is given.
-/// Compilers write only enumerations over primitive types.
-fn is_over_type(value: &TypeData<'_>, least: u32) -> bool {
-    match value {
-        TypeData::Enumeration(enumeration) => enumeration.underlying_type.0 >= least,
-        _ => false,
-    }
-}
-
-/// Returns whether an enumeration of a table is over a type of the table. Only then can types with
-/// names be many in a row of which each is as large as the next.
-fn has_run_of_names(alloc: Global, table: &TypeInformation) -> Result<bool>
-    ensures { FailsOnlyForMemory result }
-{
-    let least = table.header().minimum_index;
-    let mut items = table.iter();
-    while let Ok(Some(item)) = items.next() {
-        if item.raw_kind() != ENUMERATION {
-            continue;
-        }
-        match item.parse(alloc) {
-            Ok(value) if is_over_type(&value, least) => return Ok(true),
-            Err(Error::OutOfMemory) => return Err(Error::OutOfMemory),
-            _ => {}
-        }
-    }
-    Ok(false)
 }
 
 impl<'t> Definitions<'t> {
@@ -120,27 +87,70 @@ impl<'t> Definitions<'t> {
         Ok(Some(end_of(shortcuts, end)))
     }
 
-    /// Returns the shortcuts of the table.
+    /// Adds the shortcut from a type, if one is due.
+    fn add_shortcut(
+        &self,
+        alloc: Global,
+        index: TypeIndex,
+        has_names: bool,
+        shortcuts: &mut Vec<Shortcut>,
+    ) -> Result<()>
+        requires { AreShortcuts self.now shortcuts.old.items }
+        ensures are { OnOk result (AreShortcuts self.now shortcuts.new.items) }
+        ensures memory { FailsOnlyForMemory result }
+    {
+        if let Some(end) = self.shortcut_end(alloc, index, has_names, shortcuts)? {
+            shortcuts.push(Shortcut { index, end })?;
+        }
+        Ok(())
+    }
+
+    /// Returns the shortcuts from some types with modifiers and bit fields, in rising order.
     ///
-    /// There is one for each type from which the size is found along a multiple of eight types. So
-    /// it is found along at most eight types and a shortcut, also where a million types with
-    /// modifiers are one behind another.
-    pub(crate) fn all_shortcuts(&self, alloc: Global) -> Result<Vec<Shortcut>>
+    /// There is one for each of them from which the size is found along a multiple of eight types.
+    /// So if all of the table are given that are over types of the table, a size is found along at
+    /// most eight types and a shortcut, also where a million types with modifiers are one behind
+    /// another.
+    fn shortcuts_from(&self, alloc: Global, types: &[TypeIndex]) -> Result<Vec<Shortcut>>
         ensures are { IfOk result (λ shortcuts. AreShortcuts self.now shortcuts.items) }
         ensures memory { FailsOnlyForMemory result }
     {
-        let has_names = has_run_of_names(alloc, self.types().items())?;
+        let mut shortcuts = Vec::new(alloc);
+        for index in types {
+            self.add_shortcut(alloc, *index, false, &mut shortcuts)?;
+        }
+        Ok(shortcuts)
+    }
+
+    /// Returns the shortcuts from all types of the table, as `shortcuts_from` does.
+    fn all_shortcuts(&self, alloc: Global) -> Result<Vec<Shortcut>>
+        ensures are { IfOk result (λ shortcuts. AreShortcuts self.now shortcuts.items) }
+        ensures memory { FailsOnlyForMemory result }
+    {
         let mut items = self.types().items().iter();
         let mut shortcuts = Vec::new(alloc);
         while let Ok(Some(item)) = items.next() {
-            if !is_of_run(item.raw_kind(), has_names) {
-                continue;
-            }
-            let index = item.index();
-            if let Some(end) = self.shortcut_end(alloc, index, has_names, &shortcuts)? {
-                shortcuts.push(Shortcut { index, end })?;
-            }
+            self.add_shortcut(alloc, item.index(), true, &mut shortcuts)?;
         }
         Ok(shortcuts)
+    }
+
+    /// Returns the shortcuts of the table, whose types with modifiers and bit fields over types of
+    /// the table are given. Where an enumeration is over a type of the table, types with names can
+    /// be many in a row too, of which each is as large as the next.
+    pub(crate) fn new_shortcuts(
+        &self,
+        alloc: Global,
+        has_names: bool,
+        modified: &[TypeIndex],
+    ) -> Result<Vec<Shortcut>>
+        ensures are { IfOk result (λ shortcuts. AreShortcuts self.now shortcuts.items) }
+        ensures memory { FailsOnlyForMemory result }
+    {
+        if has_names {
+            self.all_shortcuts(alloc)
+        } else {
+            self.shortcuts_from(alloc, modified)
+        }
     }
 }

@@ -11,13 +11,17 @@ use std::alloc::Global;
 
 impl<'t> Definitions<'t> {
     /// Returns what says the size of the type of an index: its record, or that of its definition.
-    #[tactic(auto, unfolding(crate::specs::Size::source_at))]
+    #[tactic(auto, unfolding(crate::specs::Size::source_at, crate::specs::Definition::definition_of))]
     pub(crate) fn size_source(&self, alloc: Global, index: TypeIndex) -> Result<SizeSource>
         ensures { Answers (λ source. source) result (source_at self.now index.0) }
     {
-        let definition = self.definition_of(alloc, index)?;
-        let value = type_at(self.types(), alloc, definition.unwrap_or(index))?;
-        Ok(size_source(&value))
+        let value = type_at(self.types(), alloc, index)?;
+        match self.definition_by(alloc, index, &value)? {
+            Some(definition) if definition != index => {
+                Ok(size_source(&type_at(self.types(), alloc, definition)?))
+            }
+            _ => Ok(size_source(&value)),
+        }
     }
 
     /// Returns the size of a type in bytes, or None if nothing says it.

@@ -27,6 +27,11 @@ one_asked extents.First mismatch = elim (cases_Bool (warns mismatch)) [
 ]
 one_asked extents.All mismatch = refl
 
+-- a relation without mismatches tells nothing
+pub nothing_related : (extent : Extent) (faults : List Fault) (fault : Mismatch → Fault)
+    → faults ++ map fault (asked_of extent []) ≡ faults
+nothing_related extent faults fault = rw (nothing_asked extent) (append-nil faults)
+
 -- one mismatch more
 pub mismatches_more : (fault : Mismatch → Fault) (mismatches : List Mismatch) (i : ℕ) (d : Mismatch)
     → i < length mismatches

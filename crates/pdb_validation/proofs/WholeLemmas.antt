@@ -30,7 +30,7 @@ use Rattle.pdb_validation.specs.Names.{string_table_number, whole_names}
 use Rattle.pdb_validation.specs.Places.{PagesValue, stream_pages}
 use Rattle.pdb_validation.specs.Problem.{ProblemValue, is_tolerated}
 use Rattle.pdb_validation.specs.Relations.{AreConsistent, container_relations, name_relations, related_faults}
-use Rattle.pdb_validation.specs.Relations.{role_relations, table_relations}
+use Rattle.pdb_validation.specs.Relations.{id_relations, role_relations, type_relations}
 use Rattle.pdb_space.specs.StringTable.{names_of}
 use Rattle.pdb_validation.proofs.NameLemmas.{names_whole, whole_from_names}
 use Rattle.pdb_validation.specs.Roles.{known_roles, numbered_fault, role_fault, role_index, role_problem, roles_fault}
@@ -520,7 +520,8 @@ none_refused_of extent layout file fixed each =
 record AreAgreed (extent : Extent) (layout : LayoutValue) (file : List ℕ) (faults : List Fault) : Type 0 where
   pub none : errors_in faults ≡ []
   pub pages : AreConsistent (container_relations file)
-  pub tables : AreConsistent (table_relations layout file)
+  pub types : AreConsistent (type_relations layout file)
+  pub ids : AreConsistent (id_relations layout file)
   pub names : AreConsistent (name_relations layout file)
   pub roles : AreConsistent (role_relations layout file)
 
@@ -530,9 +531,10 @@ unfolding related_faults
 related_agree extent layout file faults is =
     let roles = with_none extent layout (role_relations layout file) _ is in
     let names = with_none extent layout (name_relations layout file) _ roles.0 in
-    let tables = with_none extent layout (table_relations layout file) _ names.0 in
-    let pages = with_none extent layout (container_relations file) faults tables.0 in
-    record { none = pages.0; pages = pages.1; tables = tables.1; names = names.1; roles = roles.1 }
+    let ids = with_none extent layout (id_relations layout file) _ names.0 in
+    let types = with_none extent layout (type_relations layout file) _ ids.0 in
+    let pages = with_none extent layout (container_relations file) faults types.0 in
+    record { none = pages.0; pages = pages.1; types = types.1; ids = ids.1; names = names.1; roles = roles.1 }
 
 agreed : (extent : Extent) (layout : LayoutValue) (file : List ℕ) (faults : List Fault)
     → AreAgreed extent layout file faults → errors_in (related_faults extent layout file faults) ≡ []
@@ -540,8 +542,9 @@ unfolding related_faults
 agreed extent layout file faults are =
     none_with extent layout (role_relations layout file) _
     (none_with extent layout (name_relations layout file) _
-    (none_with extent layout (table_relations layout file) _
-    (none_with extent layout (container_relations file) faults are.none are.pages) are.tables) are.names) are.roles
+    (none_with extent layout (id_relations layout file) _
+    (none_with extent layout (type_relations layout file) _
+    (none_with extent layout (container_relations file) faults are.none are.pages) are.types) are.ids) are.names) are.roles
 
 no_part_faults : (extent : Extent) (layout : LayoutValue) (file : List ℕ)
     → errors_in (sized_faults extent layout file) ≡ [] → HasWholeParts layout file
@@ -567,7 +570,8 @@ no_part_faults extent layout file is =
       by_role = λ part. role_whole layout file part (known_roles layout file)
           (by_part layout file (known_roles layout file) all.1 part);
       pages_agree = agree.pages;
-      tables_agree = agree.tables;
+      types_agree = agree.types;
+      ids_agree = agree.ids;
       names_agree = agree.names;
       roles_agree = agree.roles;
     }
@@ -596,7 +600,8 @@ whole_parts extent layout file whole =
     (agreed extent layout file (refused_faults extent layout file) (record {
       none = ap errors_in none;
       pages = whole.pages_agree;
-      tables = whole.tables_agree;
+      types = whole.types_agree;
+      ids = whole.ids_agree;
       names = whole.names_agree;
       roles = whole.roles_agree;
     }))

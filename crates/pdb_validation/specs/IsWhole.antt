@@ -1,4 +1,4 @@
--- Whether a file is whole: no definition of this library assigns a refusal to a part of it.
+-- Whether a file is whole: no definition of this library assigns an error to a part of it.
 use Rattle.std.specs.Prelude.{◌≡◌, ℕ, ◌+◌, ◌<◌, ◌≤◌, List, [], ◌∷◌, length, Option, Some, None, Ok, Err, IsOk, ⊤}
 use Rattle.pdb_base.specs.Answer.{Answer}
 use Rattle.pdb_base.specs.Index.{stream_number}
@@ -11,7 +11,7 @@ use Rattle.pdb_tpi.specs.Table.{Table, table_of}
 use Rattle.pdb_space.specs.StringTable.{name_of, names_of}
 use Rattle.pdb_validation.specs.Names.{string_table_number}
 use Rattle.pdb_validation.specs.Relations.{AreConsistent, container_relations, name_relations, role_relations}
-use Rattle.pdb_validation.specs.Relations.{table_relations}
+use Rattle.pdb_validation.specs.Relations.{id_relations, type_relations}
 use Rattle.pdb_validation.specs.Roles.{known_roles, role_index, role_problem}
 use Rattle.pdb_validation.specs.Sizes.{directory_size, streams_size}
 use Rattle.pdb_validation.specs.Tables.{id_in, type_in}
@@ -92,7 +92,8 @@ pub record HasWholeParts (layout : LayoutValue) (file : List ℕ) : Type 0 where
   pub ids : IfRead (λ stream. AreIds (table_of stream)) (stream_by layout file 4 None)
   pub by_role : (part : Part) → HasRole layout file part (known_roles layout file)
   pub pages_agree : AreConsistent (container_relations file)
-  pub tables_agree : AreConsistent (table_relations layout file)
+  pub types_agree : AreConsistent (type_relations layout file)
+  pub ids_agree : AreConsistent (id_relations layout file)
   pub names_agree : AreConsistent (name_relations layout file)
   pub roles_agree : AreConsistent (role_relations layout file)
 

@@ -12,7 +12,7 @@ use Rattle.pdb_validation.specs.Streams.{fault_there}
 use Rattle.pdb_validation.specs.declared.finding.Part.{Part}
 use Rattle.pdb_validation.specs.declared.finding.Part.TheVariants as parts
 
--- the fault of a part whose bytes are refused
+-- the fault of a part whose bytes cannot be read
 abbrev pub fault_of_answer : {A : Type 0} → Part → ℕ → Answer A → Option Fault
 fault_of_answer part number (Ok x) = None
 fault_of_answer part number (Err refusal) = Some (stream_fault part number (failure refusal))

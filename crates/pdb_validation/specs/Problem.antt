@@ -10,7 +10,7 @@ use Rattle.pdb_consistency.specs.declared.inconsistency.Inconsistency.TheVariant
 use Rattle.pdb_validation.specs.declared.problem.Problem.{Problem}
 use Rattle.pdb_validation.specs.declared.problem.Problem.TheVariants as problems
 
--- a refusal that a definition assigns to the part, or what is inconsistent in it
+-- an error that a definition assigns to the part, or what is inconsistent in it
 pub data ProblemValue : Type 0 where
   failure : Refusal → ProblemValue
   inconsistent : Inconsistency → ProblemValue

@@ -98,24 +98,14 @@ end_in (Err refusal) = 0xffffffff
 unfoldable pub types_end : LayoutValue → List ℕ → ℕ
 types_end layout file = end_in (stream_by layout file 2 None)
 
--- the records of types, and of ids
-unfoldable pub types_relation : LayoutValue → List ℕ → List Mismatch
-types_relation layout file = in_table (types_mismatches 2) (stream_by layout file 2 None)
-
-unfoldable pub ids_relation : LayoutValue → List ℕ → List Mismatch
-ids_relation layout file = in_table (ids_mismatches 4 (types_end layout file)) (stream_by layout file 4 None)
-
 -- the hash stream of a table, if there is one
 abbrev pub hashes_by : LayoutValue → List ℕ → Table → Option ℕ → List Mismatch
 hashes_by layout file table None = []
 hashes_by layout file table (Some number) =
     if_answered (hashes_mismatches number table) (stream_by layout file number None)
 
--- the hash stream of the table in a stream
-unfoldable pub hashes_relation : LayoutValue → List ℕ → ℕ → List Mismatch
-hashes_relation layout file number =
-    in_table (λ table. hashes_by layout file table (stream_number table.header.tpi_hash_stream))
-    (stream_by layout file number None)
+abbrev pub hashes_in : LayoutValue → List ℕ → Table → List Mismatch
+hashes_in layout file table = hashes_by layout file table (stream_number table.header.tpi_hash_stream)
 
 -- the streams that have names
 unfoldable pub named_streams : LayoutValue → List ℕ → List Mismatch
@@ -169,10 +159,19 @@ sections_relation layout file part = sections_by layout file part (known_roles l
 unfoldable pub container_relations : List ℕ → List Relation
 container_relations file = relation parts.Stream (page_mismatches file) ∷ []
 
-unfoldable pub table_relations : LayoutValue → List ℕ → List Relation
-table_relations layout file =
-    relation parts.Types (types_relation layout file) ∷ relation parts.Types (hashes_relation layout file 2)
-    ∷ relation parts.Ids (ids_relation layout file) ∷ relation parts.Ids (hashes_relation layout file 4) ∷ []
+-- the records of a table in the stream of a number, with these mismatches, and its hash stream
+abbrev pub table_relations : LayoutValue → List ℕ → Part → ℕ → (Table → List Mismatch) → List Relation
+table_relations layout file part number records =
+    relation part (in_table records (stream_by layout file number None))
+    ∷ relation part (in_table (hashes_in layout file) (stream_by layout file number None)) ∷ []
+
+-- the types
+unfoldable pub type_relations : LayoutValue → List ℕ → List Relation
+type_relations layout file = table_relations layout file parts.Types 2 (types_mismatches 2)
+
+-- the ids
+unfoldable pub id_relations : LayoutValue → List ℕ → List Relation
+id_relations layout file = table_relations layout file parts.Ids 4 (ids_mismatches 4 (types_end layout file))
 
 unfoldable pub name_relations : LayoutValue → List ℕ → List Relation
 name_relations layout file =
@@ -189,5 +188,6 @@ unfoldable pub related_faults : Extent → LayoutValue → List ℕ → List Fau
 related_faults extent layout file faults =
     with_relations extent layout (role_relations layout file)
     (with_relations extent layout (name_relations layout file)
-    (with_relations extent layout (table_relations layout file)
-    (with_relations extent layout (container_relations file) faults)))
+    (with_relations extent layout (id_relations layout file)
+    (with_relations extent layout (type_relations layout file)
+    (with_relations extent layout (container_relations file) faults))))

@@ -35,7 +35,7 @@ starts_rise frames = rises 1 0 (map (λ frame. frame.code_start) frames)
 
 -- ---- the bytes of one stream
 
--- what is wrong where an answer is a refusal; or else within its value
+-- what is wrong: the error, or what is wrong in the value
 abbrev pub problem_in : {A : Type 0} → (A → Option ProblemValue) → Answer A → Option ProblemValue
 problem_in within (Ok x) = within x
 problem_in within (Err refusal) = Some (failure refusal)
@@ -97,7 +97,7 @@ roles_in (Err refusal) = None
 unfoldable pub known_roles : LayoutValue → List ℕ → Option DBIExtraStreams
 known_roles layout file = roles_in (stream_by layout file 3 None)
 
--- the fault of stream 3, whose header or roles are refused
+-- the fault of stream 3, whose header or roles cannot be read
 unfoldable pub roles_fault : LayoutValue → List ℕ → Option Fault
 roles_fault layout file = if_read None (λ stream. fault_of_answer parts.Roles 3 (extra_streams_of stream))
     (stream_by layout file 3 None)

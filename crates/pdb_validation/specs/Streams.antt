@@ -11,7 +11,7 @@ use Rattle.pdb_validation.specs.Problem.{failure}
 use Rattle.pdb_validation.specs.declared.finding.Part.{Part}
 use Rattle.pdb_validation.specs.declared.finding.Part.TheVariants as parts
 
--- what a call says that no want of memory stopped: its value, or the refusal of its error
+-- the value or the error of a call for which there was memory
 abbrev pub answered : {X : Type 0} → Result X Error → Answer X
 answered (Ok x) = Ok x
 answered (Err e) = Err (refusal_of e)

@@ -1,11 +1,11 @@
--- The records of the tables of types and of ids: which of them is refused first.
-use Rattle.std.specs.Prelude.{ℕ, ◌+◌, ◌-◌, ◌==◌, Bool, false, ◌&&◌, not, nat_lt, if◌then◌else◌, List, [], ◌∷◌, ◌++◌, length}
+-- The records of the tables of types and of ids: which of them have an error.
+use Rattle.std.specs.Prelude.{ℕ, ◌+◌, ◌-◌, ◌==◌, nat_lt, if◌then◌else◌, List, [], ◌∷◌, ◌++◌, length}
 use Rattle.std.specs.Prelude.{Option, Some, None, Ok, Err}
 use Rattle.std.specs.Option.{option_to_list}
 use Rattle.pdb_base.specs.Answer.{Answer, ◌>>=◌, required}
 use Rattle.pdb_base.specs.Refusal.{Refusal, unexpected_eof, unimplemented_type_kind}
 use Rattle.pdb_records.specs.Fields.{field_list_leaf}
-use Rattle.pdb_records.specs.Shape.{pointer_leaf}
+use Rattle.pdb_consistency.specs.Records.{is_not_read}
 use Rattle.pdb_tpi.specs.Chain.{not_below}
 use Rattle.pdb_tpi.specs.Finder.{item_of}
 use Rattle.pdb_tpi.specs.OpenTable.{position_of}
@@ -23,7 +23,7 @@ use Rattle.pdb_validation.specs.declared.finding.Part.TheVariants as parts
 
 -- ---- one record
 
--- the refusal that an answer is, if it is one
+-- the error, if there is one
 abbrev pub refusal_in : {A : Type 0} → Answer A → Option Refusal
 refusal_in (Ok x) = None
 refusal_in (Err refusal) = Some refusal
@@ -44,21 +44,14 @@ continued_in table index other = Ok tt
 unfoldable pub read_in : Table → ℕ → List ℕ → Answer (Unit {0})
 read_in table index item = type_of index item >>= continued_in table index
 
--- the answer that is a refusal
+-- the answer with this error
 abbrev pub refused : Refusal → Answer (Unit {0})
 refused refusal = Err refusal
-
--- A record is refused for its kind alone. The kinds of pointers and of field lists are read, and so such a refusal of
--- one of these is that of what it holds.
-abbrev pub is_for_kind : ℕ → Refusal → Bool
-is_for_kind kind (unimplemented_type_kind other) =
-    (other == kind && not (kind == pointer_leaf)) && not (kind == field_list_leaf)
-is_for_kind kind refusal = false
 
 -- an answer for a record, or success if the kind of the record is not read by this library
 abbrev pub unless_unread : {A : Type 0} → ℕ → Answer A → Answer (Unit {0})
 unless_unread kind (Ok x) = Ok tt
-unless_unread kind (Err refusal) = if is_for_kind kind refusal then Ok tt else Err refusal
+unless_unread kind (Err refusal) = if is_not_read kind refusal then Ok tt else Err refusal
 
 -- The record of a type is one, and the list that continues it is below it, if there is one; or its kind is not read.
 unfoldable pub type_in : Table → ℕ → List ℕ → Answer (Unit {0})
@@ -70,12 +63,12 @@ id_in index item = unless_unread (kind_of item) (id_of item)
 
 -- ---- all records
 
--- the fault of an answer that is a refusal
+-- the fault of an error
 abbrev pub refusal_fault : {A : Type 0} → (Refusal → Fault) → Answer A → Option Fault
 refusal_fault fault (Ok x) = None
 refusal_fault fault (Err refusal) = Some (fault refusal)
 
--- The faults of the items that are refused, and then the fault behind the items. The first item has that index.
+-- The faults of the items that have an error, and then the fault behind the items. The first item has that index.
 abbrev pub item_faults : {A : Type 0} → (ℕ → Refusal → Fault) → (ℕ → List ℕ → Answer A) → ℕ → List (List ℕ)
     → Option Fault → List Fault
 item_faults fault means index [] behind = option_to_list behind

@@ -7,12 +7,12 @@ ghost use Rattle.pdb_base.specs.Memory.{FailsOnlyForMemory};
 ghost use Rattle.pdb_consistency.specs.Mismatch.{asked_of};
 ghost use Rattle.pdb_validation.specs.Finding.{finding_view};
 ghost use Rattle.pdb_validation.specs.Places.{stream_pages};
-ghost use Rattle.pdb_validation.specs.Relations.{buckets_of, buckets_relation, container_relations, hashes_by, hashes_relation};
-ghost use Rattle.pdb_validation.specs.Relations.{ids_relation, mismatch_fault, name_relations};
+ghost use Rattle.pdb_validation.specs.Relations.{buckets_of, buckets_relation, container_relations, hashes_by};
+ghost use Rattle.pdb_validation.specs.Relations.{id_relations, mismatch_fault, name_relations};
 ghost use Rattle.pdb_validation.specs.Relations.{named_streams, names_relation, role_relations, roles_in_stream};
 ghost use Rattle.pdb_validation.specs.Relations.{roles_relation, sections_by, sections_in, sections_relation};
-ghost use Rattle.pdb_validation.specs.Relations.{sizes_relation, table_relations, types_end};
-ghost use Rattle.pdb_validation.specs.Relations.{related_faults, types_relation, with_relations};
+ghost use Rattle.pdb_validation.specs.Relations.{sizes_relation, type_relations, types_end};
+ghost use Rattle.pdb_validation.specs.Relations.{related_faults, with_relations};
 
 use crate::finding::{Finding, Part};
 use crate::names::string_table_number;
@@ -20,7 +20,7 @@ use crate::places::LastPages;
 use crate::problem::Problem;
 use crate::read::read;
 use crate::roles::{known_roles, role_index};
-use pdb_base::{Error, IdIndex, ItemIndex, Result, Stream, StreamIndex, TypeIndex};
+use pdb_base::{Error, ItemIndex, Result, Stream, StreamIndex};
 use pdb_consistency::{
     Extent, Mismatch, check_buckets, check_debug_sizes, check_hashes, check_id_records,
     check_named_streams, check_pages, check_roles, check_section_order, check_type_records,
@@ -87,26 +87,6 @@ fn add_mismatches(
     Ok(())
 }
 
-/// Returns what is inconsistent in the records of types.
-#[tactic(auto, unfolding(crate::specs::Relations::types_relation), using(crate::proofs::RelationLemmas::nothing_asked))]
-fn type_mismatches(
-    alloc: Global,
-    layout: &Layout,
-    file: &[u8],
-    extent: Extent,
-) -> Result<Vec<Mismatch>>
-    ensures { Answers (λ mismatches. mismatches.items) result
-        (Ok (asked_of extent (types_relation layout.now file.now))) }
-{
-    let Ok(stream) = read(alloc, layout, file, TYPE_STREAM)? else {
-        return Ok(Vec::new(alloc));
-    };
-    match TypeInformation::parse(stream) {
-        Ok(types) => check_type_records(alloc, &types, TYPE_STREAM, extent),
-        Err(_) => Ok(Vec::new(alloc)),
-    }
-}
-
 /// Returns what is inconsistent in the hash stream of a table, if it has one.
 #[tactic(auto, using(crate::proofs::RelationLemmas::nothing_asked))]
 fn hash_mismatches<I: ItemIndex>(
@@ -131,27 +111,6 @@ fn hash_mismatches<I: ItemIndex>(
     check_hashes(alloc, number, &open, hashes.as_slice(), extent)
 }
 
-/// Returns what is inconsistent in the hash stream of the table in a stream.
-#[tactic(auto, unfolding(crate::specs::Relations::hashes_relation), using(crate::proofs::RelationLemmas::nothing_asked))]
-fn hash_mismatches_in<I: ItemIndex>(
-    alloc: Global,
-    layout: &Layout,
-    file: &[u8],
-    number: u32,
-    extent: Extent,
-) -> Result<Vec<Mismatch>>
-    ensures { Answers (λ mismatches. mismatches.items) result
-        (Ok (asked_of extent (hashes_relation layout.now file.now number))) }
-{
-    let Ok(stream) = read(alloc, layout, file, number)? else {
-        return Ok(Vec::new(alloc));
-    };
-    match ItemInformation::<I>::parse(stream) {
-        Ok(table) => hash_mismatches(alloc, layout, file, table, extent),
-        Err(_) => Ok(Vec::new(alloc)),
-    }
-}
-
 /// Returns the end of the indexes of types.
 #[tactic(auto, unfolding(crate::specs::Relations::types_end))]
 fn types_end(alloc: Global, layout: &Layout, file: &[u8]) -> Result<u32>
@@ -163,27 +122,6 @@ fn types_end(alloc: Global, layout: &Layout, file: &[u8]) -> Result<u32>
     match TypeInformation::parse(stream) {
         Ok(types) => Ok(types.header().maximum_index),
         Err(_) => Ok(NO_END),
-    }
-}
-
-/// Returns what is inconsistent in the records of ids.
-#[tactic(auto, unfolding(crate::specs::Relations::ids_relation), using(crate::proofs::RelationLemmas::nothing_asked))]
-fn id_mismatches(
-    alloc: Global,
-    layout: &Layout,
-    file: &[u8],
-    extent: Extent,
-) -> Result<Vec<Mismatch>>
-    ensures { Answers (λ mismatches. mismatches.items) result
-        (Ok (asked_of extent (ids_relation layout.now file.now))) }
-{
-    let end = types_end(alloc, layout, file)?;
-    let Ok(stream) = read(alloc, layout, file, ID_STREAM)? else {
-        return Ok(Vec::new(alloc));
-    };
-    match IdInformation::parse(stream) {
-        Ok(ids) => check_id_records(alloc, &ids, end, ID_STREAM, extent),
-        Err(_) => Ok(Vec::new(alloc)),
     }
 }
 
@@ -387,9 +325,9 @@ fn add_container_relations(
     add_mismatches(alloc, layout, Part::Stream, &mismatches, findings)
 }
 
-/// Adds what is inconsistent in the tables of types and of ids.
-#[tactic(auto, unfolding(crate::specs::Relations::table_relations))]
-fn add_table_relations(
+/// Adds what is inconsistent in the records of types, and in their hash stream.
+#[tactic(auto, unfolding(crate::specs::Relations::type_relations), using(crate::proofs::RelationLemmas::nothing_related))]
+fn add_type_relations(
     alloc: Global,
     layout: &Layout,
     file: &[u8],
@@ -398,16 +336,45 @@ fn add_table_relations(
 ) -> Result<()>
     requires { 0 < layout.now.head.geometry.page_size }
     ensures { Answers (λ done. map finding_view findings.new.items) result
-        (Ok (with_relations extent layout.now (table_relations layout.now file.now)
+        (Ok (with_relations extent layout.now (type_relations layout.now file.now)
         (map finding_view findings.old.items))) }
 {
-    let types = type_mismatches(alloc, layout, file, extent)?;
-    add_mismatches(alloc, layout, Part::Types, &types, findings)?;
-    let hashes = hash_mismatches_in::<TypeIndex>(alloc, layout, file, TYPE_STREAM, extent)?;
-    add_mismatches(alloc, layout, Part::Types, &hashes, findings)?;
-    let ids = id_mismatches(alloc, layout, file, extent)?;
-    add_mismatches(alloc, layout, Part::Ids, &ids, findings)?;
-    let hashes = hash_mismatches_in::<IdIndex>(alloc, layout, file, ID_STREAM, extent)?;
+    let Ok(stream) = read(alloc, layout, file, TYPE_STREAM)? else {
+        return Ok(());
+    };
+    let Ok(types) = TypeInformation::parse(stream) else {
+        return Ok(());
+    };
+    let records = check_type_records(alloc, &types, TYPE_STREAM, extent)?;
+    add_mismatches(alloc, layout, Part::Types, &records, findings)?;
+    let hashes = hash_mismatches(alloc, layout, file, types, extent)?;
+    add_mismatches(alloc, layout, Part::Types, &hashes, findings)
+}
+
+/// Adds what is inconsistent in the records of ids, and in their hash stream.
+#[tactic(auto, unfolding(crate::specs::Relations::id_relations), using(crate::proofs::RelationLemmas::nothing_related))]
+fn add_id_relations(
+    alloc: Global,
+    layout: &Layout,
+    file: &[u8],
+    extent: Extent,
+    findings: &mut Vec<Finding>,
+) -> Result<()>
+    requires { 0 < layout.now.head.geometry.page_size }
+    ensures { Answers (λ done. map finding_view findings.new.items) result
+        (Ok (with_relations extent layout.now (id_relations layout.now file.now)
+        (map finding_view findings.old.items))) }
+{
+    let Ok(stream) = read(alloc, layout, file, ID_STREAM)? else {
+        return Ok(());
+    };
+    let Ok(ids) = IdInformation::parse(stream) else {
+        return Ok(());
+    };
+    let end = types_end(alloc, layout, file)?;
+    let records = check_id_records(alloc, &ids, end, ID_STREAM, extent)?;
+    add_mismatches(alloc, layout, Part::Ids, &records, findings)?;
+    let hashes = hash_mismatches(alloc, layout, file, ids, extent)?;
     add_mismatches(alloc, layout, Part::Ids, &hashes, findings)
 }
 
@@ -475,7 +442,8 @@ pub(crate) fn add_relations(
         (Ok (related_faults extent layout.now file.now (map finding_view findings.old.items))) }
 {
     add_container_relations(alloc, layout, file, extent, findings)?;
-    add_table_relations(alloc, layout, file, extent, findings)?;
+    add_type_relations(alloc, layout, file, extent, findings)?;
+    add_id_relations(alloc, layout, file, extent, findings)?;
     add_name_relations(alloc, layout, file, extent, findings)?;
     add_role_relations(alloc, layout, file, extent, findings)
 }

@@ -8,7 +8,7 @@ ghost use Rattle.pdb_tpi.specs.Item.{bytes_of, index_of};
 ghost use Rattle.pdb_values.specs.TypeView.{type_value};
 ghost use Rattle.pdb_validation.specs.Finding.{by_extent, finding_view};
 ghost use Rattle.pdb_validation.specs.Tables.{continued_in, continues_at, fault_at, id_faults, id_in, ids_faults};
-ghost use Rattle.pdb_validation.specs.Tables.{is_for_kind, missing_fault, opened_table, read_in, refusal_fault};
+ghost use Rattle.pdb_validation.specs.Tables.{missing_fault, opened_table, read_in, refusal_fault};
 ghost use Rattle.pdb_validation.specs.Tables.{refusal_in, refused, type_faults, type_in, types_faults, unless_unread};
 ghost use Rattle.pdb_validation.specs.declared.finding.Part.TheVariants as parts;
 
@@ -16,9 +16,9 @@ use crate::finding::{Finding, Part, add, add_until, in_stream};
 use crate::places::StreamPages;
 use crate::problem::Problem;
 use pdb_base::{Error, FallibleIterator, IdIndex, Result, Stream, TypeIndex};
-use pdb_consistency::Extent;
+use pdb_consistency::{Extent, is_not_read};
 use pdb_file::{ID_STREAM, TYPE_STREAM};
-use pdb_tpi::constants::{LF_FIELDLIST, LF_POINTER};
+use pdb_tpi::constants::LF_FIELDLIST;
 use pdb_tpi::{IdInformation, Item, OpenTable, TypeInformation};
 use pdb_values::TypeData;
 use std::alloc::Global;
@@ -56,27 +56,19 @@ fn check_value(types: &OpenTable<TypeIndex>, index: TypeIndex, value: &TypeData<
 fn read_type(alloc: Global, types: &OpenTable<TypeIndex>, item: &Item<'_, TypeIndex>) -> Result<()>
     ensures { Answers (λ done. done) result (read_in types.now.table (index_of item.now).0 (bytes_of item.now)) }
 {
-    let value = item.parse(alloc)?;
-    check_value(types, item.index(), &value)
-}
-
-/// Returns whether an error is for the kind of a record alone, which is then not read.
-fn is_for_kind(kind: u16, error: &Error) -> bool
-    ensures { result ≡ is_for_kind kind (refusal_of error.now) }
-{
-    match error {
-        Error::UnimplementedTypeKind(other) => {
-            *other == kind && kind != LF_POINTER && kind != LF_FIELDLIST
-        }
-        _ => false,
+    let read = item.parse(alloc);
+    // The value is borrowed where it is, since it is large to move.
+    if let Ok(value) = &read {
+        return check_value(types, item.index(), value);
     }
+    read.map(|_| ())
 }
 
 /// Returns an error of a record of a kind, unless that kind is not read.
 fn unless_unread(kind: u16, error: Error) -> Option<Error>
     ensures { option_map refusal_of result ≡ refusal_in (unless_unread kind (refused (refusal_of error))) }
 {
-    if is_for_kind(kind, &error) {
+    if is_not_read(kind, &error) {
         return None;
     }
     Some(error)

@@ -2,12 +2,13 @@
 
 ghost use Rattle.std.specs.Prelude.{◌≡◌, IfOk};
 
+use super::open_tables::{OpenAsk, opened_tells};
 use super::{is_error, stream};
 use pdb_base::{
     Count, Error, FallibleIterator, IdIndex, Result as Answer, Stream, TypeIndex, Variant,
 };
 use pdb_tpi::{
-    Header, IdFinder, IdInformation, IdIter, OpenTable, RecordPlace, Slice, Type, TypeFinder,
+    Header, IdFinder, IdInformation, IdIter, RecordPlace, Slice, Type, TypeFinder,
     TypeInformation, TypeIter,
 };
 use pdb_values::{PrimitiveKind, PrimitiveType, TypeData};
@@ -38,7 +39,7 @@ enum Step {
 use Step::{End, Item};
 
 /// What a list of fields is.
-enum Fields {
+pub(super) enum Fields {
     /// The values A, 0, and B, 1.
     AAndB,
     /// An error.
@@ -79,26 +80,6 @@ enum FinderAsk {
     Count(u64),
     /// An index whose type is the 32-bit integer, which has no record.
     Integer(u32),
-    /// An index: how many bytes its item has.
-    Len(u32, usize),
-    /// The index of a list: its fields, or an error.
-    Fields(u32, Fields),
-}
-
-/// A call of an open table, with its answer.
-enum OpenAsk {
-    /// The place that the next step of its walk gives.
-    Step(Option<RecordPlace>),
-    /// Its walk is moved back to its start.
-    Rewind,
-    /// It learns an index.
-    Learn(u32),
-    /// The index of the next item of its walk, and how many indexes it counts.
-    Index(u64, usize),
-    /// An index: the place of its record.
-    Find(u32, Option<RecordPlace>),
-    /// An index that it does not have.
-    NotFound(u32),
     /// An index: how many bytes its item has.
     Len(u32, usize),
     /// The index of a list: its fields, or an error.
@@ -568,7 +549,7 @@ fn is_integer(alloc: Global, answer: Answer<Type<'_>>) -> bool {
 }
 
 /// Whether an item has so many bytes, and is equal to its copy.
-fn is_long(answer: Answer<Type<'_>>, len: usize) -> bool {
+pub(super) fn is_long(answer: Answer<Type<'_>>, len: usize) -> bool {
     let Ok(item) = answer else {
         return false;
     };
@@ -591,7 +572,7 @@ fn are_a_and_b(fields: &[TypeData<'_>]) -> bool {
 }
 
 /// Whether fields are these.
-fn has_fields(answer: &Answer<Vec<TypeData<'_>>>, want: &Fields) -> bool {
+pub(super) fn has_fields(answer: &Answer<Vec<TypeData<'_>>>, want: &Fields) -> bool {
     match (answer, want) {
         (Ok(fields), Fields::AAndB) => are_a_and_b(fields.as_slice()),
         (Err(error), Fields::Error(same)) => is_error(error, same),
@@ -676,66 +657,6 @@ fn make_finders(alloc: Global, table: &TypeInformation, count: usize) -> Result<
         finders.push(table.finder(alloc)?)?;
     }
     Ok(finders.len() == count)
-}
-
-/// Whether the answer is this place, or that there is none.
-fn is_at(answer: Answer<Option<RecordPlace>>, want: Option<RecordPlace>) -> bool {
-    matches!(answer, Ok(place) if place == want)
-}
-
-/// Whether an open table answers so.
-fn open_answers(alloc: Global, open: &OpenTable<TypeIndex>, ask: &OpenAsk) -> Result<bool, Fail> {
-    match ask {
-        OpenAsk::Index(index, count) => {
-            Ok(open.index() == *index && open.items().len() == *count)
-        }
-        OpenAsk::Find(index, want) => Ok(is_at(open.find(TypeIndex(*index)), *want)),
-        OpenAsk::NotFound(index) => {
-            let found = open.find(TypeIndex(*index));
-            Ok(matches!(found, Err(Error::TypeNotFound(bad)) if bad == *index))
-        }
-        OpenAsk::Len(index, len) => Ok(is_long(open.item(TypeIndex(*index)), *len)),
-        OpenAsk::Fields(index, want) => {
-            Ok(has_fields(&open.fields(alloc, TypeIndex(*index)), want))
-        }
-        _ => Ok(false),
-    }
-}
-
-/// Whether an open table answers so, once it has done what it is to do.
-fn open_does(alloc: Global, open: &mut OpenTable<TypeIndex>, ask: &OpenAsk) -> Result<bool, Fail> {
-    match ask {
-        OpenAsk::Step(want) => Ok(is_at(open.step(), *want)),
-        OpenAsk::Rewind => {
-            open.rewind();
-            Ok(true)
-        }
-        OpenAsk::Learn(index) => {
-            open.learn(TypeIndex(*index));
-            Ok(true)
-        }
-        _ => open_answers(alloc, open, ask),
-    }
-}
-
-/// Whether an open table answers each of these so, one after the other.
-fn open_tells(
-    alloc: Global,
-    open: &mut OpenTable<TypeIndex>,
-    asks: &[OpenAsk],
-) -> Result<bool, Fail> {
-    for ask in asks {
-        if !open_does(alloc, open, ask)? {
-            return Ok(false);
-        }
-    }
-    Ok(true)
-}
-
-/// Whether a table that is opened answers each of these so, one after the other.
-fn opened_tells(alloc: Global, table: TypeInformation, asks: &[OpenAsk]) -> Result<bool, Fail> {
-    let mut open = OpenTable::new(alloc, table)?;
-    open_tells(alloc, &mut open, asks)
 }
 
 /// Whether a header of a table is this one, and counts so many indexes.

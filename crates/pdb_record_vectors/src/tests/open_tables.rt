@@ -1,0 +1,87 @@
+//! Tables that stay open.
+
+use super::tables::{Fields, has_fields, is_long};
+use pdb_base::{Error, Result as Answer, TypeIndex};
+use pdb_tpi::{OpenTable, RecordPlace, TypeInformation};
+use std::alloc::Global;
+use std::test::Fail;
+
+/// A call of an open table, with its answer.
+pub(super) enum OpenAsk {
+    /// The place that the next step of its walk gives.
+    Step(Option<RecordPlace>),
+    /// Its walk is moved back to its start.
+    Rewind,
+    /// It learns an index.
+    Learn(u32),
+    /// The index of the next item of its walk, and how many indexes it counts.
+    Index(u64, usize),
+    /// An index: the place of its record.
+    Find(u32, Option<RecordPlace>),
+    /// An index that it does not have.
+    NotFound(u32),
+    /// An index: how many bytes its item has.
+    Len(u32, usize),
+    /// The index of a list: its fields, or an error.
+    Fields(u32, Fields),
+}
+
+/// Whether the answer is this place, or that there is none.
+fn is_at(answer: Answer<Option<RecordPlace>>, want: Option<RecordPlace>) -> bool {
+    matches!(answer, Ok(place) if place == want)
+}
+
+/// Whether an open table answers so.
+fn open_answers(alloc: Global, open: &OpenTable<TypeIndex>, ask: &OpenAsk) -> Result<bool, Fail> {
+    match ask {
+        OpenAsk::Index(index, count) => {
+            Ok(open.index() == *index && open.items().len() == *count)
+        }
+        OpenAsk::Find(index, want) => Ok(is_at(open.find(TypeIndex(*index)), *want)),
+        OpenAsk::NotFound(index) => {
+            let found = open.find(TypeIndex(*index));
+            Ok(matches!(found, Err(Error::TypeNotFound(bad)) if bad == *index))
+        }
+        OpenAsk::Len(index, len) => Ok(is_long(open.item(TypeIndex(*index)), *len)),
+        OpenAsk::Fields(index, want) => {
+            Ok(has_fields(&open.fields(alloc, TypeIndex(*index)), want))
+        }
+        _ => Ok(false),
+    }
+}
+
+/// Whether an open table answers so, once it has done what it is to do.
+fn open_does(alloc: Global, open: &mut OpenTable<TypeIndex>, ask: &OpenAsk) -> Result<bool, Fail> {
+    match ask {
+        OpenAsk::Step(want) => Ok(is_at(open.step(), *want)),
+        OpenAsk::Rewind => {
+            open.rewind();
+            Ok(true)
+        }
+        OpenAsk::Learn(index) => {
+            open.learn(TypeIndex(*index));
+            Ok(true)
+        }
+        _ => open_answers(alloc, open, ask),
+    }
+}
+
+/// Whether an open table answers each of these so, one after the other.
+fn open_tells(
+    alloc: Global,
+    open: &mut OpenTable<TypeIndex>,
+    asks: &[OpenAsk],
+) -> Result<bool, Fail> {
+    for ask in asks {
+        if !open_does(alloc, open, ask)? {
+            return Ok(false);
+        }
+    }
+    Ok(true)
+}
+
+/// Whether a table that is opened answers each of these so, one after the other.
+pub(super) fn opened_tells(alloc: Global, table: TypeInformation, asks: &[OpenAsk]) -> Result<bool, Fail> {
+    let mut open = OpenTable::new(alloc, table)?;
+    open_tells(alloc, &mut open, asks)
+}
