@@ -15,13 +15,13 @@ from ._file import AddressMap, Frame, Frames, Information, Names, Omap, Pdb, Rol
 from ._identity import Identity, format_of
 from ._layouts import Definitions, Layout, LayoutRow
 from ._library import LibraryError, PdbError
-from ._sys import Format, IdShape, Inconsistency, KeyForm, LayoutKind, Part, Shape, Status
+from ._sys import Feature, Format, IdShape, Inconsistency, KeyForm, LayoutKind, Part, Shape, Status
 from ._tables import Field, Id, Ids, Row, Type, Types
 from ._validation import Finding, validate
 
 __version__ = "0.1.0"
 __all__ = [
-    "AddressMap", "Definitions", "Field", "Finding", "Format", "Frame", "Frames", "Id", "IdShape", "Identity", "Ids",
+    "AddressMap", "Definitions", "Feature", "Field", "Finding", "Format", "Frame", "Frames", "Id", "IdShape", "Identity", "Ids",
     "Inconsistency", "Information", "KeyForm", "Layout", "LayoutKind", "LayoutRow", "LibraryError", "Names", "Omap", "Part", "Pdb",
     "PdbError", "Roles", "Row", "Section", "Shape", "Status", "Stream", "Streams", "Translation", "Type", "Types", "format_of", "open",
     "validate",

@@ -3,11 +3,11 @@
 import uuid
 from ctypes import byref, c_uint8
 from dataclasses import dataclass
-from typing import Optional
+from typing import FrozenSet, Optional
 
 from . import _sys
 from ._library import Lent, items, library, value
-from ._sys import Format, KeyForm
+from ._sys import Feature, Format, KeyForm
 
 
 @dataclass(frozen=True)
@@ -18,6 +18,7 @@ class Identity:
     signature: int  # the time at which the file was made, in seconds since 1970, or a hash in its place
     information_age: int  # the age in stream 1: how often the file was written
     guid: uuid.UUID
+    features: Optional[FrozenSet[Feature]]  # that the file tells of itself; None if stream 1 ends among the stream names
     debug_age: Optional[int]  # the age of the debug information
     machine: Optional[int]  # as the header of an image numbers it, such as 0x8664 for x86-64
     flags: Optional[int]  # 1 if linked incrementally, 2 if private symbols are stripped, 4 if types may conflict, added up
@@ -37,7 +38,8 @@ def identity_of(*place: int) -> Identity:
     """What identifies the file at an address, of a length."""
     it = value(_sys.Identity, library().pdb_identity_of, *place)
     debug = (it.debug_age, it.machine, it.flags) if it.has_debug_header else (None, None, None)
-    return Identity(it.version, it.signature, it.information_age, uuid.UUID(bytes_le=bytes(it.guid)), *debug)
+    features = frozenset(feature for feature in Feature if it.features & feature) if it.has_features else None
+    return Identity(it.version, it.signature, it.information_age, uuid.UUID(bytes_le=bytes(it.guid)), features, *debug)
 
 
 def format_of(data) -> Format:

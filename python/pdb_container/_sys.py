@@ -50,6 +50,13 @@ class IdentityFlag(IntEnum):
     TYPES_MAY_CONFLICT = 4
 
 
+class Feature(IntEnum):
+    VC110 = 1
+    VC140 = 2
+    NO_TYPE_MERGE = 4
+    MINIMAL = 8
+
+
 class KeyForm(IntEnum):
     UPPER = 0
     LOWER = 1
@@ -304,6 +311,8 @@ class Identity(Structure):
         ("machine", c_uint16),
         ("flags", c_uint16),
         ("guid", c_uint8 * 16),
+        ("has_features", c_uint32),
+        ("features", c_uint32),
     ]
 
 

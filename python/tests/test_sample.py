@@ -89,6 +89,7 @@ class OfFile(unittest.TestCase):
         it = self.pdb.identity
         self.assertEqual((it.version, it.signature, it.information_age, it.age), (20000404, 3402998862, 1, 1))
         self.assertEqual((it.guid, it.debug_age, it.machine), (uuid.UUID(guid), 1, 0x14C))
+        self.assertEqual(it.features, {Feature.VC140})
         self.assertEqual(it.key(), guid.replace("-", "") + "1")
         self.assertEqual(it.key(KeyForm.LOWER), it.key().lower())
         self.assertEqual(it.key(KeyForm.GUID), guid)

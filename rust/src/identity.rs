@@ -14,8 +14,34 @@ pub struct Identity {
     pub information_age: u32,
     /// What an image that belongs to the file names.
     pub guid: Guid,
+    /// The features that the file tells of itself, None if stream 1 ends before them, among the names of streams.
+    pub features: Option<Features>,
     /// What the debug information says, None if there is none, as in the file of a type server.
     pub debug: Option<DebugIdentity>,
+}
+
+/// The features that a file tells of itself, in the numbers after the names of streams in stream 1.
+#[derive(Debug, Clone, Copy, Default, PartialEq, Eq)]
+pub struct Features {
+    /// The file is in the format of Visual C++ 11, with a table of ids. No other feature is read after this one.
+    pub vc110: bool,
+    /// The file is in the format of Visual C++ 14, with a table of ids.
+    pub vc140: bool,
+    /// The types of the object files are not merged.
+    pub no_type_merge: bool,
+    /// The debug information is minimal, as /DEBUG:FASTLINK makes it: the rest is in the object files.
+    pub minimal: bool,
+}
+
+impl Features {
+    fn of(bits: u32) -> Features {
+        Features {
+            vc110: bits & sys::PDB_FEATURE_VC110 != 0,
+            vc140: bits & sys::PDB_FEATURE_VC140 != 0,
+            no_type_merge: bits & sys::PDB_FEATURE_NO_TYPE_MERGE != 0,
+            minimal: bits & sys::PDB_FEATURE_MINIMAL != 0,
+        }
+    }
 }
 
 /// What the debug information of a file says of it.
@@ -51,7 +77,8 @@ impl Identity {
         let sys::Identity { version, signature, information_age, guid, debug_age, machine, flags, .. } = found;
         let debug = DebugIdentity { age: debug_age, machine, flags };
         let debug = (found.has_debug_header != 0).then_some(debug);
-        Ok(Identity { version, signature, information_age, guid: Guid(guid), debug })
+        let features = (found.has_features != 0).then(|| Features::of(found.features));
+        Ok(Identity { version, signature, information_age, guid: Guid(guid), features, debug })
     }
 
     /// The age in the key: that of the debug information, or that of stream 1 if there is none.

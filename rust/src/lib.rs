@@ -44,7 +44,7 @@ pub use addresses::{Address, AddressMap, Omap, Place, Section, Translation};
 pub use error::{Error, Result};
 pub use file::{Guid, Information, NamedStream, Pdb, Roles};
 pub use frames::{Frame, Frames};
-pub use identity::{DebugIdentity, Format, Identity, KeyForm};
+pub use identity::{DebugIdentity, Features, Format, Identity, KeyForm};
 pub use ids::{Id, IdIter, Ids};
 pub use layouts::{Definitions, Extent, Layout, LayoutKind, LayoutRow};
 pub use names::{Name, Names};

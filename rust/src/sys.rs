@@ -32,6 +32,8 @@ pub struct Identity {
     pub machine: u16,
     pub flags: u16,
     pub guid: [u8; 16],
+    pub has_features: u32,
+    pub features: u32,
 }
 
 #[repr(C)]
@@ -258,6 +260,11 @@ pub const PDB_UNMAPPED: u32 = 107;
 pub const PDB_LINKED_INCREMENTALLY: u32 = 1;
 pub const PDB_PRIVATE_SYMBOLS_STRIPPED: u32 = 2;
 pub const PDB_TYPES_MAY_CONFLICT: u32 = 4;
+
+pub const PDB_FEATURE_VC110: u32 = 1;
+pub const PDB_FEATURE_VC140: u32 = 2;
+pub const PDB_FEATURE_NO_TYPE_MERGE: u32 = 4;
+pub const PDB_FEATURE_MINIMAL: u32 = 8;
 
 pub const PDB_KEY_UPPER: u32 = 0;
 pub const PDB_KEY_LOWER: u32 = 1;

@@ -1,7 +1,7 @@
 //! Reads examples/sample.pdb, and copies of it with damage.
 
 use pdb_container::{
-    Address, Error, Extent, Format, IdShape, Inconsistency, KeyForm, LayoutKind, LayoutRow, Part, Pdb, Problem, Shape,
+    Address, Error, Extent, Features, Format, IdShape, Inconsistency, KeyForm, LayoutKind, LayoutRow, Part, Pdb, Problem, Shape,
     Types, validate,
 };
 
@@ -46,6 +46,7 @@ fn identity_and_format() {
     assert_eq!(about.guid.to_string(), guid);
     assert_eq!((about.version, about.signature, about.information_age, about.age()), (20000404, 3402998862, 1, 1));
     assert_eq!(about.debug.map(|it| (it.age, it.machine)), Some((1, 0x14c)));
+    assert_eq!(about.features, Some(Features { vc140: true, ..Features::default() }));
     let digits = guid.replace('-', "");
     assert_eq!(about.key(KeyForm::Upper).unwrap(), format!("{digits}1"));
     assert_eq!(about.key(KeyForm::Lower).unwrap(), format!("{}1", digits.to_lowercase()));

@@ -90,7 +90,7 @@ static void ask_identity(void) {
     allowed(pdb_identity_of(file, file_length, &said, &fault), PDB_OK);
     printf("identity %" PRIu32 " %" PRIu32 " %" PRIu32 " %" PRIu32 " %" PRIu32 " %" PRIu32, said.version, said.signature, said.age, said.information_age,
            said.has_debug_header, said.debug_age);
-    printf(" %u %u", said.machine, said.flags);
+    printf(" %u %u %" PRIu32 " %" PRIu32, said.machine, said.flags, said.has_features, said.features);
     print_bytes(" guid ", said.guid, 16);
     for (uint32_t form = PDB_KEY_UPPER; form <= PDB_KEY_GUID; form++) {
         allowed(pdb_key(&said, form, text, 0, &length, &fault), PDB_TOO_SMALL);

@@ -25,6 +25,8 @@ NAMES = ["", "first", "a second name", "", "last"]
 NAMED = [("/names", 4), ("/LinkInfo", 0), ("nothing", NO_STREAM), ("/names", 2)]
 GUID = bytes(range(16))
 DEBUG_AGE, MACHINE, FLAGS = 0xAB, 0x8664, 2
+# The numbers after the names: one of no feature, those of minimal debug information and of Visual C++ 14.
+FEATURES, FEATURE_BITS = [12, 0x494E494D, 20140508], 8 | 2
 
 
 def section_bytes(sections):
@@ -36,7 +38,7 @@ def section_bytes(sections):
 
 
 def information():
-    """Stream 1: what identifies the file, and the named streams."""
+    """Stream 1: what identifies the file, the named streams, and the features."""
     names, entries, places = b"", [], {}
     for name, number in NAMED:
         if name not in places:
@@ -44,7 +46,7 @@ def information():
             names += name.encode() + b"\0"
         entries += [places[name], number]
     front = words_of([20000404, 1700000000, 3]) + GUID + words_of([len(names)])
-    return front + names + words_of([len(NAMED), 8, 1, 0xF, 0]) + words_of(entries)
+    return front + names + words_of([len(NAMED), 8, 1, 0xF, 0]) + words_of(entries) + words_of(FEATURES)
 
 
 def debug_header(numbers):

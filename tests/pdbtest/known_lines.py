@@ -4,7 +4,7 @@ import uuid
 
 from pdbtest.addresses import moved_ranges
 from pdbtest.known_file import (
-    DEBUG_AGE, FLAGS, FROM_SOURCE, GUID, LOADED, MACHINE, NAMED, NAMES, NEW_FRAMES, OLD_FRAMES, ORIGINAL, TO_SOURCE,
+    DEBUG_AGE, FEATURE_BITS, FLAGS, FROM_SOURCE, GUID, LOADED, MACHINE, NAMED, NAMES, NEW_FRAMES, OLD_FRAMES, ORIGINAL, TO_SOURCE,
     streams,
 )  # fmt: skip
 from pdbtest.reading import PARTS, Reading
@@ -143,7 +143,8 @@ def type_lines():
 def identity_lines():
     """The key by Python's uuid."""
     guid = uuid.UUID(bytes_le=GUID)
-    yield f"identity 20000404 1700000000 {DEBUG_AGE} 3 1 {DEBUG_AGE} {MACHINE} {FLAGS} guid {GUID.hex()}"
+    numbers = f"20000404 1700000000 {DEBUG_AGE} 3 1 {DEBUG_AGE} {MACHINE} {FLAGS} 1 {FEATURE_BITS}"
+    yield f"identity {numbers} guid {GUID.hex()}"
     texts = [f"{guid.hex.upper()}{DEBUG_AGE:X}", f"{guid.hex}{DEBUG_AGE:x}", str(guid).upper()]
     yield from (f"key {form} needs {len(text)} is {text}" for form, text in enumerate(texts))
     yield "key of no form 106 0"

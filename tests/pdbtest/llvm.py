@@ -128,6 +128,12 @@ def summary(file):
     return found["GUID"].strip("{}"), int(found["Age"]), int(found["Signature"]), found.get("Is stripped") == "true"
 
 
+def features(file):
+    """The features of a file, by what LLVM calls them, in the order of their numbers in stream 1."""
+    found = re.search(r"Features: +\[ (.*) \]", run_tool(["llvm-pdbutil", "pdb2yaml", "--pdb-stream", str(file)]))
+    return found[1].split(", ") if found else []
+
+
 def debug_header(file):
     """The age in the header of stream 3, and the name of the machine."""
     text = run_tool(["llvm-pdbutil", "pdb2yaml", "--pdb-stream", "--dbi-stream", str(file)])

@@ -3,7 +3,7 @@ use Rattle.std.proofs.Common.{◌≡◌, ℕ, ◌+◌, ◌≤◌, inl, inr, List
 use Rattle.std.proofs.Common.{ap, ◌∙◌, arith, Ok}
 use Rattle.std.proofs.Math.Seq.{drop-append_seam, take-append_seam}
 use Rattle.std.proofs.lemmas.Bool.{cases_lt}
-use Rattle.std.proofs.lemmas.List.{append_assoc, length-append, length-drop, length-take-le, take-append-drop}
+use Rattle.std.proofs.lemmas.List.{append-nil, append_assoc, length-append, length-drop, length-take-le, take-append-drop}
 use Rattle.pdb_base.specs.Refusal.{unexpected_eof}
 use Rattle.pdb_base.specs.Reading.{front_at}
 use Rattle.pdb_base.proofs.lemmas.Collected.{ok, ok_is, ok_is_no_err}
@@ -78,3 +78,7 @@ cut_length size bytes part rest cut = omega (arith, cut.len, ap length cut.is, l
 -- bytes are cut anywhere within them
 pub cut_at : (size : ℕ) (bytes : List ℕ) → size ≤ length bytes → IsCut size bytes (take size bytes) (drop size bytes)
 cut_at size bytes long = record { len = length-take-le size bytes long; is = take-append-drop size bytes }
+
+-- all bytes are taken, and none are left
+pub front_of_all : (bytes : List ℕ) → front_at (length bytes) bytes ≡ Ok (bytes, [])
+front_of_all bytes = front_only (length bytes) bytes bytes [] (record { len = refl; is = append-nil bytes })

@@ -69,8 +69,7 @@ entries_end bytes =
     then_ends (number_at 4 bytes) _ (number_ends 4 bytes) (λ count.
     then_ends (number_at 4 count.1) _ (number_ends 4 count.1) (λ capacity.
     then_ends (behind_set capacity.1) _ (set_ends capacity.1) (λ present.
-    then_ends (behind_set present) _ (set_ends present) (λ deleted.
-    then_ends (front_at (8 * count.0) deleted) _ (front_ends (8 * count.0) deleted) (λ entries. ok_ends entries.0)))))
+    then_ends (behind_set present) _ (set_ends present) (λ deleted. front_ends (8 * count.0) deleted))))
 
 pub map_ends : (information : PDBInformation) → EndsTooSoon (map_of information)
 unfolding map_of
@@ -79,7 +78,7 @@ map_ends information =
     (front_ends information.names_offset information.stream) (λ before.
     then_ends (front_at information.names_size before.1) _ (front_ends information.names_size before.1) (λ names.
     then_ends (entries_at names.1) _ (entries_end names.1)
-    (λ entries. ok_ends (record { names = names.0; entries = entries }))))
+    (λ entries. ok_ends (record { names = names.0; entries = entries.0; behind = entries.1 }))))
 
 named_ends : (table : Map) (place : ℕ) → EndsTooSoon (named_at table place)
 unfolding named_at

@@ -4,3 +4,5 @@ pub mod EndLemmas
 pub mod DbiLaws
 pub mod RoleLaws
 pub mod NamedLaws
+pub mod FeatureLemmas
+pub mod FeatureLaws

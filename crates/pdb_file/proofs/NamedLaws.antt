@@ -60,13 +60,11 @@ map_found information table e =
     let before = bind_ok (front_at information.names_offset information.stream) _ table e in
     let names = bind_ok (front_at information.names_size before.0.1) _ table before.2 in
     let whole = bind_ok (entries_at names.0.1) _ table names.2 in
-    let is = ok_is (record { names = names.0.0; entries = whole.0 }) table whole.2 in
+    let is = ok_is (record { names = names.0.0; entries = whole.0.0; behind = whole.0.1 }) table whole.2 in
     let count = bind_ok (number_at 4 names.0.1) _ whole.0 whole.1 in
     let most = bind_ok (number_at 4 count.0.1) _ whole.0 count.2 in
     let present = bind_ok (behind_set most.0.1) _ whole.0 most.2 in
     let deleted = bind_ok (behind_set present.0) _ whole.0 present.2 in
-    let entries = bind_ok (front_at (8 * count.0.0) deleted.0) _ whole.0 deleted.2 in
-    let same : entries.0.0 ≡ whole.0 = ok_is entries.0.0 whole.0 entries.2 in
     let bits = set_found most.0.1 present.0 present.1 in
     let other = set_found present.0 deleted.0 deleted.1 in
     record {
@@ -88,16 +86,15 @@ map_found information table e =
       other_bits = other.0;
       behind_deleted = deleted.0;
       deleted = other.1;
-      rest = entries.0.1;
-      entries = subst (λ (l : List ℕ). IsCut (8 * count.0.0) deleted.0 l entries.0.1)
-          (same ∙ ap (λ (t : Map). t.entries) is) (front_found (8 * count.0.0) deleted.0 entries.0 entries.1);
+      entries = subst (λ (t : Map). IsCut (8 * count.0.0) deleted.0 t.entries t.behind) is
+          (front_found (8 * count.0.0) deleted.0 whole.0 deleted.2);
     }
 
 entries_only : (bytes entries behind_count behind_capacity bits behind_present other behind_deleted rest : List ℕ)
     (number most : ℕ)
     → Begins (SpellsNumber 4) bytes number behind_count → Begins (SpellsNumber 4) behind_count most behind_capacity
     → Begins SpellsSet behind_capacity bits behind_present → Begins SpellsSet behind_present other behind_deleted
-    → IsCut (8 * number) behind_deleted entries rest → entries_at bytes ≡ Ok entries
+    → IsCut (8 * number) behind_deleted entries rest → entries_at bytes ≡ Ok (entries, rest)
 unfolding entries_at
 entries_only bytes entries behind_count behind_capacity bits behind_present other behind_deleted rest number most count
     capacity present deleted cut =
@@ -109,11 +106,11 @@ entries_only bytes entries behind_count behind_capacity bits behind_present othe
       front_only (8 * number) behind_deleted entries rest cut,
     ) refl
 
-map_only : (information : PDBInformation) (table : Map) → HoldsMap information table → map_of information ≡ Ok table
+pub map_only : (information : PDBInformation) (table : Map) → HoldsMap information table → map_of information ≡ Ok table
 unfolding map_of
 map_only information table holds =
     let entries = entries_only holds.behind_names table.entries holds.behind_count holds.behind_capacity holds.bits
-    holds.behind_present holds.other_bits holds.behind_deleted holds.rest holds.number holds.most
+    holds.behind_present holds.other_bits holds.behind_deleted table.behind holds.number holds.most
     holds.count holds.capacity holds.present holds.deleted holds.entries in
     rw (
       front_only information.names_offset information.stream holds.before holds.behind holds.header,

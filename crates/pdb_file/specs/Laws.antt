@@ -1,5 +1,5 @@
 -- The definitions, stated in other words.
-use Rattle.std.specs.Prelude.{◌≡◌, ◌≢◌, ◌⊎◌, ℕ, ◌+◌, ◌*◌, ◌/◌, ◌%◌, ◌<◌, ◌≤◌, min, List, [], ◌∷◌, ◌++◌, length, drop}
+use Rattle.std.specs.Prelude.{◌≡◌, ◌≢◌, ◌⊎◌, ◌↔◌, IsTrue, ℕ, ◌+◌, ◌*◌, ◌/◌, ◌%◌, ◌<◌, ◌≤◌, min, List, [], ◌∷◌, ◌++◌, length, drop}
 use Rattle.std.specs.Prelude.{sum, slice_get, Some, Ok, Err, codes}
 use Rattle.pdb_base.specs.Refusal.{Refusal, unexpected_eof, unimplemented_feature}
 use Rattle.pdb_base.specs.Answer.{Answer}
@@ -11,6 +11,8 @@ use Rattle.pdb_file.specs.Fields.{u32_in}
 use Rattle.pdb_file.specs.DbiHeader.{signature, header_size, dbi_header, dbi_header_of}
 use Rattle.pdb_file.specs.DebugHeader.{sizes_before, debug_header_behind, extra_streams}
 use Rattle.pdb_file.specs.StreamNames.{Map, Named, map_of, named_in, stream_names_of}
+use Rattle.pdb_file.specs.Features.{features_in, features_of, minimal_number, no_type_merge_number, numbers_in}
+use Rattle.pdb_file.specs.Features.{vc110_number, vc140_number}
 use Rattle.pdb_file.specs.declared.dbi_header.DBIHeader.{DBIHeader}
 use Rattle.pdb_file.specs.declared.debug_header.DBIExtraStreams.{DBIExtraStreams}
 use Rattle.pdb_file.specs.declared.information.PDBInformation.{PDBInformation}
@@ -114,7 +116,7 @@ pub record SpellsSet (words front : List ℕ) : Type 0 where
   pub is : head ++ words ≡ front
 
 -- Stream 1 holds names, and after them a table: a count, a capacity, two sets of bits, and as many entries of
--- eight bytes as the count says.
+-- eight bytes as the count says. All bytes that follow are those behind it.
 pub record HoldsMap (information : PDBInformation) (table : Map) : Type 0 where
   pub before : List ℕ
   pub behind : List ℕ
@@ -133,8 +135,7 @@ pub record HoldsMap (information : PDBInformation) (table : Map) : Type 0 where
   pub other_bits : List ℕ
   pub behind_deleted : List ℕ
   pub deleted : Begins SpellsSet behind_present other_bits behind_deleted
-  pub rest : List ℕ
-  pub entries : IsCut (8 * number) behind_deleted table.entries rest
+  pub entries : IsCut (8 * number) behind_deleted table.entries table.behind
 
 -- What entry k of a table says: the name at its offset, and its stream.
 pub record IsNamed (table : Map) (k : ℕ) (named : Named) : Type 0 where
@@ -154,3 +155,25 @@ pub record FindsNamed (information : PDBInformation) : Type 0 where
   pub found : (table : Map) (named : List Named) → named_in table ≡ Ok named → AreNamed table named
   pub only : (table : Map) (named : List Named) → AreNamed table named → named_in table ≡ Ok named
   pub refused : EndsTooSoon (stream_names_of information)
+
+-- ---- features
+
+-- A list of numbers tells a number: it is in the list, and VC110 is not before it.
+pub record IsTold (numbers : List ℕ) (number : ℕ) : Type 0 where
+  pub place : ℕ
+  pub there : slice_get numbers place ≡ Some number
+  pub before : (k : ℕ) → k < place → slice_get numbers k ≢ Some vc110_number
+
+-- Bytes tell a feature if and only if the list of their u32 numbers tells its number.
+pub record TellFeatures (bytes : List ℕ) : Type 0 where
+  pub vc110 : IsTrue (features_in bytes).vc110 ↔ IsTold (numbers_in bytes) vc110_number
+  pub vc140 : IsTrue (features_in bytes).vc140 ↔ IsTold (numbers_in bytes) vc140_number
+  pub no_type_merge : IsTrue (features_in bytes).no_type_merge ↔ IsTold (numbers_in bytes) no_type_merge_number
+  pub minimal : IsTrue (features_in bytes).minimal ↔ IsTold (numbers_in bytes) minimal_number
+
+-- `features_of` gives the features that the bytes after the table of stream 1 tell. There are none if and only if the
+-- stream ends too soon for the table.
+pub record FindsFeatures (information : PDBInformation) : Type 0 where
+  pub found : (table : Map) → HoldsMap information table → features_of information ≡ Ok (features_in table.behind)
+  pub told : (bytes : List ℕ) → TellFeatures bytes
+  pub refused : EndsTooSoon (features_of information)

@@ -3,6 +3,7 @@ pub mod DbiHeader
 pub mod DebugHeader
 pub mod Information
 pub mod StreamNames
+pub mod Features
 pub mod SectionHeaders
 pub mod File
 pub mod Laws

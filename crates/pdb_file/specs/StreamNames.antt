@@ -30,30 +30,30 @@ behind_set bytes = do
   words ← front_at (4 * count.0) count.1
   Ok words.1
 
--- the entries of the table, eight bytes each
-unfoldable pub entries_at : List ℕ → Answer (List ℕ)
+-- the entries of the table, eight bytes each, and the bytes after them
+unfoldable pub entries_at : List ℕ → Answer (List ℕ × List ℕ)
 entries_at bytes = do
   count ← number_at 4 bytes
   capacity ← number_at 4 count.1
   present ← behind_set capacity.1
   deleted ← behind_set present
-  entries ← front_at (8 * count.0) deleted
-  Ok entries.0
+  front_at (8 * count.0) deleted
 
--- the names, and the entries of the table
+-- the names, the entries of the table, and the bytes after it
 pub record Map : Type 0 where
   pub names : List ℕ
   pub entries : List ℕ
+  pub behind : List ℕ
 
 abbrev pub map_view : NameMap → Map
-map_view table = record { names = table.names.now; entries = table.entries.now }
+map_view table = record { names = table.names.now; entries = table.entries.now; behind = table.behind.now }
 
 unfoldable pub map_of : PDBInformation → Answer Map
 map_of information = do
   before ← front_at information.names_offset information.stream
   names ← front_at information.names_size before.1
   entries ← entries_at names.1
-  Ok (record { names = names.0; entries = entries })
+  Ok (record { names = names.0; entries = entries.0; behind = entries.1 })
 
 -- The stream and the name of an entry, which is the u32 offset of the name and the u32 number of the stream.
 -- A number of 0xffff or more names no stream.

@@ -6,7 +6,7 @@ ghost use Rattle.pdb_file.specs.Fields.{u16_in, u32_in};
 use byteorder::{ByteOrder, LittleEndian};
 
 /// Returns the little-endian `u16` at an offset.
-pub fn u16_in(bytes: &[u8], offset: usize) -> u16
+pub(crate) fn u16_in(bytes: &[u8], offset: usize) -> u16
     requires { offset + 2 ≤ length bytes.now }
     ensures { result ≡ u16_in offset bytes.now }
 {
@@ -14,7 +14,7 @@ pub fn u16_in(bytes: &[u8], offset: usize) -> u16
 }
 
 /// Returns the little-endian `u32` at an offset.
-pub fn u32_in(bytes: &[u8], offset: usize) -> u32
+pub(crate) fn u32_in(bytes: &[u8], offset: usize) -> u32
     requires { offset + 4 ≤ length bytes.now }
     ensures { result ≡ u32_in offset bytes.now }
 {

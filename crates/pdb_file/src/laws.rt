@@ -3,7 +3,7 @@
 
 ghost use Rattle.std.specs.Prelude.{ℕ, List};
 ghost use Rattle.pdb_file.specs.declared.information.PDBInformation.{PDBInformation};
-ghost use Rattle.pdb_file.specs.Laws.{FindsHeader, FindsDebugHeader, FindsNamed, FindsRoles};
+ghost use Rattle.pdb_file.specs.Laws.{FindsHeader, FindsDebugHeader, FindsFeatures, FindsNamed, FindsRoles};
 
 pub mod derived;
 
@@ -33,4 +33,11 @@ pub fn roles()
 /// name has no NUL after it among the names.
 pub fn stream_names()
     ensures { (information : PDBInformation) → FindsNamed information }
+{}
+
+/// The features are those that the `u32` numbers after the table of stream 1 tell: each whose number
+/// is among them and has not that of Visual C++ 11 before it. There are none exactly if the stream
+/// ends before the table does.
+pub fn features()
+    ensures { (information : PDBInformation) → FindsFeatures information }
 {}

@@ -4,6 +4,7 @@
 
 mod dbi_header;
 mod debug_header;
+mod features;
 mod fields;
 mod file;
 mod information;
@@ -13,6 +14,7 @@ mod stream_names;
 
 pub use dbi_header::DBIHeader;
 pub use debug_header::DBIExtraStreams;
+pub use features::Features;
 pub use file::{ID_STREAM, PDB, TYPE_STREAM};
 pub use information::PDBInformation;
 pub use stream_names::{StreamName, StreamNames};

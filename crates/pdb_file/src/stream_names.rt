@@ -1,6 +1,6 @@
 //! The names that stream 1 gives to streams.
 
-ghost use Rattle.std.specs.Prelude.{◌≡◌, ◌+◌, ◌*◌, ◌/◌, ◌<◌, ◌≤◌, length, map, IsOk, IfErr};
+ghost use Rattle.std.specs.Prelude.{◌≡◌, ◌+◌, ◌*◌, ◌/◌, ◌<◌, ◌≤◌, length, map, IsOk, IfErr, Ok};
 ghost use Rattle.pdb_base.specs.Answer.{Answers, Gives};
 ghost use Rattle.pdb_base.specs.Memory.{LacksOnlyIf};
 ghost use Rattle.pdb_base.specs.Place.{left};
@@ -73,11 +73,13 @@ impl<'n> StreamNames<'n> {
     }
 }
 
-/// The names, and the entries of the table that leads from their offsets to streams.
+/// The names, the entries of the table that leads from their offsets to streams, and the bytes after
+/// the table.
 #[derive(Drop)]
-struct NameMap<'n> {
+pub(crate) struct NameMap<'n> {
     names: &'n [u8],
     entries: &'n [u8],
+    pub(crate) behind: &'n [u8],
 }
 
 /// Skips a set of bits: a `u32` number of words, and that many `u32` words.
@@ -94,13 +96,22 @@ fn skip_set(buffer: &mut ParseBuffer<'_>) -> Result<()>
 /// two sets of bits.
 #[tactic(auto, unfolding(crate::specs::StreamNames::entries_at))]
 fn entries<'n>(buffer: &mut ParseBuffer<'n>) -> Result<&'n [u8]>
-    ensures { Gives (λ entries. entries.now) result (entries_at (left buffer.old)) }
+    ensures { Gives (λ entries. (entries.now, left buffer.new)) result (entries_at (left buffer.old)) }
 {
     let count = buffer.parse_u32()?;
     let _capacity = buffer.parse_u32()?;
     skip_set(buffer)?;
     skip_set(buffer)?;
     buffer.take(ENTRY_SIZE * count as usize)
+}
+
+/// Reads all bytes that are left.
+#[tactic(auto, using(crate::proofs::CutLemmas::front_of_all))]
+fn take_rest<'n>(buffer: &mut ParseBuffer<'n>) -> Result<&'n [u8]>
+    ensures { Gives (λ rest. rest.now) result (Ok (left buffer.old)) }
+{
+    let count = buffer.len();
+    buffer.take(count)
 }
 
 /// Returns the name at an offset: the bytes from there up to the first NUL among the names.
@@ -146,16 +157,21 @@ impl<'n> NameMap<'n> {
 }
 
 impl PDBInformation {
-    /// Returns the names, and the entries of the table of streams.
+    /// Returns the names, the entries of the table of streams, and the bytes after the table.
     #[tactic(auto, unfolding(crate::specs::StreamNames::map_of))]
-    fn name_map(&self) -> Result<NameMap<'_>>
+    pub(crate) fn name_map(&self) -> Result<NameMap<'_>>
         ensures { Gives map_view result (map_of self.now) }
     {
         let mut buffer = self.stream.parse_buffer();
         buffer.take(self.names_offset)?;
         let names = buffer.take(self.names_size)?;
         let entries = entries(&mut buffer)?;
-        Ok(NameMap { names, entries })
+        let behind = take_rest(&mut buffer)?;
+        Ok(NameMap {
+            names,
+            entries,
+            behind,
+        })
     }
 
     /// Returns the streams that have names, in the order in which the file lists them.

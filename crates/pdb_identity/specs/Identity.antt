@@ -1,13 +1,14 @@
 -- What identifies a file: the numbers of stream 1, and the header of stream 3 if the file has one.
 use Rattle.std.specs.Prelude.{ℕ, List, [], ◌∷◌, Option, Some, None, Ok, Err}
+use Rattle.std.specs.Result.{result_ok}
 use Rattle.pdb_base.specs.Refusal.{stream_not_found}
 use Rattle.pdb_base.specs.Answer.{Answer, ◌>>=◌}
 use Rattle.pdb_msf.specs.Header.{Head}
 use Rattle.pdb_msf.specs.File.{stream_of}
 use Rattle.pdb_file.specs.DbiHeader.{dbi_header_of, header_size}
+use Rattle.pdb_file.specs.Features.{features_of}
 use Rattle.pdb_file.specs.File.{debug_stream, file_information}
 use Rattle.pdb_file.specs.declared.dbi_header.DBIHeader.{DBIHeader}
-use Rattle.pdb_file.specs.declared.information.PDBInformation.{PDBInformation}
 use Rattle.uuid.specs.Parts.{swap_fields}
 use Rattle.pdb_identity.specs.declared.identity.Identity.{Identity}
 
@@ -27,7 +28,8 @@ header_in (Some (first ∷ rest)) = dbi_header_of (first ∷ rest) >>= λ header
 unfoldable pub file_debug_header : List ℕ → Head → Answer (Option DBIHeader)
 file_debug_header file head = if_present (stream_of file head debug_stream (Some header_size)) >>= header_in
 
--- What identifies a file. Stream 1 stores the first three fields of the GUID with their lowest byte first.
+-- What identifies a file. Stream 1 stores the first three fields of the GUID with their lowest byte first. If it ends
+-- too soon for the names before the features, these are None.
 unfoldable pub file_identity : List ℕ → Head → Answer Identity
 file_identity file head = do
   information ← file_information file head
@@ -37,6 +39,7 @@ file_identity file head = do
     version = information.version;
     signature = information.signature;
     information_age = information.age;
+    features = result_ok (features_of information);
     debug_header = header;
   })
 

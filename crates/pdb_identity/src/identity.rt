@@ -9,7 +9,7 @@ ghost use Rattle.pdb_identity.specs.Identity.{age_of, file_debug_header, file_id
 use crate::cpu::cpu_name;
 use crate::key::{LowerKey, UpperKey};
 use pdb_base::{Error, Result, Stream, is_bit_set};
-use pdb_file::{DBIHeader, PDB};
+use pdb_file::{DBIHeader, Features, PDB};
 use pdb_msf::{Msf, Source};
 use std::alloc::Global;
 use uuid::Uuid;
@@ -40,6 +40,10 @@ pub struct Identity {
     /// The age in stream 1: the number of times the file was written.
     pub information_age: u32,
 
+    /// The features that stream 1 tells after the names of streams, or None if it ends too soon for
+    /// these.
+    pub features: Option<Features>,
+
     /// The header of stream 3, or None if the file has no such stream or an empty one, as the files
     /// of type servers do.
     pub debug_header: Option<DBIHeader>,
@@ -62,6 +66,7 @@ impl Identity {
             version: information.version,
             signature: information.signature,
             information_age: information.age,
+            features: information.features().ok(),
             debug_header,
         })
     }

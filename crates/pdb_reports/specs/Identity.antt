@@ -1,10 +1,11 @@
 -- What identifies a file, as a caller sees it.
-use Rattle.std.specs.Prelude.{ℕ, ◌==◌, if◌then◌else◌, is_some, List, Option, Some, None, Ok}
+use Rattle.std.specs.Prelude.{ℕ, ◌+◌, ◌*◌, ◌==◌, if◌then◌else◌, is_some, List, Option, Some, None, Ok}
 use Rattle.std.specs.Option.{option_map_or}
 use Rattle.uuid.specs.Parts.{swap_fields}
 use Rattle.uuid.specs.Text.{hyphenated_text, upper}
 use Rattle.pdb_base.specs.Answer.{Answer, ◌>>=◌}
 use Rattle.pdb_file.specs.declared.dbi_header.DBIHeader.{DBIHeader}
+use Rattle.pdb_file.specs.declared.features.Features.{Features}
 use Rattle.pdb_identity.specs.Identity.{age_of, file_identity}
 use Rattle.pdb_identity.specs.Key.{lower_key, upper_key}
 use Rattle.pdb_identity.specs.declared.format.Format.{Format}
@@ -18,6 +19,11 @@ use Rattle.pdb_handles.specs.Frame.{flag}
 abbrev pub number_in : (DBIHeader → ℕ) → Option DBIHeader → ℕ
 number_in number header = option_map_or number header 0
 
+-- the bits of the features that a file tells of itself, from the lowest on
+abbrev pub feature_bits : Features → ℕ
+feature_bits features =
+    flag features.vc110 + 2 * flag features.vc140 + 4 * flag features.no_type_merge + 8 * flag features.minimal
+
 -- what identifies a file, for the caller; the bytes of the GUID are in the order in which the file stores them
 abbrev pub identity_of : Identity → FileIdentity
 identity_of identity = record {
@@ -30,6 +36,8 @@ identity_of identity = record {
   machine = number_in (λ header. header.machine_type) identity.debug_header;
   flags = number_in (λ header. header.flags) identity.debug_header;
   guid = swap_fields identity.guid;
+  has_features = flag (is_some identity.features);
+  features = option_map_or feature_bits identity.features 0;
 }
 
 -- what identifies the file of these bytes, for the caller

@@ -1,12 +1,13 @@
 //! What identifies a file: its numbers, its key, and its format.
 
 ghost use Rattle.std.specs.Prelude.{◌≡◌, ℕ, List, string_bytes, Ok};
+ghost use Rattle.std.specs.Option.{option_map_or};
 ghost use Rattle.uuid.specs.Text.{hyphenated_text, upper};
 ghost use Rattle.pdb_base.specs.Answer.{Answer, Answers};
 ghost use Rattle.pdb_identity.specs.Identity.{file_identity};
 ghost use Rattle.pdb_identity.specs.Key.{lower_key, upper_key};
 ghost use Rattle.pdb_handles.specs.Copied.{CopiesOrLacks, copied, written};
-ghost use Rattle.pdb_reports.specs.Identity.{format_number, identity_of, identity_said, key_text};
+ghost use Rattle.pdb_reports.specs.Identity.{feature_bits, format_number, identity_of, identity_said, key_text};
 ghost use Rattle.pdb_handles.specs.File.{said};
 ghost use Rattle.pdb_handles.specs.Records.{if_copied};
 ghost use Rattle.pdb_handles.specs.Roles.{IsAnswered};
@@ -14,7 +15,8 @@ ghost use Rattle.pdb_handles.specs.Roles.{IsAnswered};
 use pdb_base::Result;
 use pdb_handles::copied::{copy_nothing, copy_out};
 use pdb_handles::file::opened;
-use pdb_handles::{FINE, Fault, NONE};
+use pdb_file::Features;
+use pdb_handles::{FINE, Fault, NONE, flag};
 use pdb_identity::{Format, Identity, LowerKey, UpperKey};
 use std::alloc::Global;
 use uuid::Uuid;
@@ -42,6 +44,31 @@ pub struct FileIdentity {
     pub flags: u16,
     /// The sixteen bytes of the GUID, as they are in the file.
     pub guid: [u8; 16],
+    /// Whether stream 1 reaches to the features, as 0 or 1. The next number is 0 if not.
+    pub has_features: u32,
+    /// The features that the file tells of itself: 1 if it is of Visual C++ 11, 2 if of Visual C++
+    /// 14, 4 if types are not merged, and 8 if the debug information is minimal.
+    pub features: u32,
+}
+
+/// Returns the bits of the features that a file tells of itself.
+fn feature_bits(features: Features) -> u32
+    ensures { result ≡ feature_bits features }
+{
+    flag(features.vc110)
+        + 2 * flag(features.vc140)
+        + 4 * flag(features.no_type_merge)
+        + 8 * flag(features.minimal)
+}
+
+/// Returns the bits of the features, or 0 if there are none to be found.
+fn optional_bits(features: Option<Features>) -> u32
+    ensures { result ≡ option_map_or feature_bits features 0 }
+{
+    match features {
+        Some(features) => feature_bits(features),
+        None => 0,
+    }
 }
 
 impl FileIdentity {
@@ -59,6 +86,8 @@ impl FileIdentity {
             machine: 0,
             flags: 0,
             guid: identity.guid.to_bytes_le(),
+            has_features: flag(identity.features.is_some()),
+            features: optional_bits(identity.features),
         };
         match identity.debug_header {
             Some(header) => FileIdentity {

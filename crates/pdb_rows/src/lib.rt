@@ -31,4 +31,5 @@ pub use refused::{error_field, error_text};
 pub use row::{Field, Row, Value};
 pub use section_rows::section_row;
 pub use type_rows::type_row;
+pub use words::chosen::chosen;
 pub use written::write_row;

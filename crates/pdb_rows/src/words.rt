@@ -1,6 +1,6 @@
 //! The words for flags and for kinds.
 
-mod chosen;
+pub(crate) mod chosen;
 mod field_attributes;
 mod function_attributes;
 mod modifier;

@@ -3,6 +3,7 @@ use Rattle.std.specs.Prelude.{◌≡◌, ℕ, Bool, List, [], ◌∷◌, ◌++�
 use Rattle.std.specs.Char.{to_ascii_lowercase}
 use Rattle.uuid.specs.Text.{hyphenated_text, lower, upper}
 use Rattle.pdb_file.specs.declared.dbi_header.DBIHeader.{DBIHeader}
+use Rattle.pdb_file.specs.declared.features.Features.{Features}
 use Rattle.pdb_identity.specs.Header.{cpu_of, machine_of, stripped_of}
 use Rattle.pdb_identity.specs.Identity.{age_of}
 use Rattle.pdb_identity.specs.Key.{lower_key, upper_key}
@@ -10,7 +11,8 @@ use Rattle.pdb_identity.specs.declared.identity.Identity.{Identity}
 use Rattle.pdb_rows.specs.declared.form.Form.{Form}
 use Rattle.pdb_rows.specs.declared.form.Form.TheVariants as forms
 use Rattle.pdb_rows.specs.Lines.{line_feed, row_text}
-use Rattle.pdb_rows.specs.Row.{ShownRow, ShownValue, absent, flag, number, text}
+use Rattle.pdb_rows.specs.Row.{ShownRow, ShownValue, absent, flag, number, text, words}
+use Rattle.pdb_rows.specs.Words.{chosen}
 use Rattle.pdb_summary.specs.declared.identity.KeyStyle.{KeyStyle}
 use Rattle.pdb_summary.specs.declared.identity.KeyStyle.TheVariants as styles
 
@@ -61,6 +63,19 @@ abbrev pub optional_flag : Option Bool → ShownValue
 optional_flag (Some holds) = flag holds
 optional_flag None = absent
 
+-- the words for the features that a file tells of itself
+unfoldable pub feature_words : Features → List (List ℕ)
+feature_words features = chosen (
+    (features.vc110, codes "vc110")
+    ∷ (features.vc140, codes "vc140")
+    ∷ (features.no_type_merge, codes "no-type-merge")
+    ∷ (features.minimal, codes "minimal")
+    ∷ [])
+
+abbrev pub optional_features : Option Features → ShownValue
+optional_features (Some features) = words (feature_words features)
+optional_features None = absent
+
 -- all that identifies a file, as a row
 abbrev pub identity_shown : List ℕ → Identity → ShownRow
 identity_shown name identity =
@@ -72,6 +87,7 @@ identity_shown name identity =
     ∷ (codes "information_age", number identity.information_age)
     ∷ (codes "signature", number identity.signature)
     ∷ (codes "version", number identity.version)
+    ∷ (codes "features", optional_features identity.features)
     ∷ (codes "machine", optional_machine (machine_of identity))
     ∷ (codes "cpu", text (cpu_of identity))
     ∷ (codes "stripped", optional_flag (stripped_of identity))

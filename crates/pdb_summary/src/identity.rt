@@ -7,12 +7,13 @@ ghost use Rattle.pdb_base.specs.Memory.{FailsOnlyForMemory};
 ghost use Rattle.pdb_output.specs.Output.{Writes};
 ghost use Rattle.pdb_rows.specs.Row.{row_shown, value_shown};
 ghost use Rattle.pdb_identity.specs.Header.{cpu_of};
-ghost use Rattle.pdb_summary.specs.Identity.{IsKey, age_source, guid_line, identity_line, identity_shown, key_line, lower_key_of, module_line, module_text, optional_flag, optional_machine, store_path, upper_key_of};
+ghost use Rattle.pdb_summary.specs.Identity.{IsKey, age_source, feature_words, guid_line, identity_line, identity_shown, key_line, lower_key_of, module_line, module_text, optional_features, optional_flag, optional_machine, store_path, upper_key_of};
 
 use pdb_base::{RawString, Result};
+use pdb_file::Features;
 use pdb_identity::Identity;
 use pdb_output::Output;
-use pdb_rows::{Form, Row, Value, field, write_row};
+use pdb_rows::{Form, Row, Value, chosen, field, write_row};
 use std::alloc::Global;
 use std::io::Write;
 
@@ -146,6 +147,35 @@ fn optional_flag<'t>(flag: Option<bool>) -> Value<'t>
     }
 }
 
+/// Returns the words for the features that a file tells of itself.
+#[tactic(auto, unfolding(crate::specs::Identity::feature_words))]
+fn feature_words(alloc: Global, features: Features) -> Result<Vec<&'static str>>
+    ensures ok { IfOk result (λ words. map (λ name. name.now) words.items ≡ feature_words features) }
+    ensures memory { FailsOnlyForMemory result }
+{
+    let words = chosen(
+        alloc,
+        &[
+            (features.vc110, "vc110"),
+            (features.vc140, "vc140"),
+            (features.no_type_merge, "no-type-merge"),
+            (features.minimal, "minimal"),
+        ],
+    )?;
+    Ok(words)
+}
+
+/// Returns the value of the features, or `Absent` if there are none to be found.
+fn optional_features<'t>(alloc: Global, features: Option<Features>) -> Result<Value<'t>>
+    ensures ok { IfOk result (λ value. value_shown value ≡ optional_features features) }
+    ensures memory { FailsOnlyForMemory result }
+{
+    match features {
+        Some(features) => Ok(Value::Words(feature_words(alloc, features)?)),
+        None => Ok(Value::Absent),
+    }
+}
+
 /// Returns the `Row` of all that identifies a file, with the texts of its GUID and of its key.
 fn identity_row<'t>(
     alloc: Global,
@@ -159,6 +189,7 @@ fn identity_row<'t>(
     ensures ok { IfOk result (λ row. row_shown row ≡ identity_shown name.now identity.now) }
     ensures memory { FailsOnlyForMemory result }
 {
+    let features = optional_features(alloc, identity.features)?;
     let fields = vec![in alloc;
         field("name", Value::Text(RawString::from(name))),
         field("format", Value::Word("MSF 7.00")),
@@ -171,6 +202,7 @@ fn identity_row<'t>(
         ),
         field("signature", Value::Number(identity.signature as u64)),
         field("version", Value::Number(identity.version as u64)),
+        field("features", features),
         field("machine", optional_machine(identity.machine())),
         field("cpu", Value::Word(identity.cpu())),
         field("stripped", optional_flag(identity.is_stripped())),

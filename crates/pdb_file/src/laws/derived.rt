@@ -8,6 +8,7 @@ ghost use Rattle.pdb_file.specs.declared.stream_names.StreamName.{StreamName};
 
 use crate::dbi_header::DBIHeader;
 use crate::debug_header::DBIExtraStreams;
+use crate::features::Features;
 use crate::stream_names::StreamName;
 
 /// Headers are equal exactly if all fields are.
@@ -38,4 +39,9 @@ pub fn roles()
 pub fn named_streams()
     ensures { (a b : StreamName) →
         IsTrue (⟦<StreamName<'static> as PartialEq>⟧.eq a b) ↔ (named_view a ≡ named_view b) }
+{}
+
+/// Features are equal exactly if each of the four is told by both or by neither.
+pub fn features()
+    ensures { TellsApart ⟦<Features as PartialEq>⟧.eq }
 {}

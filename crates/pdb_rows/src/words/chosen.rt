@@ -12,7 +12,7 @@ use std::alloc::Global;
 /// # Errors
 /// Fails with `OutOfMemory` if an allocation fails. Memory is allocated only if a word is chosen.
 #[tactic(auto, using(crate::proofs::WordLemmas::chosen_more), unfolding(crate::specs::Words::chosen))]
-pub(crate) fn chosen(alloc: Global, flags: &[(bool, &'static str)]) -> Result<Vec<&'static str>>
+pub fn chosen(alloc: Global, flags: &[(bool, &'static str)]) -> Result<Vec<&'static str>>
     ensures ok { IfOk result (λ words. map (λ name. name.now) words.items ≡
         chosen (map (λ flag. (flag.0, flag.1.now)) flags.now)) }
     ensures memory { FailsOnlyForMemory result }
