@@ -35,11 +35,11 @@ is_one : (number : ℕ) → is_list number ≡ true → (number ≡ 0x1203) ⊎ 
 is_one number is = elim (cases_Bool (eqb number 0x1203)) [
   | inl fields ↦ inl (eqb-true number 0x1203 fields)
   | inr no_fields ↦ elim (cases_Bool (eqb number 0x1201)) [
-      | inl arguments ↦ inr (inl (eqb-true number 0x1201 arguments))
-      | inr no_arguments ↦
-          let methods : is_list number ≡ eqb number 0x1206 = rw (no_fields, no_arguments) refl in
-          inr (inr (eqb-true number 0x1206 (sym methods ∙ is)))
-    ]
+    | inl arguments ↦ inr (inl (eqb-true number 0x1201 arguments))
+    | inr no_arguments ↦
+        let methods : is_list number ≡ eqb number 0x1206 = rw (no_fields, no_arguments) refl in
+        inr (inr (eqb-true number 0x1206 (sym methods ∙ is)))
+  ]
 ]
 
 -- what stands behind the leaf of a list

@@ -35,8 +35,11 @@ impl DefinitionIndex {
             shortcuts: Vec::new(alloc),
         };
         let has_names = walk.has_wide_enumeration;
-        let shortcuts =
-            Definitions::lent(types, &index).new_shortcuts(alloc, has_names, &walk.modified)?;
+        let shortcuts = Definitions::lent(types, &index).new_shortcuts(
+            alloc,
+            has_names,
+            &walk.modified,
+        )?;
         Ok(DefinitionIndex {
             entries: index.entries,
             shortcuts,

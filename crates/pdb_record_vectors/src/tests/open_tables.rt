@@ -81,7 +81,11 @@ fn open_tells(
 }
 
 /// Whether a table that is opened answers each of these so, one after the other.
-pub(super) fn opened_tells(alloc: Global, table: TypeInformation, asks: &[OpenAsk]) -> Result<bool, Fail> {
+pub(super) fn opened_tells(
+    alloc: Global,
+    table: TypeInformation,
+    asks: &[OpenAsk],
+) -> Result<bool, Fail> {
     let mut open = OpenTable::new(alloc, table)?;
     open_tells(alloc, &mut open, asks)
 }

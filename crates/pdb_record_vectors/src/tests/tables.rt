@@ -8,8 +8,8 @@ use pdb_base::{
     Count, Error, FallibleIterator, IdIndex, Result as Answer, Stream, TypeIndex, Variant,
 };
 use pdb_tpi::{
-    Header, IdFinder, IdInformation, IdIter, RecordPlace, Slice, Type, TypeFinder,
-    TypeInformation, TypeIter,
+    Header, IdFinder, IdInformation, IdIter, RecordPlace, Slice, Type, TypeFinder, TypeInformation,
+    TypeIter,
 };
 use pdb_values::{PrimitiveKind, PrimitiveType, TypeData};
 use pdb_vectors::item_table;
