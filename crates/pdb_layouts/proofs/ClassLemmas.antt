@@ -1,11 +1,12 @@
 -- The layouts of types with modifiers.
-use Rattle.std.proofs.Common.{◌≡◌, ◌⊎◌, inl, inr, refl, sym, ap, ◌∙◌, arith, ℕ, suc, ◌+◌, ◌-◌, ◌<◌, ◌≤◌}
+use Rattle.std.proofs.Common.{◌≡◌, ◌⊎◌, inl, inr, refl, subst, sym, ap, ◌∙◌, arith, ℕ, suc, ◌+◌, ◌-◌, ◌<◌, ◌≤◌}
 use Rattle.std.proofs.Common.{Option, Some, None, Ok, Err, List}
 use Rattle.std.specs.Option.{option_map, option_map_or}
 use Rattle.std.proofs.lemmas.Bool.{le-ltb, lt-leb}
 use Rattle.pdb_base.specs.Answer.{Answer, Answers, ◌>>=◌}
 use Rattle.pdb_base.specs.Refusal.{Refusal, refusal_of}
 use Rattle.pdb_base.specs.declared.error.Error.{Error}
+use Rattle.pdb_base.specs.declared.index.TypeIndex.{TypeIndex}
 use Rattle.pdb_base.specs.declared.error.Error.TheVariants.{OutOfMemory}
 use Rattle.pdb_tpi.specs.Finder.{item_of}
 use Rattle.pdb_tpi.specs.Record.{type_of}
@@ -75,8 +76,8 @@ unfolding item_of
 past_item table index later fault least most after below is =
     let least_too : table.header.minimum_index ≤ later = omega (arith, least, after) in
     let here : nth_item table (index - table.header.minimum_index) ≡ Err fault =
-    rw (le-ltb index table.header.minimum_index least, lt-leb index table.header.maximum_index most) at is in
-    rw (le-ltb later table.header.minimum_index least_too, lt-leb later table.header.maximum_index below)
+    rw (le-ltb index table.header.minimum_index least, lt-leb table.header.maximum_index index most) at is in
+    rw (le-ltb later table.header.minimum_index least_too, lt-leb table.header.maximum_index later below)
     (nth_further table (index - table.header.minimum_index) (later - table.header.minimum_index) fault here
     (omega (arith, after)))
 
@@ -92,3 +93,18 @@ unfolding type_at
 past_class table pattern index later e least most after below is =
     none_refused pattern (item_of table later) later (refusal_of e)
     (past_item table index later (refusal_of e) least most after below is)
+
+-- a class by its item, and the item by the class
+pub item_class : (table : Table) (pattern : Option (List ℕ)) (index : ℕ) (own : TypeIndex) (item : List ℕ)
+    → own ≡ record { 0 = index } → item_of table index ≡ Ok item → IsClassIn pattern (type_of own.0 item)
+    → IsClass table pattern index
+unfolding type_at
+item_class table pattern index own item same is has =
+    rw is (subst (λ (i : TypeIndex). IsClassIn pattern (type_of i.0 item)) same has)
+
+pub class_item : (table : Table) (pattern : Option (List ℕ)) (index : ℕ) (own : TypeIndex) (item : List ℕ)
+    → own ≡ record { 0 = index } → item_of table index ≡ Ok item → IsClass table pattern index
+    → IsClassIn pattern (type_of own.0 item)
+unfolding type_at
+class_item table pattern index own item same is has =
+    subst (λ (i : TypeIndex). IsClassIn pattern (type_of i.0 item)) (sym same) (rw is at has)

@@ -1,11 +1,10 @@
 -- What is told of relations.
-use Rattle.std.proofs.Common.{◌≡◌, ◌↔◌, ℕ, ◌+◌, ◌<◌, Bool, true, false, not, List, [], ◌∷◌, ◌++◌, filter, get_or, length, map}
+use Rattle.std.proofs.Common.{◌≡◌, ℕ, ◌+◌, ◌<◌, Bool, not, List, [], ◌∷◌, ◌++◌, filter, get_or, length, map}
 use Rattle.std.proofs.Common.{take, refl, sym, ap, ◌∙◌, inl, inr, arith}
-use Rattle.std.proofs.lemmas.Bool.{cases_Bool, false≢true}
+use Rattle.std.proofs.lemmas.Bool.{cases_Bool}
 use Rattle.std.proofs.lemmas.List.{append-nil, map-append, take_more}
 use Rattle.std.proofs.lemmas.List.Elements.{filter-append}
 use Rattle.pdb_msf.specs.Layout.{LayoutValue}
-use Rattle.pdb_consistency.specs.Inconsistency.{is_warning}
 use Rattle.pdb_consistency.specs.Mismatch.{asked_of, warns}
 use Rattle.pdb_consistency.specs.declared.mismatch.Extent.{Extent}
 use Rattle.pdb_consistency.specs.declared.mismatch.Extent.TheVariants as extents
@@ -13,7 +12,6 @@ use Rattle.pdb_consistency.specs.declared.mismatch.Mismatch.{Mismatch}
 use Rattle.pdb_validation.specs.Finding.{Fault, error_count, errors_in, warning_count}
 use Rattle.pdb_validation.specs.Problem.{is_tolerated}
 use Rattle.pdb_validation.specs.Relations.{AreConsistent, IsConsistent, Relation, mismatch_fault, relation_faults, with_relations}
-use Rattle.pdb_validation.specs.declared.finding.Finding.{Finding}
 use Rattle.pdb_validation.specs.declared.finding.Part.{Part}
 
 pub nothing_asked : (extent : Extent) → asked_of extent [] ≡ []

@@ -1,13 +1,11 @@
 -- What is told of the parts of a file are errors.
-use Rattle.std.proofs.Common.{◌≡◌, ◌↔◌, ℕ, suc, ◌+◌, ◌-◌, nat_lt, Bool, true, false, if◌then◌else◌, List, [], ◌∷◌, ◌++◌}
-use Rattle.std.proofs.Common.{length, filter, map, refl, sym, ap, ◌∙◌, arith, Option, Some, None, Ok, Err, Result}
-use Rattle.std.specs.Prelude.{⊤, IfOk}
+use Rattle.std.proofs.Common.{◌≡◌, ℕ, ◌+◌, nat_lt, Bool, true, false, if◌then◌else◌, List, [], ◌∷◌, ◌++◌}
+use Rattle.std.proofs.Common.{refl, ap, Option, Some, None, Ok, Err}
+use Rattle.std.specs.Prelude.{⊤}
 use Rattle.std.specs.List.{flat_map}
 use Rattle.std.specs.Option.{option_map, option_to_list}
-use Rattle.pdb_base.specs.Answer.{Answer, Answers}
+use Rattle.pdb_base.specs.Answer.{Answer}
 use Rattle.pdb_base.specs.Refusal.{Refusal, stream_not_found}
-use Rattle.pdb_base.specs.declared.error.Error.{Error}
-use Rattle.pdb_base.proofs.lemmas.Collected.{ok_is}
 use Rattle.pdb_base.specs.Index.{stream_number}
 use Rattle.pdb_file.specs.DebugHeader.{extra_streams_of}
 use Rattle.pdb_file.specs.SectionHeaders.{section_headers_of}
@@ -15,11 +13,9 @@ use Rattle.pdb_frames.specs.Merge.{by_heads}
 use Rattle.pdb_frames.specs.Table.{frame_table_of}
 use Rattle.pdb_space.specs.Omap.{omap_table_of}
 use Rattle.pdb_file.specs.declared.debug_header.DBIExtraStreams.{DBIExtraStreams}
-use Rattle.pdb_msf.specs.Header.{Head, opened}
-use Rattle.pdb_msf.specs.Layout.{LayoutValue, layout_of, stream_by}
+use Rattle.pdb_msf.specs.Layout.{LayoutValue, stream_by}
 use Rattle.pdb_tpi.specs.Table.{Table, table_of}
 use Rattle.pdb_validation.specs.Finding.{Fault, by_extent, errors_in, stream_fault}
-use Rattle.pdb_validation.specs.IsWhole.{IsWhole}
 use Rattle.pdb_validation.specs.Names.{fault_of_answer, named_fault, names_fault, string_table_fault}
 use Rattle.pdb_validation.specs.Names.{string_table_number, whole_names}
 use Rattle.pdb_validation.specs.Places.{PagesValue, stream_pages}
@@ -27,16 +23,15 @@ use Rattle.pdb_validation.specs.Problem.{ProblemValue, is_tolerated}
 use Rattle.pdb_validation.specs.Roles.{frames_problem, known_roles, numbered_fault, omap_problem, problem_in, role_fault}
 use Rattle.pdb_validation.specs.Roles.{role_index, role_problem, roles_fault, sections_problem, sources_rise, starts_rise}
 use Rattle.pdb_validation.specs.Roles.{unless_sorted}
-use Rattle.pdb_validation.specs.Sizes.{directory_size, streams_nameable, streams_size}
+use Rattle.pdb_validation.specs.Sizes.{streams_nameable}
 use Rattle.pdb_validation.specs.Streams.{bytes_fault, fault_there, if_read, streams_faults, unless_absent}
-use Rattle.pdb_validation.specs.Tables.{fault_at, fault_behind, id_faults, id_in, ids_faults, item_fault, item_faults}
-use Rattle.pdb_validation.specs.Tables.{missing_fault, record_faults, refusal_fault, table_faults, type_faults, type_in}
+use Rattle.pdb_validation.specs.Tables.{fault_behind, id_faults, id_in, ids_faults, item_fault, item_faults}
+use Rattle.pdb_validation.specs.Tables.{record_faults, refusal_fault, table_faults, type_faults, type_in}
 use Rattle.pdb_validation.specs.Tables.{types_faults}
-use Rattle.pdb_validation.specs.Whole.{faults_behind, faults_by, faults_of, faults_of_ids, faults_of_types, fixed_faults, refused_faults}
-use Rattle.pdb_validation.specs.Whole.{opened_faults, part_faults, sized_faults, with_role, with_roles}
+use Rattle.pdb_validation.specs.Whole.{faults_of_ids, faults_of_types, fixed_faults, refused_faults}
+use Rattle.pdb_validation.specs.Whole.{with_role, with_roles}
 use Rattle.pdb_consistency.specs.declared.mismatch.Extent.{Extent}
 use Rattle.pdb_consistency.specs.declared.mismatch.Extent.TheVariants as extents
-use Rattle.pdb_validation.specs.declared.finding.Finding.{Finding}
 use Rattle.pdb_validation.specs.declared.finding.Part.{Part}
 use Rattle.pdb_validation.specs.declared.finding.Part.TheVariants as parts
 

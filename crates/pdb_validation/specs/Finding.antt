@@ -1,5 +1,5 @@
 -- What is found wrong in a file.
-use Rattle.std.specs.Prelude.{ℕ, ◌-◌, Bool, true, false, not, List, [], ◌∷◌, ◌++◌, filter, length, take, codes, Option, Some}
+use Rattle.std.specs.Prelude.{ℕ, ◌-◌, Bool, true, false, not, List, [], ◌++◌, filter, length, take, codes, Option, Some}
 use Rattle.std.specs.Prelude.{None}
 use Rattle.pdb_consistency.specs.Inconsistency.{inconsistency_code}
 use Rattle.pdb_validation.specs.Problem.{ProblemValue, failure, inconsistent, error_code, is_tolerated, problem_view}

@@ -4,6 +4,7 @@ ghost use Rattle.std.specs.Prelude.{◌≡◌, ◌++◌, map, Ok, Err};
 ghost use Rattle.std.specs.Option.{option_map};
 ghost use Rattle.pdb_base.specs.Answer.{Answers, Gives};
 ghost use Rattle.pdb_base.specs.Refusal.{refusal_of};
+ghost use Rattle.pdb_base.specs.declared.error.Error.{Error};
 ghost use Rattle.pdb_tpi.specs.Item.{bytes_of, index_of};
 ghost use Rattle.pdb_values.specs.TypeView.{type_value};
 ghost use Rattle.pdb_validation.specs.Finding.{by_extent, finding_view};
@@ -51,6 +52,16 @@ fn check_value(types: &OpenTable<TypeIndex>, index: TypeIndex, value: &TypeData<
     }
 }
 
+/// Returns whether a type was read, or the error.
+fn without_value(read: Result<TypeData<'_>>) -> Result<()>
+    ensures { (error : Error) → read.entry ≡ Err error → result ≡ Err error }
+{
+    match read {
+        Ok(_) => Ok(()),
+        Err(error) => Err(error),
+    }
+}
+
 /// Reads the record of a type, and checks its continuation.
 #[tactic(auto, unfolding(crate::specs::Tables::read_in))]
 fn read_type(alloc: Global, types: &OpenTable<TypeIndex>, item: &Item<'_, TypeIndex>) -> Result<()>
@@ -58,10 +69,10 @@ fn read_type(alloc: Global, types: &OpenTable<TypeIndex>, item: &Item<'_, TypeIn
 {
     let read = item.parse(alloc);
     // The value is borrowed where it is, since it is large to move.
-    if let Ok(value) = &read {
-        return check_value(types, item.index(), value);
+    match &read {
+        Ok(value) => check_value(types, item.index(), value),
+        Err(_) => without_value(read),
     }
-    read.map(|_| ())
 }
 
 /// Returns an error of a record of a kind, unless that kind is not read.
