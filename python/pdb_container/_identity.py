@@ -18,7 +18,7 @@ class Identity:
     signature: int  # the time at which the file was made, in seconds since 1970, or a hash in its place
     information_age: int  # the age in stream 1: how often the file was written
     guid: uuid.UUID
-    features: Optional[FrozenSet[Feature]]  # that the file tells of itself; None if stream 1 ends among the stream names
+    features: Optional[FrozenSet[Feature]]  # of the file; None if stream 1 ends among the names of streams
     debug_age: Optional[int]  # the age of the debug information
     machine: Optional[int]  # as the header of an image numbers it, such as 0x8664 for x86-64
     flags: Optional[int]  # 1 if linked incrementally, 2 if private symbols are stripped, 4 if types may conflict, added up

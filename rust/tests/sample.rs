@@ -1,8 +1,8 @@
 //! Reads examples/sample.pdb, and copies of it with damage.
 
 use pdb_container::{
-    Address, Error, Extent, Features, Format, IdShape, Inconsistency, KeyForm, LayoutKind, LayoutRow, Part, Pdb, Problem, Shape,
-    Types, validate,
+    Address, Error, Extent, Features, Format, IdShape, Inconsistency, KeyForm, LayoutKind, LayoutRow, Part, Pdb,
+    Problem, Shape, Types, validate,
 };
 
 fn sample() -> Vec<u8> {

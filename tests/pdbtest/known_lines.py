@@ -4,8 +4,8 @@ import uuid
 
 from pdbtest.addresses import moved_ranges
 from pdbtest.known_file import (
-    DEBUG_AGE, FEATURE_BITS, FLAGS, FROM_SOURCE, GUID, LOADED, MACHINE, NAMED, NAMES, NEW_FRAMES, OLD_FRAMES, ORIGINAL, TO_SOURCE,
-    streams,
+    DEBUG_AGE, FEATURE_BITS, FLAGS, FROM_SOURCE, GUID, LOADED, MACHINE, NAMED, NAMES, NEW_FRAMES, OLD_FRAMES, ORIGINAL,
+    TO_SOURCE, streams,
 )  # fmt: skip
 from pdbtest.reading import PARTS, Reading
 from pdbtest.relations import INCONSISTENCIES, WARNINGS

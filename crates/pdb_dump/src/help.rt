@@ -102,8 +102,9 @@ debug information, or that of stream 1 if the file has none. NAME is the last pa
 --format ssqp  that path in lower case, as the conventions for SSQP have it
 --format breakpad  the line that a symbol file of Breakpad begins with
 --format guid  the GUID alone, with hyphens
-With --json all numbers by which the file is known, in one object. With --expect the status is 1 if the file has
-another key, in either case of letters. A file of another format is refused with the name of that format."
+With --json all numbers by which the file is known and its features, in one object. With --expect the status
+is 1 if the file has another key, in either case of letters. A file of another format is refused with the name of
+that format."
         }
         Verb::Extract => {
             "The bytes of a stream and nothing else: without the first N bytes with --skip, and N bytes at most with --take.

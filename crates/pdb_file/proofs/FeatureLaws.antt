@@ -1,6 +1,6 @@
 -- Which features the numbers after the table tell.
-use Rattle.std.proofs.Common.{◌≡◌, ◌≢◌, ◌⊎◌, ◌↔◌, ◌<◌, ◌||◌, ◌==◌, if◌then◌else◌, ℕ, zero, suc, inl, inr, Bool, true, false, IsTrue}
-use Rattle.std.proofs.Common.{List, [], ◌∷◌, refl, sym, ap, ◌∙◌, arith, Option, Some, None}
+use Rattle.std.proofs.Common.{◌≡◌, ◌≢◌, ◌⊎◌, ◌↔◌, ◌<◌, ◌||◌, ◌==◌, if◌then◌else◌, ℕ, zero, suc, inl, inr}
+use Rattle.std.proofs.Common.{Bool, true, false, IsTrue, List, [], ◌∷◌, refl, sym, ap, ◌∙◌, arith, Option, Some, None}
 use Rattle.std.specs.List.{slice_get}
 use Rattle.std.proofs.lemmas.Bool.{eqb-true, eq-eqb, ne_eqb}
 use Rattle.pdb_base.proofs.lemmas.Collected.{ok}
@@ -103,7 +103,8 @@ told_among sought (first ∷ numbers) (suc place) there before =
     let more = told_among sought numbers place there (λ k below. before (suc k) (omega (arith, below))) in
     among_is first sought numbers false (first == sought) other refl ∙ or_right (first == sought) _ more
 
-is_told : (sought : ℕ) (numbers : List ℕ) → IsTrue (is_among sought (up_to vc110_number numbers)) ↔ IsTold numbers sought
+is_told : (sought : ℕ) (numbers : List ℕ)
+    → IsTrue (is_among sought (up_to vc110_number numbers)) ↔ IsTold numbers sought
 is_told sought numbers = (
   among_told sought numbers,
   λ told. told_among sought numbers told.place told.there told.before,

@@ -1,6 +1,6 @@
 -- The features that bytes tell, one number after another.
-use Rattle.std.proofs.Common.{◌≡◌, ◌≢◌, ℕ, ◌+◌, ◌*◌, ◌/◌, ◌<◌, ◌≤◌, ◌||◌, ◌==◌, if◌then◌else◌, Bool, true, false, List, [], ◌∷◌, length}
-use Rattle.std.proofs.Common.{drop, refl, ap, ◌∙◌, arith}
+use Rattle.std.proofs.Common.{◌≡◌, ◌≢◌, ℕ, ◌+◌, ◌*◌, ◌/◌, ◌<◌, ◌≤◌, ◌||◌, ◌==◌, if◌then◌else◌}
+use Rattle.std.proofs.Common.{Bool, true, false, List, [], ◌∷◌, length, drop, refl, ap, ◌∙◌, arith}
 use Rattle.std.proofs.lemmas.Bool.{eq-eqb, ne_eqb}
 use Rattle.std.proofs.lemmas.List.{drop-drop, length-drop}
 use Rattle.pdb_base.specs.Endian.{little_number}
@@ -59,7 +59,8 @@ among first rest is_last = features_among (if is_last then first ∷ [] else fir
 told_in_none : (bytes : List ℕ) → length bytes < 4 → features_in bytes ≡ none
 unfolding features_in
 told_in_none bytes short =
-    ap (λ (numbers : List ℕ). features_among (up_to vc110_number numbers)) (spelled_none 4 (little_number 4) bytes short)
+    ap (λ (numbers : List ℕ). features_among (up_to vc110_number numbers))
+    (spelled_none 4 (little_number 4) bytes short)
 
 told_in_first : (bytes : List ℕ) (is_last : Bool) → 4 ≤ length bytes → (u32_in 0 bytes == vc110_number) ≡ is_last
     → features_in bytes ≡ among (u32_in 0 bytes) (numbers_in (drop 4 bytes)) is_last
@@ -110,7 +111,8 @@ told_at_last bytes place told from within is =
     let rest = drop (4 * place) bytes in
     let long : 4 ≤ length rest = omega (arith, length-drop (4 * place) bytes, within) in
     let number = u32_in (4 * place) bytes in
-    from ∙ ap (both told) (told_in_last rest long is) ∙ number_moves number told none ∙ with_none (with_number number told)
+    from ∙ ap (both told) (told_in_last rest long is) ∙ number_moves number told none
+    ∙ with_none (with_number number told)
 
 pub told_at_end : (bytes : List ℕ) (place : ℕ) (told : Features) → ToldFrom bytes place told
     → length bytes < 4 * place + 4 → features_in bytes ≡ told
