@@ -1,7 +1,7 @@
 -- How the identity of a file is shown.
 use Rattle.std.specs.Prelude.{◌≡◌, ℕ, Bool, List, [], ◌∷◌, ◌++◌, map, codes, Option, Some, None}
 use Rattle.std.specs.Char.{to_ascii_lowercase}
-use Rattle.uuid.specs.Text.{hyphenated_text, lower, upper}
+use Rattle.uuid.specs.Text.{hyphenated_text, upper}
 use Rattle.pdb_file.specs.declared.dbi_header.DBIHeader.{DBIHeader}
 use Rattle.pdb_file.specs.declared.features.Features.{Features}
 use Rattle.pdb_identity.specs.Header.{cpu_of, machine_of, stripped_of}
