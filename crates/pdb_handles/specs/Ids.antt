@@ -22,34 +22,22 @@ abbrev pub source_numbers : ℕ → ℕ → UserDefinedTypeSourceFileRef → Num
 source_numbers type line (files.Local file) = record no_numbers { type_index = Some type; second_index = Some file.0; extra = Some line }
 source_numbers type line (files.Remote unit place) = record no_numbers { type_index = Some type; third_index = Some unit; number = Some place; extra = Some line }
 
--- the numbers of an id that is not a list
-abbrev pub plain_numbers : PlainIdValue → Numbers
-plain_numbers (ids.function v) = record no_numbers { type_index = Some v.function_type.0; second_index = id_in v.scope }
-plain_numbers (ids.member_function v) = record no_numbers { type_index = Some v.function_type.0; third_index = Some v.parent.0 }
-plain_numbers (ids.string v) = record no_numbers { list_index = id_in v.substrings }
-plain_numbers (ids.user_defined_type_source v) = source_numbers v.udt.0 v.line v.source_file
-
--- the numbers of an id
-abbrev pub id_numbers : IdValue → Numbers
-id_numbers (plain value) = plain_numbers value
-id_numbers (ids.build_info list) = no_numbers
-id_numbers (ids.string_list list) = no_numbers
-
--- the number of the shape of an id
-abbrev pub plain_shape : PlainIdValue → ℕ
-plain_shape (ids.function v) = 0
-plain_shape (ids.member_function v) = 1
-plain_shape (ids.string v) = 4
-plain_shape (ids.user_defined_type_source v) = 5
-
-abbrev pub id_shape : IdValue → ℕ
-id_shape (plain value) = plain_shape value
-id_shape (ids.build_info list) = 2
-id_shape (ids.string_list list) = 3
+-- the row of an id that is not a list
+abbrev pub plain_row : PlainIdValue → Row
+plain_row (ids.function v) = row 0 (record no_numbers { type_index = Some v.function_type.0; second_index = id_in v.scope })
+plain_row (ids.member_function v) = row 1 (record no_numbers { type_index = Some v.function_type.0; third_index = Some v.parent.0 })
+plain_row (ids.string v) = row 4 (record no_numbers { list_index = id_in v.substrings })
+plain_row (ids.user_defined_type_source v) = row 5 (source_numbers v.udt.0 v.line v.source_file)
 
 -- the row of an id
 abbrev pub id_row : IdValue → Row
-id_row value = row (id_shape value) (id_numbers value)
+id_row (plain value) = plain_row value
+id_row (ids.build_info list) = row 2 no_numbers
+id_row (ids.string_list list) = row 3 no_numbers
+
+-- the row of the id in a record
+abbrev pub id_row_of : List ℕ → Answer Row
+id_row_of bytes = id_of bytes >>= λ value. Ok (id_row value)
 
 -- the name of the id in a record
 abbrev pub id_name_of : List ℕ → Answer (Option (List ℕ))

@@ -83,10 +83,7 @@ impl Frame {
             is_function_start: flag(frame.is_function_start),
             uses_base_pointer: flag(frame.uses_base_pointer),
             has_program: flag(frame.program.is_some()),
-            program: match frame.program {
-                Some(place) => place.0,
-                None => 0,
-            },
+            program: frame.program.map_or(0, |place| place.0),
         }
     }
 }

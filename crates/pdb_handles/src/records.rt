@@ -3,18 +3,17 @@
 ghost use Rattle.std.specs.Prelude.{map, Ok};
 ghost use Rattle.std.specs.Option.{option_map};
 ghost use Rattle.pdb_base.specs.Answer.{Answer, Answers};
-ghost use Rattle.pdb_values.specs.TypeValue.{TypeValue, name_of};
+ghost use Rattle.pdb_values.specs.Text.{text_bytes};
+ghost use Rattle.pdb_values.specs.TypeValue.{TypeValue};
 ghost use Rattle.pdb_values.specs.TypeView.{type_value};
 ghost use Rattle.pdb_tpi.specs.Record.{type_of};
-ghost use Rattle.pdb_handles.specs.Copied.{CopiesOrLacks};
-ghost use Rattle.pdb_handles.specs.Records.{arguments_of, shown_copied};
+ghost use Rattle.pdb_handles.specs.Records.{arguments_of, type_name};
 ghost use Rattle.pdb_handles.specs.Roles.{IsAnswered};
 ghost use Rattle.pdb_handles.specs.Row.{row_of};
 
-use crate::copied::{copy_name, copy_nothing};
 use crate::fault::{FINE, Fault};
 use crate::row::Row;
-use pdb_base::{Result, TypeIndex};
+use pdb_base::{RawString, Result, TypeIndex};
 use pdb_records::parse_type_data;
 use pdb_values::{FIRST_RECORD, TypeData, type_data_for_primitive};
 use std::alloc::Global;
@@ -58,16 +57,15 @@ pub fn write_type_row(alloc: Global, bytes: &[u8], index: u32, row: &mut Row) ->
     write_row(&type_in(alloc, bytes, index), row)
 }
 
-/// Copies the name of a type that was parsed, or returns the fault of its error.
-pub fn copy_type_name(parsed: Result<TypeData<'_>>, room: &mut [u8], length: &mut usize) -> Fault
-    ensures { (meant : Answer TypeValue) → Answers type_value parsed.entry meant
-        → CopiesOrLacks (record { fault = result; length = length.new; room = room.new }) room.old
-        (shown_copied room.old name_of meant) }
+/// Parses a record and returns the name of its type, if it has one.
+///
+/// # Errors
+/// Fails as `type_in` does.
+pub fn type_name_in<'t>(alloc: Global, bytes: &'t [u8], index: u32) -> Result<Option<RawString<'t>>>
+    ensures { Answers (option_map text_bytes) result (type_name index bytes.now) }
 {
-    match parsed {
-        Ok(value) => copy_name(value.name(), room, length),
-        Err(error) => copy_nothing(Fault::of(&error), length),
-    }
+    let value = type_in(alloc, bytes, index)?;
+    Ok(value.name())
 }
 
 /// Returns the numbers of type indexes.

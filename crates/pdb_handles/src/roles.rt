@@ -1,11 +1,9 @@
 //! The roles of streams.
 
 ghost use Rattle.std.specs.Prelude.{◌≡◌};
-ghost use Rattle.pdb_base.specs.Answer.{Answer, Answers};
-ghost use Rattle.pdb_file.specs.declared.debug_header.DBIExtraStreams.{DBIExtraStreams};
-ghost use Rattle.pdb_handles.specs.Roles.{IsAnswered, roles_of, roles_said};
+ghost use Rattle.pdb_base.specs.Answer.{Answers};
+ghost use Rattle.pdb_handles.specs.Roles.{roles_of, roles_said};
 
-use crate::fault::{FINE, Fault};
 use crate::file::opened;
 use pdb_base::Result;
 use pdb_file::DBIExtraStreams;
@@ -64,23 +62,10 @@ impl Roles {
 ///
 /// # Errors
 /// Fails as `opened` and `extra_streams` do.
-pub fn roles_in(alloc: Global, file: &[u8]) -> Result<DBIExtraStreams>
+pub fn roles_in(alloc: Global, file: &[u8]) -> Result<Roles>
     ensures { Answers (λ roles. roles) result (roles_said file.now) }
 {
     let mut file = opened(alloc, file)?;
-    file.extra_streams(alloc)
-}
-
-/// Writes the numbers of the streams in their roles, or returns the fault of the error.
-pub fn write_roles(read: Result<DBIExtraStreams>, roles: &mut Roles) -> Fault
-    ensures { (meant : Answer DBIExtraStreams) → Answers (λ roles. roles) read meant
-        → IsAnswered roles_of meant roles.old result roles.new }
-{
-    match read {
-        Ok(streams) => {
-            *roles = Roles::of(&streams);
-            Fault::status(FINE)
-        }
-        Err(error) => Fault::of(&error),
-    }
+    let streams = file.extra_streams(alloc)?;
+    Ok(Roles::of(&streams))
 }

@@ -56,29 +56,19 @@ pub struct Row {
     pub extra: u32,
 }
 
-/// The numbers that a record has.
+/// The numbers that a record has, each as the field of its name in a `Row`.
 #[derive(Clone, Copy)]
-pub struct Numbers {
-    /// What `Row::kind` holds, if the record has it.
-    pub kind: Option<u32>,
-    /// What `Row::attributes` holds, if the record has it.
-    pub attributes: Option<u32>,
-    /// What `Row::properties` holds, if the record has it.
-    pub properties: Option<u32>,
-    /// What `Row::count` holds, if the record has it.
-    pub count: Option<u32>,
-    /// What `Row::type_index` holds, if the record has it.
-    pub type_index: Option<u32>,
-    /// What `Row::second_index` holds, if the record has it.
-    pub second_index: Option<u32>,
-    /// What `Row::third_index` holds, if the record has it.
-    pub third_index: Option<u32>,
-    /// What `Row::list_index` holds, if the record has it.
-    pub list_index: Option<u32>,
-    /// What `Row::extra` holds, if the record has it.
-    pub extra: Option<u32>,
-    /// What `Row::number` holds, if the record has it.
-    pub number: Option<u64>,
+pub(crate) struct Numbers {
+    pub(crate) kind: Option<u32>,
+    pub(crate) attributes: Option<u32>,
+    pub(crate) properties: Option<u32>,
+    pub(crate) count: Option<u32>,
+    pub(crate) type_index: Option<u32>,
+    pub(crate) second_index: Option<u32>,
+    pub(crate) third_index: Option<u32>,
+    pub(crate) list_index: Option<u32>,
+    pub(crate) extra: Option<u32>,
+    pub(crate) number: Option<u64>,
 }
 
 /// Returns the `Row` of a shape and some numbers. The others are absent.
@@ -91,7 +81,7 @@ macro_rules! row {
 pub(crate) use row;
 
 /// No numbers.
-pub const NO_NUMBERS: Numbers = Numbers {
+pub(crate) const NO_NUMBERS: Numbers = Numbers {
     kind: None,
     attributes: None,
     properties: None,
@@ -116,13 +106,11 @@ fn class_kind(kind: ClassKind) -> u32
 }
 
 /// Returns the number of an index, if there is one.
+#[inline(always)]
 fn index_in(index: Option<TypeIndex>) -> Option<u32>
     ensures { result ≡ index_in index }
 {
-    match index {
-        Some(index) => Some(index.0),
-        None => None,
-    }
+    index.map(|index| index.0)
 }
 
 /// Returns whether a number can be below 0.
@@ -196,7 +184,7 @@ impl Row {
     /// Returns the `Row` of a shape and its numbers.
     #[inline(always)]
     #[tactic(auto, unfolding(crate::specs::Row::row))]
-    pub fn of(shape: u32, numbers: &Numbers) -> Row
+    pub(crate) fn of(shape: u32, numbers: &Numbers) -> Row
         ensures { result ≡ row shape numbers.now }
     {
         Row {

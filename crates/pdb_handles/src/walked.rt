@@ -5,7 +5,7 @@ ghost use Rattle.pdb_tpi.specs.Record.{type_of};
 ghost use Rattle.pdb_handles.specs.Walked.{IsTypeRow, WritesNext};
 
 use crate::fault::{END, FINE, Fault};
-use crate::located::Located;
+use crate::open_table::Located;
 use crate::records::write_type_row;
 use crate::row::{NO_NUMBERS, Row};
 use pdb_base::TypeIndex;
