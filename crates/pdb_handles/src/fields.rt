@@ -5,7 +5,7 @@ ghost use Rattle.std.specs.Option.{option_map};
 ghost use Rattle.pdb_base.specs.Answer.{Answer, Answers};
 ghost use Rattle.pdb_values.specs.TypeValue.{TypeValue};
 ghost use Rattle.pdb_values.specs.TypeView.{type_value};
-ghost use Rattle.pdb_handles.specs.Records.{all_found, field_row, fields_in, fields_of_record, listing, listing_view, name_bytes};
+ghost use Rattle.pdb_handles.specs.Records.{all_found, field_row, fields_of_record, listing, listing_view, name_bytes};
 
 use crate::frame::flag;
 use crate::listing::Listing;
@@ -75,25 +75,18 @@ pub fn listing_found(
     Ok(Some(listed(alloc, &found?)?))
 }
 
-/// Returns the fields that a type lists, for the caller, or None if it isn't a list of fields.
-#[tactic(auto, using(crate::proofs::FieldsLemmas::fields_seen))]
-fn listing_of(alloc: Global, value: &TypeData<'_>) -> Result<Option<Listing<FieldRow>>>
-    ensures { Answers (option_map listing_view) result (Ok (fields_in (type_value value.now))) }
-{
-    match value {
-        TypeData::FieldList(list) => Ok(Some(listed(alloc, &list.fields)?)),
-        _ => Ok(None),
-    }
-}
-
 /// Parses a record and returns the fields that it lists, for the caller, or None if it isn't a list
 /// of fields.
 ///
 /// # Errors
 /// Fails as `type_in` does, and with `OutOfMemory` if an allocation fails.
+#[tactic(auto, using(crate::proofs::FieldsLemmas::fields_seen))]
 pub fn fields_of(alloc: Global, bytes: &[u8], index: u32) -> Result<Option<Listing<FieldRow>>>
     ensures { Answers (option_map listing_view) result (fields_of_record index bytes.now) }
 {
     let value = type_in(alloc, bytes, index)?;
-    listing_of(alloc, &value)
+    match &value {
+        TypeData::FieldList(list) => Ok(Some(listed(alloc, &list.fields)?)),
+        _ => Ok(None),
+    }
 }

@@ -9,7 +9,7 @@ ghost use Rattle.pdb_tpi.specs.Record.{id_of};
 ghost use Rattle.pdb_handles.specs.Ids.{id_list_of, id_name_of, id_row, id_row_of};
 
 use crate::records::numbers_of;
-use crate::row::{NO_NUMBERS, Numbers, Row, row};
+use crate::row::{Numbers, Row, row};
 use pdb_base::{RawString, Result};
 use pdb_records::parse_id_data;
 use pdb_values::{IdData, UserDefinedTypeSourceFileRef};
@@ -35,8 +35,8 @@ fn row_of_id(value: &IdData<'_>) -> Row
             type_index: Some(id.function_type.0), second_index: id.scope.map(|scope| scope.0)),
         IdData::MemberFunction(id) => row!(1;
             type_index: Some(id.function_type.0), third_index: Some(id.parent.0)),
-        IdData::BuildInfo(_) => Row::of(2, &NO_NUMBERS),
-        IdData::StringList(_) => Row::of(3, &NO_NUMBERS),
+        IdData::BuildInfo(_) => Row::of(2, &Numbers::default()),
+        IdData::StringList(_) => Row::of(3, &Numbers::default()),
         IdData::String(id) => row!(4; list_index: id.substrings.map(|list| list.0)),
         IdData::UserDefinedTypeSource(id) => match id.source_file {
             UserDefinedTypeSourceFileRef::Local(file) => row!(5;

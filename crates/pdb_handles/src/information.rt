@@ -5,13 +5,13 @@ ghost use Rattle.std.specs.Prelude.{◌≡◌, Ok};
 ghost use Rattle.std.specs.Option.{option_map};
 ghost use Rattle.pdb_base.specs.Answer.{Answers};
 ghost use Rattle.pdb_file.specs.StreamNames.{named_view};
-ghost use Rattle.pdb_handles.specs.Information.{information_of, information_said, named_listing, named_row, names_said};
+ghost use Rattle.pdb_handles.specs.Information.{information_said, named_listing, named_row, names_said};
 ghost use Rattle.pdb_handles.specs.Records.{listing_view};
 
 use crate::file::opened;
 use crate::listing::Listing;
 use pdb_base::Result;
-use pdb_file::{PDBInformation, StreamName, StreamNames};
+use pdb_file::{StreamName, StreamNames};
 use std::alloc::Global;
 
 /// The numbers that identify a file.
@@ -38,20 +38,6 @@ pub struct NamedStream {
     pub number: u32,
 }
 
-impl Information {
-    /// Converts the numbers for the caller.
-    pub fn of(said: &PDBInformation) -> Information
-        ensures { result ≡ information_of said.now }
-    {
-        Information {
-            version: said.version,
-            signature: said.signature,
-            age: said.age,
-            guid: said.guid,
-        }
-    }
-}
-
 /// Reads the numbers that identify a file.
 ///
 /// # Errors
@@ -61,7 +47,12 @@ pub fn information_in(alloc: Global, file: &[u8]) -> Result<Information>
 {
     let mut file = opened(alloc, file)?;
     let said = file.pdb_information(alloc)?;
-    Ok(Information::of(&said))
+    Ok(Information {
+        version: said.version,
+        signature: said.signature,
+        age: said.age,
+        guid: said.guid,
+    })
 }
 
 /// Returns the `NamedStream` of a named stream, for the caller.

@@ -7,7 +7,7 @@ ghost use Rattle.pdb_values.specs.Text.{text_bytes};
 ghost use Rattle.pdb_handles.specs.Lists.{dimensions_of, method_row, methods_of, unique_name_of};
 
 use crate::records::type_in;
-use crate::row::{NO_NUMBERS, Numbers, Row, row};
+use crate::row::{Numbers, Row, row};
 use pdb_base::{RawString, Result};
 use pdb_values::{MethodListEntry, TypeData};
 use std::alloc::Global;

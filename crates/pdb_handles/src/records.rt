@@ -2,9 +2,8 @@
 
 ghost use Rattle.std.specs.Prelude.{map, Ok};
 ghost use Rattle.std.specs.Option.{option_map};
-ghost use Rattle.pdb_base.specs.Answer.{Answer, Answers};
+ghost use Rattle.pdb_base.specs.Answer.{Answers};
 ghost use Rattle.pdb_values.specs.Text.{text_bytes};
-ghost use Rattle.pdb_values.specs.TypeValue.{TypeValue};
 ghost use Rattle.pdb_values.specs.TypeView.{type_value};
 ghost use Rattle.pdb_tpi.specs.Record.{type_of};
 ghost use Rattle.pdb_handles.specs.Records.{arguments_of, type_name};
@@ -33,28 +32,20 @@ pub fn type_in<'t>(alloc: Global, bytes: &'t [u8], index: u32) -> Result<TypeDat
     parse_type_data(alloc, bytes)
 }
 
-/// Writes the `Row` of a type that was parsed, or returns the fault of its error.
-#[inline(always)]
-fn write_row(parsed: &Result<TypeData<'_>>, row: &mut Row) -> Fault
-    ensures { (meant : Answer TypeValue) → Answers type_value parsed.now meant
-        → IsAnswered (λ value. row_of value) meant row.old result row.new }
-{
-    match parsed {
-        Ok(value) => {
-            row.set_type(value);
-            Fault::status(FINE)
-        }
-        Err(error) => Fault::of(error),
-    }
-}
-
 /// Writes the numbers in the record of a type, or returns the fault of its error. An index below
 /// 0x1000 is that of a primitive type, which needs no record.
 #[inline(always)]
 pub fn write_type_row(alloc: Global, bytes: &[u8], index: u32, row: &mut Row) -> Fault
     ensures { IsAnswered (λ value. row_of value) (type_of index bytes.now) row.old result row.new }
 {
-    write_row(&type_in(alloc, bytes, index), row)
+    let parsed = type_in(alloc, bytes, index);
+    match &parsed {
+        Ok(value) => {
+            row.set_type(value);
+            Fault::status(FINE)
+        }
+        Err(error) => Fault::of(error),
+    }
 }
 
 /// Parses a record and returns the name of its type, if it has one.

@@ -1,12 +1,10 @@
 //! The roles of streams.
 
-ghost use Rattle.std.specs.Prelude.{◌≡◌};
 ghost use Rattle.pdb_base.specs.Answer.{Answers};
-ghost use Rattle.pdb_handles.specs.Roles.{roles_of, roles_said};
+ghost use Rattle.pdb_handles.specs.Roles.{roles_said};
 
 use crate::file::opened;
 use pdb_base::Result;
-use pdb_file::DBIExtraStreams;
 use std::alloc::Global;
 
 /// The numbers of the streams in eleven roles, each 0xffff if the file has no such stream.
@@ -37,27 +35,6 @@ pub struct Roles {
     pub original_section_headers: u16,
 }
 
-impl Roles {
-    /// Converts the numbers of the streams for the caller.
-    pub fn of(streams: &DBIExtraStreams) -> Roles
-        ensures { result ≡ roles_of streams.now }
-    {
-        Roles {
-            fpo: streams.fpo.0,
-            exception: streams.exception.0,
-            fixup: streams.fixup.0,
-            omap_to_src: streams.omap_to_src.0,
-            omap_from_src: streams.omap_from_src.0,
-            section_headers: streams.section_headers.0,
-            token_rid_map: streams.token_rid_map.0,
-            xdata: streams.xdata.0,
-            pdata: streams.pdata.0,
-            framedata: streams.framedata.0,
-            original_section_headers: streams.original_section_headers.0,
-        }
-    }
-}
-
 /// Reads from a file the numbers of the streams in their roles.
 ///
 /// # Errors
@@ -67,5 +44,17 @@ pub fn roles_in(alloc: Global, file: &[u8]) -> Result<Roles>
 {
     let mut file = opened(alloc, file)?;
     let streams = file.extra_streams(alloc)?;
-    Ok(Roles::of(&streams))
+    Ok(Roles {
+        fpo: streams.fpo.0,
+        exception: streams.exception.0,
+        fixup: streams.fixup.0,
+        omap_to_src: streams.omap_to_src.0,
+        omap_from_src: streams.omap_from_src.0,
+        section_headers: streams.section_headers.0,
+        token_rid_map: streams.token_rid_map.0,
+        xdata: streams.xdata.0,
+        pdata: streams.pdata.0,
+        framedata: streams.framedata.0,
+        original_section_headers: streams.original_section_headers.0,
+    })
 }
