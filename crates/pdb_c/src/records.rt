@@ -2,10 +2,12 @@
 
 ghost use Rattle.std.specs.Prelude.{◌≡◌};
 ghost use Rattle.pdb_tpi.specs.Record.{type_of};
+ghost use Rattle.pdb_values.specs.IdValue.{id_name};
+ghost use Rattle.pdb_values.specs.TypeValue.{name_of};
 ghost use Rattle.pdb_handles.specs.Copied.{CopiesOrLacks};
-ghost use Rattle.pdb_handles.specs.Ids.{id_list_of, id_name_of, id_row_of};
-ghost use Rattle.pdb_handles.specs.Lists.{dimensions_of, methods_of, unique_name_of};
-ghost use Rattle.pdb_handles.specs.Records.{FieldsOrLacks, arguments_of, fields_of_record, if_copied, listing_told, type_name};
+ghost use Rattle.pdb_handles.specs.Ids.{id_row, list_in, of_id};
+ghost use Rattle.pdb_handles.specs.Lists.{dimensions_in, methods_in, unique_name_in};
+ghost use Rattle.pdb_handles.specs.Records.{FieldsOrLacks, arguments_in, fields_in, if_copied, listing_told, of_type};
 ghost use Rattle.pdb_handles.specs.Roles.{IsAnswered};
 ghost use Rattle.pdb_handles.specs.Row.{row_of};
 
@@ -45,7 +47,7 @@ pub extern "C" fn pdb_type_name(
     fault: &mut Fault,
 ) -> u32
     ensures answer { CopiesOrLacks (record { fault = fault.new; length = length.new; room = room.new }) room.old
-        (if_copied room.old (type_name index bytes.now)) }
+        (if_copied room.old (of_type name_of index bytes.now)) }
     ensures status { result ≡ fault.new.status }
 {
     copy_name(type_name_in(alloc, bytes, index), room, length).tell(fault)
@@ -62,7 +64,7 @@ pub extern "C" fn pdb_type_arguments(
     fault: &mut Fault,
 ) -> u32
     ensures answer { CopiesOrLacks (record { fault = fault.new; length = length.new; room = room.new }) room.old
-        (if_copied room.old (arguments_of index bytes.now)) }
+        (if_copied room.old (of_type arguments_in index bytes.now)) }
     ensures status { result ≡ fault.new.status }
 {
     copy_if(arguments_of(alloc, bytes, index), room, length).tell(fault)
@@ -79,7 +81,7 @@ pub extern "C" fn pdb_type_methods(
     fault: &mut Fault,
 ) -> u32
     ensures answer { CopiesOrLacks (record { fault = fault.new; length = length.new; room = room.new }) room.old
-        (if_copied room.old (methods_of index bytes.now)) }
+        (if_copied room.old (of_type methods_in index bytes.now)) }
     ensures status { result ≡ fault.new.status }
 {
     copy_if(methods_of(alloc, bytes, index), room, length).tell(fault)
@@ -97,7 +99,7 @@ pub extern "C" fn pdb_type_dimensions(
     fault: &mut Fault,
 ) -> u32
     ensures answer { CopiesOrLacks (record { fault = fault.new; length = length.new; room = room.new }) room.old
-        (if_copied room.old (dimensions_of index bytes.now)) }
+        (if_copied room.old (of_type dimensions_in index bytes.now)) }
     ensures status { result ≡ fault.new.status }
 {
     copy_if(dimensions_of(alloc, bytes, index), room, length).tell(fault)
@@ -114,7 +116,7 @@ pub extern "C" fn pdb_type_unique_name(
     fault: &mut Fault,
 ) -> u32
     ensures answer { CopiesOrLacks (record { fault = fault.new; length = length.new; room = room.new }) room.old
-        (if_copied room.old (unique_name_of index bytes.now)) }
+        (if_copied room.old (of_type unique_name_in index bytes.now)) }
     ensures status { result ≡ fault.new.status }
 {
     copy_name(unique_name_in(alloc, bytes, index), room, length).tell(fault)
@@ -135,7 +137,7 @@ pub extern "C" fn pdb_type_fields(
 ) -> u32
     ensures answer { FieldsOrLacks
         (record { fault = fault.new; rows = rows.new; count = count.new; names = names.new; size = size.new })
-        rows.old names.old (listing_told rows.old names.old (fields_of_record index bytes.now)) }
+        rows.old names.old (listing_told rows.old names.old (of_type fields_in index bytes.now)) }
     ensures status { result ≡ fault.new.status }
 {
     write_listing(fields_of(alloc, bytes, index), rows, count, names, size).tell(fault)
@@ -144,7 +146,7 @@ pub extern "C" fn pdb_type_fields(
 /// Writes the numbers in the record of an id.
 #[unsafe(no_mangle)]
 pub extern "C" fn pdb_id_parse(alloc: Global, bytes: &[u8], row: &mut Row, fault: &mut Fault) -> u32
-    ensures answer { IsAnswered (λ row. row) (id_row_of bytes.now) row.old fault.new row.new }
+    ensures answer { IsAnswered (λ row. row) (of_id id_row bytes.now) row.old fault.new row.new }
     ensures status { result ≡ fault.new.status }
 {
     tell_answered(id_row_in(alloc, bytes), row).tell(fault)
@@ -160,7 +162,7 @@ pub extern "C" fn pdb_id_name(
     fault: &mut Fault,
 ) -> u32
     ensures answer { CopiesOrLacks (record { fault = fault.new; length = length.new; room = room.new }) room.old
-        (if_copied room.old (id_name_of bytes.now)) }
+        (if_copied room.old (of_id id_name bytes.now)) }
     ensures status { result ≡ fault.new.status }
 {
     copy_name(id_name_in(alloc, bytes), room, length).tell(fault)
@@ -177,7 +179,7 @@ pub extern "C" fn pdb_id_list(
     fault: &mut Fault,
 ) -> u32
     ensures answer { CopiesOrLacks (record { fault = fault.new; length = length.new; room = room.new }) room.old
-        (if_copied room.old (id_list_of bytes.now)) }
+        (if_copied room.old (of_id list_in bytes.now)) }
     ensures status { result ≡ fault.new.status }
 {
     copy_if(list_of(alloc, bytes), room, length).tell(fault)

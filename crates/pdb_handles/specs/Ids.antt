@@ -6,7 +6,7 @@ use Rattle.pdb_base.specs.declared.index.IdIndex.{IdIndex}
 use Rattle.pdb_values.specs.declared.source_id.UserDefinedTypeSourceFileRef.{UserDefinedTypeSourceFileRef}
 use Rattle.pdb_values.specs.declared.source_id.UserDefinedTypeSourceFileRef.TheVariants as files
 use Rattle.pdb_values.specs.IdValue as ids
-use Rattle.pdb_values.specs.IdValue.{IdValue, PlainIdValue, plain, id_name}
+use Rattle.pdb_values.specs.IdValue.{IdValue, PlainIdValue, plain}
 use Rattle.pdb_tpi.specs.Record.{id_of}
 use Rattle.pdb_handles.specs.declared.row.Row.{Row}
 use Rattle.pdb_handles.specs.declared.row.Numbers.{Numbers}
@@ -35,19 +35,12 @@ id_row (plain value) = plain_row value
 id_row (ids.build_info list) = row 2 no_numbers
 id_row (ids.string_list list) = row 3 no_numbers
 
--- the row of the id in a record
-abbrev pub id_row_of : List ℕ → Answer Row
-id_row_of bytes = id_of bytes >>= λ value. Ok (id_row value)
-
--- the name of the id in a record
-abbrev pub id_name_of : List ℕ → Answer (Option (List ℕ))
-id_name_of bytes = id_of bytes >>= λ value. Ok (id_name value)
+-- what the id in a record says
+abbrev pub of_id : {A : Type 0} → (IdValue → A) → List ℕ → Answer A
+of_id says bytes = id_of bytes >>= λ value. Ok (says value)
 
 -- the indexes in the list that an id is: of ids, or of the parts of a text
 abbrev pub list_in : IdValue → Option (List ℕ)
 list_in (ids.build_info list) = Some (map (λ index. index.0) list)
 list_in (ids.string_list list) = Some (map (λ index. index.0) list)
 list_in value = None
-
-abbrev pub id_list_of : List ℕ → Answer (Option (List ℕ))
-id_list_of bytes = id_of bytes >>= λ value. Ok (list_in value)

@@ -1,9 +1,9 @@
 -- Records of OMAP tables, and their order, as a caller sees them.
-use Rattle.std.specs.Prelude.{◌≡◌, ◌⊎◌, ℕ, List}
+use Rattle.std.specs.Prelude.{◌≡◌, ◌⊎◌, ℕ, List, Option}
 use Rattle.pdb_space.specs.Omap.{IsSortedBySource, MovesSomehow, OmapValue, shift}
 use Rattle.pdb_handles.specs.declared.omap.OmapRow.{OmapRow}
 use Rattle.pdb_handles.specs.Fault.{fine, not_mapped}
-use Rattle.pdb_handles.specs.Found.{Found, IsFound, found}
+use Rattle.pdb_handles.specs.Found.{Found, found}
 
 -- a record for the caller
 abbrev pub omap_row : OmapValue → OmapRow
@@ -20,4 +20,4 @@ TellsOrder table told =
 pub record TellsMoved (table : List OmapValue) (address old : ℕ) (told : Found ℕ) : Type 0 where
   pub exact : IsSortedBySource table → told ≡ found not_mapped old (shift table address)
   pub unsorted : told.fault ≡ fine → MovesSomehow table address told.value
-  pub found : IsFound not_mapped old told
+  pub found : (value : Option ℕ) × (told ≡ found not_mapped old value)

@@ -19,17 +19,14 @@ if_copied room (Ok (Some items)) = written room items
 if_copied room (Ok None) = untouched no_value room
 if_copied room (Err refusal) = untouched (fault_of refusal) room
 
--- the name of the type in a record of this index
-abbrev pub type_name : ℕ → List ℕ → Answer (Option (List ℕ))
-type_name index bytes = type_of index bytes >>= λ value. Ok (name_of value)
+-- what the type in a record of this index says
+abbrev pub of_type : {A : Type 0} → (TypeValue → A) → ℕ → List ℕ → Answer A
+of_type says index bytes = type_of index bytes >>= λ value. Ok (says value)
 
 -- the types of the arguments that a type lists, if it is a list of arguments
 abbrev pub arguments_in : TypeValue → Option (List ℕ)
 arguments_in (argument_list arguments) = Some (map (λ index. index.0) arguments)
 arguments_in value = None
-
-abbrev pub arguments_of : ℕ → List ℕ → Answer (Option (List ℕ))
-arguments_of index bytes = type_of index bytes >>= λ value. Ok (arguments_in value)
 
 -- the bytes of a field's name; none if the field has no name
 abbrev pub name_bytes : TypeValue → List ℕ
@@ -55,9 +52,6 @@ listing_view made = record { rows = made.rows.items; names = made.names.items }
 abbrev pub fields_in : TypeValue → Option (Listing FieldRow)
 fields_in (field_list fields continuation) = Some (listing (values_in fields))
 fields_in value = None
-
-abbrev pub fields_of_record : ℕ → List ℕ → Answer (Option (Listing FieldRow))
-fields_of_record index bytes = type_of index bytes >>= λ value. Ok (fields_in value)
 
 -- the fields that were found
 abbrev pub all_found : Answer (List TypeValue) → Answer (Option (Listing FieldRow))

@@ -5,7 +5,7 @@ ghost use Rattle.std.specs.Option.{option_map};
 ghost use Rattle.pdb_base.specs.Answer.{Answer, Answers};
 ghost use Rattle.pdb_values.specs.TypeValue.{TypeValue};
 ghost use Rattle.pdb_values.specs.TypeView.{type_value};
-ghost use Rattle.pdb_handles.specs.Records.{all_found, field_row, fields_of_record, listing, listing_view, name_bytes};
+ghost use Rattle.pdb_handles.specs.Records.{all_found, field_row, fields_in, listing, listing_view, name_bytes, of_type};
 
 use crate::frame::flag;
 use crate::listing::Listing;
@@ -82,7 +82,7 @@ pub fn listing_found(
 /// Fails as `type_in` does, and with `OutOfMemory` if an allocation fails.
 #[tactic(auto, using(crate::proofs::FieldsLemmas::fields_seen))]
 pub fn fields_of(alloc: Global, bytes: &[u8], index: u32) -> Result<Option<Listing<FieldRow>>>
-    ensures { Answers (option_map listing_view) result (fields_of_record index bytes.now) }
+    ensures { Answers (option_map listing_view) result (of_type fields_in index bytes.now) }
 {
     let value = type_in(alloc, bytes, index)?;
     match &value {

@@ -4,9 +4,9 @@ ghost use Rattle.std.specs.Prelude.{◌≡◌};
 ghost use Rattle.std.specs.Option.{option_map};
 ghost use Rattle.pdb_base.specs.Answer.{Answers};
 ghost use Rattle.pdb_values.specs.Text.{text_bytes};
-ghost use Rattle.pdb_values.specs.IdValue.{id_value};
+ghost use Rattle.pdb_values.specs.IdValue.{id_name, id_value};
 ghost use Rattle.pdb_tpi.specs.Record.{id_of};
-ghost use Rattle.pdb_handles.specs.Ids.{id_list_of, id_name_of, id_row, id_row_of};
+ghost use Rattle.pdb_handles.specs.Ids.{id_row, list_in, of_id};
 
 use crate::records::numbers_of;
 use crate::row::{Numbers, Row, row};
@@ -53,7 +53,7 @@ fn row_of_id(value: &IdData<'_>) -> Row
 /// # Errors
 /// Fails as `id_at` does.
 pub fn id_row_in(alloc: Global, bytes: &[u8]) -> Result<Row>
-    ensures { Answers (λ row. row) result (id_row_of bytes.now) }
+    ensures { Answers (λ row. row) result (of_id id_row bytes.now) }
 {
     let value = id_at(alloc, bytes)?;
     Ok(row_of_id(&value))
@@ -65,7 +65,7 @@ pub fn id_row_in(alloc: Global, bytes: &[u8]) -> Result<Row>
 /// # Errors
 /// Fails as `id_at` does.
 pub fn id_name_in<'t>(alloc: Global, bytes: &'t [u8]) -> Result<Option<RawString<'t>>>
-    ensures { Answers (option_map text_bytes) result (id_name_of bytes.now) }
+    ensures { Answers (option_map text_bytes) result (of_id id_name bytes.now) }
 {
     let value = id_at(alloc, bytes)?;
     match &value {
@@ -81,7 +81,7 @@ pub fn id_name_in<'t>(alloc: Global, bytes: &'t [u8]) -> Result<Option<RawString
 /// # Errors
 /// Fails as `id_at` does, and with `OutOfMemory` if an allocation fails.
 pub fn list_of(alloc: Global, bytes: &[u8]) -> Result<Option<Vec<u32>>>
-    ensures { Answers (option_map (λ list. list.items)) result (id_list_of bytes.now) }
+    ensures { Answers (option_map (λ list. list.items)) result (of_id list_in bytes.now) }
 {
     let value = id_at(alloc, bytes)?;
     match &value {

@@ -4,7 +4,8 @@ ghost use Rattle.std.specs.Prelude.{◌≡◌, map, Ok};
 ghost use Rattle.std.specs.Option.{option_map};
 ghost use Rattle.pdb_base.specs.Answer.{Answers};
 ghost use Rattle.pdb_values.specs.Text.{text_bytes};
-ghost use Rattle.pdb_handles.specs.Lists.{dimensions_of, method_row, methods_of, unique_name_of};
+ghost use Rattle.pdb_handles.specs.Lists.{dimensions_in, method_row, methods_in, unique_name_in};
+ghost use Rattle.pdb_handles.specs.Records.{of_type};
 
 use crate::records::type_in;
 use crate::row::{Numbers, Row, row};
@@ -37,7 +38,7 @@ fn method_rows(alloc: Global, methods: &[MethodListEntry]) -> Result<Vec<Row>>
 /// # Errors
 /// Fails as `type_in` does, and with `OutOfMemory` if an allocation fails.
 pub fn methods_of(alloc: Global, bytes: &[u8], index: u32) -> Result<Option<Vec<Row>>>
-    ensures { Answers (option_map (λ rows. rows.items)) result (methods_of index bytes.now) }
+    ensures { Answers (option_map (λ rows. rows.items)) result (of_type methods_in index bytes.now) }
 {
     let value = type_in(alloc, bytes, index)?;
     match &value {
@@ -51,7 +52,7 @@ pub fn methods_of(alloc: Global, bytes: &[u8], index: u32) -> Result<Option<Vec<
 /// # Errors
 /// Fails as `type_in` does.
 pub fn dimensions_of(alloc: Global, bytes: &[u8], index: u32) -> Result<Option<Vec<u32>>>
-    ensures { Answers (option_map (λ sizes. sizes.items)) result (dimensions_of index bytes.now) }
+    ensures { Answers (option_map (λ sizes. sizes.items)) result (of_type dimensions_in index bytes.now) }
 {
     match type_in(alloc, bytes, index)? {
         TypeData::Array(array) => Ok(Some(array.dimensions)),
@@ -68,7 +69,7 @@ pub fn unique_name_in<'t>(
     bytes: &'t [u8],
     index: u32,
 ) -> Result<Option<RawString<'t>>>
-    ensures { Answers (option_map text_bytes) result (unique_name_of index bytes.now) }
+    ensures { Answers (option_map text_bytes) result (of_type unique_name_in index bytes.now) }
 {
     let value = type_in(alloc, bytes, index)?;
     match &value {

@@ -4,9 +4,10 @@ ghost use Rattle.std.specs.Prelude.{map, Ok};
 ghost use Rattle.std.specs.Option.{option_map};
 ghost use Rattle.pdb_base.specs.Answer.{Answers};
 ghost use Rattle.pdb_values.specs.Text.{text_bytes};
+ghost use Rattle.pdb_values.specs.TypeValue.{name_of};
 ghost use Rattle.pdb_values.specs.TypeView.{type_value};
 ghost use Rattle.pdb_tpi.specs.Record.{type_of};
-ghost use Rattle.pdb_handles.specs.Records.{arguments_of, type_name};
+ghost use Rattle.pdb_handles.specs.Records.{arguments_in, of_type};
 ghost use Rattle.pdb_handles.specs.Roles.{IsAnswered};
 ghost use Rattle.pdb_handles.specs.Row.{row_of};
 
@@ -53,7 +54,7 @@ pub fn write_type_row(alloc: Global, bytes: &[u8], index: u32, row: &mut Row) ->
 /// # Errors
 /// Fails as `type_in` does.
 pub fn type_name_in<'t>(alloc: Global, bytes: &'t [u8], index: u32) -> Result<Option<RawString<'t>>>
-    ensures { Answers (option_map text_bytes) result (type_name index bytes.now) }
+    ensures { Answers (option_map text_bytes) result (of_type name_of index bytes.now) }
 {
     let value = type_in(alloc, bytes, index)?;
     Ok(value.name())
@@ -76,7 +77,7 @@ pub fn numbers_of(alloc: Global, indexes: &[TypeIndex]) -> Result<Vec<u32>>
 /// # Errors
 /// Fails as `type_in` does, and with `OutOfMemory` if an allocation fails.
 pub fn arguments_of(alloc: Global, bytes: &[u8], index: u32) -> Result<Option<Vec<u32>>>
-    ensures { Answers (option_map (λ list. list.items)) result (arguments_of index bytes.now) }
+    ensures { Answers (option_map (λ list. list.items)) result (of_type arguments_in index bytes.now) }
 {
     let value = type_in(alloc, bytes, index)?;
     match &value {
