@@ -89,7 +89,8 @@ pub extern "C" fn pdb_rva_ranges(
     length: &mut usize,
     fault: &mut Fault,
 ) -> u32
-    ensures answer { Asks (λ map. WritesMoved map.original_to_transformed (record { start = start; end = end }) room.old)
+    ensures answer { Asks
+        (λ map. WritesMoved map.original_to_transformed (record { start = start; end = end }) room.old)
         (untouched not_open room.old) (addresses_held addresses.old.held.content)
         (record { fault = fault.new; length = length.new; room = room.new }) }
     ensures kept { addresses.new.held.content ≡ addresses.old.held.content }
@@ -112,7 +113,8 @@ pub extern "C" fn pdb_internal_rva_ranges(
     length: &mut usize,
     fault: &mut Fault,
 ) -> u32
-    ensures answer { Asks (λ map. WritesMoved map.transformed_to_original (record { start = start; end = end }) room.old)
+    ensures answer { Asks
+        (λ map. WritesMoved map.transformed_to_original (record { start = start; end = end }) room.old)
         (untouched not_open room.old) (addresses_held addresses.old.held.content)
         (record { fault = fault.new; length = length.new; room = room.new }) }
     ensures kept { addresses.new.held.content ≡ addresses.old.held.content }

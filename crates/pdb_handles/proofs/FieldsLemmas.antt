@@ -14,7 +14,8 @@ list_seen : (list : FieldList) → type_value (variants.FieldList list) ≡ fiel
 list_seen list = ap type_value (sym (rolls-FieldList list)) ∙ fold-roll-TypeData TypeValue TypeValue view_step list_step (TypeData-F.FieldList list) ∙ fold_out-FieldList TypeValue TypeValue view_step list_step list
 
 -- what is listed of a list of fields
-pub fields_seen : (list : FieldList) → fields_in (type_value (variants.FieldList list)) ≡ Some (listing (map type_value list.fields.items))
+pub fields_seen : (list : FieldList)
+    → fields_in (type_value (variants.FieldList list)) ≡ Some (listing (map type_value list.fields.items))
 fields_seen list =
     ap (λ (value : TypeValue). fields_in value) (list_seen list)
     ∙ ap (λ (values : List TypeValue). Some (listing values)) (listed (map type_value list.fields.items))

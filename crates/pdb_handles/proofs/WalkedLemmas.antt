@@ -22,19 +22,25 @@ IsToldAt stand place told = IsTypeRow (index_told stand.index) place (type_of (i
 
 -- ---- steps
 
+-- the place that a step returns, and where the walk then stands
+abbrev pub Placed : Type 0
+Placed = Option RecordPlace × WalkPosition
+
 -- A step stays in its table, and one that returns no record does not move.
-abbrev pub Stays : WalkPosition → Option RecordPlace × WalkPosition → Type 0
+abbrev pub Stays : WalkPosition → Placed → Type 0
 Stays stand step = (step.1.table ≡ stand.table) × (step.0 ≡ None → step.1 ≡ stand)
 
 -- by the item that is left, and the bytes behind the last one
-stays_by : (stand : WalkPosition) (item : Option (List ℕ)) (rest : List ℕ) (step : Option RecordPlace × WalkPosition)
-    → (option_map_or (λ (i : List ℕ). ok {A = Option (ℕ × List ℕ) × WalkPosition} (Some (stand.index, i), record stand { index = stand.index + 1 })) item (stopped stand rest)
-    >>= λ taken. Ok (option_map (λ (i : ℕ × List ℕ). record_at stand.table (steps_taken stand) i.1) taken.0, taken.1)) ≡ Ok step → Stays stand step
-stays_by stand (Some item) rest step is = subst (Stays stand) (ok_is {A = Option RecordPlace × WalkPosition} _ step is) (refl, λ none. absurd cc)
-stays_by stand None [] step is = subst (Stays stand) (ok_is {A = Option RecordPlace × WalkPosition} (None, stand) step is) (refl, λ none. refl)
+stays_by : (stand : WalkPosition) (item : Option (List ℕ)) (rest : List ℕ) (step : Placed)
+    → (option_map_or (λ (i : List ℕ). ok (Some (stand.index, i), record stand { index = stand.index + 1 })) item
+    (stopped stand rest) >>= λ taken. Ok
+    (option_map (λ (i : ℕ × List ℕ). record_at stand.table (steps_taken stand) i.1) taken.0, taken.1)) ≡ Ok step
+    → Stays stand step
+stays_by stand (Some item) rest step is = subst (Stays stand) (ok_is {A = Placed} _ step is) (refl, λ none. absurd cc)
+stays_by stand None [] step is = subst (Stays stand) (ok_is {A = Placed} (None, stand) step is) (refl, λ none. refl)
 stays_by stand None (byte ∷ rest) step is = absurd (ok_is_no_err step _ (sym is))
 
-stays : (stand : WalkPosition) (step : Option RecordPlace × WalkPosition) → step_located stand ≡ Ok step → Stays stand step
+stays : (stand : WalkPosition) (step : Placed) → step_located stand ≡ Ok step → Stays stand step
 unfolding step_of
 stays stand step is = stays_by stand (slice_get (walk stand.table) (steps_taken stand)) (walk_rest stand.table) step is
 

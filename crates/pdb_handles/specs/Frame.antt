@@ -37,7 +37,8 @@ frame_of frame = record {
 -- sorted, and of any tables the first of some that are left there.
 pub record IsFirst (table : Frames) (address : ℕ) (first : Option Frame) : Type 0 where
   pub exact : StartsIncrease table → first ≡ option_map frame_of (slice_get (merge_from address table) 0)
-  pub somewhere : (some : List FrameData) × BeginsSomewhere table some × (first ≡ option_map frame_of (slice_get some 0))
+  pub somewhere : (some : List FrameData) × BeginsSomewhere table some
+      × (first ≡ option_map frame_of (slice_get some 0))
 
 -- The first frame from an address on is written, or there is none.
 pub record TellsFirst (table : Frames) (address : ℕ) (old : Frame) (told : Found Frame) : Type 0 where

@@ -50,12 +50,16 @@ pub record Step : Type 0 where
   pub value : Located
   pub held : Option Content
 
+-- a step behind which the walk stands here
+abbrev pub step_to : Fault → Located → WalkPosition → Step
+step_to fault value stand = record { fault = fault; value = value; held = Some (contents.Table stand) }
+
 -- A step returns the place of the next record, and the walk stands behind it; or it returns that no
 -- record is left, or the fault of the next record.
 abbrev pub stepped : WalkPosition → Answer (Option RecordPlace × WalkPosition) → Step
-stepped stand (Ok (Some place, next)) = record { fault = fine; value = located_at (index_told stand.index) place; held = Some (contents.Table next) }
-stepped stand (Ok (None, next)) = record { fault = no_more; value = stopped_at stand.index; held = Some (contents.Table next) }
-stepped stand (Err refusal) = record { fault = fault_of refusal; value = stopped_at stand.index; held = Some (contents.Table stand) }
+stepped stand (Ok (Some place, next)) = step_to fine (located_at (index_told stand.index) place) next
+stepped stand (Ok (None, next)) = step_to no_more (stopped_at stand.index) next
+stepped stand (Err refusal) = step_to (fault_of refusal) (stopped_at stand.index) stand
 
 -- the same for what a handle holds
 abbrev pub step_told : Located → Option Content → Step

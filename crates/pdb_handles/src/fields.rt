@@ -5,7 +5,8 @@ ghost use Rattle.std.specs.Option.{option_map};
 ghost use Rattle.pdb_base.specs.Answer.{Answer, Answers};
 ghost use Rattle.pdb_values.specs.TypeValue.{TypeValue};
 ghost use Rattle.pdb_values.specs.TypeView.{type_value};
-ghost use Rattle.pdb_handles.specs.Records.{all_found, field_row, fields_in, listing, listing_view, name_bytes, of_type};
+ghost use Rattle.pdb_handles.specs.Records.{all_found, field_row, fields_in, listing, listing_view};
+ghost use Rattle.pdb_handles.specs.Records.{name_bytes, of_type};
 
 use crate::frame::flag;
 use crate::listing::Listing;
