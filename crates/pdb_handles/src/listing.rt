@@ -1,4 +1,4 @@
-//! Lists of rows that have names.
+//! Lists of entries that have names.
 
 ghost use Rattle.std.specs.Prelude.{◌≡◌, Option};
 ghost use Rattle.std.specs.Option.{option_map};
@@ -9,7 +9,7 @@ use crate::copied::copy_both;
 use crate::fault::{Fault, NONE};
 use pdb_base::Result;
 
-/// Rows and the bytes of their names.
+/// Entries and the bytes of their names.
 #[derive(Drop)]
 pub struct Listing<R> {
     pub(crate) rows: Vec<R>,
