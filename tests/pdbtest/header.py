@@ -133,7 +133,7 @@ def words_of_union():
     """The numbers of each shape of a type by the definition that says which number of a row is which: of the union's
     member, the name there, the name in a row, and whether some records lack it."""
     text = (ROOT / "crates/pdb_handles/specs/Row.antt").read_text()
-    for shape, body in re.findall(r"(?:plain_)?numbers(?:_of)? \(values\.(\w+) v\) = record no_numbers \{(.*)\}", text):
+    for shape, body in re.findall(r"row(?:_of)? \(values\.(\w+) v\) = row \d+ \(record no_numbers \{(.*)\}\)", text):
         for slot, said in re.findall(r"(\w+) = ([^;}]+)", body):
             word = re.findall(r"v\.(\w+)", said)[-1]
             if (shape, slot) == ("modifier", "kind"):

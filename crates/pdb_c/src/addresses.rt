@@ -1,14 +1,12 @@
 //! Address maps, and the sections of which they are made.
 
-ghost use Rattle.std.specs.Prelude.{◌≡◌, ◌<◌, ◌≤◌, length, IfSome, IfNone};
-ghost use Rattle.pdb_space.specs.Conversions.{translated_parts};
-ghost use Rattle.pdb_space.specs.Omap.{IsSortedBySource};
+ghost use Rattle.std.specs.Prelude.{◌≡◌, ◌<◌, ◌≤◌, length};
 ghost use Rattle.pdb_handles.specs.Copied.{CopiesOrLacks, copied, untouched};
 ghost use Rattle.pdb_handles.specs.Fault.{not_open, too_long};
 ghost use Rattle.pdb_handles.specs.File.{addresses_said};
-ghost use Rattle.pdb_handles.specs.Found.{not_held};
+ghost use Rattle.pdb_handles.specs.Found.{Asks, not_held};
 ghost use Rattle.pdb_handles.specs.Handle.{Opens, addresses_held};
-ghost use Rattle.pdb_handles.specs.Ranges.{WritesSome, spans_written};
+ghost use Rattle.pdb_handles.specs.Ranges.{WritesMoved};
 ghost use Rattle.pdb_handles.specs.Sections.{sections_in};
 ghost use Rattle.pdb_handles.specs.Translation.{Translates};
 
@@ -17,7 +15,7 @@ use pdb_handles::file::addresses_in;
 use pdb_handles::ranges::{Span, write_internal, write_loaded};
 use pdb_handles::sections::{Section, sections_in};
 use pdb_handles::translation::{Translation, translate};
-use pdb_handles::{Fault, Handle, NOT_OPEN, TOO_LONG};
+use pdb_handles::{Fault, Handle, TOO_LONG};
 use pdb_space::{PdbInternalRva, Rva};
 use std::alloc::Global;
 
@@ -69,21 +67,15 @@ pub extern "C" fn pdb_translate(
     translation: &mut Translation,
     fault: &mut Fault,
 ) -> u32
-    ensures answer { IfSome (addresses_held addresses.old.held.content) (λ map.
-        Translates map form (record { section = section; offset = offset }) translation.old
-        (record { fault = fault.new; value = translation.new })) }
-    ensures closed { IfNone (addresses_held addresses.old.held.content)
-        (record { fault = fault.new; value = translation.new } ≡ not_held translation.old) }
+    ensures answer { Asks (λ map. Translates map form (record { section = section; offset = offset }) translation.old)
+        (not_held translation.old) (addresses_held addresses.old.held.content)
+        (record { fault = fault.new; value = translation.new }) }
     ensures kept { addresses.new.held.content ≡ addresses.old.held.content }
     ensures status { result ≡ fault.new.status }
 {
-    with_content!(
-        addresses,
-        alloc,
-        Addresses(map) => translate(map, form, section, offset, translation),
-        Fault::status(NOT_OPEN)
-    )
-    .tell(fault)
+    ask!(addresses, alloc, fault, Addresses(map) => {
+        translate(map, form, section, offset, translation)
+    })
 }
 
 /// Writes where the addresses of a range of the original image lie in the image as it is loaded.
@@ -97,28 +89,17 @@ pub extern "C" fn pdb_rva_ranges(
     length: &mut usize,
     fault: &mut Fault,
 ) -> u32
-    ensures exact { IfSome (addresses_held addresses.old.held.content) (λ map.
-        IfSome map.original_to_transformed IsSortedBySource
-        → CopiesOrLacks (record { fault = fault.new; length = length.new; room = room.new }) room.old
-        (spans_written room.old (translated_parts map.original_to_transformed (record { start = start; end = end })))) }
-    ensures unsorted { IfSome (addresses_held addresses.old.held.content) (λ map.
-        IfSome map.original_to_transformed (λ table.
-        WritesSome table room.old (record { fault = fault.new; length = length.new; room = room.new }))) }
-    ensures closed { IfNone (addresses_held addresses.old.held.content)
-        (record { fault = fault.new; length = length.new; room = room.new } ≡ untouched not_open room.old) }
+    ensures answer { Asks
+        (λ map. WritesMoved map.original_to_transformed (record { start = start; end = end }) room.old)
+        (untouched not_open room.old) (addresses_held addresses.old.held.content)
+        (record { fault = fault.new; length = length.new; room = room.new }) }
     ensures kept { addresses.new.held.content ≡ addresses.old.held.content }
     ensures status { result ≡ fault.new.status }
 {
-    with_content!(
-        addresses,
-        alloc,
-        Addresses(map) => {
-            let asked = PdbInternalRva(start)..PdbInternalRva(end);
-            write_loaded(alloc, map, asked, room, length)
-        },
-        copy_nothing(Fault::status(NOT_OPEN), length)
-    )
-    .tell(fault)
+    *length = 0;
+    ask!(addresses, alloc, fault, Addresses(map) => {
+        write_loaded(alloc, map, PdbInternalRva(start)..PdbInternalRva(end), room, length)
+    })
 }
 
 /// Writes where the addresses of a range of the image as it is loaded lie in the original image.
@@ -132,23 +113,15 @@ pub extern "C" fn pdb_internal_rva_ranges(
     length: &mut usize,
     fault: &mut Fault,
 ) -> u32
-    ensures exact { IfSome (addresses_held addresses.old.held.content) (λ map.
-        IfSome map.transformed_to_original IsSortedBySource
-        → CopiesOrLacks (record { fault = fault.new; length = length.new; room = room.new }) room.old
-        (spans_written room.old (translated_parts map.transformed_to_original (record { start = start; end = end })))) }
-    ensures unsorted { IfSome (addresses_held addresses.old.held.content) (λ map.
-        IfSome map.transformed_to_original (λ table.
-        WritesSome table room.old (record { fault = fault.new; length = length.new; room = room.new }))) }
-    ensures closed { IfNone (addresses_held addresses.old.held.content)
-        (record { fault = fault.new; length = length.new; room = room.new } ≡ untouched not_open room.old) }
+    ensures answer { Asks
+        (λ map. WritesMoved map.transformed_to_original (record { start = start; end = end }) room.old)
+        (untouched not_open room.old) (addresses_held addresses.old.held.content)
+        (record { fault = fault.new; length = length.new; room = room.new }) }
     ensures kept { addresses.new.held.content ≡ addresses.old.held.content }
     ensures status { result ≡ fault.new.status }
 {
-    with_content!(
-        addresses,
-        alloc,
-        Addresses(map) => write_internal(alloc, map, Rva(start)..Rva(end), room, length),
-        copy_nothing(Fault::status(NOT_OPEN), length)
-    )
-    .tell(fault)
+    *length = 0;
+    ask!(addresses, alloc, fault, Addresses(map) => {
+        write_internal(alloc, map, Rva(start)..Rva(end), room, length)
+    })
 }

@@ -10,9 +10,9 @@ ghost use Rattle.pdb_reports.specs.Definitions.{definitions_opened, found_in};
 ghost use Rattle.pdb_reports.specs.LayoutRow.{LaysOutOf};
 ghost use Rattle.pdb_handles.specs.Handle.{OpensStream, held_as};
 
-use pdb_handles::copied::{copy_list, copy_nothing};
-use pdb_handles::fields::write_nothing;
-use pdb_handles::{Fault, Handle, NOT_OPEN};
+use pdb_handles::copied::copy_list;
+use pdb_handles::listing::write_nothing;
+use pdb_handles::{FINE, Fault, Handle};
 use pdb_reports::definitions::{
     copy_declaration, definition_number, definitions_in, definitions_named, size_in, tell_if_found,
 };
@@ -50,16 +50,10 @@ pub extern "C" fn pdb_definitions_named(
     ensures kept { definitions.new.held.content ≡ definitions.old.held.content }
     ensures status { result ≡ fault.new.status }
 {
-    with_content!(
-        definitions,
-        alloc,
-        Definitions(open) => {
-            let found = definitions_named(alloc, open, name);
-            copy_list(found, room, length)
-        },
-        copy_nothing(Fault::status(NOT_OPEN), length)
-    )
-    .tell(fault)
+    *length = 0;
+    ask!(definitions, alloc, fault, Definitions(open) => {
+        copy_list(definitions_named(alloc, open, name), room, length)
+    })
 }
 
 /// Writes the index of the definition of a type.
@@ -77,16 +71,9 @@ pub extern "C" fn pdb_definition_of(
     ensures kept { definitions.new.held.content ≡ definitions.old.held.content }
     ensures status { result ≡ fault.new.status }
 {
-    with_content!(
-        definitions,
-        alloc,
-        Definitions(open) => {
-            let found = definition_number(alloc, open, index);
-            tell_if_found(found, definition)
-        },
-        Fault::status(NOT_OPEN)
-    )
-    .tell(fault)
+    ask!(definitions, alloc, fault, Definitions(open) => {
+        tell_if_found(definition_number(alloc, open, index), definition)
+    })
 }
 
 /// Writes the size of a type in bytes.
@@ -103,16 +90,9 @@ pub extern "C" fn pdb_type_size(
     ensures kept { definitions.new.held.content ≡ definitions.old.held.content }
     ensures status { result ≡ fault.new.status }
 {
-    with_content!(
-        definitions,
-        alloc,
-        Definitions(open) => {
-            let found = size_in(alloc, open, index);
-            tell_if_found(found, size)
-        },
-        Fault::status(NOT_OPEN)
-    )
-    .tell(fault)
+    ask!(definitions, alloc, fault, Definitions(open) => {
+        tell_if_found(size_in(alloc, open, index), size)
+    })
 }
 
 /// Copies the declaration of a name that has a type, as C++ spells it, or the text of the type
@@ -132,13 +112,10 @@ pub extern "C" fn pdb_type_text(
     ensures kept { definitions.new.held.content ≡ definitions.old.held.content }
     ensures status { result ≡ fault.new.status }
 {
-    with_content!(
-        definitions,
-        alloc,
-        Definitions(open) => copy_declaration(alloc, open, index, name, room, length),
-        copy_nothing(Fault::status(NOT_OPEN), length)
-    )
-    .tell(fault)
+    *length = 0;
+    ask!(definitions, alloc, fault, Definitions(open) => {
+        copy_declaration(alloc, open, index, name, room, length)
+    })
 }
 
 /// Writes the fields and gaps of the layout of a class or a union, each as a `LayoutRow`, and the
@@ -159,13 +136,8 @@ pub extern "C" fn pdb_layout(
     ensures kept { definitions.new.held.content ≡ definitions.old.held.content }
     ensures status { result ≡ fault.new.status }
 {
-    with_content!(
-        definitions,
-        alloc,
-        Definitions(open) => {
-            write_layout_of(alloc, open, index, rows, count, names, size)
-        },
-        write_nothing(Fault::status(NOT_OPEN), count, size)
-    )
-    .tell(fault)
+    write_nothing(Fault::status(FINE), count, size);
+    ask!(definitions, alloc, fault, Definitions(open) => {
+        write_layout_of(alloc, open, index, rows, count, names, size)
+    })
 }

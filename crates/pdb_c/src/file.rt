@@ -7,19 +7,17 @@ ghost use Rattle.pdb_handles.specs.Copied.{CopiesOrLacks, copied, copied_of};
 ghost use Rattle.pdb_handles.specs.File.{layout_said, named_stream_said};
 ghost use Rattle.pdb_handles.specs.Found.{answered_of, found_of};
 ghost use Rattle.pdb_handles.specs.Handle.{Opens, file_held};
-ghost use Rattle.pdb_handles.specs.Information.{information_of, information_said, named_told, names_said};
-ghost use Rattle.pdb_handles.specs.Records.{FieldsOrLacks};
-ghost use Rattle.pdb_handles.specs.Roles.{IsAnswered, roles_of, roles_said};
+ghost use Rattle.pdb_handles.specs.Information.{information_said, names_said};
+ghost use Rattle.pdb_handles.specs.Records.{FieldsOrLacks, listing_told};
+ghost use Rattle.pdb_handles.specs.Roles.{IsAnswered, roles_said};
 
-use pdb_handles::copied::{copy_nothing, copy_stream};
-use pdb_handles::file::named_stream_in;
-use pdb_handles::found::{tell_answered, tell_found};
-use pdb_handles::information::{
-    Information, NamedStream, information_in, write_information, write_stream_names,
-};
-use pdb_handles::roles::{Roles, roles_in, write_roles};
-use pdb_handles::streams::layout_in;
-use pdb_handles::{Fault, Handle, NONE, NOT_OPEN};
+use pdb_handles::copied::copy_stream;
+use pdb_handles::file::{layout_in, named_stream_in};
+use pdb_handles::found::{tell_answered, tell_value};
+use pdb_handles::information::{Information, NamedStream, information_in, stream_names_in};
+use pdb_handles::listing::write_listing;
+use pdb_handles::roles::{Roles, roles_in};
+use pdb_handles::{Fault, Handle};
 use std::alloc::Global;
 
 /// Opens a file: reads its header and its directory, and keeps them. The bytes are not kept.
@@ -49,13 +47,7 @@ pub extern "C" fn pdb_file_page_size(
     ensures kept { file.new.held.content ≡ file.old.held.content }
     ensures status { result ≡ fault.new.status }
 {
-    with_content!(
-        file,
-        alloc,
-        File(layout) => tell_found(Some(layout.page_size()), Fault::status(NONE), page_size),
-        Fault::status(NOT_OPEN)
-    )
-    .tell(fault)
+    ask!(file, alloc, fault, File(layout) => tell_value(layout.page_size(), page_size))
 }
 
 /// Writes the number of streams in the directory of the file, including absent ones.
@@ -71,13 +63,7 @@ pub extern "C" fn pdb_file_stream_count(
     ensures kept { file.new.held.content ≡ file.old.held.content }
     ensures status { result ≡ fault.new.status }
 {
-    with_content!(
-        file,
-        alloc,
-        File(layout) => tell_answered(layout.stream_count(), count),
-        Fault::status(NOT_OPEN)
-    )
-    .tell(fault)
+    ask!(file, alloc, fault, File(layout) => tell_answered(layout.stream_count(), count))
 }
 
 /// Writes the size of a stream of the file in bytes.
@@ -94,13 +80,7 @@ pub extern "C" fn pdb_file_stream_size(
     ensures kept { file.new.held.content ≡ file.old.held.content }
     ensures status { result ≡ fault.new.status }
 {
-    with_content!(
-        file,
-        alloc,
-        File(layout) => tell_answered(layout.stream_size(number), size),
-        Fault::status(NOT_OPEN)
-    )
-    .tell(fault)
+    ask!(file, alloc, fault, File(layout) => tell_answered(layout.stream_size(number), size))
 }
 
 /// Copies the bytes of a stream of the file into the caller's array, at most `limit` of them.
@@ -123,16 +103,10 @@ pub extern "C" fn pdb_bytes_stream(
     ensures kept { file.new.held.content ≡ file.old.held.content }
     ensures status { result ≡ fault.new.status }
 {
-    with_content!(
-        file,
-        alloc,
-        File(layout) => {
-            let stream = layout.stream(alloc, bytes, number, Some(limit));
-            copy_stream(stream, room, length)
-        },
-        copy_nothing(Fault::status(NOT_OPEN), length)
-    )
-    .tell(fault)
+    *length = 0;
+    ask!(file, alloc, fault, File(layout) => {
+        copy_stream(layout.stream(alloc, bytes, number, Some(limit)), room, length)
+    })
 }
 
 /// Copies the bytes of the first stream with this name into the caller's array.
@@ -160,10 +134,10 @@ pub extern "C" fn pdb_bytes_information(
     information: &mut Information,
     fault: &mut Fault,
 ) -> u32
-    ensures answer { IsAnswered information_of (information_said bytes.now) information.old fault.new information.new }
+    ensures answer { IsAnswered (λ read. read) (information_said bytes.now) information.old fault.new information.new }
     ensures status { result ≡ fault.new.status }
 {
-    write_information(information_in(alloc, bytes), information).tell(fault)
+    tell_answered(information_in(alloc, bytes), information).tell(fault)
 }
 
 /// Writes the streams that a file names, in the order in which it lists them, and the bytes of
@@ -180,11 +154,10 @@ pub extern "C" fn pdb_bytes_stream_names(
 ) -> u32
     ensures answer { FieldsOrLacks
         (record { fault = fault.new; rows = rows.new; count = count.new; names = names.new; size = size.new })
-        rows.old names.old (named_told rows.old names.old (names_said bytes.now)) }
+        rows.old names.old (listing_told rows.old names.old (names_said bytes.now)) }
     ensures status { result ≡ fault.new.status }
 {
-    let read = information_in(alloc, bytes);
-    write_stream_names(alloc, read, rows, count, names, size).tell(fault)
+    write_listing(stream_names_in(alloc, bytes), rows, count, names, size).tell(fault)
 }
 
 /// Writes the numbers of a file's streams in their roles. If they can't be read, `roles` is left
@@ -196,8 +169,8 @@ pub extern "C" fn pdb_bytes_roles(
     roles: &mut Roles,
     fault: &mut Fault,
 ) -> u32
-    ensures answer { IsAnswered roles_of (roles_said bytes.now) roles.old fault.new roles.new }
+    ensures answer { IsAnswered (λ read. read) (roles_said bytes.now) roles.old fault.new roles.new }
     ensures status { result ≡ fault.new.status }
 {
-    write_roles(roles_in(alloc, bytes), roles).tell(fault)
+    tell_answered(roles_in(alloc, bytes), roles).tell(fault)
 }

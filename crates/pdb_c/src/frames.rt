@@ -1,21 +1,18 @@
 //! Frames of a program.
 
-ghost use Rattle.std.specs.Prelude.{◌≡◌, IfSome, IfNone, slice_get, List, map, Ok};
-ghost use Rattle.std.specs.Option.{option_map};
+ghost use Rattle.std.specs.Prelude.{◌≡◌, IfSome, map, Ok};
 ghost use Rattle.pdb_frames.specs.Merge.{by_heads, merge};
-ghost use Rattle.pdb_frames.specs.Table.{BeginsSomewhere, StartsIncrease, merge_from};
-ghost use Rattle.pdb_frames.specs.declared.frame_data.FrameData.{FrameData as Described};
+ghost use Rattle.pdb_frames.specs.Table.{StartsIncrease};
 ghost use Rattle.pdb_handles.specs.Copied.{CopiesOrLacks, copied_of, written};
-ghost use Rattle.pdb_handles.specs.Fault.{no_value};
 ghost use Rattle.pdb_handles.specs.File.{frames_said};
-ghost use Rattle.pdb_handles.specs.Found.{found, not_held};
-ghost use Rattle.pdb_handles.specs.Frame.{frame_of};
+ghost use Rattle.pdb_handles.specs.Found.{Asks, not_held};
+ghost use Rattle.pdb_handles.specs.Frame.{TellsFirst, frame_of};
 ghost use Rattle.pdb_handles.specs.Handle.{Opens, frames_held};
 
-use pdb_handles::copied::{copy_list, copy_nothing};
+use pdb_handles::copied::copy_list;
 use pdb_handles::file::frames_in;
 use pdb_handles::frames::{all_frames, tell_first};
-use pdb_handles::{Fault, Frame, Handle, NOT_OPEN};
+use pdb_handles::{Fault, Frame, Handle};
 use std::alloc::Global;
 
 /// Opens the frame table of a file.
@@ -42,25 +39,12 @@ pub extern "C" fn pdb_frames_at(
     frame: &mut Frame,
     fault: &mut Fault,
 ) -> u32
-    ensures exact { IfSome (frames_held frames.old.held.content) (λ table. StartsIncrease table
-        → record { fault = fault.new; value = frame.new } ≡
-        found no_value frame.old (option_map frame_of (slice_get (merge_from address table) 0))) }
-    ensures somewhere { IfSome (frames_held frames.old.held.content) (λ table.
-        (some : List Described) × BeginsSomewhere table some
-        × (record { fault = fault.new; value = frame.new } ≡
-        found no_value frame.old (option_map frame_of (slice_get some 0)))) }
-    ensures closed { IfNone (frames_held frames.old.held.content)
-        (record { fault = fault.new; value = frame.new } ≡ not_held frame.old) }
+    ensures answer { Asks (λ table. TellsFirst table address frame.old) (not_held frame.old)
+        (frames_held frames.old.held.content) (record { fault = fault.new; value = frame.new }) }
     ensures kept { frames.new.held.content ≡ frames.old.held.content }
     ensures status { result ≡ fault.new.status }
 {
-    with_content!(
-        frames,
-        alloc,
-        Frames(table) => tell_first(table, address, frame),
-        Fault::status(NOT_OPEN)
-    )
-    .tell(fault)
+    ask!(frames, alloc, fault, Frames(table) => tell_first(table, address, frame))
 }
 
 /// Copies all frames of a table, in the order of `FrameTable::iter`, into the caller's array.
@@ -81,11 +65,6 @@ pub extern "C" fn pdb_frames_list(
     ensures kept { frames.new.held.content ≡ frames.old.held.content }
     ensures status { result ≡ fault.new.status }
 {
-    with_content!(
-        frames,
-        alloc,
-        Frames(table) => copy_list(all_frames(alloc, table), room, length),
-        copy_nothing(Fault::status(NOT_OPEN), length)
-    )
-    .tell(fault)
+    *length = 0;
+    ask!(frames, alloc, fault, Frames(table) => copy_list(all_frames(alloc, table), room, length))
 }

@@ -24,21 +24,22 @@ macro_rules! open_stream {
     };
 }
 
-/// Returns what an expression gives of the content of a handle, or another fault if the handle
-/// holds nothing of that kind.
-macro_rules! with_content {
-    ($handle:ident, $alloc:expr, $kind:ident($content:ident) => $told:expr, $missing:expr) => {
+/// Tells how a call ended that asks for what a handle holds: as an expression of its content says,
+/// or with `NOT_OPEN` if the handle holds nothing of that kind.
+macro_rules! ask {
+    ($handle:ident, $alloc:ident, $fault:ident, $kind:ident($content:ident) => $told:expr) => {
         match $handle.take($alloc) {
             Some(mut content) => {
                 let told = match &mut *content {
                     pdb_handles::Content::$kind($content) => $told,
-                    _ => $missing,
+                    _ => pdb_handles::Fault::status(pdb_handles::NOT_OPEN),
                 };
                 $handle.put(content);
                 told
             }
-            None => $missing,
+            None => pdb_handles::Fault::status(pdb_handles::NOT_OPEN),
         }
+        .tell($fault)
     };
 }
 
@@ -47,10 +48,9 @@ mod definitions;
 mod file;
 mod frames;
 mod identity;
-mod ids;
 mod names;
 mod omap;
+mod records;
 mod status;
 mod tables;
-mod types;
 mod validation;

@@ -9,7 +9,7 @@ ghost use Rattle.pdb_handles.specs.Names.{name_place};
 
 use pdb_handles::found::tell_answered;
 use pdb_handles::names::{NamePlace, names_in, place_in};
-use pdb_handles::{Fault, Handle, NOT_OPEN};
+use pdb_handles::{Fault, Handle};
 use std::alloc::Global;
 
 /// Opens the string table in a stream, which is copied.
@@ -42,11 +42,5 @@ pub extern "C" fn pdb_names_place(
     ensures kept { names.new.held.content ≡ names.old.held.content }
     ensures status { result ≡ fault.new.status }
 {
-    with_content!(
-        names,
-        alloc,
-        Names(table) => tell_answered(place_in(table, offset), place),
-        Fault::status(NOT_OPEN)
-    )
-    .tell(fault)
+    ask!(names, alloc, fault, Names(table) => tell_answered(place_in(table, offset), place))
 }

@@ -1,21 +1,20 @@
 //! OMAP tables.
 
-ghost use Rattle.std.specs.Prelude.{◌≡◌, IfSome, IfNone, map, Ok};
-ghost use Rattle.pdb_space.specs.Omap.{IsSortedBySource, MovesSomehow, shift, omap_table_of};
-ghost use Rattle.pdb_space.specs.Ranges.{parts};
+ghost use Rattle.std.specs.Prelude.{◌≡◌, map, Ok, Some};
+ghost use Rattle.pdb_space.specs.Omap.{omap_table_of};
 ghost use Rattle.pdb_handles.specs.declared.content.Content.TheVariants.{Omap};
 ghost use Rattle.pdb_handles.specs.Copied.{CopiesOrLacks, copied_of, untouched};
-ghost use Rattle.pdb_handles.specs.Fault.{fine, not_mapped, not_open};
-ghost use Rattle.pdb_handles.specs.Found.{IsFound, found, not_held};
+ghost use Rattle.pdb_handles.specs.Fault.{not_open};
+ghost use Rattle.pdb_handles.specs.Found.{Asks, not_held};
 ghost use Rattle.pdb_handles.specs.Handle.{OpensStream, held_as, omap_held};
-ghost use Rattle.pdb_handles.specs.Omap.{TellsOrder, omap_row};
-ghost use Rattle.pdb_handles.specs.Ranges.{WritesSome, spans_written};
+ghost use Rattle.pdb_handles.specs.Omap.{TellsMoved, TellsOrder, omap_row};
+ghost use Rattle.pdb_handles.specs.Ranges.{WritesMoved};
 
-use pdb_handles::copied::{copy_list, copy_nothing};
+use pdb_handles::copied::copy_list;
 use pdb_handles::found::tell_found;
 use pdb_handles::omap::{OmapRow, records_in, table_in, tell_order};
 use pdb_handles::ranges::{Span, write_moved};
-use pdb_handles::{Fault, Handle, NOT_OPEN, UNMAPPED};
+use pdb_handles::{Fault, Handle, UNMAPPED};
 use std::alloc::Global;
 
 /// Opens the OMAP table in a stream, which is copied.
@@ -47,13 +46,8 @@ pub extern "C" fn pdb_omap_records(
     ensures kept { omap.new.held.content ≡ omap.old.held.content }
     ensures status { result ≡ fault.new.status }
 {
-    with_content!(
-        omap,
-        alloc,
-        Omap(table) => copy_list(records_in(alloc, table), room, length),
-        copy_nothing(Fault::status(NOT_OPEN), length)
-    )
-    .tell(fault)
+    *length = 0;
+    ask!(omap, alloc, fault, Omap(table) => copy_list(records_in(alloc, table), room, length))
 }
 
 /// Writes 1 if no record of a table has a source below that of the record before it, and 0 if one
@@ -65,20 +59,12 @@ pub extern "C" fn pdb_omap_is_sorted(
     is_sorted: &mut u32,
     fault: &mut Fault,
 ) -> u32
-    ensures answer { IfSome (omap_held omap.old.held.content) (λ table.
-        TellsOrder table (record { fault = fault.new; value = is_sorted.new })) }
-    ensures closed { IfNone (omap_held omap.old.held.content)
-        (record { fault = fault.new; value = is_sorted.new } ≡ not_held is_sorted.old) }
+    ensures answer { Asks TellsOrder (not_held is_sorted.old) (omap_held omap.old.held.content)
+        (record { fault = fault.new; value = is_sorted.new }) }
     ensures kept { omap.new.held.content ≡ omap.old.held.content }
     ensures status { result ≡ fault.new.status }
 {
-    with_content!(
-        omap,
-        alloc,
-        Omap(table) => tell_order(table, is_sorted),
-        Fault::status(NOT_OPEN)
-    )
-    .tell(fault)
+    ask!(omap, alloc, fault, Omap(table) => tell_order(table, is_sorted))
 }
 
 /// Looks up the address to which a table moves an address, and writes it.
@@ -90,24 +76,14 @@ pub extern "C" fn pdb_omap_lookup(
     target: &mut u32,
     fault: &mut Fault,
 ) -> u32
-    ensures exact { IfSome (omap_held omap.old.held.content) (λ table. IsSortedBySource table
-        → record { fault = fault.new; value = target.new } ≡ found not_mapped target.old (shift table address)) }
-    ensures unsorted { IfSome (omap_held omap.old.held.content) (λ table. fault.new ≡ fine →
-        MovesSomehow table address target.new) }
-    ensures found { IfSome (omap_held omap.old.held.content) (λ _.
-        IsFound not_mapped target.old (record { fault = fault.new; value = target.new })) }
-    ensures closed { IfNone (omap_held omap.old.held.content)
-        (record { fault = fault.new; value = target.new } ≡ not_held target.old) }
+    ensures answer { Asks (λ table told. TellsMoved table address target.old told) (not_held target.old)
+        (omap_held omap.old.held.content) (record { fault = fault.new; value = target.new }) }
     ensures kept { omap.new.held.content ≡ omap.old.held.content }
     ensures status { result ≡ fault.new.status }
 {
-    with_content!(
-        omap,
-        alloc,
-        Omap(table) => tell_found(table.lookup(address), Fault::status(UNMAPPED), target),
-        Fault::status(NOT_OPEN)
-    )
-    .tell(fault)
+    ask!(omap, alloc, fault, Omap(table) => {
+        tell_found(table.lookup(address), Fault::status(UNMAPPED), target)
+    })
 }
 
 /// Writes the ranges to which an OMAP table moves the addresses of a range: one for each record
@@ -123,21 +99,12 @@ pub extern "C" fn pdb_omap_ranges(
     length: &mut usize,
     fault: &mut Fault,
 ) -> u32
-    ensures exact { IfSome (omap_held omap.old.held.content) (λ table. IsSortedBySource table
-        → CopiesOrLacks (record { fault = fault.new; length = length.new; room = room.new }) room.old
-        (spans_written room.old (parts table (record { start = start; end = end })))) }
-    ensures unsorted { IfSome (omap_held omap.old.held.content) (λ table.
-        WritesSome table room.old (record { fault = fault.new; length = length.new; room = room.new })) }
-    ensures closed { IfNone (omap_held omap.old.held.content)
-        (record { fault = fault.new; length = length.new; room = room.new } ≡ untouched not_open room.old) }
+    ensures answer { Asks (λ table. WritesMoved (Some table) (record { start = start; end = end }) room.old)
+        (untouched not_open room.old) (omap_held omap.old.held.content)
+        (record { fault = fault.new; length = length.new; room = room.new }) }
     ensures kept { omap.new.held.content ≡ omap.old.held.content }
     ensures status { result ≡ fault.new.status }
 {
-    with_content!(
-        omap,
-        alloc,
-        Omap(table) => write_moved(alloc, table, start..end, room, length),
-        copy_nothing(Fault::status(NOT_OPEN), length)
-    )
-    .tell(fault)
+    *length = 0;
+    ask!(omap, alloc, fault, Omap(table) => write_moved(alloc, table, start..end, room, length))
 }

@@ -4,8 +4,7 @@ ghost use Rattle.std.specs.Prelude.{◌≡◌, None};
 ghost use Rattle.pdb_handles.specs.Copied.{CopiesOrLacks, text_copied};
 ghost use Rattle.pdb_handles.specs.Told.{fault_text};
 
-use pdb_handles::text::copy_text_of;
-use pdb_handles::told::told;
+use pdb_handles::told::{copy_text_of, told};
 use pdb_handles::{Fault, Handle};
 use std::alloc::Global;
 

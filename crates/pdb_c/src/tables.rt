@@ -6,17 +6,15 @@ ghost use Rattle.pdb_handles.specs.declared.content.Content.TheVariants.{Table};
 ghost use Rattle.pdb_handles.specs.Found.{found_of};
 ghost use Rattle.pdb_handles.specs.Handle.{OpensStream, held_as, table_held};
 ghost use Rattle.pdb_handles.specs.Records.{FieldsOrLacks};
-ghost use Rattle.pdb_handles.specs.Tables.{located_in, table_opened};
-ghost use Rattle.pdb_handles.specs.TableCalls.{fields_asked, rewound, step_told};
+ghost use Rattle.pdb_handles.specs.Tables.{fields_asked, located_in, rewound, step_told, table_opened};
 ghost use Rattle.pdb_handles.specs.Walked.{WritesNextOf};
 
-use pdb_handles::copied::copy_nothing;
-use pdb_handles::fields::{FieldRow, write_found, write_nothing};
-use pdb_handles::found::tell_found;
-use pdb_handles::open_table::{counted, find_record, listed_fields, next_record};
-use pdb_handles::tables::table_in;
+use pdb_handles::fields::FieldRow;
+use pdb_handles::found::tell_value;
+use pdb_handles::listing::{write_listing, write_nothing};
+use pdb_handles::open_table::{counted, find_record, listed_fields, next_record, table_in};
 use pdb_handles::walked::{TypeRow, write_next};
-use pdb_handles::{FINE, Fault, Handle, Located, NONE, NOT_OPEN};
+use pdb_handles::{FINE, Fault, Handle, Located};
 use std::alloc::Global;
 
 /// Opens the table of types or of ids in a stream, which is copied. Its walk begins at the first
@@ -48,17 +46,7 @@ pub extern "C" fn pdb_types_first_index(
     ensures kept { table.new.held.content ≡ table.old.held.content }
     ensures status { result ≡ fault.new.status }
 {
-    with_content!(
-        table,
-        alloc,
-        Table(open) => tell_found(
-            Some(open.items().header().minimum_index),
-            Fault::status(NONE),
-            index,
-        ),
-        Fault::status(NOT_OPEN)
-    )
-    .tell(fault)
+    ask!(table, alloc, fault, Table(open) => tell_value(open.items().header().minimum_index, index))
 }
 
 /// Writes the number of indexes that the header of a table counts. The walk may give fewer items,
@@ -75,13 +63,7 @@ pub extern "C" fn pdb_types_count(
     ensures kept { table.new.held.content ≡ table.old.held.content }
     ensures status { result ≡ fault.new.status }
 {
-    with_content!(
-        table,
-        alloc,
-        Table(open) => tell_found(Some(counted(open)), Fault::status(NONE), count),
-        Fault::status(NOT_OPEN)
-    )
-    .tell(fault)
+    ask!(table, alloc, fault, Table(open) => tell_value(counted(open), count))
 }
 
 /// Writes where the record of an index is in the stream of a table. The first calls walk along the
@@ -99,13 +81,7 @@ pub extern "C" fn pdb_types_find(
     ensures kept { table.new.held.content ≡ table.old.held.content }
     ensures status { result ≡ fault.new.status }
 {
-    with_content!(
-        table,
-        alloc,
-        Table(open) => find_record(open, index, place),
-        Fault::status(NOT_OPEN)
-    )
-    .tell(fault)
+    ask!(table, alloc, fault, Table(open) => find_record(open, index, place))
 }
 
 /// Writes the index of the next record of the walk along a table, and where it is in the stream. If
@@ -121,31 +97,19 @@ pub extern "C" fn pdb_types_next(
         step_told place.old table.old.held.content }
     ensures status { result ≡ fault.new.status }
 {
-    with_content!(
-        table,
-        alloc,
-        Table(open) => next_record(open, place),
-        Fault::status(NOT_OPEN)
-    )
-    .tell(fault)
+    ask!(table, alloc, fault, Table(open) => next_record(open, place))
 }
 
 /// Restarts the walk along a table before its first item.
 #[unsafe(no_mangle)]
 pub extern "C" fn pdb_types_rewind(alloc: Global, table: &mut Handle, fault: &mut Fault) -> u32
-    ensures answer { record { fault = fault.new; held = table.new.held.content } ≡ rewound table.old.held.content }
+    ensures answer { record { fault = fault.new; value = table.new.held.content } ≡ rewound table.old.held.content }
     ensures status { result ≡ fault.new.status }
 {
-    with_content!(
-        table,
-        alloc,
-        Table(open) => {
-            open.rewind();
-            Fault::status(FINE)
-        },
-        Fault::status(NOT_OPEN)
-    )
-    .tell(fault)
+    ask!(table, alloc, fault, Table(open) => {
+        open.rewind();
+        Fault::status(FINE)
+    })
 }
 
 /// Writes the fields of a list and of the lists in which it continues, in order, and the bytes of
@@ -167,19 +131,10 @@ pub extern "C" fn pdb_types_fields(
     ensures kept { table.new.held.content ≡ table.old.held.content }
     ensures status { result ≡ fault.new.status }
 {
-    with_content!(
-        table,
-        alloc,
-        Table(open) => write_found(
-            listed_fields(open, alloc, index),
-            rows,
-            count,
-            names,
-            size,
-        ),
-        write_nothing(Fault::status(NOT_OPEN), count, size)
-    )
-    .tell(fault)
+    write_nothing(Fault::status(FINE), count, size);
+    ask!(table, alloc, fault, Table(open) => {
+        write_listing(listed_fields(open, alloc, index), rows, count, names, size)
+    })
 }
 
 /// Writes the next records of the walk along a table of types, each with its place and its `Row`,
@@ -198,11 +153,6 @@ pub extern "C" fn pdb_types_read(
         (record { fault = fault.new; length = count.new; room = rows.new }) table.new.held.content }
     ensures status { result ≡ fault.new.status }
 {
-    with_content!(
-        table,
-        alloc,
-        Table(kept) => write_next(alloc, kept, rows, count),
-        copy_nothing(Fault::status(NOT_OPEN), count)
-    )
-    .tell(fault)
+    *count = 0;
+    ask!(table, alloc, fault, Table(open) => write_next(alloc, open, rows, count))
 }

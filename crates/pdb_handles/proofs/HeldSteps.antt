@@ -1,17 +1,8 @@
 -- The machine values of what a handle holds: a pointer and the allocator, which takes no bytes.
-use mathlib.Core.List.{[], ◌∷◌}
-use mathlib.Core.Path.{◌≡◌, refl}
-use mathlib.Core.Bool.{false≢true}
-use lib.Dec.{T, lit<}
-use mir.Syntax.{ty_ptr}
-use mir.Val.{Val, vstruct, of_list, has_ty, WT}
-use denote.RattleType.{RattleType}
-use denote.RawPtr.{Ptr, block_ptr, null_ptr, ptr_val}
-use denote.Laws.{Is, Tells}
-use Rattle.std.specs.Prelude.{Option, None, Some, IsSome}
-use Rattle.std_heap.specs.declared.Global.{Global}
+use Rattle.pdb_handles.proofs.WalkNames.{[], ◌∷◌, ◌≡◌, refl, false≢true, T, lit<, ty_ptr, Val, vstruct, of_list}
+use Rattle.pdb_handles.proofs.WalkNames.{has_ty, WT, RattleType, Ptr, block_ptr, null_ptr, ptr_val, Is, Tells, Option}
+use Rattle.pdb_handles.proofs.WalkNames.{None, Some, IsSome, Global, ghosts}
 use Rattle.std_heap.specs.contracts.Global as global
-use Rattle.std_heap.specs.contracts.GlobalAllocator.TheImpl.{ghosts}
 use Rattle.std_heap.proofs.Global.TheLaws as global_laws
 use Rattle.pdb_handles.specs.contracts.content.Content as content
 use Rattle.pdb_handles.proofs.content.Content.TheLaws as content_laws

@@ -4,3 +4,4 @@ mod NamesLemmas
 mod PartsSteps
 mod StatusLaws
 mod WalkedLemmas
+mod WalkNames

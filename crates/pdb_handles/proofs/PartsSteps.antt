@@ -1,9 +1,5 @@
 -- What both walks over the parts of a box speak of, at any type of the value and any allocator.
-use mathlib.Core.List.{[], ◌∷◌}
-use mir.Syntax.{Args, Dict, a_type, dcons, dnil}
-use denote.Param.{bounded}
-use denote.RattleType.{RattleType}
-use Rattle.std_alloc.proofs.BoxSteps.Form.{Bx, R, P}
+use Rattle.pdb_handles.proofs.WalkNames.{[], ◌∷◌, Args, Dict, a_type, dcons, dnil, bounded, RattleType, Bx, R, P}
 use Rattle.pdb_handles.specs.contracts.parts.Parts as parts
 
 -- the parts as a row

@@ -6,7 +6,7 @@ use Rattle.std.specs.Prelude.{Contains}
 use Rattle.std.specs.Option.{option_map}
 use Rattle.std.specs.declared.io.ErrorKind.{ErrorKind}
 use Rattle.std.specs.declared.io.ErrorKind.TheVariants as kinds
-use Rattle.pdb_base.specs.Refusal.{Refusal, unrecognized_file_format, page_reference_out_of_range, invalid_page_size, stream_not_found, stream_name_not_found, invalid_stream_length, io_error, unexpected_eof, unimplemented_feature, global_symbols_not_found, symbol_too_short, unimplemented_symbol_kind, invalid_type_information_header, type_too_short, type_not_found, type_not_indexed, unimplemented_type_kind, not_a_cross_module_ref, cross_module_ref_not_found, unexpected_numeric_prefix, address_map_not_found, unimplemented_debug_subsection, unimplemented_file_checksum_kind, invalid_file_checksum_offset, lines_not_found, invalid_compressed_annotation, unknown_binary_annotation, out_of_memory}
+use Rattle.pdb_base.specs.Refusal.{Refusal, invalid_stream_length, io_error, unimplemented_feature, unimplemented_symbol_kind, invalid_type_information_header, unimplemented_type_kind, unexpected_numeric_prefix, unimplemented_file_checksum_kind}
 use Rattle.pdb_handles.specs.declared.fault.Fault.{Fault}
 use Rattle.pdb_handles.specs.Fault.{fault_of, kind_number, text_number, texts}
 use Rattle.pdb_handles.specs.Told.{IsOurs, candidate, if_told, is_same, kind_numbered, refusal_told, text_numbered}
@@ -42,34 +42,15 @@ kind_back kind (suc zero, inside, is) = subst (λ (k : ErrorKind). kind_numbered
 kind_back kind (suc (suc k), inside, is) = absurd (omega (arith, inside))
 
 candidate_of : (refusal : Refusal) → IsOurs refusal → candidate (fault_of refusal) ≡ Some refusal
-candidate_of unrecognized_file_format ours = refl
-candidate_of (page_reference_out_of_range number) ours = refl
-candidate_of (invalid_page_size number) ours = refl
-candidate_of (stream_not_found number) ours = refl
-candidate_of stream_name_not_found ours = refl
 candidate_of (invalid_stream_length text) ours = ap (option_map invalid_stream_length) (text_back text ours)
 candidate_of (io_error kind) ours = ap (option_map io_error) (kind_back kind ours)
-candidate_of unexpected_eof ours = refl
 candidate_of (unimplemented_feature text) ours = ap (option_map unimplemented_feature) (text_back text ours)
-candidate_of global_symbols_not_found ours = refl
-candidate_of symbol_too_short ours = refl
 candidate_of (unimplemented_symbol_kind number) ours = grind (arith, nat_tests, ours)
 candidate_of (invalid_type_information_header text) ours = ap (option_map invalid_type_information_header) (text_back text ours)
-candidate_of type_too_short ours = refl
-candidate_of (type_not_found number) ours = refl
-candidate_of (type_not_indexed index covered) ours = refl
 candidate_of (unimplemented_type_kind number) ours = grind (arith, nat_tests, ours)
-candidate_of (not_a_cross_module_ref number) ours = refl
-candidate_of (cross_module_ref_not_found number) ours = refl
 candidate_of (unexpected_numeric_prefix number) ours = grind (arith, nat_tests, ours)
-candidate_of address_map_not_found ours = refl
-candidate_of (unimplemented_debug_subsection number) ours = refl
 candidate_of (unimplemented_file_checksum_kind number) ours = grind (arith, nat_tests, ours)
-candidate_of (invalid_file_checksum_offset number) ours = refl
-candidate_of lines_not_found ours = refl
-candidate_of invalid_compressed_annotation ours = refl
-candidate_of (unknown_binary_annotation number) ours = refl
-candidate_of out_of_memory ours = refl
+candidate_of refusal ours = refl
 
 same_numbers : (fault : Fault) → is_same fault fault ≡ true
 same_numbers fault = grind (arith, nat_tests)

@@ -1,17 +1,15 @@
 -- The next records of a walk, as they are written one after another.
-use Rattle.std.proofs.Common.{◌≡◌, ℕ, ◌+◌, ◌<◌, ◌≤◌, List, [], ◌∷◌, ◌++◌, length, set, take, drop, refl, sym, ap, subst, ◌∙◌, arith, Option, Some, None, Ok, inl, inr}
+use Rattle.std.proofs.Common.{◌≡◌, ℕ, ◌+◌, ◌<◌, ◌≤◌, List, [], ◌∷◌, ◌++◌, length, set, take, drop, refl, sym, ap, subst, ◌∙◌, arith, Option, Some, None, Ok, inr}
 use Rattle.std.proofs.lemmas.List.{drop-drop, drop-set-lt, length-take-le, take-append-drop, take_more_set}
-use Rattle.std.specs.Option.{option_map}
-use Rattle.std.proofs.lemmas.Option.{slice_get_cases}
-use Rattle.pdb_base.proofs.lemmas.Collected.{bind_ok, ok, ok_is, ok_is_no_err}
+use Rattle.std.specs.Option.{option_map, option_map_or}
+use Rattle.std.specs.List.{slice_get}
+use Rattle.pdb_base.specs.Answer.{◌>>=◌}
+use Rattle.pdb_base.proofs.lemmas.Collected.{ok, ok_is, ok_is_no_err}
 use Rattle.pdb_tpi.specs.declared.open_table.RecordPlace.{RecordPlace}
 use Rattle.pdb_tpi.specs.OpenTable.{bytes_at, record_at, step_located}
 use Rattle.pdb_tpi.specs.Record.{type_of}
 use Rattle.pdb_tpi.specs.Steps.{WalkPosition, step_of, steps_taken, stopped, walk, walk_rest}
 use Rattle.pdb_tpi.specs.Table.{Table}
-use Rattle.pdb_tpi.specs.Walk.{fault_of as fault_there}
-use Rattle.pdb_tpi.proofs.StepLemmas.{step_gives, step_stops}
-use Rattle.pdb_tpi.proofs.WalkLemmas.{nth_some}
 use Rattle.pdb_handles.specs.declared.fault.Fault.{Fault}
 use Rattle.pdb_handles.specs.declared.walked.TypeRow.{TypeRow}
 use Rattle.pdb_handles.specs.Fault.{no_more}
@@ -24,49 +22,33 @@ IsToldAt stand place told = IsTypeRow (index_told stand.index) place (type_of (i
 
 -- ---- steps
 
--- what a step behind the last item returns
-stopped_there : (stand : WalkPosition) (rest : List ℕ) (step : Option (ℕ × List ℕ) × WalkPosition) → stopped stand rest ≡ Ok step → step.1 ≡ stand
-stopped_there stand [] step is =
-    let ended : Option (ℕ × List ℕ) × WalkPosition = (None, stand) in
-    sym (ap (λ (p : Option (ℕ × List ℕ) × WalkPosition). p.1) (ok_is ended step is))
-stopped_there stand (byte ∷ rest) step is = absurd (ok_is_no_err step (fault_there (byte ∷ rest)) (sym is))
+-- the place that a step returns, and where the walk then stands
+abbrev pub Placed : Type 0
+Placed = Option RecordPlace × WalkPosition
 
-some_is_none : (x : ℕ × List ℕ) → Some x ≡ None → ⊥
-some_is_none x e = cc
+-- A step stays in its table, and one that returns no record does not move.
+abbrev pub Stays : WalkPosition → Placed → Type 0
+Stays stand step = (step.1.table ≡ stand.table) × (step.0 ≡ None → step.1 ≡ stand)
 
--- a step stays in its table, and one that returns None does not move
-stays : (stand : WalkPosition) (step : Option (ℕ × List ℕ) × WalkPosition) → step_of stand ≡ Ok step → (step.1.table ≡ stand.table) × (step.0 ≡ None → step.1 ≡ stand)
-stays stand step is = elim ((slice_get_cases (walk stand.table) (steps_taken stand)).1) [
-  | inl here ↦
-      let moved : WalkPosition = record stand { index = stand.index + 1 } in
-      let given : Option (ℕ × List ℕ) × WalkPosition = (Some (stand.index, here.0), moved) in
-      let same : given ≡ step = ok_is given step (sym (step_gives stand here.0 (nth_some stand.table (steps_taken stand) here.0 here.2)) ∙ is) in
-      (sym (ap (λ (p : Option (ℕ × List ℕ) × WalkPosition). p.1.table) same), λ none. absurd (some_is_none (stand.index, here.0) (ap (λ (p : Option (ℕ × List ℕ) × WalkPosition). p.0) same ∙ none)))
-  | inr past ↦
-      let there : step.1 ≡ stand = stopped_there stand (walk_rest stand.table) step (sym (step_stops stand past.1) ∙ is) in
-      (ap (λ (s : WalkPosition). s.table) there, λ none. there)
-]
+-- by the item that is left, and the bytes behind the last one
+stays_by : (stand : WalkPosition) (item : Option (List ℕ)) (rest : List ℕ) (step : Placed)
+    → (option_map_or (λ (i : List ℕ). ok (Some (stand.index, i), record stand { index = stand.index + 1 })) item
+    (stopped stand rest) >>= λ taken. Ok
+    (option_map (λ (i : ℕ × List ℕ). record_at stand.table (steps_taken stand) i.1) taken.0, taken.1)) ≡ Ok step
+    → Stays stand step
+stays_by stand (Some item) rest step is = subst (Stays stand) (ok_is {A = Placed} _ step is) (refl, λ none. absurd cc)
+stays_by stand None [] step is = subst (Stays stand) (ok_is {A = Placed} (None, stand) step is) (refl, λ none. refl)
+stays_by stand None (byte ∷ rest) step is = absurd (ok_is_no_err step _ (sym is))
 
-none_mapped : {A B : Type 0} (f : A → B) (x : Option A) → option_map f x ≡ None → x ≡ None
-none_mapped f None is = refl
-none_mapped f (Some x) is = absurd cc
-
--- the same of the place of a record
-located_stays : (stand next : WalkPosition) (place : Option RecordPlace) → step_located stand ≡ Ok (place, next) → (next.table ≡ stand.table) × (place ≡ None → next ≡ stand)
-located_stays stand next place is =
-    let told : Option RecordPlace × WalkPosition = (place, next) in
-    let shown : ℕ × List ℕ → RecordPlace = λ item. record_at stand.table (steps_taken stand) item.1 in
-    let found = bind_ok (step_of stand) (λ (step : Option (ℕ × List ℕ) × WalkPosition). ok {A = Option RecordPlace × WalkPosition} (option_map shown step.0, step.1)) told is in
-    let same : (option_map shown found.0.0, found.0.1) ≡ told = ok_is {A = Option RecordPlace × WalkPosition} (option_map shown found.0.0, found.0.1) told found.2 in
-    let moved : found.0.1 ≡ next = ap (λ (p : Option RecordPlace × WalkPosition). p.1) same in
-    let there = stays stand found.0 found.1 in
-    (sym (ap (λ (s : WalkPosition). s.table) moved) ∙ there.0, λ none. sym moved ∙ there.1 (none_mapped shown found.0.0 (ap (λ (p : Option RecordPlace × WalkPosition). p.0) same ∙ none)))
+stays : (stand : WalkPosition) (step : Placed) → step_located stand ≡ Ok step → Stays stand step
+unfolding step_of
+stays stand step is = stays_by stand (slice_get (walk stand.table) (steps_taken stand)) (walk_rest stand.table) step is
 
 -- what is written of a record, where the walk then stands behind it
 pub told_behind : (stand next : WalkPosition) (index : ℕ) (place : RecordPlace) (told : TypeRow) → index ≡ index_told stand.index → step_located stand ≡ Ok (Some place, next)
     → IsTypeRow index place (type_of index (bytes_at next.table place)) told → IsToldAt stand place told
 told_behind stand next index place told is step row =
-    let same = (located_stays stand next (Some place) step).0 in
+    let same = (stays stand (Some place, next) step).0 in
     subst (λ (i : ℕ). IsTypeRow i place (type_of i (bytes_at stand.table place)) told) is
     (subst (λ (t : Table). IsTypeRow index place (type_of index (bytes_at t place)) told) same row)
 
@@ -113,6 +95,6 @@ written_to old now first stand count fault fits same done ends =
 pub written_all : (old now : List TypeRow) (first stand next : WalkPosition) (count : ℕ) (fault : Fault) → count < length old → length now ≡ length old → IsWrittenTo old now first count stand
     → step_located stand ≡ Ok (None, next) → fault ≡ no_more → WritesNext old first (record { fault = fault; length = count; room = now }) next
 written_all old now first stand next count fault more same done step is =
-    let there : next ≡ stand = (located_stays stand next None step).1 refl in
+    let there : next ≡ stand = (stays stand (None, next) step).1 refl in
     subst (λ (s : WalkPosition). WritesNext old first (record { fault = fault; length = count; room = now }) s) (sym there)
     (written_to old now first stand count fault (omega arith) same done (inr (more, rw step is)))

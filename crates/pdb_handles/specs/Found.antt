@@ -33,6 +33,7 @@ abbrev pub found_of : {A B : Type 0} → B → (A → B) → Option A → Found 
 found_of old number (Some held) = record { fault = fine; value = number held }
 found_of old number None = not_held old
 
--- A value was found, whatever it is, or it is missing.
-abbrev pub IsFound : {A : Type 0} → Fault → A → Found A → Type 0
-IsFound {A} missing old told = (value : Option A) × (told ≡ found missing old value)
+-- What is said of a call is so of what a handle holds; or it doesn't hold what is asked, and the call ends as given.
+abbrev pub Asks : {A T : Type 0} → (A → T → Type 0) → T → Option A → T → Type 0
+Asks said closed (Some held) told = said held told
+Asks said closed None told = told ≡ closed

@@ -1,8 +1,12 @@
 -- Frames, as a caller sees them.
-use Rattle.std.specs.Prelude.{ℕ, Bool, true, false, is_some, unwrap_or}
+use Rattle.std.specs.Prelude.{◌≡◌, ℕ, Bool, true, false, is_some, unwrap_or, List, slice_get, Option}
+use Rattle.std.specs.Option.{option_map}
 use Rattle.pdb_frames.specs.declared.frame_data.FrameData.{FrameData}
 use Rattle.pdb_frames.specs.FrameNumbers.{kind_number}
+use Rattle.pdb_frames.specs.Table.{BeginsSomewhere, Frames, StartsIncrease, merge_from}
 use Rattle.pdb_handles.specs.declared.frame.Frame.{Frame}
+use Rattle.pdb_handles.specs.Fault.{no_value}
+use Rattle.pdb_handles.specs.Found.{Found, found}
 
 -- a Boolean as a number
 abbrev pub flag : Bool → ℕ
@@ -28,3 +32,16 @@ frame_of frame = record {
   has_program = flag (is_some frame.program);
   program = unwrap_or frame.program 0;
 }
+
+-- The frame is the first of a table from an address on: of those in the order of their addresses if the tables are
+-- sorted, and of any tables the first of some that are left there.
+pub record IsFirst (table : Frames) (address : ℕ) (first : Option Frame) : Type 0 where
+  pub exact : StartsIncrease table → first ≡ option_map frame_of (slice_get (merge_from address table) 0)
+  pub somewhere : (some : List FrameData) × BeginsSomewhere table some
+      × (first ≡ option_map frame_of (slice_get some 0))
+
+-- The first frame from an address on is written, or there is none.
+pub record TellsFirst (table : Frames) (address : ℕ) (old : Frame) (told : Found Frame) : Type 0 where
+  pub first : Option Frame
+  pub is : IsFirst table address first
+  pub done : told ≡ found no_value old first

@@ -7,7 +7,6 @@ pub mod Handle
 pub mod Held
 pub mod Ids
 pub mod Information
-pub mod Listing
 pub mod Lists
 pub mod Names
 pub mod Omap
@@ -16,7 +15,6 @@ pub mod Records
 pub mod Roles
 pub mod Row
 pub mod Sections
-pub mod TableCalls
 pub mod Tables
 pub mod Told
 pub mod Translation

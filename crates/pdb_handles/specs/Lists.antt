@@ -1,10 +1,8 @@
 -- The lists and the unique name in a type record, as a caller sees them.
-use Rattle.std.specs.Prelude.{ℕ, List, map, Option, Some, None, Ok}
-use Rattle.pdb_base.specs.Answer.{Answer, ◌>>=◌}
+use Rattle.std.specs.Prelude.{ℕ, List, map, Option, Some, None}
 use Rattle.pdb_values.specs.declared.method.MethodListEntry.{MethodListEntry}
 use Rattle.pdb_values.specs.TypeValue as values
 use Rattle.pdb_values.specs.TypeValue.{PlainValue, TypeValue, plain}
-use Rattle.pdb_tpi.specs.Record.{type_of}
 use Rattle.pdb_handles.specs.declared.row.Row.{Row}
 use Rattle.pdb_handles.specs.Row.{no_numbers, row}
 
@@ -17,17 +15,11 @@ abbrev pub methods_in : TypeValue → Option (List Row)
 methods_in (values.method_list methods) = Some (map method_row methods)
 methods_in value = None
 
-abbrev pub methods_of : ℕ → List ℕ → Answer (Option (List Row))
-methods_of index bytes = type_of index bytes >>= λ value. Ok (methods_in value)
-
 -- the size of an array in bytes up to each dimension, the innermost first, each including those before it, if the type
 -- is an array
 abbrev pub dimensions_in : TypeValue → Option (List ℕ)
 dimensions_in (values.array v) = Some v.dimensions
 dimensions_in value = None
-
-abbrev pub dimensions_of : ℕ → List ℕ → Answer (Option (List ℕ))
-dimensions_of index bytes = type_of index bytes >>= λ value. Ok (dimensions_in value)
 
 -- the name that tells a class, a union or an enumeration from others of its name, if it has one
 abbrev pub plain_unique_name : PlainValue → Option (List ℕ)
@@ -39,6 +31,3 @@ plain_unique_name value = None
 abbrev pub unique_name_in : TypeValue → Option (List ℕ)
 unique_name_in (plain value) = plain_unique_name value
 unique_name_in value = None
-
-abbrev pub unique_name_of : ℕ → List ℕ → Answer (Option (List ℕ))
-unique_name_of index bytes = type_of index bytes >>= λ value. Ok (unique_name_in value)

@@ -1,9 +1,9 @@
 -- Records of OMAP tables, and their order, as a caller sees them.
-use Rattle.std.specs.Prelude.{◌≡◌, ◌⊎◌, ℕ, List}
-use Rattle.pdb_space.specs.Omap.{IsSortedBySource, OmapValue}
+use Rattle.std.specs.Prelude.{◌≡◌, ◌⊎◌, ℕ, List, Option}
+use Rattle.pdb_space.specs.Omap.{IsSortedBySource, MovesSomehow, OmapValue, shift}
 use Rattle.pdb_handles.specs.declared.omap.OmapRow.{OmapRow}
-use Rattle.pdb_handles.specs.Fault.{fine}
-use Rattle.pdb_handles.specs.Found.{Found}
+use Rattle.pdb_handles.specs.Fault.{fine, not_mapped}
+use Rattle.pdb_handles.specs.Found.{Found, found}
 
 -- a record for the caller
 abbrev pub omap_row : OmapValue → OmapRow
@@ -14,3 +14,10 @@ abbrev pub TellsOrder : List OmapValue → Found ℕ → Type 0
 TellsOrder table told =
     ((told ≡ record { fault = fine; value = 1 }) × IsSortedBySource table)
     ⊎ ((told ≡ record { fault = fine; value = 0 }) × (IsSortedBySource table → ⊥))
+
+-- The address to which a table moves an address is written, or it moves it nowhere: exactly if the table is sorted by
+-- source, and in any table as some record moves it.
+pub record TellsMoved (table : List OmapValue) (address old : ℕ) (told : Found ℕ) : Type 0 where
+  pub exact : IsSortedBySource table → told ≡ found not_mapped old (shift table address)
+  pub unsorted : told.fault ≡ fine → MovesSomehow table address told.value
+  pub found : (value : Option ℕ) × (told ≡ found not_mapped old value)

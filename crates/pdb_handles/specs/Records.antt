@@ -1,13 +1,13 @@
 -- The contents of a type record, as a caller sees them: its row, its name and its lists.
 use Rattle.std.specs.Prelude.{◌≡◌, ◌⊎◌, ℕ, ◌||◌, nat_lt, if◌then◌else◌, is_some, unwrap_or, List, [], ◌++◌, length, drop, map, Option, Some, None, Ok, Err}
 use Rattle.std.specs.List.{flat_map}
-use Rattle.std.specs.Option.{option_map}
 use Rattle.pdb_base.specs.Answer.{Answer, ◌>>=◌}
 use Rattle.pdb_base.specs.Refusal.{out_of_memory}
 use Rattle.pdb_values.specs.TypeValue.{TypeValue, argument_list, field_list, name_of, values_in}
 use Rattle.pdb_tpi.specs.Record.{type_of}
 use Rattle.pdb_handles.specs.declared.fault.Fault.{Fault}
 use Rattle.pdb_handles.specs.declared.fields.FieldRow.{FieldRow}
+use Rattle.pdb_handles.specs.declared.listing.Listing.{Listing as Collected}
 use Rattle.pdb_handles.specs.Copied.{Copied, untouched, written}
 use Rattle.pdb_handles.specs.Fault.{fine, fault_of, no_value, too_small}
 use Rattle.pdb_handles.specs.Frame.{flag}
@@ -19,29 +19,14 @@ if_copied room (Ok (Some items)) = written room items
 if_copied room (Ok None) = untouched no_value room
 if_copied room (Err refusal) = untouched (fault_of refusal) room
 
--- what is written of a list that a value shows, if it shows one
-abbrev pub shown_copied : {A B : Type 0} → List B → (A → Option (List B)) → Answer A → Copied B
-shown_copied room shown meant = if_copied room (meant >>= λ value. Ok (shown value))
-
--- the name of the type in a record of this index
-abbrev pub type_name : ℕ → List ℕ → Answer (Option (List ℕ))
-type_name index bytes = type_of index bytes >>= λ value. Ok (name_of value)
+-- what the type in a record of this index says
+abbrev pub of_type : {A : Type 0} → (TypeValue → A) → ℕ → List ℕ → Answer A
+of_type says index bytes = type_of index bytes >>= λ value. Ok (says value)
 
 -- the types of the arguments that a type lists, if it is a list of arguments
 abbrev pub arguments_in : TypeValue → Option (List ℕ)
 arguments_in (argument_list arguments) = Some (map (λ index. index.0) arguments)
 arguments_in value = None
-
-abbrev pub arguments_of : ℕ → List ℕ → Answer (Option (List ℕ))
-arguments_of index bytes = type_of index bytes >>= λ value. Ok (arguments_in value)
-
--- the fields that a type lists, if it is a list of fields
-abbrev pub fields_in : TypeValue → Option (List TypeValue)
-fields_in (field_list fields continuation) = Some (values_in fields)
-fields_in value = None
-
-abbrev pub fields_of_record : ℕ → List ℕ → Answer (Option (List TypeValue))
-fields_of_record index bytes = type_of index bytes >>= λ value. Ok (fields_in value)
 
 -- the bytes of a field's name; none if the field has no name
 abbrev pub name_bytes : TypeValue → List ℕ
@@ -51,21 +36,26 @@ name_bytes value = unwrap_or (name_of value) []
 abbrev pub field_row : TypeValue → FieldRow
 field_row value = record { info = row_of value; has_name = flag (is_some (name_of value)); name_length = length (name_bytes value) }
 
--- fields for the caller, and their names one behind another
-pub record Listing : Type 0 where
-  pub rows : List FieldRow
+-- rows for the caller, and their names one behind another
+pub record Listing (R : Type 0) : Type 0 where
+  pub rows : List R
   pub names : List ℕ
 
-abbrev pub listing : List TypeValue → Listing
+abbrev pub listing : List TypeValue → Listing FieldRow
 listing fields = record { rows = map field_row fields; names = flat_map name_bytes fields }
 
--- the same for fields that may be absent
-abbrev pub listings : Answer (Option (List TypeValue)) → Answer (Option Listing)
-listings meant = meant >>= λ fields. Ok (option_map listing fields)
+-- the listing that the code made, independent of where it is stored
+abbrev pub listing_view : {R : Type 0} → Collected R → Listing R
+listing_view made = record { rows = made.rows.items; names = made.names.items }
 
--- the answer with fields, as one in which fields may be absent
-abbrev pub all_found : Answer (List TypeValue) → Answer (Option (List TypeValue))
-all_found meant = meant >>= λ fields. Ok (Some fields)
+-- the fields that a type lists, if it is a list of fields
+abbrev pub fields_in : TypeValue → Option (Listing FieldRow)
+fields_in (field_list fields continuation) = Some (listing (values_in fields))
+fields_in value = None
+
+-- the fields that were found
+abbrev pub all_found : Answer (List TypeValue) → Answer (Option (Listing FieldRow))
+all_found meant = meant >>= λ fields. Ok (Some (listing fields))
 
 -- the result of a call that writes rows and their names: how it ended, how many there are of both, and
 -- the caller's arrays afterwards
@@ -88,11 +78,11 @@ fielded rows names told bytes =
     then record { fault = too_small; rows = rows; count = length told; names = names; size = length bytes }
     else record { fault = fine; rows = told ++ drop (length told) rows; count = length told; names = bytes ++ drop (length bytes) names; size = length bytes }
 
--- the fields that are meant are written, or the fault is that of their refusal
-abbrev pub fields_told : List FieldRow → List ℕ → Answer (Option (List TypeValue)) → Fielded FieldRow
-fields_told rows names (Ok (Some fields)) = fielded rows names (map field_row fields) (flat_map name_bytes fields)
-fields_told rows names (Ok None) = unfielded no_value rows names
-fields_told rows names (Err refusal) = unfielded (fault_of refusal) rows names
+-- the listing that is meant is written, or the fault is that of its refusal
+abbrev pub listing_told : {R : Type 0} → List R → List ℕ → Answer (Option (Listing R)) → Fielded R
+listing_told rows names (Ok (Some told)) = fielded rows names told.rows told.names
+listing_told rows names (Ok None) = unfielded no_value rows names
+listing_told rows names (Err refusal) = unfielded (fault_of refusal) rows names
 
 -- What is meant was written; or memory was refused, and nothing was written.
 abbrev pub FieldsOrLacks : {R : Type 0} → Fielded R → List R → List ℕ → Fielded R → Type 0

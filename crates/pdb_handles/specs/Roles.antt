@@ -1,6 +1,6 @@
 -- The roles of streams, as a caller sees them.
 use Rattle.std.specs.Prelude.{◌≡◌, ◌⊎◌, ℕ, List, Ok, Err}
-use Rattle.pdb_base.specs.Answer.{Answer}
+use Rattle.pdb_base.specs.Answer.{Answer, ◌>>=◌}
 use Rattle.pdb_base.specs.Refusal.{out_of_memory}
 use Rattle.pdb_file.specs.File.{file_roles}
 use Rattle.pdb_file.specs.declared.debug_header.DBIExtraStreams.{DBIExtraStreams}
@@ -26,8 +26,8 @@ roles_of streams = record {
 }
 
 -- the roles of the streams of a file
-abbrev pub roles_said : List ℕ → Answer DBIExtraStreams
-roles_said file = said file_roles file
+abbrev pub roles_said : List ℕ → Answer Roles
+roles_said file = said file_roles file >>= λ streams. Ok (roles_of streams)
 
 -- Memory was refused, and the caller's value stays as it was.
 abbrev pub LacksValue : {B : Type 0} → B → Fault → B → Type 0

@@ -56,65 +56,6 @@ index_in index = option_map (λ index. index.0) index
 abbrev pub no_numbers : Numbers
 no_numbers = record { kind = None; attributes = None; properties = None; count = None; type_index = None; second_index = None; third_index = None; list_index = None; extra = None; number = None }
 
--- the numbers of a record without a list, or of a primitive type, which has none
-abbrev pub plain_numbers : PlainValue → Numbers
-plain_numbers (values.primitive v) = no_numbers
-plain_numbers (values.class v) = record no_numbers { kind = Some (class_kind v.kind); properties = Some v.properties; count = Some v.count; second_index = index_in v.derived_from; third_index = index_in v.vtable_shape; list_index = index_in v.fields; number = Some v.size }
-plain_numbers (values.member v) = record no_numbers { attributes = Some v.attributes; type_index = Some v.field_type.0; number = Some v.offset }
-plain_numbers (values.member_function v) = record no_numbers { attributes = Some v.attributes; count = Some v.parameter_count; type_index = Some v.return_type.0; second_index = Some v.class_type.0; third_index = index_in v.this_pointer_type; list_index = Some v.argument_list.0; extra = Some v.this_adjustment }
-plain_numbers (values.overloaded_method v) = record no_numbers { count = Some v.count; list_index = Some v.method_list.0 }
-plain_numbers (values.method v) = record no_numbers { attributes = Some v.attributes; type_index = Some v.method_type.0; extra = v.vtable_offset }
-plain_numbers (values.static_member v) = record no_numbers { attributes = Some v.attributes; type_index = Some v.field_type.0 }
-plain_numbers (values.nested v) = record no_numbers { attributes = Some v.attributes; type_index = Some v.nested_type.0 }
-plain_numbers (values.base_class v) = record no_numbers { kind = Some (class_kind v.kind); attributes = Some v.attributes; type_index = Some v.base_class.0; number = Some v.offset }
-plain_numbers (values.virtual_base_class v) = record no_numbers { kind = Some (flag v.direct); attributes = Some v.attributes; type_index = Some v.base_class.0; second_index = Some v.base_pointer.0; number = Some v.base_pointer_offset; extra = Some v.virtual_base_offset }
-plain_numbers (values.virtual_function_table_pointer v) = record no_numbers { type_index = Some v.table.0 }
-plain_numbers (values.procedure v) = record no_numbers { attributes = Some v.attributes; count = Some v.parameter_count; type_index = index_in v.return_type; list_index = Some v.argument_list.0 }
-plain_numbers (values.pointer v) = record no_numbers { attributes = Some v.attributes; type_index = Some v.underlying_type.0; second_index = index_in v.containing_class }
-plain_numbers (values.modifier v) = record no_numbers { kind = Some (flag v.constant + 2 * flag v.volatile + 4 * flag v.unaligned); type_index = Some v.underlying_type.0 }
-plain_numbers (values.enumeration v) = record no_numbers { properties = Some v.properties; count = Some v.count; type_index = Some v.underlying_type.0; list_index = Some v.fields.0 }
-plain_numbers (values.enumerate v) = record no_numbers { kind = Some (flag (is_signed v.value)); attributes = Some v.attributes; count = Some (width_of v.value); number = Some (in_64_bits v.value) }
-plain_numbers (values.union v) = record no_numbers { properties = Some v.properties; count = Some v.count; list_index = Some v.fields.0; number = Some v.size }
-plain_numbers (values.bitfield v) = record no_numbers { count = Some v.length; type_index = Some v.underlying_type.0; extra = Some v.position }
-plain_numbers (values.virtual_table_shape v) = record no_numbers { count = Some v.count }
-
--- the numbers of a type
-abbrev pub numbers_of : TypeValue → Numbers
-numbers_of (plain value) = plain_numbers value
-numbers_of (values.array v) = record no_numbers { type_index = Some v.element_type.0; second_index = Some v.indexing_type.0; extra = v.stride }
-numbers_of (values.field_list fields continuation) = record no_numbers { list_index = index_in continuation }
-numbers_of (values.argument_list arguments) = no_numbers
-numbers_of (values.method_list methods) = no_numbers
-
--- the number of a shape
-abbrev pub plain_shape : PlainValue → ℕ
-plain_shape (values.primitive v) = 0
-plain_shape (values.class v) = 1
-plain_shape (values.member v) = 2
-plain_shape (values.member_function v) = 3
-plain_shape (values.overloaded_method v) = 4
-plain_shape (values.method v) = 5
-plain_shape (values.static_member v) = 6
-plain_shape (values.nested v) = 7
-plain_shape (values.base_class v) = 8
-plain_shape (values.virtual_base_class v) = 9
-plain_shape (values.virtual_function_table_pointer v) = 10
-plain_shape (values.procedure v) = 11
-plain_shape (values.pointer v) = 12
-plain_shape (values.modifier v) = 13
-plain_shape (values.enumeration v) = 14
-plain_shape (values.enumerate v) = 15
-plain_shape (values.union v) = 17
-plain_shape (values.bitfield v) = 18
-plain_shape (values.virtual_table_shape v) = 22
-
-abbrev pub shape_of : TypeValue → ℕ
-shape_of (plain value) = plain_shape value
-shape_of (values.array v) = 16
-shape_of (values.field_list fields continuation) = 19
-shape_of (values.argument_list arguments) = 20
-shape_of (values.method_list methods) = 21
-
 -- the weight of a number's bit if the number is present, and else 0
 abbrev pub bit : ℕ → Option ℕ → ℕ
 bit weight number = weight * flag (is_some number)
@@ -136,6 +77,32 @@ row shape numbers = record {
   has = bit 1 numbers.kind + bit 2 numbers.attributes + bit 4 numbers.properties + bit 8 numbers.count + bit 16 numbers.type_index + bit 32 numbers.second_index + bit 64 numbers.third_index + bit 128 numbers.list_index + bit 256 numbers.extra + bit 512 numbers.number;
 }
 
+-- the row of a record without a list, or of a primitive type, which has no numbers
+abbrev pub plain_row : PlainValue → Row
+plain_row (values.primitive v) = row 0 no_numbers
+plain_row (values.class v) = row 1 (record no_numbers { kind = Some (class_kind v.kind); properties = Some v.properties; count = Some v.count; second_index = index_in v.derived_from; third_index = index_in v.vtable_shape; list_index = index_in v.fields; number = Some v.size })
+plain_row (values.member v) = row 2 (record no_numbers { attributes = Some v.attributes; type_index = Some v.field_type.0; number = Some v.offset })
+plain_row (values.member_function v) = row 3 (record no_numbers { attributes = Some v.attributes; count = Some v.parameter_count; type_index = Some v.return_type.0; second_index = Some v.class_type.0; third_index = index_in v.this_pointer_type; list_index = Some v.argument_list.0; extra = Some v.this_adjustment })
+plain_row (values.overloaded_method v) = row 4 (record no_numbers { count = Some v.count; list_index = Some v.method_list.0 })
+plain_row (values.method v) = row 5 (record no_numbers { attributes = Some v.attributes; type_index = Some v.method_type.0; extra = v.vtable_offset })
+plain_row (values.static_member v) = row 6 (record no_numbers { attributes = Some v.attributes; type_index = Some v.field_type.0 })
+plain_row (values.nested v) = row 7 (record no_numbers { attributes = Some v.attributes; type_index = Some v.nested_type.0 })
+plain_row (values.base_class v) = row 8 (record no_numbers { kind = Some (class_kind v.kind); attributes = Some v.attributes; type_index = Some v.base_class.0; number = Some v.offset })
+plain_row (values.virtual_base_class v) = row 9 (record no_numbers { kind = Some (flag v.direct); attributes = Some v.attributes; type_index = Some v.base_class.0; second_index = Some v.base_pointer.0; number = Some v.base_pointer_offset; extra = Some v.virtual_base_offset })
+plain_row (values.virtual_function_table_pointer v) = row 10 (record no_numbers { type_index = Some v.table.0 })
+plain_row (values.procedure v) = row 11 (record no_numbers { attributes = Some v.attributes; count = Some v.parameter_count; type_index = index_in v.return_type; list_index = Some v.argument_list.0 })
+plain_row (values.pointer v) = row 12 (record no_numbers { attributes = Some v.attributes; type_index = Some v.underlying_type.0; second_index = index_in v.containing_class })
+plain_row (values.modifier v) = row 13 (record no_numbers { kind = Some (flag v.constant + 2 * flag v.volatile + 4 * flag v.unaligned); type_index = Some v.underlying_type.0 })
+plain_row (values.enumeration v) = row 14 (record no_numbers { properties = Some v.properties; count = Some v.count; type_index = Some v.underlying_type.0; list_index = Some v.fields.0 })
+plain_row (values.enumerate v) = row 15 (record no_numbers { kind = Some (flag (is_signed v.value)); attributes = Some v.attributes; count = Some (width_of v.value); number = Some (in_64_bits v.value) })
+plain_row (values.union v) = row 17 (record no_numbers { properties = Some v.properties; count = Some v.count; list_index = Some v.fields.0; number = Some v.size })
+plain_row (values.bitfield v) = row 18 (record no_numbers { count = Some v.length; type_index = Some v.underlying_type.0; extra = Some v.position })
+plain_row (values.virtual_table_shape v) = row 22 (record no_numbers { count = Some v.count })
+
 -- the row of a type
 abbrev pub row_of : TypeValue → Row
-row_of value = row (shape_of value) (numbers_of value)
+row_of (plain value) = plain_row value
+row_of (values.array v) = row 16 (record no_numbers { type_index = Some v.element_type.0; second_index = Some v.indexing_type.0; extra = v.stride })
+row_of (values.field_list fields continuation) = row 19 (record no_numbers { list_index = index_in continuation })
+row_of (values.argument_list arguments) = row 20 no_numbers
+row_of (values.method_list methods) = row 21 no_numbers

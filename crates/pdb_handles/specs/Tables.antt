@@ -1,19 +1,21 @@
 -- What is returned about an open table of types or of ids.
 use Rattle.std.specs.Prelude.{ℕ, min, List, Option, Some, None, Ok, Err}
 use Rattle.pdb_base.specs.Answer.{Answer, ◌>>=◌}
-use Rattle.pdb_values.specs.TypeValue.{TypeValue}
 use Rattle.pdb_tpi.specs.declared.open_table.RecordPlace.{RecordPlace}
 use Rattle.pdb_tpi.specs.Chain.{fields_of}
 use Rattle.pdb_tpi.specs.Finder.{item_of}
-use Rattle.pdb_tpi.specs.OpenTable.{located}
+use Rattle.pdb_tpi.specs.OpenTable.{located, step_located}
 use Rattle.pdb_tpi.specs.StepLaws.{first_stand}
 use Rattle.pdb_tpi.specs.Steps.{WalkPosition}
 use Rattle.pdb_tpi.specs.Table.{table_of}
+use Rattle.pdb_handles.specs.declared.content.Content.{Content}
+use Rattle.pdb_handles.specs.declared.content.Content.TheVariants as contents
 use Rattle.pdb_handles.specs.declared.fault.Fault.{Fault}
-use Rattle.pdb_handles.specs.declared.located.Located.{Located}
-use Rattle.pdb_handles.specs.Fault.{fault_of, fine, no_more, no_value}
+use Rattle.pdb_handles.specs.declared.fields.FieldRow.{FieldRow}
+use Rattle.pdb_handles.specs.declared.open_table.Located.{Located}
+use Rattle.pdb_handles.specs.Fault.{fault_of, fine, no_more, no_value, not_open}
 use Rattle.pdb_handles.specs.Found.{Found, not_held}
-use Rattle.pdb_handles.specs.Records.{all_found}
+use Rattle.pdb_handles.specs.Records.{Fielded, Listing, all_found, listing_told, unfielded}
 
 -- the table in a stream, with its walk before the first item
 abbrev pub table_opened : List ℕ → Answer WalkPosition
@@ -34,13 +36,6 @@ abbrev pub located_in : Located → ℕ → Option WalkPosition → Found Locate
 located_in old index (Some stand) = located_told old index (located stand.table index)
 located_in old index None = not_held old
 
--- the result of a step of a walk: the place of a record with its index, and where the walk stands
--- afterwards
-pub record Stepped : Type 0 where
-  pub fault : Fault
-  pub value : Located
-  pub stand : WalkPosition
-
 -- an index, or 0xffffffff if it is above that
 abbrev pub index_told : ℕ → ℕ
 index_told index = min index 0xffffffff
@@ -49,13 +44,38 @@ index_told index = min index 0xffffffff
 abbrev pub stopped_at : ℕ → Located
 stopped_at index = record { index = index_told index; offset = 0; length = 0 }
 
+-- how a step of a walk ended, the place of a record with its index, and what the handle holds afterwards
+pub record Step : Type 0 where
+  pub fault : Fault
+  pub value : Located
+  pub held : Option Content
+
+-- a step behind which the walk stands here
+abbrev pub step_to : Fault → Located → WalkPosition → Step
+step_to fault value stand = record { fault = fault; value = value; held = Some (contents.Table stand) }
+
 -- A step returns the place of the next record, and the walk stands behind it; or it returns that no
 -- record is left, or the fault of the next record.
-abbrev pub stepped : WalkPosition → Answer (Option RecordPlace × WalkPosition) → Stepped
-stepped stand (Ok (Some place, next)) = record { fault = fine; value = located_at (index_told stand.index) place; stand = next }
-stepped stand (Ok (None, next)) = record { fault = no_more; value = stopped_at stand.index; stand = next }
-stepped stand (Err refusal) = record { fault = fault_of refusal; value = stopped_at stand.index; stand = stand }
+abbrev pub stepped : WalkPosition → Answer (Option RecordPlace × WalkPosition) → Step
+stepped stand (Ok (Some place, next)) = step_to fine (located_at (index_told stand.index) place) next
+stepped stand (Ok (None, next)) = step_to no_more (stopped_at stand.index) next
+stepped stand (Err refusal) = step_to (fault_of refusal) (stopped_at stand.index) stand
+
+-- the same for what a handle holds
+abbrev pub step_told : Located → Option Content → Step
+step_told old (Some (contents.Table stand)) = stepped stand (step_located stand)
+step_told old held = record { fault = not_open; value = old; held = held }
+
+-- how a call ended that sets the walk back to the first item, and what the handle holds afterwards
+abbrev pub rewound : Option Content → Found (Option Content)
+rewound (Some (contents.Table stand)) = record { fault = fine; value = Some (contents.Table (first_stand stand.table)) }
+rewound held = record { fault = not_open; value = held }
 
 -- the fields of a field list in a table, and of the lists that continue it
-abbrev pub fields_in_table : ℕ → WalkPosition → Answer (Option (List TypeValue))
+abbrev pub fields_in_table : ℕ → WalkPosition → Answer (Option (Listing FieldRow))
 fields_in_table index stand = all_found (fields_of (item_of stand.table) index)
+
+-- the same for the table that a handle holds
+abbrev pub fields_asked : List FieldRow → List ℕ → ℕ → Option WalkPosition → Fielded FieldRow
+fields_asked rows names index (Some stand) = listing_told rows names (fields_in_table index stand)
+fields_asked rows names index None = unfielded not_open rows names

@@ -3,6 +3,7 @@ use Rattle.std.specs.Prelude.{◌≡◌, Bool, ℕ, zero, suc, ◌<◌, ◌^◌,
 use Rattle.std.specs.declared.io.ErrorKind.{ErrorKind}
 use Rattle.std.specs.declared.io.ErrorKind.TheVariants as kinds
 use Rattle.pdb_base.specs.Refusal.{Refusal, unrecognized_file_format, stream_name_not_found, unexpected_eof, global_symbols_not_found, symbol_too_short, type_too_short, address_map_not_found, lines_not_found, invalid_compressed_annotation, out_of_memory, page_reference_out_of_range, invalid_page_size, stream_not_found, unimplemented_symbol_kind, type_not_found, unimplemented_type_kind, not_a_cross_module_ref, cross_module_ref_not_found, unexpected_numeric_prefix, unimplemented_debug_subsection, unimplemented_file_checksum_kind, invalid_file_checksum_offset, unknown_binary_annotation, type_not_indexed, invalid_stream_length, unimplemented_feature, invalid_type_information_header, io_error}
+use Rattle.std.specs.Option.{option_map_or}
 use Rattle.pdb_base.specs.ErrorText.{text_of}
 use Rattle.pdb_handles.specs.declared.fault.Fault.{Fault}
 use Rattle.pdb_handles.specs.Fault.{fault_of, texts}
@@ -57,14 +58,9 @@ tellings =
     ∷ plain address_map_not_found ∷ numbered unimplemented_debug_subsection ∷ below (2 ^ 8) unimplemented_file_checksum_kind ∷ numbered invalid_file_checksum_offset
     ∷ plain lines_not_found ∷ plain invalid_compressed_annotation ∷ numbered unknown_binary_annotation ∷ plain out_of_memory ∷ []
 
--- the same for a status that may not exist
-abbrev pub told_by : Option Tells → Tells
-told_by None = none
-told_by (Some telling) = telling
-
 -- the refusal that a fault can stand for
 abbrev pub candidate : Fault → Option Refusal
-candidate fault = told_by (slice_get tellings fault.status) fault.first fault.second
+candidate fault = option_map_or (λ tells. tells fault.first fault.second) (slice_get tellings fault.status) None
 
 -- whether two faults have the same numbers
 abbrev pub is_same : Fault → Fault → Bool

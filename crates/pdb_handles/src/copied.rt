@@ -1,6 +1,6 @@
 //! Answers that are copied into a caller's array.
 
-ghost use Rattle.std.specs.Prelude.{◌≡◌, ℕ, List, Option, Ok};
+ghost use Rattle.std.specs.Prelude.{◌≡◌, ℕ, List, Option};
 ghost use Rattle.std.specs.Option.{option_map};
 ghost use Rattle.pdb_base.specs.Answer.{Answer, Answers};
 ghost use Rattle.pdb_values.specs.Text.{text_bytes};
@@ -94,13 +94,19 @@ pub fn copy_if<T: Copy>(answer: Result<Option<Vec<T>>>, room: &mut [T], length: 
 }
 
 /// Copies the bytes of a name to the caller's array if there is one, or returns a fault of status
-/// `NONE` if there is none.
-pub fn copy_name(name: Option<RawString<'_>>, room: &mut [u8], length: &mut usize) -> Fault
-    ensures { record { fault = result; length = length.new; room = room.new }
-        ≡ if_copied room.old (Ok (option_map text_bytes name.entry)) }
+/// `NONE` if there is none, or the fault of the error.
+pub fn copy_name(
+    answer: Result<Option<RawString<'_>>>,
+    room: &mut [u8],
+    length: &mut usize,
+) -> Fault
+    ensures { (meant : Answer (Option (List ℕ))) → Answers (option_map text_bytes) answer.entry meant
+        → CopiesOrLacks (record { fault = result; length = length.new; room = room.new }) room.old
+        (if_copied room.old meant) }
 {
-    match name {
-        Some(name) => copy_out(name.as_bytes(), room, length),
-        None => copy_nothing(Fault::status(NONE), length),
+    match answer {
+        Ok(Some(name)) => copy_out(name.as_bytes(), room, length),
+        Ok(None) => copy_nothing(Fault::status(NONE), length),
+        Err(error) => copy_nothing(Fault::of(&error), length),
     }
 }

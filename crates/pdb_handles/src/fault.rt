@@ -5,7 +5,7 @@ ghost use Rattle.std.specs.Prelude.{◌≡◌};
 /// How a call ended. A status of 0 means success; one from 1 to 28 reports an error of the library;
 /// and those from 100 on mean that the caller misused it or that nothing was found.
 #[repr(C)]
-#[derive(Clone, Copy)]
+#[derive(Clone, Copy, PartialEq)]
 pub struct Fault {
     /// The status.
     pub status: u32,

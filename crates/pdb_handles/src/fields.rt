@@ -1,21 +1,18 @@
 //! Lists of fields.
 
-ghost use Rattle.std.specs.Prelude.{◌≡◌, List, Option, map, Ok, IfOk};
-ghost use Rattle.std.specs.List.{flat_map};
+ghost use Rattle.std.specs.Prelude.{◌≡◌, List, map, Ok};
 ghost use Rattle.std.specs.Option.{option_map};
-ghost use Rattle.pdb_base.specs.Memory.{FailsOnlyForMemory};
 ghost use Rattle.pdb_base.specs.Answer.{Answer, Answers};
 ghost use Rattle.pdb_values.specs.TypeValue.{TypeValue};
 ghost use Rattle.pdb_values.specs.TypeView.{type_value};
-ghost use Rattle.pdb_handles.specs.Records.{FieldsOrLacks, all_found, field_row, fields_in, fields_of_record, fields_told, listings, name_bytes};
-ghost use Rattle.pdb_handles.specs.Listing.{listing_view};
+ghost use Rattle.pdb_handles.specs.Records.{all_found, field_row, fields_in, listing, listing_view};
+ghost use Rattle.pdb_handles.specs.Records.{name_bytes, of_type};
 
-use crate::copied::copy_both;
-use crate::fault::{Fault, NONE};
 use crate::frame::flag;
+use crate::listing::Listing;
 use crate::records::type_in;
 use crate::row::Row;
-use pdb_base::{Error, Result};
+use pdb_base::Result;
 use pdb_values::TypeData;
 use std::alloc::Global;
 
@@ -29,13 +26,6 @@ pub struct FieldRow {
     pub name_length: usize,
     /// Whether it has a name, as 0 or 1.
     pub has_name: u32,
-}
-
-/// Fields and the bytes of their names.
-#[derive(Drop)]
-pub struct Listing {
-    rows: Vec<FieldRow>,
-    names: Vec<u8>,
 }
 
 /// Returns the bytes of a field's name, none if it has no name.
@@ -60,11 +50,8 @@ fn field_row(field: &TypeData<'_>) -> FieldRow
 }
 
 /// Collects a `FieldRow` for each field, and their names one after another.
-fn shown(alloc: Global, fields: &[TypeData<'_>]) -> Result<Listing>
-    ensures rows { IfOk result (λ shown. shown.rows.items ≡ map (λ field. field_row (type_value field)) fields.now) }
-    ensures names { IfOk result (λ shown. shown.names.items ≡
-        flat_map (λ field. name_bytes (type_value field)) fields.now) }
-    ensures memory { FailsOnlyForMemory result }
+fn listed(alloc: Global, fields: &[TypeData<'_>]) -> Result<Listing<FieldRow>>
+    ensures { Answers listing_view result (Ok (listing (map type_value fields.now))) }
 {
     let mut rows = Vec::with_capacity(alloc, fields.len())?;
     let mut names = Vec::new(alloc);
@@ -75,62 +62,18 @@ fn shown(alloc: Global, fields: &[TypeData<'_>]) -> Result<Listing>
     Ok(Listing { rows, names })
 }
 
-/// Sets `count` and `size` to 0 and returns the fault.
-pub fn write_nothing(fault: Fault, count: &mut usize, size: &mut usize) -> Fault
-    ensures fault { result ≡ fault }
-    ensures count { count.new ≡ 0 }
-    ensures size { size.new ≡ 0 }
-{
-    *count = 0;
-    *size = 0;
-    fault
-}
-
-/// Returns the fields that a type lists, for the caller, or None if it isn't a list of fields.
-#[tactic(auto, using(pdb_values::proofs::lemmas::Fields::listed))]
-fn listing_of(alloc: Global, value: &TypeData<'_>) -> Result<Option<Listing>>
-    ensures { Answers (option_map listing_view) result (listings (Ok (fields_in (type_value value.now)))) }
-{
-    match value {
-        TypeData::FieldList(list) => Ok(Some(shown(alloc, &list.fields)?)),
-        _ => Ok(None),
-    }
-}
-
 /// Returns all fields that were found, for the caller.
 ///
 /// # Errors
 /// Fails with the error that is given, and with `OutOfMemory` if an allocation fails.
-pub fn listing_found(alloc: Global, found: Result<Vec<TypeData<'_>>>) -> Result<Option<Listing>>
+pub fn listing_found(
+    alloc: Global,
+    found: Result<Vec<TypeData<'_>>>,
+) -> Result<Option<Listing<FieldRow>>>
     ensures { (meant : Answer (List TypeValue)) → Answers (λ fields. map type_value fields.items) found.entry meant
-        → Answers (option_map listing_view) result (listings (all_found meant)) }
+        → Answers (option_map listing_view) result (all_found meant) }
 {
-    Ok(Some(shown(alloc, &found?)?))
-}
-
-/// Writes the fields of a list, or nothing if there is no list of fields or parsing it failed.
-pub fn write_found(
-    found: Result<Option<Listing>>,
-    rows: &mut [FieldRow],
-    count: &mut usize,
-    names: &mut [u8],
-    size: &mut usize,
-) -> Fault
-    ensures { (meant : Answer (Option (List TypeValue))) → Answers (option_map listing_view) found (listings meant)
-        → FieldsOrLacks (record {
-          fault = result;
-          rows = rows.new;
-          count = count.new;
-          names = names.new;
-          size = size.new;
-        })
-        rows.old names.old (fields_told rows.old names.old meant) }
-{
-    match found {
-        Ok(Some(listing)) => copy_both(&listing.rows, &listing.names, rows, count, names, size),
-        Ok(None) => write_nothing(Fault::status(NONE), count, size),
-        Err(error) => write_nothing(Fault::of(&error), count, size),
-    }
+    Ok(Some(listed(alloc, &found?)?))
 }
 
 /// Parses a record and returns the fields that it lists, for the caller, or None if it isn't a list
@@ -138,9 +81,13 @@ pub fn write_found(
 ///
 /// # Errors
 /// Fails as `type_in` does, and with `OutOfMemory` if an allocation fails.
-pub fn fields_of(alloc: Global, bytes: &[u8], index: u32) -> Result<Option<Listing>>
-    ensures { Answers (option_map listing_view) result (listings (fields_of_record index bytes.now)) }
+#[tactic(auto, using(crate::proofs::FieldsLemmas::fields_seen))]
+pub fn fields_of(alloc: Global, bytes: &[u8], index: u32) -> Result<Option<Listing<FieldRow>>>
+    ensures { Answers (option_map listing_view) result (of_type fields_in index bytes.now) }
 {
     let value = type_in(alloc, bytes, index)?;
-    listing_of(alloc, &value)
+    match &value {
+        TypeData::FieldList(list) => Ok(Some(listed(alloc, &list.fields)?)),
+        _ => Ok(None),
+    }
 }

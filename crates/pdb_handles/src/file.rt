@@ -1,13 +1,14 @@
-//! The parts of a caller's file that are found by the roles and names of its streams.
+//! A caller's file, and the parts of it that are found by the roles and names of its streams.
 
 ghost use Rattle.std.specs.Prelude.{◌≡◌, IfOk};
 ghost use Rattle.pdb_base.specs.Answer.{Answers};
 ghost use Rattle.pdb_msf.specs.Header.{opened};
-ghost use Rattle.pdb_handles.specs.File.{addresses_said, frames_said, named_stream_said};
+ghost use Rattle.pdb_handles.specs.File.{addresses_said, frames_said, layout_said, named_stream_said};
 
 use crate::content::Content;
 use pdb_base::{Result, Stream};
 use pdb_file::PDB;
+use pdb_msf::Layout;
 use std::alloc::Global;
 
 /// Opens a file over the caller's bytes.
@@ -19,6 +20,16 @@ pub fn opened<'f>(alloc: Global, file: &'f [u8]) -> Result<PDB<&'f [u8]>>
     ensures bytes { IfOk result (λ opened. opened.source.now ≡ file.now) }
 {
     PDB::open(alloc, file)
+}
+
+/// Reads the header and the directory of a file.
+///
+/// # Errors
+/// Fails as `Layout::read` does.
+pub fn layout_in(alloc: Global, file: &[u8]) -> Result<Content>
+    ensures { Answers (λ content. content) result (layout_said file.now) }
+{
+    Ok(Content::File(Layout::read(alloc, file)?))
 }
 
 /// Reads the first stream with this name.

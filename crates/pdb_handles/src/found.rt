@@ -1,35 +1,42 @@
 //! Values that may be missing, and results that may be errors.
 
 ghost use Rattle.std.specs.Prelude.{◌≡◌};
-ghost use Rattle.pdb_base.specs.Answer.{Answer, Gives};
+ghost use Rattle.pdb_base.specs.Answer.{Answer, Answers, Gives};
+ghost use Rattle.pdb_handles.specs.Fault.{fine};
 ghost use Rattle.pdb_handles.specs.Found.{answered, found};
+ghost use Rattle.pdb_handles.specs.Roles.{IsAnswered};
 
 use crate::fault::{FINE, Fault};
 use pdb_base::Result;
+
+/// Writes a value.
+pub fn tell_value<T: Copy>(given: T, value: &mut T) -> Fault
+    ensures fault { result ≡ fine }
+    ensures value { value.new ≡ given }
+{
+    *value = given;
+    Fault::status(FINE)
+}
 
 /// Writes a value that was found, or returns the fault `missing` if there is none.
 pub fn tell_found<T: Copy>(answer: Option<T>, missing: Fault, value: &mut T) -> Fault
     ensures { record { fault = result; value = value.new } ≡ found missing value.old answer }
 {
     match answer {
-        Some(number) => {
-            *value = number;
-            Fault::status(FINE)
-        }
+        Some(number) => tell_value(number, value),
         None => missing,
     }
 }
 
 /// Writes the value of an answer, or returns the fault of its error.
 pub fn tell_answered<T: Copy>(answer: Result<T>, value: &mut T) -> Fault
-    ensures { (meant : Answer T) → Gives (λ number. number) answer meant
+    ensures given { (meant : Answer T) → Gives (λ number. number) answer meant
         → record { fault = result; value = value.new } ≡ answered value.old meant }
+    ensures read { (meant : Answer T) → Answers (λ number. number) answer meant
+        → IsAnswered (λ number. number) meant value.old result value.new }
 {
     match answer {
-        Ok(number) => {
-            *value = number;
-            Fault::status(FINE)
-        }
+        Ok(number) => tell_value(number, value),
         Err(error) => Fault::of(&error),
     }
 }

@@ -1,10 +1,9 @@
 //! Frames, as a caller sees them.
 
-ghost use Rattle.std.specs.Prelude.{◌≡◌, unwrap_or, is_some};
-ghost use Rattle.pdb_frames.specs.FrameNumbers.{kind_number};
+ghost use Rattle.std.specs.Prelude.{◌≡◌};
 ghost use Rattle.pdb_handles.specs.Frame.{flag, frame_of};
 
-use pdb_frames::{FrameData, FrameType};
+use pdb_frames::FrameData;
 
 /// What a stack walker needs to know of the frame of some code. Each flag is 0 or 1.
 #[repr(C)]
@@ -42,20 +41,6 @@ pub struct Frame {
     pub program: u32,
 }
 
-/// Returns the number of a kind of frame.
-fn kind_number(kind: FrameType) -> u32
-    ensures { result ≡ kind_number kind }
-{
-    match kind {
-        FrameType::FPO => 0,
-        FrameType::Trap => 1,
-        FrameType::TSS => 2,
-        FrameType::Standard => 3,
-        FrameType::FrameData => 4,
-        FrameType::Unknown => 0xff,
-    }
-}
-
 /// Returns 1 for true and 0 for false.
 pub fn flag(test: bool) -> u32
     ensures { result ≡ flag test }
@@ -69,7 +54,7 @@ impl Frame {
         ensures { result ≡ frame_of frame.now }
     {
         Frame {
-            kind: kind_number(frame.ty),
+            kind: frame.ty as u32,
             code_start: frame.code_start.0,
             code_size: frame.code_size,
             locals_size: frame.locals_size,
@@ -83,10 +68,7 @@ impl Frame {
             is_function_start: flag(frame.is_function_start),
             uses_base_pointer: flag(frame.uses_base_pointer),
             has_program: flag(frame.program.is_some()),
-            program: match frame.program {
-                Some(place) => place.0,
-                None => 0,
-            },
+            program: frame.program.map_or(0, |place| place.0),
         }
     }
 }

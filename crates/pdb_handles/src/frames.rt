@@ -1,14 +1,10 @@
 //! Frames of a program.
 
-ghost use Rattle.std.specs.Prelude.{◌≡◌, slice_get, List, map, Ok};
-ghost use Rattle.std.specs.Option.{option_map};
+ghost use Rattle.std.specs.Prelude.{map, Ok};
 ghost use Rattle.pdb_base.specs.Answer.{Answers};
 ghost use Rattle.pdb_frames.specs.Merge.{by_heads, merge};
-ghost use Rattle.pdb_frames.specs.Table.{BeginsSomewhere, StartsIncrease, merge_from};
-ghost use Rattle.pdb_frames.specs.declared.frame_data.FrameData.{FrameData as Described};
-ghost use Rattle.pdb_handles.specs.Fault.{no_value};
-ghost use Rattle.pdb_handles.specs.Found.{found};
-ghost use Rattle.pdb_handles.specs.Frame.{frame_of};
+ghost use Rattle.pdb_frames.specs.Table.{StartsIncrease};
+ghost use Rattle.pdb_handles.specs.Frame.{IsFirst, TellsFirst, frame_of};
 
 use crate::fault::{Fault, NONE};
 use crate::found::tell_found;
@@ -20,29 +16,19 @@ use std::alloc::Global;
 
 /// Returns the first frame of a table from an address on.
 fn first_from(table: &FrameTable, address: u32) -> Option<Frame>
-    ensures exact { StartsIncrease table.now →
-        result ≡ option_map frame_of (slice_get (merge_from address table.now) 0) }
-    ensures somewhere { (frames : List Described) × BeginsSomewhere table.now frames ×
-        (result ≡ option_map frame_of (slice_get frames 0)) }
+    ensures { IsFirst table.now address result }
 {
     let mut frames = table.iter_at_rva(PdbInternalRva(address));
     let Ok(first) = frames.next() else {
         unreachable!();
     };
-    match first {
-        Some(frame) => Some(Frame::of(&frame)),
-        None => None,
-    }
+    first.map(|frame| Frame::of(&frame))
 }
 
 /// Writes the first frame of a table from an address on, or returns a fault of status `NONE` if
 /// there is none.
 pub fn tell_first(table: &FrameTable, address: u32, frame: &mut Frame) -> Fault
-    ensures exact { StartsIncrease table.now → record { fault = result; value = frame.new } ≡
-        found no_value frame.old (option_map frame_of (slice_get (merge_from address table.now) 0)) }
-    ensures somewhere { (frames : List Described) × BeginsSomewhere table.now frames ×
-        (record { fault = result; value = frame.new } ≡
-        found no_value frame.old (option_map frame_of (slice_get frames 0))) }
+    ensures { TellsFirst table.now address frame.old (record { fault = result; value = frame.new }) }
 {
     tell_found(first_from(table, address), Fault::status(NONE), frame)
 }

@@ -1,21 +1,16 @@
 //! What the record of an id says.
 
-ghost use Rattle.std.specs.Prelude.{◌≡◌, map, Ok};
+ghost use Rattle.std.specs.Prelude.{◌≡◌};
 ghost use Rattle.std.specs.Option.{option_map};
-ghost use Rattle.pdb_base.specs.Answer.{Answer, Answers};
+ghost use Rattle.pdb_base.specs.Answer.{Answers};
 ghost use Rattle.pdb_values.specs.Text.{text_bytes};
-ghost use Rattle.pdb_values.specs.IdValue.{IdValue, id_name, id_value};
+ghost use Rattle.pdb_values.specs.IdValue.{id_name, id_value};
 ghost use Rattle.pdb_tpi.specs.Record.{id_of};
-ghost use Rattle.pdb_handles.specs.Copied.{CopiesOrLacks};
-ghost use Rattle.pdb_handles.specs.Ids.{id_in, id_list_of, id_row};
-ghost use Rattle.pdb_handles.specs.Records.{shown_copied};
-ghost use Rattle.pdb_handles.specs.Roles.{IsAnswered};
+ghost use Rattle.pdb_handles.specs.Ids.{id_row, list_in, of_id};
 
-use crate::copied::{copy_name, copy_nothing};
-use crate::fault::{FINE, Fault};
 use crate::records::numbers_of;
-use crate::row::{NO_NUMBERS, Numbers, Row, row};
-use pdb_base::{IdIndex, RawString, Result};
+use crate::row::{Numbers, Row, row};
+use pdb_base::{RawString, Result};
 use pdb_records::parse_id_data;
 use pdb_values::{IdData, UserDefinedTypeSourceFileRef};
 use std::alloc::Global;
@@ -31,28 +26,18 @@ pub fn id_at<'t>(alloc: Global, bytes: &'t [u8]) -> Result<IdData<'t>>
     parse_id_data(alloc, bytes)
 }
 
-/// Returns the number of an index, if there is one.
-fn id_in(index: Option<IdIndex>) -> Option<u32>
-    ensures { result ≡ id_in index }
-{
-    match index {
-        Some(index) => Some(index.0),
-        None => None,
-    }
-}
-
 /// Returns the `Row` of an id.
 fn row_of_id(value: &IdData<'_>) -> Row
     ensures { result ≡ id_row (id_value value.now) }
 {
     match value {
         IdData::Function(id) => row!(0;
-            type_index: Some(id.function_type.0), second_index: id_in(id.scope)),
+            type_index: Some(id.function_type.0), second_index: id.scope.map(|scope| scope.0)),
         IdData::MemberFunction(id) => row!(1;
             type_index: Some(id.function_type.0), third_index: Some(id.parent.0)),
-        IdData::BuildInfo(_) => Row::of(2, &NO_NUMBERS),
-        IdData::StringList(_) => Row::of(3, &NO_NUMBERS),
-        IdData::String(id) => row!(4; list_index: id_in(id.substrings)),
+        IdData::BuildInfo(_) => Row::of(2, &Numbers::default()),
+        IdData::StringList(_) => Row::of(3, &Numbers::default()),
+        IdData::String(id) => row!(4; list_index: id.substrings.map(|list| list.0)),
         IdData::UserDefinedTypeSource(id) => match id.source_file {
             UserDefinedTypeSourceFileRef::Local(file) => row!(5;
                 type_index: Some(id.udt.0), second_index: Some(file.0), extra: Some(id.line)),
@@ -63,24 +48,32 @@ fn row_of_id(value: &IdData<'_>) -> Row
     }
 }
 
-/// Returns the name of a function, a method or a text. No other id has one.
-fn name_in<'t>(value: &IdData<'t>) -> Option<RawString<'t>>
-    ensures { option_map text_bytes result ≡ id_name (id_value value.now) }
+/// Parses the record of an id and returns its `Row`, for the caller.
+///
+/// # Errors
+/// Fails as `id_at` does.
+pub fn id_row_in(alloc: Global, bytes: &[u8]) -> Result<Row>
+    ensures { Answers (λ row. row) result (of_id id_row bytes.now) }
 {
-    match value {
-        IdData::Function(id) => Some(id.name),
-        IdData::MemberFunction(id) => Some(id.name),
-        IdData::String(id) => Some(id.name),
-        _ => None,
-    }
+    let value = id_at(alloc, bytes)?;
+    Ok(row_of_id(&value))
 }
 
-/// Returns the numbers of id indexes.
-fn id_numbers_of(alloc: Global, indexes: &[IdIndex]) -> Result<Vec<u32>>
-    ensures { Answers (λ numbers. numbers.items) result (Ok (map (λ index. index.0) indexes.now)) }
+/// Parses the record of an id and returns the name of a function, a method or a text. No other id
+/// has one.
+///
+/// # Errors
+/// Fails as `id_at` does.
+pub fn id_name_in<'t>(alloc: Global, bytes: &'t [u8]) -> Result<Option<RawString<'t>>>
+    ensures { Answers (option_map text_bytes) result (of_id id_name bytes.now) }
 {
-    let numbers = indexes.iter().map(|index| index.0).collect(alloc)?;
-    Ok(numbers)
+    let value = id_at(alloc, bytes)?;
+    match &value {
+        IdData::Function(id) => Ok(Some(id.name)),
+        IdData::MemberFunction(id) => Ok(Some(id.name)),
+        IdData::String(id) => Ok(Some(id.name)),
+        _ => Ok(None),
+    }
 }
 
 /// Parses the record of an id and returns the indexes that it lists, or None if it isn't a list.
@@ -88,38 +81,14 @@ fn id_numbers_of(alloc: Global, indexes: &[IdIndex]) -> Result<Vec<u32>>
 /// # Errors
 /// Fails as `id_at` does, and with `OutOfMemory` if an allocation fails.
 pub fn list_of(alloc: Global, bytes: &[u8]) -> Result<Option<Vec<u32>>>
-    ensures { Answers (option_map (λ list. list.items)) result (id_list_of bytes.now) }
+    ensures { Answers (option_map (λ list. list.items)) result (of_id list_in bytes.now) }
 {
     let value = id_at(alloc, bytes)?;
     match &value {
-        IdData::BuildInfo(list) => Ok(Some(id_numbers_of(alloc, &list.arguments)?)),
+        IdData::BuildInfo(list) => {
+            Ok(Some(list.arguments.iter().map(|index| index.0).collect(alloc)?))
+        }
         IdData::StringList(list) => Ok(Some(numbers_of(alloc, &list.substrings)?)),
         _ => Ok(None),
-    }
-}
-
-/// Writes the `Row` of an id that was parsed, or returns the fault of its error.
-pub fn write_id_row(parsed: Result<IdData<'_>>, row: &mut Row) -> Fault
-    ensures { (meant : Answer IdValue) → Answers id_value parsed.entry meant
-        → IsAnswered (λ value. id_row value) meant row.old result row.new }
-{
-    match parsed {
-        Ok(value) => {
-            *row = row_of_id(&value);
-            Fault::status(FINE)
-        }
-        Err(error) => Fault::of(&error),
-    }
-}
-
-/// Copies the name of an id that was parsed, if it has one, or returns the fault of its error.
-pub fn copy_id_name(parsed: Result<IdData<'_>>, room: &mut [u8], length: &mut usize) -> Fault
-    ensures { (meant : Answer IdValue) → Answers id_value parsed.entry meant
-        → CopiesOrLacks (record { fault = result; length = length.new; room = room.new }) room.old
-        (shown_copied room.old id_name meant) }
-{
-    match parsed {
-        Ok(value) => copy_name(name_in(&value), room, length),
-        Err(error) => copy_nothing(Fault::of(&error), length),
     }
 }

@@ -1,22 +1,17 @@
 //! The information in stream 1 of a file: the numbers that identify it, and the streams that it
 //! names.
 
-ghost use Rattle.std.specs.Prelude.{◌≡◌, map, IfOk};
-ghost use Rattle.std.specs.List.{flat_map};
-ghost use Rattle.pdb_base.specs.Memory.{FailsOnlyForMemory};
-ghost use Rattle.pdb_base.specs.Answer.{Answer, Answers};
+ghost use Rattle.std.specs.Prelude.{◌≡◌, Ok};
+ghost use Rattle.std.specs.Option.{option_map};
+ghost use Rattle.pdb_base.specs.Answer.{Answers};
 ghost use Rattle.pdb_file.specs.StreamNames.{named_view};
-ghost use Rattle.pdb_file.specs.declared.information.PDBInformation.{PDBInformation};
-ghost use Rattle.pdb_handles.specs.Information.{information_of, information_said, named_row, named_told, names_by};
-ghost use Rattle.pdb_handles.specs.Records.{FieldsOrLacks};
-ghost use Rattle.pdb_handles.specs.Roles.{IsAnswered};
+ghost use Rattle.pdb_handles.specs.Information.{information_said, named_listing, named_row, names_said};
+ghost use Rattle.pdb_handles.specs.Records.{listing_view};
 
-use crate::copied::copy_both;
-use crate::fault::{FINE, Fault};
-use crate::fields::write_nothing;
 use crate::file::opened;
-use pdb_base::{Error, Result};
-use pdb_file::{PDBInformation, StreamName, StreamNames};
+use crate::listing::Listing;
+use pdb_base::Result;
+use pdb_file::{StreamName, StreamNames};
 use std::alloc::Global;
 
 /// The numbers that identify a file.
@@ -43,36 +38,21 @@ pub struct NamedStream {
     pub number: u32,
 }
 
-/// Streams and the bytes of their names.
-#[derive(Drop)]
-struct NameListing {
-    rows: Vec<NamedStream>,
-    names: Vec<u8>,
-}
-
-impl Information {
-    /// Converts the numbers for the caller.
-    pub fn of(said: &PDBInformation) -> Information
-        ensures { result ≡ information_of said.now }
-    {
-        Information {
-            version: said.version,
-            signature: said.signature,
-            age: said.age,
-            guid: said.guid,
-        }
-    }
-}
-
-/// Reads the information in stream 1.
+/// Reads the numbers that identify a file.
 ///
 /// # Errors
 /// Fails as `opened` and `pdb_information` do.
-pub fn information_in(alloc: Global, file: &[u8]) -> Result<PDBInformation>
+pub fn information_in(alloc: Global, file: &[u8]) -> Result<Information>
     ensures { Answers (λ information. information) result (information_said file.now) }
 {
     let mut file = opened(alloc, file)?;
-    file.pdb_information(alloc)
+    let said = file.pdb_information(alloc)?;
+    Ok(Information {
+        version: said.version,
+        signature: said.signature,
+        age: said.age,
+        guid: said.guid,
+    })
 }
 
 /// Returns the `NamedStream` of a named stream, for the caller.
@@ -86,75 +66,28 @@ fn named_row(named: &StreamName<'_>) -> NamedStream
 }
 
 /// Collects a `NamedStream` for each named stream, and their names one after another.
-fn listed(alloc: Global, streams: &[StreamName<'_>]) -> Result<NameListing>
-    ensures rows { IfOk result (λ listed. listed.rows.items ≡ map (λ named. named_row (named_view named)) streams.now) }
-    ensures names { IfOk result (λ listed. listed.names.items ≡
-        flat_map (λ named. (named_view named).name) streams.now) }
-    ensures memory { FailsOnlyForMemory result }
+fn listed(alloc: Global, streams: &StreamNames<'_>) -> Result<Listing<NamedStream>>
+    ensures { Answers listing_view result (Ok (named_listing streams.now)) }
 {
+    let streams = streams.as_slice();
     let mut rows = Vec::with_capacity(alloc, streams.len())?;
     let mut names = Vec::new(alloc);
     for named in streams {
         rows.push(named_row(named))?;
         names.extend_from_slice(named.name.as_bytes())?;
     }
-    Ok(NameListing { rows, names })
+    Ok(Listing { rows, names })
 }
 
-/// Collects the numbers and names of all streams that a file names.
-fn listing_of(alloc: Global, streams: &StreamNames<'_>) -> Result<NameListing>
-    ensures rows { IfOk result (λ listed. listed.rows.items ≡ map named_row streams.now) }
-    ensures names { IfOk result (λ listed. listed.names.items ≡ flat_map (λ named. named.name) streams.now) }
-    ensures memory { FailsOnlyForMemory result }
+/// Reads the streams that a file names, for the caller.
+///
+/// # Errors
+/// Fails as `opened`, `pdb_information` and `stream_names` do.
+pub fn stream_names_in(alloc: Global, file: &[u8]) -> Result<Option<Listing<NamedStream>>>
+    ensures { Answers (option_map listing_view) result (names_said file.now) }
 {
-    let listed = listed(alloc, streams.as_slice())?;
-    Ok(listed)
-}
-
-/// Writes the numbers that identify a file, or returns the fault of the error.
-pub fn write_information(read: Result<PDBInformation>, information: &mut Information) -> Fault
-    ensures { (meant : Answer PDBInformation) → Answers (λ information. information) read meant
-        → IsAnswered information_of meant information.old result information.new }
-{
-    match read {
-        Ok(said) => {
-            *information = Information::of(&said);
-            Fault::status(FINE)
-        }
-        Err(error) => Fault::of(&error),
-    }
-}
-
-/// Writes the streams that the information of a file names, and the bytes of their names, or
-/// returns the fault of the error.
-pub fn write_stream_names(
-    alloc: Global,
-    read: Result<PDBInformation>,
-    rows: &mut [NamedStream],
-    count: &mut usize,
-    names: &mut [u8],
-    size: &mut usize,
-) -> Fault
-    ensures { (meant : Answer PDBInformation) → Answers (λ information. information) read meant
-        → FieldsOrLacks (record {
-          fault = result;
-          rows = rows.new;
-          count = count.new;
-          names = names.new;
-          size = size.new;
-        })
-        rows.old names.old (named_told rows.old names.old (names_by meant)) }
-{
-    let information = match read {
-        Ok(information) => information,
-        Err(error) => return write_nothing(Fault::of(&error), count, size),
-    };
-    let streams = match information.stream_names(alloc) {
-        Ok(streams) => streams,
-        Err(error) => return write_nothing(Fault::of(&error), count, size),
-    };
-    match listing_of(alloc, &streams) {
-        Ok(listed) => copy_both(&listed.rows, &listed.names, rows, count, names, size),
-        Err(error) => write_nothing(Fault::of(&error), count, size),
-    }
+    let mut file = opened(alloc, file)?;
+    let information = file.pdb_information(alloc)?;
+    let streams = information.stream_names(alloc)?;
+    Ok(Some(listed(alloc, &streams)?))
 }

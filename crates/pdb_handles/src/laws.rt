@@ -12,6 +12,7 @@ ghost use Rattle.pdb_handles.specs.Told.{IsTold, TellsBack};
 use pdb_space::laws::{names, string_tables};
 
 /// Errors of the library and the faults that report one correspond one to one.
+#[tactic(auto, using(crate::proofs::StatusLaws::forth, crate::proofs::StatusLaws::back_of))]
 pub fn statuses()
     ensures forth { (refusal : Refusal) → IsTold refusal }
     ensures back { (fault : Fault) (refusal : Refusal) → TellsBack fault refusal }

@@ -2,18 +2,13 @@
 
 ghost use Rattle.std.specs.Prelude.{◌≡◌, map, Ok};
 ghost use Rattle.std.specs.Option.{option_map};
-ghost use Rattle.pdb_base.specs.Answer.{Answer, Answers};
+ghost use Rattle.pdb_base.specs.Answer.{Answers};
 ghost use Rattle.pdb_values.specs.Text.{text_bytes};
-ghost use Rattle.pdb_values.specs.TypeValue.{TypeValue};
-ghost use Rattle.pdb_values.specs.TypeView.{type_value};
-ghost use Rattle.pdb_handles.specs.Copied.{CopiesOrLacks};
-ghost use Rattle.pdb_handles.specs.Lists.{dimensions_in, method_row, methods_of, unique_name_in};
-ghost use Rattle.pdb_handles.specs.Records.{shown_copied};
+ghost use Rattle.pdb_handles.specs.Lists.{dimensions_in, method_row, methods_in, unique_name_in};
+ghost use Rattle.pdb_handles.specs.Records.{of_type};
 
-use crate::copied::{copy_name, copy_nothing, copy_out};
-use crate::fault::{Fault, NONE};
 use crate::records::type_in;
-use crate::row::{NO_NUMBERS, Numbers, Row, row};
+use crate::row::{Numbers, Row, row};
 use pdb_base::{RawString, Result};
 use pdb_values::{MethodListEntry, TypeData};
 use std::alloc::Global;
@@ -43,7 +38,7 @@ fn method_rows(alloc: Global, methods: &[MethodListEntry]) -> Result<Vec<Row>>
 /// # Errors
 /// Fails as `type_in` does, and with `OutOfMemory` if an allocation fails.
 pub fn methods_of(alloc: Global, bytes: &[u8], index: u32) -> Result<Option<Vec<Row>>>
-    ensures { Answers (option_map (λ rows. rows.items)) result (methods_of index bytes.now) }
+    ensures { Answers (option_map (λ rows. rows.items)) result (of_type methods_in index bytes.now) }
 {
     let value = type_in(alloc, bytes, index)?;
     match &value {
@@ -52,45 +47,35 @@ pub fn methods_of(alloc: Global, bytes: &[u8], index: u32) -> Result<Option<Vec<
     }
 }
 
-/// Returns the unique name of a type, if it has one.
-fn unique_name<'t>(value: &TypeData<'t>) -> Option<RawString<'t>>
-    ensures { option_map text_bytes result ≡ unique_name_in (type_value value.now) }
+/// Parses a record and returns the dimensions of its type, or None if it isn't an array.
+///
+/// # Errors
+/// Fails as `type_in` does.
+pub fn dimensions_of(alloc: Global, bytes: &[u8], index: u32) -> Result<Option<Vec<u32>>>
+    ensures { Answers (option_map (λ sizes. sizes.items)) result (of_type dimensions_in index bytes.now) }
 {
-    match value {
-        TypeData::Class(class) => class.unique_name,
-        TypeData::Union(union) => union.unique_name,
-        TypeData::Enumeration(enumeration) => enumeration.unique_name,
-        _ => None,
+    match type_in(alloc, bytes, index)? {
+        TypeData::Array(array) => Ok(Some(array.dimensions)),
+        _ => Ok(None),
     }
 }
 
-/// Copies the dimensions of a type that was parsed, if it is an array, or returns the fault of its
-/// error.
-pub fn copy_dimensions_of(
-    parsed: Result<TypeData<'_>>,
-    room: &mut [u32],
-    length: &mut usize,
-) -> Fault
-    ensures { (meant : Answer TypeValue) → Answers type_value parsed.entry meant
-        → CopiesOrLacks (record { fault = result; length = length.new; room = room.new }) room.old
-        (shown_copied room.old dimensions_in meant) }
+/// Parses a record and returns the unique name of its type, if it has one.
+///
+/// # Errors
+/// Fails as `type_in` does.
+pub fn unique_name_in<'t>(
+    alloc: Global,
+    bytes: &'t [u8],
+    index: u32,
+) -> Result<Option<RawString<'t>>>
+    ensures { Answers (option_map text_bytes) result (of_type unique_name_in index bytes.now) }
 {
-    match parsed {
-        Ok(TypeData::Array(array)) => copy_out(&array.dimensions, room, length),
-        Ok(_) => copy_nothing(Fault::status(NONE), length),
-        Err(error) => copy_nothing(Fault::of(&error), length),
-    }
-}
-
-/// Copies the unique name of a type that was parsed, if it has one, or returns the fault of its
-/// error.
-pub fn copy_unique_name(parsed: Result<TypeData<'_>>, room: &mut [u8], length: &mut usize) -> Fault
-    ensures { (meant : Answer TypeValue) → Answers type_value parsed.entry meant
-        → CopiesOrLacks (record { fault = result; length = length.new; room = room.new }) room.old
-        (shown_copied room.old unique_name_in meant) }
-{
-    match parsed {
-        Ok(value) => copy_name(unique_name(&value), room, length),
-        Err(error) => copy_nothing(Fault::of(&error), length),
+    let value = type_in(alloc, bytes, index)?;
+    match &value {
+        TypeData::Class(class) => Ok(class.unique_name),
+        TypeData::Union(union) => Ok(union.unique_name),
+        TypeData::Enumeration(enumeration) => Ok(enumeration.unique_name),
+        _ => Ok(None),
     }
 }

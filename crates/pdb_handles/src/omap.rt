@@ -8,7 +8,9 @@ ghost use Rattle.pdb_handles.specs.Handle.{held_as};
 ghost use Rattle.pdb_handles.specs.Omap.{TellsOrder, omap_row};
 
 use crate::content::Content;
-use crate::fault::{FINE, Fault};
+use crate::fault::Fault;
+use crate::found::tell_value;
+use crate::frame::flag;
 use pdb_base::{Result, Stream};
 use pdb_space::{OMAPRecord, OMAPTable};
 use std::alloc::Global;
@@ -53,7 +55,7 @@ fn omap_row(moved: OMAPRecord) -> OmapRow
 pub fn records_in(alloc: Global, table: &OMAPTable) -> Result<Vec<OmapRow>>
     ensures { Answers (λ rows. rows.items) result (Ok (map omap_row table.now)) }
 {
-    let rows = table.records().map(|moved| omap_row(moved)).collect(alloc)?;
+    let rows = table.records().map(omap_row).collect(alloc)?;
     Ok(rows)
 }
 
@@ -62,6 +64,5 @@ pub fn records_in(alloc: Global, table: &OMAPTable) -> Result<Vec<OmapRow>>
 pub fn tell_order(table: &OMAPTable, is_sorted: &mut u32) -> Fault
     ensures { TellsOrder table.now (record { fault = result; value = is_sorted.new }) }
 {
-    *is_sorted = if table.is_sorted() { 1 } else { 0 };
-    Fault::status(FINE)
+    tell_value(flag(table.is_sorted()), is_sorted)
 }

@@ -1,20 +1,60 @@
-//! What calls ask of a table of types or of ids. Both are read alike.
+//! Tables of types and of ids, which are read alike, and where their records are.
 
-ghost use Rattle.std.specs.Prelude.{◌≡◌};
+ghost use Rattle.std.specs.Prelude.{◌≡◌, ◌<◌, length, Some};
 ghost use Rattle.std.specs.Option.{option_map};
 ghost use Rattle.pdb_base.specs.Answer.{Answers};
 ghost use Rattle.pdb_tpi.specs.OpenTable.{located, step_located};
 ghost use Rattle.pdb_tpi.specs.Table.{count_of};
-ghost use Rattle.pdb_handles.specs.Listing.{listing_view};
-ghost use Rattle.pdb_handles.specs.Records.{listings};
-ghost use Rattle.pdb_handles.specs.Tables.{fields_in_table, located_told, stepped};
+ghost use Rattle.pdb_handles.specs.declared.content.Content.TheVariants.{Table};
+ghost use Rattle.pdb_handles.specs.Handle.{held_as};
+ghost use Rattle.pdb_handles.specs.Records.{listing_view};
+ghost use Rattle.pdb_handles.specs.Tables.{fields_in_table, located_at, located_told, stepped, table_opened};
 
-use crate::fault::{END, FINE, Fault, NONE};
-use crate::fields::{Listing, listing_found};
-use crate::located::Located;
-use pdb_base::{Result, TypeIndex};
-use pdb_tpi::OpenTable;
+use crate::content::Content;
+use crate::fault::{END, Fault, NONE};
+use crate::fields::{FieldRow, listing_found};
+use crate::found::tell_value;
+use crate::listing::Listing;
+use pdb_base::{Result, Stream, TypeIndex};
+use pdb_tpi::{OpenTable, RecordPlace, TypeInformation};
 use std::alloc::Global;
+
+/// Where the record of an index is in the stream of its table.
+#[repr(C)]
+#[derive(Clone, Copy)]
+pub struct Located {
+    /// The index.
+    pub index: u32,
+    /// The number of bytes of the stream before the record.
+    pub offset: u32,
+    /// The number of bytes of the record.
+    pub length: u32,
+}
+
+impl Located {
+    /// Returns the location of the record of an index, from its place.
+    pub fn at(index: u32, place: RecordPlace) -> Located
+        ensures { result ≡ located_at index place }
+    {
+        Located {
+            index,
+            offset: place.offset,
+            length: place.length,
+        }
+    }
+}
+
+/// Opens the table in a stream, which is copied.
+///
+/// # Errors
+/// Fails as `TypeInformation::parse` does, and with `OutOfMemory` if an allocation fails.
+pub fn table_in(alloc: Global, stream: &[u8]) -> Result<Content>
+    requires { length stream.now < 0xffffffff }
+    ensures { Answers (λ content. content) result (held_as Table (table_opened stream.now)) }
+{
+    let items = TypeInformation::parse(Stream::new(stream.to_vec(alloc)?))?;
+    Ok(Content::Table(OpenTable::new(alloc, items)?))
+}
 
 /// Returns the number of indexes that the header of a table counts.
 pub fn counted(kept: &OpenTable<TypeIndex>) -> u32
@@ -32,10 +72,7 @@ pub fn find_record(kept: &mut OpenTable<TypeIndex>, index: u32, place: &mut Loca
 {
     kept.learn(TypeIndex(index));
     match kept.find(TypeIndex(index)) {
-        Ok(Some(found)) => {
-            *place = Located::at(index, found);
-            Fault::status(FINE)
-        }
+        Ok(Some(found)) => tell_value(Located::at(index, found), place),
         Ok(None) => Fault::status(NONE),
         Err(error) => Fault::of(&error),
     }
@@ -43,7 +80,7 @@ pub fn find_record(kept: &mut OpenTable<TypeIndex>, index: u32, place: &mut Loca
 
 /// Writes where the next record is, or the index at which the walk ends or fails.
 pub fn next_record(kept: &mut OpenTable<TypeIndex>, place: &mut Located) -> Fault
-    ensures { record { fault = result; value = place.new; stand = kept.new } ≡
+    ensures { record { fault = result; value = place.new; held = Some (Table kept.new) } ≡
         stepped kept.old (step_located kept.old) }
 {
     let index = kept.index().min(0xffff_ffff) as u32;
@@ -53,10 +90,7 @@ pub fn next_record(kept: &mut OpenTable<TypeIndex>, place: &mut Located) -> Faul
         length: 0,
     };
     match kept.step() {
-        Ok(Some(found)) => {
-            *place = Located::at(index, found);
-            Fault::status(FINE)
-        }
+        Ok(Some(found)) => tell_value(Located::at(index, found), place),
         Ok(None) => Fault::status(END),
         Err(error) => Fault::of(&error),
     }
@@ -70,8 +104,8 @@ pub fn listed_fields(
     kept: &mut OpenTable<TypeIndex>,
     alloc: Global,
     index: u32,
-) -> Result<Option<Listing>>
-    ensures fields { Answers (option_map listing_view) result (listings (fields_in_table index kept.old)) }
+) -> Result<Option<Listing<FieldRow>>>
+    ensures fields { Answers (option_map listing_view) result (fields_in_table index kept.old) }
     ensures kept { kept.new ≡ kept.old }
 {
     kept.learn(TypeIndex(index));

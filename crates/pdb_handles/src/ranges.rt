@@ -1,12 +1,8 @@
 //! The ranges to which OMAP tables move a range of addresses.
 
-ghost use Rattle.std.specs.Prelude.{map, Ok, IfSome};
+ghost use Rattle.std.specs.Prelude.{◌≡◌, map, Ok, Some};
 ghost use Rattle.pdb_base.specs.Answer.{Answers};
-ghost use Rattle.pdb_space.specs.Conversions.{translated_parts};
-ghost use Rattle.pdb_space.specs.Omap.{IsSortedBySource};
-ghost use Rattle.pdb_space.specs.Ranges.{parts};
-ghost use Rattle.pdb_handles.specs.Copied.{CopiesOrLacks};
-ghost use Rattle.pdb_handles.specs.Ranges.{WritesSome, span_of, spans_written};
+ghost use Rattle.pdb_handles.specs.Ranges.{WritesMoved, span_of};
 
 use crate::copied::copy_list;
 use crate::fault::Fault;
@@ -27,46 +23,41 @@ pub struct Span {
     pub end: u32,
 }
 
+impl Span {
+    /// Returns the range from a first address to the one after the last.
+    fn of(start: u32, end: u32) -> Span
+        ensures { result ≡ record { start = start; end = end } }
+    {
+        Span { start, end }
+    }
+}
+
 /// Converts all ranges that are left in an iterator for the caller.
 fn spans_in(alloc: Global, ranges: RangeIter<'_>) -> Result<Vec<Span>>
     ensures { Answers (λ spans. spans.items) result (Ok (map span_of ranges.entry)) }
 {
-    let spans = ranges
-        .map(|range| Span {
-            start: range.start,
-            end: range.end,
-        })
-        .collect(alloc)?;
-    Ok(spans)
+    let spans = ranges.map(|range| Span::of(range.start, range.end));
+    Ok(spans.collect(alloc)?)
 }
 
 /// Converts all ranges of the image as it is loaded that are left in an iterator for the caller.
 fn loaded_spans_in(alloc: Global, ranges: RvaRangeIter<'_>) -> Result<Vec<Span>>
     ensures { Answers (λ spans. spans.items) result (Ok (map span_of ranges.entry)) }
 {
-    let spans = ranges
-        .map(|range| Span {
-            start: range.start.0,
-            end: range.end.0,
-        })
-        .collect(alloc)?;
-    Ok(spans)
+    let spans = ranges.map(|range| Span::of(range.start.0, range.end.0));
+    Ok(spans.collect(alloc)?)
 }
 
 /// Converts all ranges of the original image that are left in an iterator for the caller.
 fn internal_spans_in(alloc: Global, ranges: PdbInternalRvaRangeIter<'_>) -> Result<Vec<Span>>
     ensures { Answers (λ spans. spans.items) result (Ok (map span_of ranges.entry)) }
 {
-    let spans = ranges
-        .map(|range| Span {
-            start: range.start.0,
-            end: range.end.0,
-        })
-        .collect(alloc)?;
-    Ok(spans)
+    let spans = ranges.map(|range| Span::of(range.start.0, range.end.0));
+    Ok(spans.collect(alloc)?)
 }
 
 /// Writes the ranges to which a table moves the addresses of a range.
+#[tactic(auto, unfolding(pdb_space::specs::Conversions::translated_parts))]
 pub fn write_moved(
     alloc: Global,
     table: &OMAPTable,
@@ -74,10 +65,8 @@ pub fn write_moved(
     room: &mut [Span],
     length: &mut usize,
 ) -> Fault
-    ensures exact { IsSortedBySource table.now
-        → CopiesOrLacks (record { fault = result; length = length.new; room = room.new }) room.old
-        (spans_written room.old (parts table.now asked)) }
-    ensures unsorted { WritesSome table.now room.old (record { fault = result; length = length.new; room = room.new }) }
+    ensures { WritesMoved (Some table.now) asked room.old
+        (record { fault = result; length = length.new; room = room.new }) }
 {
     copy_list(spans_in(alloc, table.lookup_range(asked)), room, length)
 }
@@ -90,11 +79,8 @@ pub fn write_loaded(
     room: &mut [Span],
     length: &mut usize,
 ) -> Fault
-    ensures exact { IfSome map.now.original_to_transformed IsSortedBySource
-        → CopiesOrLacks (record { fault = result; length = length.new; room = room.new }) room.old
-        (spans_written room.old (translated_parts map.now.original_to_transformed asked)) }
-    ensures unsorted { IfSome map.now.original_to_transformed (λ table.
-        WritesSome table room.old (record { fault = result; length = length.new; room = room.new })) }
+    ensures { WritesMoved map.now.original_to_transformed asked room.old
+        (record { fault = result; length = length.new; room = room.new }) }
 {
     copy_list(loaded_spans_in(alloc, map.rva_ranges(asked)), room, length)
 }
@@ -107,15 +93,9 @@ pub fn write_internal(
     room: &mut [Span],
     length: &mut usize,
 ) -> Fault
-    ensures exact { IfSome map.now.transformed_to_original IsSortedBySource
-        → CopiesOrLacks (record { fault = result; length = length.new; room = room.new }) room.old
-        (spans_written room.old (translated_parts map.now.transformed_to_original asked)) }
-    ensures unsorted { IfSome map.now.transformed_to_original (λ table.
-        WritesSome table room.old (record { fault = result; length = length.new; room = room.new })) }
+    ensures { WritesMoved map.now.transformed_to_original asked room.old
+        (record { fault = result; length = length.new; room = room.new }) }
 {
-    copy_list(
-        internal_spans_in(alloc, map.internal_rva_ranges(asked)),
-        room,
-        length,
-    )
+    let spans = internal_spans_in(alloc, map.internal_rva_ranges(asked));
+    copy_list(spans, room, length)
 }

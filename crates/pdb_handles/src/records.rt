@@ -2,19 +2,18 @@
 
 ghost use Rattle.std.specs.Prelude.{map, Ok};
 ghost use Rattle.std.specs.Option.{option_map};
-ghost use Rattle.pdb_base.specs.Answer.{Answer, Answers};
-ghost use Rattle.pdb_values.specs.TypeValue.{TypeValue, name_of};
+ghost use Rattle.pdb_base.specs.Answer.{Answers};
+ghost use Rattle.pdb_values.specs.Text.{text_bytes};
+ghost use Rattle.pdb_values.specs.TypeValue.{name_of};
 ghost use Rattle.pdb_values.specs.TypeView.{type_value};
 ghost use Rattle.pdb_tpi.specs.Record.{type_of};
-ghost use Rattle.pdb_handles.specs.Copied.{CopiesOrLacks};
-ghost use Rattle.pdb_handles.specs.Records.{arguments_of, shown_copied};
+ghost use Rattle.pdb_handles.specs.Records.{arguments_in, of_type};
 ghost use Rattle.pdb_handles.specs.Roles.{IsAnswered};
 ghost use Rattle.pdb_handles.specs.Row.{row_of};
 
-use crate::copied::{copy_name, copy_nothing};
 use crate::fault::{FINE, Fault};
 use crate::row::Row;
-use pdb_base::{Result, TypeIndex};
+use pdb_base::{RawString, Result, TypeIndex};
 use pdb_records::parse_type_data;
 use pdb_values::{FIRST_RECORD, TypeData, type_data_for_primitive};
 use std::alloc::Global;
@@ -34,13 +33,14 @@ pub fn type_in<'t>(alloc: Global, bytes: &'t [u8], index: u32) -> Result<TypeDat
     parse_type_data(alloc, bytes)
 }
 
-/// Writes the `Row` of a type that was parsed, or returns the fault of its error.
+/// Writes the numbers in the record of a type, or returns the fault of its error. An index below
+/// 0x1000 is that of a primitive type, which needs no record.
 #[inline(always)]
-fn write_row(parsed: &Result<TypeData<'_>>, row: &mut Row) -> Fault
-    ensures { (meant : Answer TypeValue) → Answers type_value parsed.now meant
-        → IsAnswered (λ value. row_of value) meant row.old result row.new }
+pub fn write_type_row(alloc: Global, bytes: &[u8], index: u32, row: &mut Row) -> Fault
+    ensures { IsAnswered (λ value. row_of value) (type_of index bytes.now) row.old result row.new }
 {
-    match parsed {
+    let parsed = type_in(alloc, bytes, index);
+    match &parsed {
         Ok(value) => {
             row.set_type(value);
             Fault::status(FINE)
@@ -49,25 +49,15 @@ fn write_row(parsed: &Result<TypeData<'_>>, row: &mut Row) -> Fault
     }
 }
 
-/// Writes the numbers in the record of a type, or returns the fault of its error. An index below
-/// 0x1000 is that of a primitive type, which needs no record.
-#[inline(always)]
-pub fn write_type_row(alloc: Global, bytes: &[u8], index: u32, row: &mut Row) -> Fault
-    ensures { IsAnswered (λ value. row_of value) (type_of index bytes.now) row.old result row.new }
+/// Parses a record and returns the name of its type, if it has one.
+///
+/// # Errors
+/// Fails as `type_in` does.
+pub fn type_name_in<'t>(alloc: Global, bytes: &'t [u8], index: u32) -> Result<Option<RawString<'t>>>
+    ensures { Answers (option_map text_bytes) result (of_type name_of index bytes.now) }
 {
-    write_row(&type_in(alloc, bytes, index), row)
-}
-
-/// Copies the name of a type that was parsed, or returns the fault of its error.
-pub fn copy_type_name(parsed: Result<TypeData<'_>>, room: &mut [u8], length: &mut usize) -> Fault
-    ensures { (meant : Answer TypeValue) → Answers type_value parsed.entry meant
-        → CopiesOrLacks (record { fault = result; length = length.new; room = room.new }) room.old
-        (shown_copied room.old name_of meant) }
-{
-    match parsed {
-        Ok(value) => copy_name(value.name(), room, length),
-        Err(error) => copy_nothing(Fault::of(&error), length),
-    }
+    let value = type_in(alloc, bytes, index)?;
+    Ok(value.name())
 }
 
 /// Returns the numbers of type indexes.
@@ -87,7 +77,7 @@ pub fn numbers_of(alloc: Global, indexes: &[TypeIndex]) -> Result<Vec<u32>>
 /// # Errors
 /// Fails as `type_in` does, and with `OutOfMemory` if an allocation fails.
 pub fn arguments_of(alloc: Global, bytes: &[u8], index: u32) -> Result<Option<Vec<u32>>>
-    ensures { Answers (option_map (λ list. list.items)) result (arguments_of index bytes.now) }
+    ensures { Answers (option_map (λ list. list.items)) result (of_type arguments_in index bytes.now) }
 {
     let value = type_in(alloc, bytes, index)?;
     match &value {

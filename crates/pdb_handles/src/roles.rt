@@ -1,14 +1,10 @@
 //! The roles of streams.
 
-ghost use Rattle.std.specs.Prelude.{◌≡◌};
-ghost use Rattle.pdb_base.specs.Answer.{Answer, Answers};
-ghost use Rattle.pdb_file.specs.declared.debug_header.DBIExtraStreams.{DBIExtraStreams};
-ghost use Rattle.pdb_handles.specs.Roles.{IsAnswered, roles_of, roles_said};
+ghost use Rattle.pdb_base.specs.Answer.{Answers};
+ghost use Rattle.pdb_handles.specs.Roles.{roles_said};
 
-use crate::fault::{FINE, Fault};
 use crate::file::opened;
 use pdb_base::Result;
-use pdb_file::DBIExtraStreams;
 use std::alloc::Global;
 
 /// The numbers of the streams in eleven roles, each 0xffff if the file has no such stream.
@@ -39,48 +35,26 @@ pub struct Roles {
     pub original_section_headers: u16,
 }
 
-impl Roles {
-    /// Converts the numbers of the streams for the caller.
-    pub fn of(streams: &DBIExtraStreams) -> Roles
-        ensures { result ≡ roles_of streams.now }
-    {
-        Roles {
-            fpo: streams.fpo.0,
-            exception: streams.exception.0,
-            fixup: streams.fixup.0,
-            omap_to_src: streams.omap_to_src.0,
-            omap_from_src: streams.omap_from_src.0,
-            section_headers: streams.section_headers.0,
-            token_rid_map: streams.token_rid_map.0,
-            xdata: streams.xdata.0,
-            pdata: streams.pdata.0,
-            framedata: streams.framedata.0,
-            original_section_headers: streams.original_section_headers.0,
-        }
-    }
-}
-
 /// Reads from a file the numbers of the streams in their roles.
 ///
 /// # Errors
 /// Fails as `opened` and `extra_streams` do.
-pub fn roles_in(alloc: Global, file: &[u8]) -> Result<DBIExtraStreams>
+pub fn roles_in(alloc: Global, file: &[u8]) -> Result<Roles>
     ensures { Answers (λ roles. roles) result (roles_said file.now) }
 {
     let mut file = opened(alloc, file)?;
-    file.extra_streams(alloc)
-}
-
-/// Writes the numbers of the streams in their roles, or returns the fault of the error.
-pub fn write_roles(read: Result<DBIExtraStreams>, roles: &mut Roles) -> Fault
-    ensures { (meant : Answer DBIExtraStreams) → Answers (λ roles. roles) read meant
-        → IsAnswered roles_of meant roles.old result roles.new }
-{
-    match read {
-        Ok(streams) => {
-            *roles = Roles::of(&streams);
-            Fault::status(FINE)
-        }
-        Err(error) => Fault::of(&error),
-    }
+    let streams = file.extra_streams(alloc)?;
+    Ok(Roles {
+        fpo: streams.fpo.0,
+        exception: streams.exception.0,
+        fixup: streams.fixup.0,
+        omap_to_src: streams.omap_to_src.0,
+        omap_from_src: streams.omap_from_src.0,
+        section_headers: streams.section_headers.0,
+        token_rid_map: streams.token_rid_map.0,
+        xdata: streams.xdata.0,
+        pdata: streams.pdata.0,
+        framedata: streams.framedata.0,
+        original_section_headers: streams.original_section_headers.0,
+    })
 }

@@ -3,11 +3,11 @@
 ghost use Rattle.std.specs.Prelude.{◌≡◌, ◌+◌, ◌*◌, ◌≤◌};
 ghost use Rattle.pdb_values.specs.TypeView.{type_value};
 ghost use Rattle.pdb_handles.specs.Frame.{flag};
-ghost use Rattle.pdb_handles.specs.Row.{bit, class_kind, in_64_bits, index_in, is_signed, no_numbers, row, row_of, width_of};
+ghost use Rattle.pdb_handles.specs.Row.{bit, in_64_bits, index_in, is_signed, no_numbers, row, row_of, width_of};
 
 use crate::frame::flag;
 use pdb_base::{TypeIndex, Variant};
-use pdb_values::{ClassKind, TypeData};
+use pdb_values::TypeData;
 
 /// The numbers in the record of a type: what it says besides names and lists. Each shape has some
 /// of them.
@@ -56,73 +56,36 @@ pub struct Row {
     pub extra: u32,
 }
 
-/// The numbers that a record has.
-#[derive(Clone, Copy)]
-pub struct Numbers {
-    /// What `Row::kind` holds, if the record has it.
-    pub kind: Option<u32>,
-    /// What `Row::attributes` holds, if the record has it.
-    pub attributes: Option<u32>,
-    /// What `Row::properties` holds, if the record has it.
-    pub properties: Option<u32>,
-    /// What `Row::count` holds, if the record has it.
-    pub count: Option<u32>,
-    /// What `Row::type_index` holds, if the record has it.
-    pub type_index: Option<u32>,
-    /// What `Row::second_index` holds, if the record has it.
-    pub second_index: Option<u32>,
-    /// What `Row::third_index` holds, if the record has it.
-    pub third_index: Option<u32>,
-    /// What `Row::list_index` holds, if the record has it.
-    pub list_index: Option<u32>,
-    /// What `Row::extra` holds, if the record has it.
-    pub extra: Option<u32>,
-    /// What `Row::number` holds, if the record has it.
-    pub number: Option<u64>,
+/// The numbers that a record has, each as the field of its name in a `Row`.
+#[derive(Clone, Copy, Default)]
+pub(crate) struct Numbers {
+    pub(crate) kind: Option<u32>,
+    pub(crate) attributes: Option<u32>,
+    pub(crate) properties: Option<u32>,
+    pub(crate) count: Option<u32>,
+    pub(crate) type_index: Option<u32>,
+    pub(crate) second_index: Option<u32>,
+    pub(crate) third_index: Option<u32>,
+    pub(crate) list_index: Option<u32>,
+    pub(crate) extra: Option<u32>,
+    pub(crate) number: Option<u64>,
 }
 
 /// Returns the `Row` of a shape and some numbers. The others are absent.
 macro_rules! row {
     ($shape:expr; $($name:ident: $value:expr),*) => {
-        Row::of($shape, &Numbers { $($name: $value,)* ..NO_NUMBERS })
+        Row::of($shape, &Numbers { $($name: $value,)* ..Numbers::default() })
     };
 }
 
 pub(crate) use row;
 
-/// No numbers.
-pub const NO_NUMBERS: Numbers = Numbers {
-    kind: None,
-    attributes: None,
-    properties: None,
-    count: None,
-    type_index: None,
-    second_index: None,
-    third_index: None,
-    list_index: None,
-    extra: None,
-    number: None,
-};
-
-/// Returns the number of a kind of class.
-fn class_kind(kind: ClassKind) -> u32
-    ensures { result ≡ class_kind kind }
-{
-    match kind {
-        ClassKind::Class => 0,
-        ClassKind::Struct => 1,
-        ClassKind::Interface => 2,
-    }
-}
-
 /// Returns the number of an index, if there is one.
+#[inline(always)]
 fn index_in(index: Option<TypeIndex>) -> Option<u32>
     ensures { result ≡ index_in index }
 {
-    match index {
-        Some(index) => Some(index.0),
-        None => None,
-    }
+    index.map(|index| index.0)
 }
 
 /// Returns whether a number can be below 0.
@@ -196,7 +159,7 @@ impl Row {
     /// Returns the `Row` of a shape and its numbers.
     #[inline(always)]
     #[tactic(auto, unfolding(crate::specs::Row::row))]
-    pub fn of(shape: u32, numbers: &Numbers) -> Row
+    pub(crate) fn of(shape: u32, numbers: &Numbers) -> Row
         ensures { result ≡ row shape numbers.now }
     {
         Row {
@@ -220,9 +183,9 @@ impl Row {
         ensures { self.new ≡ row_of (type_value value.now) }
     {
         match value {
-            TypeData::Primitive(_) => *self = Row::of(0, &NO_NUMBERS),
+            TypeData::Primitive(_) => *self = Row::of(0, &Numbers::default()),
             TypeData::Class(v) => *self = row!(1;
-                kind: Some(class_kind(v.kind)), properties: Some(v.properties.bits() as u32),
+                kind: Some(v.kind as u32), properties: Some(v.properties.bits() as u32),
                 count: Some(v.count as u32), second_index: index_in(v.derived_from),
                 third_index: index_in(v.vtable_shape), list_index: index_in(v.fields),
                 number: Some(v.size)),
@@ -244,7 +207,7 @@ impl Row {
             TypeData::Nested(v) => *self = row!(7;
                 attributes: Some(v.attributes.bits() as u32), type_index: Some(v.nested_type.0)),
             TypeData::BaseClass(v) => *self = row!(8;
-                kind: Some(class_kind(v.kind)), attributes: Some(v.attributes.bits() as u32),
+                kind: Some(v.kind as u32), attributes: Some(v.attributes.bits() as u32),
                 type_index: Some(v.base_class.0), number: Some(v.offset as u64)),
             TypeData::VirtualBaseClass(v) => *self = row!(9;
                 kind: Some(flag(v.direct)), attributes: Some(v.attributes.bits() as u32),
@@ -279,8 +242,8 @@ impl Row {
                 count: Some(v.length as u32), type_index: Some(v.underlying_type.0),
                 extra: Some(v.position as u32)),
             TypeData::FieldList(v) => *self = row!(19; list_index: index_in(v.continuation)),
-            TypeData::ArgumentList(_) => *self = Row::of(20, &NO_NUMBERS),
-            TypeData::MethodList(_) => *self = Row::of(21, &NO_NUMBERS),
+            TypeData::ArgumentList(_) => *self = Row::of(20, &Numbers::default()),
+            TypeData::MethodList(_) => *self = Row::of(21, &Numbers::default()),
             TypeData::VirtualTableShape(v) => *self = row!(22; count: Some(v.count as u32)),
         }
     }
@@ -289,7 +252,7 @@ impl Row {
     pub fn of_type(value: &TypeData<'_>) -> Row
         ensures { result ≡ row_of (type_value value.now) }
     {
-        let mut row = Row::of(0, &NO_NUMBERS);
+        let mut row = Row::of(0, &Numbers::default());
         row.set_type(value);
         row
     }

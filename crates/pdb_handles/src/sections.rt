@@ -1,6 +1,6 @@
 //! The sections of an image.
 
-ghost use Rattle.std.specs.Prelude.{◌≡◌, ◌<◌, length, map, Ok};
+ghost use Rattle.std.specs.Prelude.{◌≡◌, ◌<◌, length};
 ghost use Rattle.pdb_base.specs.Answer.{Answers};
 ghost use Rattle.pdb_handles.specs.Sections.{section_of, sections_in};
 
@@ -53,17 +53,6 @@ fn section_of(header: &ImageSectionHeader) -> Section
     }
 }
 
-/// Converts the headers of sections for the caller.
-fn sections_of(alloc: Global, headers: &[ImageSectionHeader]) -> Result<Vec<Section>>
-    ensures { Answers (λ sections. sections.items) result (Ok (map section_of headers.now)) }
-{
-    let mut sections = Vec::new(alloc);
-    for header in headers {
-        sections.push(section_of(header))?;
-    }
-    Ok(sections)
-}
-
 /// Reads the headers of the sections that a stream holds.
 ///
 /// # Errors
@@ -74,5 +63,5 @@ pub fn sections_in(alloc: Global, stream: &[u8]) -> Result<Vec<Section>>
 {
     let bytes = stream.to_vec(alloc)?;
     let headers = section_headers(alloc, &Stream::new(bytes))?;
-    sections_of(alloc, &headers)
+    Ok(headers.iter().map(section_of).collect(alloc)?)
 }

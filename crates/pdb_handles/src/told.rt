@@ -1,12 +1,15 @@
-//! The error that a fault reports.
+//! The error that a fault reports, and its text.
 
-ghost use Rattle.std.specs.Prelude.{◌≡◌, ◌==◌, ◌&&◌, ◌^◌, nat_lt, if◌then◌else◌, Some, None};
+ghost use Rattle.std.specs.Prelude.{◌≡◌};
 ghost use Rattle.std.specs.Option.{option_map};
 ghost use Rattle.pdb_base.specs.Refusal.{refusal_of};
-ghost use Rattle.pdb_handles.specs.Told.{candidate, is_same, kind_numbered, refusal_told, text_numbered};
+ghost use Rattle.pdb_handles.specs.Copied.{CopiesOrLacks, text_copied};
+ghost use Rattle.pdb_handles.specs.Told.{candidate, kind_numbered, refusal_told, text_if, text_numbered};
 
-use crate::fault::Fault;
+use crate::copied::{copy_nothing, copy_out};
+use crate::fault::{Fault, NO_TEXT};
 use pdb_base::Error;
+use std::alloc::Global;
 use std::io;
 use std::io::ErrorKind;
 
@@ -47,26 +50,6 @@ fn kind_numbered(number: u32) -> Option<ErrorKind>
     }
 }
 
-/// Returns the number that an error names, if it fits 16 bits.
-fn below_u16(first: u32) -> Option<u16>
-    ensures { result ≡ (if nat_lt first (2 ^ 16) then Some first else None) }
-{
-    if first < 0x1_0000 {
-        return Some(first as u16);
-    }
-    None
-}
-
-/// Returns the number that an error names, if it fits 8 bits.
-fn below_u8(first: u32) -> Option<u8>
-    ensures { result ≡ (if nat_lt first (2 ^ 8) then Some first else None) }
-{
-    if first < 0x100 {
-        return Some(first as u8);
-    }
-    None
-}
-
 /// Returns the error that a status and its first two numbers can report.
 fn candidate(status: u32, first: u32, second: u32) -> Option<Error>
     ensures { option_map refusal_of result ≡ candidate (record { status = status; first = first; second = second }) }
@@ -86,18 +69,18 @@ fn candidate(status: u32, first: u32, second: u32) -> Option<Error>
         9 => Some(Error::UnimplementedFeature(text_numbered(first)?)),
         10 => Some(Error::GlobalSymbolsNotFound),
         11 => Some(Error::SymbolTooShort),
-        12 => Some(Error::UnimplementedSymbolKind(below_u16(first)?)),
+        12 => Some(Error::UnimplementedSymbolKind(u16::try_from(first).ok()?)),
         13 => Some(Error::InvalidTypeInformationHeader(text_numbered(first)?)),
         14 => Some(Error::TypeTooShort),
         15 => Some(Error::TypeNotFound(first)),
         16 => Some(Error::TypeNotIndexed(first, second)),
-        17 => Some(Error::UnimplementedTypeKind(below_u16(first)?)),
+        17 => Some(Error::UnimplementedTypeKind(u16::try_from(first).ok()?)),
         18 => Some(Error::NotACrossModuleRef(first)),
         19 => Some(Error::CrossModuleRefNotFound(first)),
-        20 => Some(Error::UnexpectedNumericPrefix(below_u16(first)?)),
+        20 => Some(Error::UnexpectedNumericPrefix(u16::try_from(first).ok()?)),
         21 => Some(Error::AddressMapNotFound),
         22 => Some(Error::UnimplementedDebugSubsection(first)),
-        23 => Some(Error::UnimplementedFileChecksumKind(below_u8(first)?)),
+        23 => Some(Error::UnimplementedFileChecksumKind(u8::try_from(first).ok()?)),
         24 => Some(Error::InvalidFileChecksumOffset(first)),
         25 => Some(Error::LinesNotFound),
         26 => Some(Error::InvalidCompressedAnnotation),
@@ -107,21 +90,35 @@ fn candidate(status: u32, first: u32, second: u32) -> Option<Error>
     }
 }
 
-/// Returns whether two faults have the same numbers.
-fn is_same(one: Fault, other: &Fault) -> bool
-    ensures { result ≡ is_same one other.now }
-{
-    one.status == other.status && one.first == other.first && one.second == other.second
-}
-
 /// Returns the error that a fault reports, or None if it reports none.
 #[tactic(auto, unfolding(crate::specs::Told::refusal_told))]
 pub fn told(about: &Fault) -> Option<Error>
     ensures { option_map refusal_of result ≡ refusal_told about.now }
 {
     let error = candidate(about.status, about.first, about.second)?;
-    if is_same(Fault::of(&error), about) {
+    if Fault::of(&error) == *about {
         return Some(error);
     }
     None
+}
+
+/// Copies the text of an error into the caller's array, if there is an error. An I/O error has no
+/// text.
+pub fn copy_text_of(
+    alloc: Global,
+    error: Option<Error>,
+    room: &mut [u8],
+    length: &mut usize,
+) -> Fault
+    ensures { CopiesOrLacks (record { fault = result; length = length.new; room = room.new }) room.old
+        (text_copied room.old (text_if (option_map refusal_of error))) }
+{
+    let error = match error {
+        None | Some(Error::IoError(_)) => return copy_nothing(Fault::status(NO_TEXT), length),
+        Some(error) => error,
+    };
+    match format!(in alloc; "{error}") {
+        Ok(text) => copy_out(text.as_bytes(), room, length),
+        Err(_) => copy_nothing(Fault::of(&Error::OutOfMemory), length),
+    }
 }

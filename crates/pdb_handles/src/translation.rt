@@ -119,15 +119,10 @@ fn forms_of(map: &AddressMap, form: u32, section: u16, offset: u32) -> Option<Fo
 fn place_in(place: Option<SectionOffset>) -> Place
     ensures { result ≡ place_in place }
 {
-    match place {
-        Some(place) => Place {
-            offset: place.offset,
-            section: place.section as u32,
-        },
-        None => Place {
-            offset: 0,
-            section: 0,
-        },
+    let (section, offset) = place.map_or((0, 0), |place| (place.section, place.offset));
+    Place {
+        offset,
+        section: section as u32,
     }
 }
 
@@ -145,17 +140,11 @@ impl Translation {
     {
         Translation {
             has_rva: flag(forms.rva.is_some()),
-            rva: match forms.rva {
-                Some(rva) => rva.0,
-                None => 0,
-            },
+            rva: forms.rva.map_or(0, |rva| rva.0),
             has_place: flag(forms.place.is_some()),
             place: place_in(forms.place),
             has_internal_rva: flag(forms.internal_rva.is_some()),
-            internal_rva: match forms.internal_rva {
-                Some(rva) => rva.0,
-                None => 0,
-            },
+            internal_rva: forms.internal_rva.map_or(0, |rva| rva.0),
             has_internal_place: flag(forms.internal_place.is_some()),
             internal_place: internal_place_in(forms.internal_place),
         }

@@ -5,9 +5,9 @@ ghost use Rattle.pdb_tpi.specs.Record.{type_of};
 ghost use Rattle.pdb_handles.specs.Walked.{IsTypeRow, WritesNext};
 
 use crate::fault::{END, FINE, Fault};
-use crate::located::Located;
+use crate::open_table::Located;
 use crate::records::write_type_row;
-use crate::row::{NO_NUMBERS, Row};
+use crate::row::{Numbers, Row};
 use pdb_base::TypeIndex;
 use pdb_tpi::{OpenTable, RecordPlace};
 use std::alloc::Global;
@@ -39,7 +39,7 @@ fn write_type(
     told.place = Located::at(index, place);
     told.fault = write_type_row(alloc, kept.bytes_at(place), index, &mut told.info);
     if told.fault.status != FINE {
-        told.info = Row::of(0, &NO_NUMBERS);
+        told.info = Row::of(0, &Numbers::default());
     }
 }
 

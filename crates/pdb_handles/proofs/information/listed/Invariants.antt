@@ -6,5 +6,5 @@ use Rattle.pdb_handles.proofs.information.listed.Given as goal
 
 abbrev pub invariant-loop-named : goal.invariant-loop-named
 invariant-loop-named l =
-    (l.rows.items ≡ map (λ named. named_row (named_view named)) (take l.named-index l.streams))
-    × (l.names.items ≡ flat_map (λ named. (named_view named).name) (take l.named-index l.streams))
+    (l.rows.items ≡ map named_row (map named_view (take l.named-index l.streams)))
+    × (l.names.items ≡ flat_map (λ named. named.name) (map named_view (take l.named-index l.streams)))

@@ -1,20 +1,10 @@
 -- A pointer to what nobody sees becomes a pointer to the content again, since there is one.
-use mathlib.Core.Path.{refl}
-use mathlib.Core.List.{[], ◌∷◌}
-use base.Logic.{id⊢}
-use base.Fml.{ftrue}
-use contract.Monad.{fact}
-use types.Kit.{‵, raw, ◌⊛◌, ◌$◌, ◌∵◌, !, qed, done, move, keep, use1, split, join, rewrite, suffices}
-use types.Part.{whole, sub, agg}
-use types.Run.{enter, of_opd, no_more, and_then, stop, fld, returns}
-use types.ByLocal.{alloc_all, pass_all, free_all, look_at, get, get_in, sets}
-use denote.Exit.{yes}
-use denote.Signature.{plain}
-use denote.Steps.{nothing, heard}
-use denote.Triple.Walked.{Stays, walk_of, says, stay_dropped, Goes-dropped, ends_at}
-use Rattle.std.specs.Prelude.{Option, IsSome}
+use Rattle.pdb_handles.proofs.WalkNames.{refl, [], ◌∷◌, id⊢, ftrue, fact, ‵, raw, ◌⊛◌, ◌$◌, ◌∵◌, !, qed, done, move}
+use Rattle.pdb_handles.proofs.WalkNames.{keep, use1, split, join, rewrite, suffices, whole, sub, agg, enter, of_opd}
+use Rattle.pdb_handles.proofs.WalkNames.{no_more, and_then, stop, fld, returns, alloc_all, pass_all, free_all}
+use Rattle.pdb_handles.proofs.WalkNames.{look_at, get, get_in, sets, yes, plain, nothing, heard, Stays, walk_of, says}
+use Rattle.pdb_handles.proofs.WalkNames.{stay_dropped, Goes-dropped, ends_at, Option, IsSome, proved}
 use Rattle.pdb_handles.specs.declared.content.Content.{Content}
-use Rattle.std.proofs.raw_atomic.Walks.{proved}
 use Rattle.pdb_handles.specs.contracts.held.Held as held
 use Rattle.pdb_handles.specs.contracts.held.Held.into_parts as f
 use Rattle.pdb_handles.proofs.held.Held.into_parts.Statement.{statement}

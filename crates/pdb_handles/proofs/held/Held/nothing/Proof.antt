@@ -1,22 +1,9 @@
 -- The null pointer, which owns nothing.
-use mathlib.Core.Path.{refl}
-use mathlib.Core.List.{List, [], ◌∷◌}
-use mir.Val.{Val}
-use base.Fml.{ftrue}
-use types.Kit.{‵, ◌⊛◌, ◌$◌, ◌∵◌, !, qed, done, move, keep, split, join, fjoin, fpack, feq_i, suffices}
-use types.Part.{agg}
-use types.Run.{enter, lit, no_more, and_then, returns}
-use types.ByLocal.{alloc_all, pass_all, free_all, look_at, get, sets}
-use denote.Exit.{yes}
-use denote.RattleType.{Valss}
-use denote.RawPtr.{null_ptr, ptr_val}
-use denote.Signature.{plain}
-use denote.Steps.{nothing}
-use denote.Struct.Owning.{shape, to}
-use denote.Struct.Struct.{within}
-use denote.Triple.Walked.{Stays, walk_of, says, stay_dropped, Goes-dropped, ends_at}
-use Rattle.std.specs.Prelude.{None}
-use Rattle.std.proofs.raw_atomic.Walks.{proved}
+use Rattle.pdb_handles.proofs.WalkNames.{refl, List, [], ◌∷◌, Val, ftrue, ‵, ◌⊛◌, ◌$◌, ◌∵◌, !, qed, done, move, keep}
+use Rattle.pdb_handles.proofs.WalkNames.{split, join, fjoin, fpack, feq_i, suffices, agg, enter, lit, no_more}
+use Rattle.pdb_handles.proofs.WalkNames.{and_then, returns, alloc_all, pass_all, free_all, look_at, get, sets, yes}
+use Rattle.pdb_handles.proofs.WalkNames.{Valss, null_ptr, ptr_val, plain, nothing, shape, to, within, Stays, walk_of}
+use Rattle.pdb_handles.proofs.WalkNames.{says, stay_dropped, Goes-dropped, ends_at, None, proved}
 use Rattle.std_heap.specs.contracts.Global as global
 use Rattle.std_heap.proofs.Global.TheLaws as global_laws
 use Rattle.pdb_handles.specs.contracts.held.Held as held

@@ -1,18 +1,9 @@
 -- A pointer to a content becomes a pointer to what nobody sees. What it owns stays.
-use mathlib.Core.Path.{refl}
-use mathlib.Core.List.{[], ◌∷◌}
-use base.Logic.{id⊢}
-use base.Fml.{ftrue}
-use types.Kit.{‵, ◌⊛◌, ◌$◌, ◌∵◌, !, qed, done, move, keep, use1, split, join, suffices}
-use types.Part.{whole, sub, agg}
-use types.Run.{enter, of_opd, no_more, and_then, stop, fld, returns}
-use types.ByLocal.{alloc_all, pass_all, free_all, look_at, get, get_in, sets}
-use denote.Exit.{yes}
-use denote.Signature.{plain}
-use denote.Steps.{nothing}
-use denote.Triple.Walked.{Stays, walk_of, says, stay_dropped, Goes-dropped, ends_at}
-use Rattle.std.specs.Prelude.{Some}
-use Rattle.std.proofs.raw_atomic.Walks.{proved}
+use Rattle.pdb_handles.proofs.WalkNames.{refl, [], ◌∷◌, id⊢, ftrue, ‵, ◌⊛◌, ◌$◌, ◌∵◌, !, qed, done, move, keep, use1}
+use Rattle.pdb_handles.proofs.WalkNames.{split, join, suffices, whole, sub, agg, enter, of_opd, no_more, and_then}
+use Rattle.pdb_handles.proofs.WalkNames.{stop, fld, returns, alloc_all, pass_all, free_all, look_at, get, get_in}
+use Rattle.pdb_handles.proofs.WalkNames.{sets, yes, plain, nothing, Stays, walk_of, says, stay_dropped, Goes-dropped}
+use Rattle.pdb_handles.proofs.WalkNames.{ends_at, Some, proved}
 use Rattle.pdb_handles.specs.contracts.held.Held as held
 use Rattle.pdb_handles.specs.contracts.held.Held.of_parts as f
 use Rattle.pdb_handles.proofs.held.Held.of_parts.Statement.{statement}

@@ -1,34 +1,14 @@
 -- The pointer and the allocator go back into a box, together with what the parts owned.
-use mathlib.Core.Path.{◌≡◌, refl, sym, subst, ap}
-use mathlib.Core.List.{List, [], ◌∷◌, ◌++◌}
-use lib.Dec.{T}
-use mir.Syntax.{Fn, Body, place, copy, assign, rv_opd, seq, return}
-use mir.MapTy.{inst_fn}
-use mir.Val.{Val, vptr, has_ty, WT}
-use base.Logic.{ent, id⊢}
-use base.Fml.{ftrue, fsep, flft}
-use contract.BorrowLft.{◌⊑◌}
-use contract.Monad.{fact}
-use contract.Running.{tables}
-use prog.Wp.{WpFn}
-use types.Kit.{Item, at_ret, ‵, raw, ◌⊛◌, some, later, ◌$◌, ◌∵◌, !, qed, by, move, drop, use1, join, split, split3, pick, rewrite, fsplit, fjoin, feq_i, suffices, await, done}
-use types.Part.{whole, sub}
-use types.Run.{stop, fld, no_more, and_then, of_opd, returns, enter, first, blocks, exec}
-use types.ByLocal.{alloc_all, pass_all, free_all, look_at, get, get_in, sets, lands_last, env}
-use denote.Exit.{no}
-use denote.RawPtr.{block_ptr}
-use denote.Signature.{plain}
-use denote.Steps.{heard, nothing, only}
-use denote.Triple.Call.{calls_at_last}
-use denote.Triple.Clauses.{Ended}
-use denote.Triple.Spec.{triple_of}
-use denote.Triple.Table.{framed}
-use denote.Triple.Walked.{says, Stays, stay_dropped, walk_of, ends_at}
-use Rattle.core.proofs.alloc.Calls.{token, Goes-blank}
-use Rattle.std.proofs.raw_atomic.Walks.{proved_at}
-use Rattle.std_alloc.specs.Box.Ownership.{box_owns}
-use Rattle.std_alloc.proofs.BoxSteps.Form.{Bx, D, R, P, B, box_ty, word, box_typed}
-use Rattle.std_alloc.proofs.BoxSteps.Steps.{box_out, box_in}
+use Rattle.pdb_handles.proofs.WalkNames.{◌≡◌, refl, sym, subst, ap, List, [], ◌∷◌, ◌++◌, T, Fn, Body, place, copy}
+use Rattle.pdb_handles.proofs.WalkNames.{assign, rv_opd, seq, return, inst_fn, Val, vptr, has_ty, WT, ent, id⊢, ftrue}
+use Rattle.pdb_handles.proofs.WalkNames.{fsep, flft, ◌⊑◌, fact, tables, WpFn, Item, at_ret, ‵, raw, ◌⊛◌, some, later}
+use Rattle.pdb_handles.proofs.WalkNames.{◌$◌, ◌∵◌, !, qed, by, move, drop, use1, join, split, split3, pick, rewrite}
+use Rattle.pdb_handles.proofs.WalkNames.{fsplit, fjoin, feq_i, suffices, await, done, whole, sub, stop, fld, no_more}
+use Rattle.pdb_handles.proofs.WalkNames.{and_then, of_opd, returns, enter, first, blocks, exec, alloc_all, pass_all}
+use Rattle.pdb_handles.proofs.WalkNames.{free_all, look_at, get, get_in, sets, lands_last, env, no, block_ptr, plain}
+use Rattle.pdb_handles.proofs.WalkNames.{heard, nothing, only, calls_at_last, Ended, triple_of, framed, says, Stays}
+use Rattle.pdb_handles.proofs.WalkNames.{stay_dropped, walk_of, ends_at, token, Goes-blank, proved_at, box_owns, Bx}
+use Rattle.pdb_handles.proofs.WalkNames.{D, R, P, B, box_ty, word, box_typed, box_out, box_in}
 use Rattle.std_alloc.specs.contracts.boxed.Box.from_raw as from_raw
 use Rattle.std_alloc.proofs.boxed.Box.from_raw.Met as from_raw_met
 use Rattle.pdb_handles.specs.contracts.parts.Parts.into_box as f

@@ -1,36 +1,15 @@
 -- The pointer and the allocator come out of the box together with what it owned, and go into the parts.
-use mathlib.Core.Path.{◌≡◌, refl, sym, subst, ap, ◌∙◌}
-use mathlib.Core.List.{List, [], ◌∷◌, ◌++◌}
-use mir.Syntax.{Fn, Dict}
-use mir.MapTy.{inst_fn}
+use Rattle.pdb_handles.proofs.WalkNames.{◌≡◌, refl, sym, subst, ap, ◌∙◌, List, [], ◌∷◌, ◌++◌, Fn, Dict, inst_fn, Val}
+use Rattle.pdb_handles.proofs.WalkNames.{vstruct, of_list, ent, id⊢, never, fst∗, ftrue, fsep, flft, ◌⊑◌, fact}
+use Rattle.pdb_handles.proofs.WalkNames.{tables, framed, WpFn, sem, Item, ‵, raw, ◌⊛◌, some, later, ◌$◌, ◌∵◌, !, qed}
+use Rattle.pdb_handles.proofs.WalkNames.{by, move, drop, use1, join, split, split3, pick, rewrite, fsplit, fjoin}
+use Rattle.pdb_handles.proofs.WalkNames.{fpick, feq_l, suffices, await, done, whole, sub, agg, stop, fld, no_more}
+use Rattle.pdb_handles.proofs.WalkNames.{and_then, of_opd, returns, enter, alloc_all, pass_all, free_all, look_at}
+use Rattle.pdb_handles.proofs.WalkNames.{get, get_in, sets, lands_as, no, Ptr, RawPtr, block_ptr, null_ptr, ptr_val}
+use Rattle.pdb_handles.proofs.WalkNames.{in_a_block, plain, heard, nothing, only, Tuple, calls_at, Ended, triple_of}
+use Rattle.pdb_handles.proofs.WalkNames.{says, Stays, stay_dropped, walk_of, ends_at, token, handle_tells, Goes-blank}
+use Rattle.pdb_handles.proofs.WalkNames.{proved_at, box_owns, Bx, D, τ, R, P, B, word, box_typed, box_out, box_in}
 use mir.Raw.{raw as bare}
-use mir.Val.{Val, vstruct, of_list}
-use base.Logic.{ent, id⊢, never, fst∗}
-use base.Fml.{ftrue, fsep, flft}
-use contract.BorrowLft.{◌⊑◌}
-use contract.Monad.{fact}
-use contract.Running.{tables}
-use denote.Triple.Table.{framed}
-use prog.Wp.{WpFn}
-use types.Logic.{sem}
-use types.Kit.{Item, ‵, raw, ◌⊛◌, some, later, ◌$◌, ◌∵◌, !, qed, by, move, drop, use1, join, split, split3, pick, rewrite, fsplit, fjoin, fpick, feq_l, suffices, await, done}
-use types.Part.{whole, sub, agg}
-use types.Run.{stop, fld, no_more, and_then, of_opd, returns, enter}
-use types.ByLocal.{alloc_all, pass_all, free_all, look_at, get, get_in, sets, lands_as}
-use denote.Exit.{no}
-use denote.RawPtr.{Ptr, RawPtr, block_ptr, null_ptr, ptr_val, in_a_block}
-use denote.Signature.{plain}
-use denote.Steps.{heard, nothing, only}
-use denote.Struct.Tuple.{Tuple}
-use denote.Triple.Call.{calls_at}
-use denote.Triple.Clauses.{Ended}
-use denote.Triple.Spec.{triple_of}
-use denote.Triple.Walked.{says, Stays, stay_dropped, walk_of, ends_at}
-use Rattle.core.proofs.alloc.Calls.{token, handle_tells, Goes-blank}
-use Rattle.std.proofs.raw_atomic.Walks.{proved_at}
-use Rattle.std_alloc.specs.Box.Ownership.{box_owns}
-use Rattle.std_alloc.proofs.BoxSteps.Form.{Bx, D, τ, R, P, B, word, box_typed}
-use Rattle.std_alloc.proofs.BoxSteps.Steps.{box_out, box_in}
 use Rattle.std_alloc.specs.contracts.boxed.Box.into_raw_with_allocator as into_raw
 use Rattle.std_alloc.proofs.boxed.Box.into_raw_with_allocator.Met as into_raw_met
 use Rattle.pdb_handles.specs.contracts.parts.Parts.of as f

@@ -1,17 +1,23 @@
-//! What the record of a type says.
+//! What the record of a type or of an id says.
 
 ghost use Rattle.std.specs.Prelude.{◌≡◌};
 ghost use Rattle.pdb_tpi.specs.Record.{type_of};
+ghost use Rattle.pdb_values.specs.IdValue.{id_name};
+ghost use Rattle.pdb_values.specs.TypeValue.{name_of};
 ghost use Rattle.pdb_handles.specs.Copied.{CopiesOrLacks};
-ghost use Rattle.pdb_handles.specs.Lists.{dimensions_of, methods_of, unique_name_of};
-ghost use Rattle.pdb_handles.specs.Records.{FieldsOrLacks, arguments_of, fields_of_record, fields_told, if_copied, type_name};
+ghost use Rattle.pdb_handles.specs.Ids.{id_row, list_in, of_id};
+ghost use Rattle.pdb_handles.specs.Lists.{dimensions_in, methods_in, unique_name_in};
+ghost use Rattle.pdb_handles.specs.Records.{FieldsOrLacks, arguments_in, fields_in, if_copied, listing_told, of_type};
 ghost use Rattle.pdb_handles.specs.Roles.{IsAnswered};
 ghost use Rattle.pdb_handles.specs.Row.{row_of};
 
-use pdb_handles::copied::copy_if;
-use pdb_handles::fields::{FieldRow, fields_of, write_found};
-use pdb_handles::lists::{copy_dimensions_of, copy_unique_name, methods_of};
-use pdb_handles::records::{arguments_of, copy_type_name, type_in, write_type_row};
+use pdb_handles::copied::{copy_if, copy_name};
+use pdb_handles::fields::{FieldRow, fields_of};
+use pdb_handles::found::tell_answered;
+use pdb_handles::ids::{id_name_in, id_row_in, list_of};
+use pdb_handles::listing::write_listing;
+use pdb_handles::lists::{dimensions_of, methods_of, unique_name_in};
+use pdb_handles::records::{arguments_of, type_name_in, write_type_row};
 use pdb_handles::{Fault, Row};
 use std::alloc::Global;
 
@@ -41,10 +47,10 @@ pub extern "C" fn pdb_type_name(
     fault: &mut Fault,
 ) -> u32
     ensures answer { CopiesOrLacks (record { fault = fault.new; length = length.new; room = room.new }) room.old
-        (if_copied room.old (type_name index bytes.now)) }
+        (if_copied room.old (of_type name_of index bytes.now)) }
     ensures status { result ≡ fault.new.status }
 {
-    copy_type_name(type_in(alloc, bytes, index), room, length).tell(fault)
+    copy_name(type_name_in(alloc, bytes, index), room, length).tell(fault)
 }
 
 /// Copies the types of the arguments that a record lists.
@@ -58,7 +64,7 @@ pub extern "C" fn pdb_type_arguments(
     fault: &mut Fault,
 ) -> u32
     ensures answer { CopiesOrLacks (record { fault = fault.new; length = length.new; room = room.new }) room.old
-        (if_copied room.old (arguments_of index bytes.now)) }
+        (if_copied room.old (of_type arguments_in index bytes.now)) }
     ensures status { result ≡ fault.new.status }
 {
     copy_if(arguments_of(alloc, bytes, index), room, length).tell(fault)
@@ -75,7 +81,7 @@ pub extern "C" fn pdb_type_methods(
     fault: &mut Fault,
 ) -> u32
     ensures answer { CopiesOrLacks (record { fault = fault.new; length = length.new; room = room.new }) room.old
-        (if_copied room.old (methods_of index bytes.now)) }
+        (if_copied room.old (of_type methods_in index bytes.now)) }
     ensures status { result ≡ fault.new.status }
 {
     copy_if(methods_of(alloc, bytes, index), room, length).tell(fault)
@@ -93,10 +99,10 @@ pub extern "C" fn pdb_type_dimensions(
     fault: &mut Fault,
 ) -> u32
     ensures answer { CopiesOrLacks (record { fault = fault.new; length = length.new; room = room.new }) room.old
-        (if_copied room.old (dimensions_of index bytes.now)) }
+        (if_copied room.old (of_type dimensions_in index bytes.now)) }
     ensures status { result ≡ fault.new.status }
 {
-    copy_dimensions_of(type_in(alloc, bytes, index), room, length).tell(fault)
+    copy_if(dimensions_of(alloc, bytes, index), room, length).tell(fault)
 }
 
 /// Copies the unique name in the record of a class, a union or an enumeration.
@@ -110,10 +116,10 @@ pub extern "C" fn pdb_type_unique_name(
     fault: &mut Fault,
 ) -> u32
     ensures answer { CopiesOrLacks (record { fault = fault.new; length = length.new; room = room.new }) room.old
-        (if_copied room.old (unique_name_of index bytes.now)) }
+        (if_copied room.old (of_type unique_name_in index bytes.now)) }
     ensures status { result ≡ fault.new.status }
 {
-    copy_unique_name(type_in(alloc, bytes, index), room, length).tell(fault)
+    copy_name(unique_name_in(alloc, bytes, index), room, length).tell(fault)
 }
 
 /// Writes the fields in the record of a list of fields, and the bytes of their names, one name
@@ -131,8 +137,50 @@ pub extern "C" fn pdb_type_fields(
 ) -> u32
     ensures answer { FieldsOrLacks
         (record { fault = fault.new; rows = rows.new; count = count.new; names = names.new; size = size.new })
-        rows.old names.old (fields_told rows.old names.old (fields_of_record index bytes.now)) }
+        rows.old names.old (listing_told rows.old names.old (of_type fields_in index bytes.now)) }
     ensures status { result ≡ fault.new.status }
 {
-    write_found(fields_of(alloc, bytes, index), rows, count, names, size).tell(fault)
+    write_listing(fields_of(alloc, bytes, index), rows, count, names, size).tell(fault)
+}
+
+/// Writes the numbers in the record of an id.
+#[unsafe(no_mangle)]
+pub extern "C" fn pdb_id_parse(alloc: Global, bytes: &[u8], row: &mut Row, fault: &mut Fault) -> u32
+    ensures answer { IsAnswered (λ row. row) (of_id id_row bytes.now) row.old fault.new row.new }
+    ensures status { result ≡ fault.new.status }
+{
+    tell_answered(id_row_in(alloc, bytes), row).tell(fault)
+}
+
+/// Copies the name in the record of an id.
+#[unsafe(no_mangle)]
+pub extern "C" fn pdb_id_name(
+    alloc: Global,
+    bytes: &[u8],
+    room: &mut [u8],
+    length: &mut usize,
+    fault: &mut Fault,
+) -> u32
+    ensures answer { CopiesOrLacks (record { fault = fault.new; length = length.new; room = room.new }) room.old
+        (if_copied room.old (of_id id_name bytes.now)) }
+    ensures status { result ≡ fault.new.status }
+{
+    copy_name(id_name_in(alloc, bytes), room, length).tell(fault)
+}
+
+/// Copies the indexes that the record of an id lists: those of the ids of a module's build
+/// information, or of the parts of a text.
+#[unsafe(no_mangle)]
+pub extern "C" fn pdb_id_list(
+    alloc: Global,
+    bytes: &[u8],
+    room: &mut [u32],
+    length: &mut usize,
+    fault: &mut Fault,
+) -> u32
+    ensures answer { CopiesOrLacks (record { fault = fault.new; length = length.new; room = room.new }) room.old
+        (if_copied room.old (of_id list_in bytes.now)) }
+    ensures status { result ≡ fault.new.status }
+{
+    copy_if(list_of(alloc, bytes), room, length).tell(fault)
 }

@@ -2,9 +2,9 @@ use Rattle.std.proofs.Common.{◌≡◌, map, take}
 use Rattle.std.specs.List.{flat_map}
 use Rattle.pdb_values.specs.TypeView.{type_value}
 use Rattle.pdb_handles.specs.Records.{field_row, name_bytes}
-use Rattle.pdb_handles.proofs.fields.shown.Given as goal
+use Rattle.pdb_handles.proofs.fields.listed.Given as goal
 
 abbrev pub invariant-loop-field : goal.invariant-loop-field
 invariant-loop-field l =
-    (l.rows.items ≡ map (λ field. field_row (type_value field)) (take l.field-index l.fields))
-    × (l.names.items ≡ flat_map (λ field. name_bytes (type_value field)) (take l.field-index l.fields))
+    (l.rows.items ≡ map field_row (map type_value (take l.field-index l.fields)))
+    × (l.names.items ≡ flat_map name_bytes (map type_value (take l.field-index l.fields)))
