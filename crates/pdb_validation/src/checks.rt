@@ -257,9 +257,9 @@ fn check_file(alloc: Global, file: &[u8], extent: Extent) -> Result<Vec<Finding>
 /// records, streams that have a name or a role and are missing, the buckets of the string table, the
 /// sizes in stream 3, and sections that overlap. Some of it is no more than a warning.
 ///
-/// Streams are read one at a time: each for its bytes, and again for the parts that it holds. Since
-/// they are read only if they are no larger together than the file, and so is the directory, the
-/// work is linear in the size of the file. Each table is walked once.
+/// Streams are read one at a time: each for its bytes, and those of the parts again for what they
+/// hold and for what is inconsistent. Since streams are read only if they are no larger together
+/// than the file, and so is the directory, the work is linear in the size of the file.
 ///
 /// # Errors
 /// Fails with `OutOfMemory` if an allocation fails. All other errors are findings.
