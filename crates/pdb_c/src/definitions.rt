@@ -11,8 +11,7 @@ ghost use Rattle.pdb_reports.specs.LayoutRow.{LaysOutOf};
 ghost use Rattle.pdb_handles.specs.Handle.{OpensStream, held_as};
 
 use pdb_handles::copied::copy_list;
-use pdb_handles::listing::write_nothing;
-use pdb_handles::{FINE, Fault, Handle};
+use pdb_handles::{Fault, Handle};
 use pdb_reports::definitions::{
     copy_declaration, definition_number, definitions_in, definitions_named, size_in, tell_if_found,
 };
@@ -136,7 +135,8 @@ pub extern "C" fn pdb_layout(
     ensures kept { definitions.new.held.content ≡ definitions.old.held.content }
     ensures status { result ≡ fault.new.status }
 {
-    write_nothing(Fault::status(FINE), count, size);
+    *count = 0;
+    *size = 0;
     ask!(definitions, alloc, fault, Definitions(open) => {
         write_layout_of(alloc, open, index, rows, count, names, size)
     })

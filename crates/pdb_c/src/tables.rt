@@ -11,7 +11,7 @@ ghost use Rattle.pdb_handles.specs.Walked.{WritesNextOf};
 
 use pdb_handles::fields::FieldRow;
 use pdb_handles::found::tell_value;
-use pdb_handles::listing::{write_listing, write_nothing};
+use pdb_handles::listing::write_listing;
 use pdb_handles::open_table::{counted, find_record, listed_fields, next_record, table_in};
 use pdb_handles::walked::{TypeRow, write_next};
 use pdb_handles::{FINE, Fault, Handle, Located};
@@ -131,7 +131,8 @@ pub extern "C" fn pdb_types_fields(
     ensures kept { table.new.held.content ≡ table.old.held.content }
     ensures status { result ≡ fault.new.status }
 {
-    write_nothing(Fault::status(FINE), count, size);
+    *count = 0;
+    *size = 0;
     ask!(table, alloc, fault, Table(open) => {
         write_listing(listed_fields(open, alloc, index), rows, count, names, size)
     })

@@ -33,15 +33,12 @@ frame_of frame = record {
   program = unwrap_or frame.program 0;
 }
 
--- The frame is the first of a table from an address on: of those in the order of their addresses if the tables are
--- sorted, and of any tables the first of some that are left there.
-pub record IsFirst (table : Frames) (address : ℕ) (first : Option Frame) : Type 0 where
-  pub exact : StartsIncrease table → first ≡ option_map frame_of (slice_get (merge_from address table) 0)
-  pub somewhere : (some : List FrameData) × BeginsSomewhere table some
-      × (first ≡ option_map frame_of (slice_get some 0))
+-- the first of some frames, if there is one, for the caller
+abbrev pub first_told : Frame → List FrameData → Found Frame
+first_told old frames = found no_value old (option_map frame_of (slice_get frames 0))
 
--- The first frame from an address on is written, or there is none.
+-- The first frame from an address on is written: of those in the order of their addresses if the tables are sorted, and
+-- of any tables the first of some that are left there.
 pub record TellsFirst (table : Frames) (address : ℕ) (old : Frame) (told : Found Frame) : Type 0 where
-  pub first : Option Frame
-  pub is : IsFirst table address first
-  pub done : told ≡ found no_value old first
+  pub exact : StartsIncrease table → told ≡ first_told old (merge_from address table)
+  pub somewhere : (some : List FrameData) × BeginsSomewhere table some × (told ≡ first_told old some)

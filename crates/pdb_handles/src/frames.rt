@@ -4,7 +4,7 @@ ghost use Rattle.std.specs.Prelude.{map, Ok};
 ghost use Rattle.pdb_base.specs.Answer.{Answers};
 ghost use Rattle.pdb_frames.specs.Merge.{by_heads, merge};
 ghost use Rattle.pdb_frames.specs.Table.{StartsIncrease};
-ghost use Rattle.pdb_handles.specs.Frame.{IsFirst, TellsFirst, frame_of};
+ghost use Rattle.pdb_handles.specs.Frame.{TellsFirst, frame_of};
 
 use crate::fault::{Fault, NONE};
 use crate::found::tell_found;
@@ -14,23 +14,17 @@ use pdb_frames::FrameTable;
 use pdb_space::PdbInternalRva;
 use std::alloc::Global;
 
-/// Returns the first frame of a table from an address on.
-fn first_from(table: &FrameTable, address: u32) -> Option<Frame>
-    ensures { IsFirst table.now address result }
-{
-    let mut frames = table.iter_at_rva(PdbInternalRva(address));
-    let Ok(first) = frames.next() else {
-        unreachable!();
-    };
-    first.map(|frame| Frame::of(&frame))
-}
-
 /// Writes the first frame of a table from an address on, or returns a fault of status `NONE` if
 /// there is none.
 pub fn tell_first(table: &FrameTable, address: u32, frame: &mut Frame) -> Fault
     ensures { TellsFirst table.now address frame.old (record { fault = result; value = frame.new }) }
 {
-    tell_found(first_from(table, address), Fault::status(NONE), frame)
+    let mut frames = table.iter_at_rva(PdbInternalRva(address));
+    let Ok(first) = frames.next() else {
+        unreachable!();
+    };
+    let first = first.map(|frame| Frame::of(&frame));
+    tell_found(first, Fault::status(NONE), frame)
 }
 
 /// Returns all frames of a table, in the order of `FrameTable::iter`, for the caller.

@@ -47,11 +47,12 @@ pub fn information_in(alloc: Global, file: &[u8]) -> Result<Information>
 {
     let mut file = opened(alloc, file)?;
     let said = file.pdb_information(alloc)?;
+    let guid = said.guid;
     Ok(Information {
         version: said.version,
         signature: said.signature,
         age: said.age,
-        guid: said.guid,
+        guid,
     })
 }
 

@@ -62,6 +62,11 @@ pub fn sections_in(alloc: Global, stream: &[u8]) -> Result<Vec<Section>>
     ensures { Answers (λ sections. sections.items) result (sections_in stream.now) }
 {
     let bytes = stream.to_vec(alloc)?;
-    let headers = section_headers(alloc, &Stream::new(bytes))?;
-    Ok(headers.iter().map(section_of).collect(alloc)?)
+    let read = section_headers(alloc, &Stream::new(bytes))?;
+    let headers = read.as_slice();
+    let mut sections = Vec::with_capacity(alloc, headers.len())?;
+    for header in headers {
+        sections.push(section_of(header))?;
+    }
+    Ok(sections)
 }
