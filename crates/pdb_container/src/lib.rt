@@ -28,6 +28,7 @@ pub use pdb_base::TypeIndex;
 pub use pdb_base::Variant;
 pub use pdb_file::DBIExtraStreams;
 pub use pdb_file::DBIHeader;
+pub use pdb_file::Features;
 pub use pdb_file::PDB;
 pub use pdb_file::PDBInformation;
 pub use pdb_file::StreamName;

@@ -13,9 +13,9 @@ ghost use Rattle.pdb_handles.specs.Records.{if_copied};
 ghost use Rattle.pdb_handles.specs.Roles.{IsAnswered};
 
 use pdb_base::Result;
+use pdb_file::Features;
 use pdb_handles::copied::{copy_nothing, copy_out};
 use pdb_handles::file::opened;
-use pdb_file::Features;
 use pdb_handles::{FINE, Fault, NONE, flag};
 use pdb_identity::{Format, Identity, LowerKey, UpperKey};
 use std::alloc::Global;
