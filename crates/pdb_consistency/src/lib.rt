@@ -13,8 +13,6 @@ mod records;
 mod references;
 mod sections;
 mod string_table;
-#[cfg(test)]
-mod tests;
 mod words;
 
 pub use debug_sizes::check_debug_sizes;

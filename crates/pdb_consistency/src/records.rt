@@ -1,7 +1,7 @@
 //! What is inconsistent in the records of a table of types or of ids.
 
 ghost use Rattle.std.specs.Prelude.{◌≡◌, Ok};
-ghost use Rattle.std.specs.Option.{option_map};
+ghost use Rattle.std.specs.Option.{option_map, option_to_list};
 ghost use Rattle.pdb_base.specs.Answer.{Answers};
 ghost use Rattle.pdb_base.specs.Refusal.{refusal_of};
 ghost use Rattle.pdb_tpi.specs.Item.{bytes_of, index_of};
@@ -90,22 +90,37 @@ struct RecordPosition {
     byte: u64,
 }
 
-/// Returns the mismatch of what is inconsistent in a record, if something is.
-fn at_record(place: RecordPosition, what: Option<Inconsistency>) -> Option<Mismatch>
-    ensures { result ≡ option_map (at_byte place.stream place.index place.byte) what }
+/// Returns the mismatch of what is inconsistent in a record.
+fn at_record(place: RecordPosition, what: Inconsistency) -> Mismatch
+    ensures { result ≡ at_byte place.stream place.index place.byte what }
+{
+    Mismatch {
+        stream: Some(place.stream),
+        index: Some(place.index),
+        byte: Some(place.byte),
+        what,
+    }
+}
+
+/// Adds what is inconsistent in a record, if something is.
+#[inline(always)]
+fn add_at(
+    mismatches: &mut Vec<Mismatch>,
+    extent: Extent,
+    place: RecordPosition,
+    what: Option<Inconsistency>,
+) -> Result<()>
+    ensures { Answers (λ done. mismatches.new.items) result (Ok (with_further extent mismatches.old.items
+        (option_to_list (option_map (at_byte place.stream place.index place.byte) what)))) }
 {
     match what {
-        Some(what) => Some(Mismatch {
-            stream: Some(place.stream),
-            index: Some(place.index),
-            byte: Some(place.byte),
-            what,
-        }),
-        None => None,
+        Some(what) => add(mismatches, extent, Some(at_record(place, what))),
+        None => Ok(()),
     }
 }
 
 /// Adds what is inconsistent in a record, and in its size.
+#[inline(always)]
 fn add_record(
     mismatches: &mut Vec<Mismatch>,
     extent: Extent,
@@ -116,12 +131,8 @@ fn add_record(
     ensures { Answers (λ done. mismatches.new.items) result (Ok (with_further extent mismatches.old.items
         (both_mismatches (at_byte place.stream place.index place.byte) what (size_inconsistency bytes.now)))) }
 {
-    add(mismatches, extent, at_record(place, what))?;
-    add(
-        mismatches,
-        extent,
-        at_record(place, size_inconsistency(bytes)),
-    )
+    add_at(mismatches, extent, place, what)?;
+    add_at(mismatches, extent, place, size_inconsistency(bytes))
 }
 
 /// Returns the mismatches of the records of a table of types in a stream, each with the index of

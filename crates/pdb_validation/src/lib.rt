@@ -13,8 +13,6 @@ mod roles;
 mod sizes;
 mod streams;
 mod tables;
-#[cfg(test)]
-mod tests;
 
 pub use checks::validate;
 pub use finding::{Code, Finding, Part};

@@ -1,10 +1,10 @@
 //! Small files, tables and lists, of which each breaks one relation. The bytes are written by hand.
 
-use crate::{
+use pdb_base::{Stream, TypeIndex};
+use pdb_consistency::{
     Extent, Inconsistency, check_buckets, check_debug_sizes, check_hashes, check_pages,
     check_section_order, check_type_records,
 };
-use pdb_base::{Stream, TypeIndex};
 use pdb_file::section_headers::section_headers;
 use pdb_tpi::{OpenTable, TypeInformation};
 use std::alloc::Global;

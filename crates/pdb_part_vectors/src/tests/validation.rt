@@ -1,6 +1,6 @@
 //! A small file that is whole, and damages of each of its parts. The bytes are written by hand.
 
-use crate::{Extent, Finding, Part, validate};
+use pdb_validation::{Extent, Finding, Part, validate};
 use std::alloc::Global;
 use std::test::Fail;
 

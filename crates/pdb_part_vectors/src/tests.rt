@@ -1,0 +1,4 @@
+//! Test cases, a file a crate.
+
+mod consistency;
+mod validation;
