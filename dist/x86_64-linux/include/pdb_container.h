@@ -241,6 +241,9 @@ typedef struct pdb_identity {
     uint16_t flags;            /* values of enum pdb_identity_flag, added up */
     uint8_t guid[16];          /* the bytes as they stand in the file, and in the image's debug
                                   directory */
+    uint32_t has_features;     /* whether all stream names are in stream 1, before the features, 0 or
+                                  1; if not, the next number is 0 */
+    uint32_t features;         /* values of enum pdb_feature, added up */
 } pdb_identity;
 
 /* What the debug information says of the file. */
@@ -248,6 +251,16 @@ enum pdb_identity_flag {
     PDB_LINKED_INCREMENTALLY = 1,
     PDB_PRIVATE_SYMBOLS_STRIPPED = 2,
     PDB_TYPES_MAY_CONFLICT = 4
+};
+
+/* The features that the file tells of itself, in the numbers after the stream names in stream 1.
+ * What follows the number of VC110 is not read. */
+enum pdb_feature {
+    PDB_FEATURE_VC110 = 1,         /* in the format of Visual C++ 11, with a table of ids */
+    PDB_FEATURE_VC140 = 2,         /* in the format of Visual C++ 14, with a table of ids */
+    PDB_FEATURE_NO_TYPE_MERGE = 4, /* the types of the object files are not merged */
+    PDB_FEATURE_MINIMAL = 8        /* minimal debug information, as /DEBUG:FASTLINK makes it: the
+                                      rest is in the object files */
 };
 
 /* Writes what identifies a file. It reads streams 1 and 3 alone. */
