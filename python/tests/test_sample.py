@@ -16,7 +16,8 @@ from unittest import mock
 
 import pdb_container
 from pdb_container import (
-    Format, IdShape, Inconsistency, KeyForm, LayoutKind, Part, Pdb, PdbError, Shape, Status, format_of, validate,
+    Feature, Format, IdShape, Inconsistency, KeyForm, LayoutKind, Part, Pdb, PdbError, Shape, Status, format_of,
+    validate,
 )  # fmt: skip
 from pdb_container.__main__ import main
 
