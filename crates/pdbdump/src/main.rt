@@ -5,5 +5,5 @@
 use std::process::ExitCode;
 
 fn main(rt: HostRuntime) -> ExitCode {
-    ExitCode::from(pdb_dump::program(&rt))
+    ExitCode::from(pdbdump_cli::program(&rt))
 }

@@ -1,9 +1,9 @@
 //! What S1 answers to questions, case by case.
 
-use pdb_asking::ask;
+use pdbdump_cli::ask;
 use pdb_container::Result;
 use pdb_output::Output;
-use pdb_rows::Form;
+use pdbdump_rows::Form;
 use pdb_vectors::{s1, s1_with};
 use std::alloc::Global;
 use std::test::Fail;

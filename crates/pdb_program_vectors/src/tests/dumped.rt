@@ -1,9 +1,9 @@
 //! What is listed of small files, case by case: S1 with other bytes as its stream 3.
 
 use pdb_container::Result;
-use pdb_dump::{Call, Command, Task, any_is, call_of, list, plain_words};
+use pdbdump_cli::{Call, Command, Task, any_is, call_of, list, plain_words};
 use pdb_output::Output;
-use pdb_rows::Form;
+use pdbdump_rows::Form;
 use pdb_vectors::s1_with;
 use std::alloc::Global;
 use std::io::Cursor;

@@ -1,9 +1,9 @@
 //! Outputs and inputs that fail at each of their calls in turn.
 
 use pdb_base::Result;
-use pdb_dump::{Command, serve, serve_questions};
+use pdbdump_cli::{Command, serve, serve_questions};
 use pdb_output::Output;
-use pdb_rows::Form;
+use pdbdump_rows::Form;
 use pdb_vectors::s1_with;
 use std::alloc::Global;
 use std::io;

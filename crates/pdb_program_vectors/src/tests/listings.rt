@@ -1,9 +1,9 @@
 //! Tables as lines, and records in full. Each expected text is written from the definitions.
 
 use pdb_base::{Error, Result, Stream};
-use pdb_listing::{id_at, ids, type_at, types};
+use pdbdump_tables::{id_at, ids, type_at, types};
 use pdb_output::Output;
-use pdb_rows::Form;
+use pdbdump_rows::Form;
 use pdb_vectors::item_table;
 use std::alloc::Global;
 use std::test::Fail;

@@ -252,7 +252,7 @@ fn run(process: &Process<'_>) -> u8 {
     if process.words.first() == Some(&"pdbq") {
         pdb_cli::program(process)
     } else {
-        pdb_dump::program(process)
+        pdbdump_cli::program(process)
     }
 }
 

@@ -4,7 +4,7 @@
 use pdb_base::{RawString, Result, TypeIndex};
 use pdb_flags::TypeProperties;
 use pdb_frames::{FrameData, FrameType};
-use pdb_rows::{Form, Row, frame_row, omap_row, push_fields, push_row, section_row, type_row};
+use pdbdump_rows::{Form, Row, frame_row, omap_row, push_fields, push_row, section_row, type_row};
 use pdb_space::{
     ImageSectionHeader, OMAPRecord, PdbInternalRva, SectionCharacteristics, StringRef,
 };

@@ -1,7 +1,0 @@
--- The questions of the lines so far.
-use Rattle.std.proofs.Common.{◌≡◌, take, map}
-use Rattle.pdb_asking.specs.Questions.{asked, asking}
-use Rattle.pdb_asking.proofs.question.questions_in.Given as goal
-
-abbrev pub invariant-loop-line : goal.invariant-loop-line
-invariant-loop-line l = map asked l.questions.items ≡ map (λ line. asking line.now) (take l.line-index l.line-items)

@@ -1,9 +1,0 @@
-use Rattle.std.proofs.Common.{refl}
-use Rattle.pdb_dump.specs.Identified.{found, refused}
-use Rattle.pdb_dump.proofs.identified.identify.Goals as goal
-
-pub returns-in-Ok : goal.returns-in-Ok
-returns-in-Ok g c = found c.in-Ok.identity c.in-Ok.ensures c.write_found.ensures
-
-pub returns-in-Err : goal.returns-in-Err
-returns-in-Err g c = refused c.in-Err.fault refl c.in-Err.ensures refl

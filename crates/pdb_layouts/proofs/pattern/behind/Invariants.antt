@@ -1,6 +1,0 @@
-use Rattle.std.proofs.Common.{◌≡◌, drop}
-use Rattle.pdb_layouts.specs.Pattern.{behind}
-use Rattle.pdb_layouts.proofs.pattern.behind.Given as goal
-
-abbrev pub invariant-loop-sign : goal.invariant-loop-sign
-invariant-loop-sign l = behind l.signs l.text ≡ behind (drop l.sign-index l.signs) l.rest

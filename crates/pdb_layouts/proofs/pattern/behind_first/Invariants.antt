@@ -1,6 +1,0 @@
-use Rattle.std.proofs.Common.{◌≡◌, ℕ, ◌<◌, None, drop}
-use Rattle.pdb_layouts.specs.Pattern.{behind}
-use Rattle.pdb_layouts.proofs.pattern.behind_first.Given as goal
-
-abbrev pub invariant-loop-start : goal.invariant-loop-start
-invariant-loop-start l = (k : ℕ) → k < l.start → behind l.signs (drop k l.text) ≡ None

@@ -1,2 +1,0 @@
-pub mod ListingLemmas
-pub mod ShownLemmas

@@ -1,3 +1,0 @@
-pub mod Given
-pub mod Made
-pub mod Mapped

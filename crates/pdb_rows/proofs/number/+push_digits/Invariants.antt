@@ -1,5 +1,0 @@
--- Each call has one digit less.
-use Rattle.pdb_rows.proofs.number.+push_digits.Given as goal
-
-abbrev pub decreases-push_digits : goal.decreases-push_digits
-decreases-push_digits l = l.number

@@ -1,4 +1,0 @@
-pub mod StreamLemmas
-pub mod KindLemmas
-pub mod LineLemmas
-pub mod TallyLemmas

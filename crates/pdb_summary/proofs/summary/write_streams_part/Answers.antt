@@ -1,9 +1,0 @@
-use Rattle.pdb_base.proofs.lemmas.Refused.{passed_on}
-use Rattle.pdb_output.proofs.lemmas.Written.{first_cut}
-use Rattle.pdb_summary.specs.Summary.{streams_part}
-use Rattle.pdb_summary.proofs.summary.write_streams_part.Goals as goal
-
-pub returns-in_err-roles-clause-lines : goal.returns-in_err-roles-clause-lines
-unfolding streams_part
-returns-in_err-roles-clause-lines g c = rw (passed_on _ _ c.from_residual.ensures.1)
-    (first_cut _ _ _ _ _ c.in_err-roles.ensures.told)

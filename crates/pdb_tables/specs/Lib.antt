@@ -1,3 +1,0 @@
-pub mod Listing
-pub mod Tables
-pub mod Files

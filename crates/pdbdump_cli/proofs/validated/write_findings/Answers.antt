@@ -1,0 +1,6 @@
+use Rattle.pdb_base.proofs.lemmas.Refused.{passed_on}
+use Rattle.pdb_output.proofs.lemmas.Written.{lacks_all}
+use Rattle.pdbdump_cli.proofs.validated.write_findings.Goals as goal
+
+pub returns-in_err-lines : goal.returns-in_err-lines
+returns-in_err-lines g c = rw (passed_on _ _ c.from_residual.ensures.1) (lacks_all _ _ _ c.in_err-lines.ensures.memory)

@@ -1,0 +1,15 @@
+pub mod Questions
+pub mod Answers
+pub mod Asked
+pub mod Words
+pub mod LayoutWords
+pub mod Listed
+pub mod Served
+pub mod Asking
+pub mod IdWords
+pub mod Identified
+pub mod FindingLines
+pub mod ValidateWords
+pub mod Validated
+pub mod Extracted
+pub mod LaidOut

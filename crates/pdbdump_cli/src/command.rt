@@ -1,0 +1,174 @@
+//! The commands of the program and their arguments.
+
+use pdb_consistency::Extent;
+use pdbdump_layouts::Options;
+use pdbdump_tables::{KeyStyle, MapStreams};
+
+/// The name of a command.
+#[derive(Clone, Copy, Debug, PartialEq, Eq)]
+pub enum Verb {
+    /// `summary`: what the file is made of.
+    Summary,
+    /// `types`: the records of a table of types.
+    Types,
+    /// `ids`: the records of a table of ids.
+    Ids,
+    /// `names`: the names of a string table.
+    Names,
+    /// `sections`: the headers of sections.
+    Sections,
+    /// `omap`: the records of an OMAP table.
+    Omap,
+    /// `frames`: the records of a frame table.
+    Frames,
+    /// `map`: what an address map makes of an address.
+    Map,
+    /// `ask`: the answers to questions on standard input.
+    Ask,
+    /// `id`: the key under which symbol servers keep the file.
+    Id,
+    /// `extract`: the bytes of a stream.
+    Extract,
+    /// `validate`: whether files are whole.
+    Validate,
+    /// `layout`: where the members of classes are.
+    Layout,
+}
+
+/// What the program lists of a file. A stream that isn't given is found by its role.
+#[derive(Clone, Copy, Debug, PartialEq, Eq)]
+pub enum Command {
+    /// What the file is made of.
+    Summary,
+    /// Each type of a table in the stream, or in stream 2; or only the one of an index.
+    Types {
+        /// The number of the stream.
+        stream: Option<u32>,
+        /// The index of the only type.
+        index: Option<u32>,
+    },
+    /// Each id of a table in the stream, or in stream 4; or only the one of an index.
+    Ids {
+        /// The number of the stream.
+        stream: Option<u32>,
+        /// The index of the only id.
+        index: Option<u32>,
+    },
+    /// Each name of the string table in the stream.
+    Names {
+        /// The number of the stream.
+        stream: Option<u32>,
+    },
+    /// Each section header in the stream.
+    Sections {
+        /// The number of the stream.
+        stream: Option<u32>,
+    },
+    /// Each record of the OMAP table in the stream.
+    Omap {
+        /// The number of the stream.
+        stream: Option<u32>,
+    },
+    /// Each frame of the file's own streams.
+    Frames,
+    /// Each frame of the given streams, either of which may be absent.
+    FramesIn {
+        /// The number of the stream of records of the older format.
+        old: Option<u32>,
+        /// The number of the stream of records of the newer format.
+        new: Option<u32>,
+    },
+    /// What an address map makes of an address.
+    Map {
+        /// The address.
+        address: u32,
+        /// The streams of the map, or none of them for the file's own map.
+        streams: MapStreams,
+    },
+}
+
+/// What the program does with a file.
+#[derive(Clone, Copy, Debug, PartialEq, Eq)]
+pub enum Task {
+    /// To list what a command says.
+    List(Command),
+    /// To answer the questions on standard input.
+    Answer,
+}
+
+/// What the program is called for: a task, and the path of the file, or `-` for standard input.
+#[derive(Clone, Copy, Debug, PartialEq, Eq)]
+pub struct Call<'w> {
+    /// The path of the file.
+    pub path: &'w str,
+    /// What to do with it.
+    pub task: Task,
+}
+
+/// The arguments of `extract`, which writes a part of the bytes of a stream.
+#[derive(Clone, Copy, Debug, PartialEq, Eq)]
+pub struct Extract<'w> {
+    /// The path of the file, or `-` for standard input.
+    pub path: &'w str,
+    /// The number, the role or the name of the stream.
+    pub stream: &'w str,
+    /// How many bytes are left out at the start.
+    pub skip: u32,
+    /// How many bytes are written at most.
+    pub limit: Option<u32>,
+}
+
+/// The arguments of `id`, which prints the identity of a file.
+#[derive(Clone, Copy, Debug, PartialEq, Eq)]
+pub struct Identify<'w> {
+    /// The path of the file, or `-` for standard input.
+    pub path: &'w str,
+    /// How the identity is written as text.
+    pub style: KeyStyle,
+    /// The name of the file, which is the last part of its path if it isn't given.
+    pub name: &'w str,
+    /// The key that the file should have.
+    pub expected: Option<&'w str>,
+}
+
+/// How `validate` checks whether a file is whole, and what it tells of it.
+#[derive(Clone, Copy, Debug, PartialEq, Eq)]
+pub struct ValidateOptions {
+    /// Whether the first thing that is wrong in each part is told, or everything.
+    pub extent: Extent,
+    /// Whether a warning makes the status 1, as an error does.
+    pub is_strict: bool,
+    /// Whether only the status is wanted.
+    pub is_quiet: bool,
+}
+
+/// The arguments of `validate`, which checks whether files are whole.
+#[derive(Debug, Drop)]
+pub struct Validate<'w> {
+    /// How the files are checked.
+    pub options: ValidateOptions,
+    /// The paths of the files, or `-` for standard input.
+    pub paths: Vec<&'w str>,
+}
+
+/// The arguments of `layout`, which shows the layouts of classes of a file.
+#[derive(Clone, Copy, Debug, PartialEq, Eq)]
+pub struct Layouts<'w> {
+    /// The path of the file, or `-` for standard input.
+    pub path: &'w str,
+    /// The names of classes and the paths of members.
+    pub names: &'w [&'w str],
+    /// Which layouts are shown, and how.
+    pub options: Options,
+}
+
+/// Why words ask nothing of a file.
+#[derive(Clone, Copy, Debug, PartialEq, Eq)]
+pub enum Misuse {
+    /// There is no command of that name.
+    NoCommand,
+    /// The command does not take the words after it.
+    Arguments(Verb),
+    /// Both the questions and the file are to be read from standard input.
+    InputTwice,
+}

@@ -1,0 +1,373 @@
+//! What `validate` writes of a file.
+
+ghost use Rattle.std.specs.Prelude.{◌≡◌, ◌≤◌, ◌++◌, length, map, string_bytes, IfOk, OnOk};
+ghost use Rattle.std.specs.List.{flat_map};
+ghost use Rattle.pdb_base.specs.Memory.{FailsOnlyForMemory};
+ghost use Rattle.pdbdump_rows.specs.Row.{row_shown, value_shown};
+ghost use Rattle.pdb_validation.specs.Finding.{fault_code, finding_view, warning_count};
+ghost use Rattle.pdb_validation.specs.Problem.{is_tolerated, problem_view};
+ghost use Rattle.pdbdump_cli.specs.FindingLines.{counted, counts_if_any, counts_of, counts_text, fault_in, fault_line};
+ghost use Rattle.pdbdump_cli.specs.FindingLines.{fault_shown, fault_text, file_in, file_line, file_shown};
+ghost use Rattle.pdbdump_cli.specs.FindingLines.{label_and_number, labelled, lines_unless, optional_number, place_in};
+ghost use Rattle.pdbdump_cli.specs.FindingLines.{place_text, problem_words, severity, tally_view, validate_lines};
+ghost use Rattle.pdbdump_cli.specs.FindingLines.{whole_text};
+
+use pdb_base::{RawString, Result};
+use pdbdump_rows::{Form, Row, Value, error_text, field, push_row};
+use pdb_validation::{Finding, Problem};
+use std::alloc::Global;
+
+/// Appends a label and a number behind it in hexadecimal digits.
+#[tactic(auto, unfolding(crate::specs::FindingLines::label_and_number))]
+fn push_number(alloc: Global, label: &str, number: u64, out: &mut Vec<u8>) -> Result<()>
+    ensures ok { OnOk result (out.new.items ≡ out.old.items ++ label_and_number label.now number) }
+    ensures memory { FailsOnlyForMemory result }
+{
+    let text = format!(in alloc; "{label}0x{number:x}")?;
+    out.extend_from_slice(text.as_bytes())?;
+    Ok(())
+}
+
+/// Appends a label and a number behind it, if there is one.
+fn push_labelled(alloc: Global, label: &str, number: Option<u64>, out: &mut Vec<u8>) -> Result<()>
+    ensures ok { OnOk result (out.new.items ≡ out.old.items ++ labelled label.now number) }
+    ensures memory { FailsOnlyForMemory result }
+{
+    match number {
+        Some(number) => push_number(alloc, label, number, out),
+        None => Ok(()),
+    }
+}
+
+/// Appends where a fault in a stream is, as far as it has a place there.
+#[tactic(auto, unfolding(crate::specs::FindingLines::place_in))]
+fn push_place_in(alloc: Global, stream: u32, finding: &Finding, out: &mut Vec<u8>) -> Result<()>
+    ensures ok { OnOk result (out.new.items
+        ≡ out.old.items ++ place_in stream finding.now.index finding.now.byte finding.now.file_byte) }
+    ensures memory { FailsOnlyForMemory result }
+{
+    let text = format!(in alloc; " [stream {stream}")?;
+    out.extend_from_slice(text.as_bytes())?;
+    push_labelled(alloc, " index ", finding.index, out)?;
+    push_labelled(alloc, " byte ", finding.byte, out)?;
+    push_labelled(alloc, ", file byte ", finding.file_byte, out)?;
+    out.push(b']')?;
+    Ok(())
+}
+
+/// Appends where a fault is, as far as it has a place.
+fn push_place(alloc: Global, finding: &Finding, out: &mut Vec<u8>) -> Result<()>
+    ensures ok { OnOk result (out.new.items ≡ out.old.items ++ place_text (finding_view finding.now)) }
+    ensures memory { FailsOnlyForMemory result }
+{
+    match finding.stream {
+        Some(stream) => push_place_in(alloc, stream, finding, out),
+        None => Ok(()),
+    }
+}
+
+/// Returns what is wrong, in words.
+fn problem_text(alloc: Global, problem: &Problem) -> Result<Vec<u8>>
+    ensures ok { IfOk result (λ text. text.items ≡ problem_words (problem_view problem.now)) }
+    ensures memory { FailsOnlyForMemory result }
+{
+    match problem {
+        Problem::Error(error) => error_text(alloc, error),
+        Problem::Inconsistent(_) => Ok(format!(in alloc; "{problem}")?.into_bytes()),
+    }
+}
+
+/// Returns the code of a finding as text.
+fn code_text(alloc: Global, finding: &Finding) -> Result<String>
+    ensures ok { IfOk result (λ text. string_bytes text ≡ fault_code (finding_view finding.now)) }
+    ensures memory { FailsOnlyForMemory result }
+{
+    let code = finding.code();
+    Ok(format!(in alloc; "{code}")?)
+}
+
+/// Returns the word for how severe a problem is.
+fn severity(problem: &Problem) -> &'static str
+    ensures { result.now ≡ severity (is_tolerated (problem_view problem.now)) }
+{
+    if problem.is_warning() {
+        return "warning";
+    }
+    "error"
+}
+
+/// Appends what is said of a finding before its place.
+#[tactic(auto, unfolding(crate::specs::FindingLines::fault_text))]
+fn push_words(severity: &str, code: &str, words: &[u8], out: &mut Vec<u8>) -> Result<()>
+    ensures ok { OnOk result (out.new.items ≡ out.old.items ++ fault_text severity.now code.now words.now) }
+    ensures memory { FailsOnlyForMemory result }
+{
+    out.extend_from_slice(b": ")?;
+    out.extend_from_slice(severity.as_bytes())?;
+    out.extend_from_slice(b" ")?;
+    out.extend_from_slice(code.as_bytes())?;
+    out.extend_from_slice(b": ")?;
+    out.extend_from_slice(words)?;
+    Ok(())
+}
+
+/// Appends the line of a finding as text.
+#[tactic(auto, unfolding(crate::specs::FindingLines::fault_line))]
+fn push_text(alloc: Global, path: &str, finding: &Finding, out: &mut Vec<u8>) -> Result<()>
+    ensures ok { OnOk result (out.new.items ≡ out.old.items ++ fault_line path.now (finding_view finding.now)) }
+    ensures memory { FailsOnlyForMemory result }
+{
+    let words = problem_text(alloc, &finding.problem)?;
+    let code = code_text(alloc, finding)?;
+    out.extend_from_slice(path.as_bytes())?;
+    push_words(severity(&finding.problem), &code, &words, out)?;
+    push_place(alloc, finding, out)?;
+    out.push(b'\n')?;
+    Ok(())
+}
+
+/// Returns the value of the number of a stream, or `Absent` if there is none.
+fn stream_value<'t>(stream: Option<u32>) -> Value<'t>
+    ensures { value_shown result ≡ optional_number stream }
+{
+    match stream {
+        Some(stream) => Value::Number(stream as u64),
+        None => Value::Absent,
+    }
+}
+
+/// Returns the value of the index or the byte of a record, or `Absent` if there is none.
+fn number_value<'t>(number: Option<u64>) -> Value<'t>
+    ensures { value_shown result ≡ optional_number number }
+{
+    match number {
+        Some(number) => Value::Number(number),
+        None => Value::Absent,
+    }
+}
+
+/// Returns the fields of the line of a finding, with its code and the words of its problem.
+fn finding_row<'t>(
+    alloc: Global,
+    path: &'t str,
+    finding: &Finding,
+    code: &'t str,
+    words: &'t [u8],
+) -> Result<Row<'t>>
+    requires code { code.now ≡ fault_code (finding_view finding.now) }
+    requires words { words.now ≡ problem_words (problem_view finding.now.problem) }
+    ensures ok { IfOk result (λ row. row_shown row ≡ fault_shown path.now (finding_view finding.now)) }
+    ensures memory { FailsOnlyForMemory result }
+{
+    let fields = vec![in alloc;
+        field("file", Value::Text(RawString::from(path))),
+        field("severity", Value::Word(severity(&finding.problem))),
+        field("code", Value::Text(RawString::from(code))),
+        field("part", Value::Word(finding.part.code())),
+        field("stream", stream_value(finding.stream)),
+        field("index", number_value(finding.index)),
+        field("byte", number_value(finding.byte)),
+        field("file_byte", number_value(finding.file_byte)),
+        field("problem", Value::Text(RawString::from(words))),
+    ]?;
+    Ok(Row { fields })
+}
+
+/// Appends the line of a finding, which is an object in JSON.
+fn push_finding(
+    alloc: Global,
+    form: Form,
+    path: &str,
+    finding: &Finding,
+    out: &mut Vec<u8>,
+) -> Result<()>
+    ensures ok { OnOk result (out.new.items ≡ out.old.items ++ fault_in form path.now (finding_view finding.now)) }
+    ensures memory { FailsOnlyForMemory result }
+{
+    match form {
+        Form::Text => push_text(alloc, path, finding, out),
+        Form::Json => {
+            let words = problem_text(alloc, &finding.problem)?;
+            let code = code_text(alloc, finding)?;
+            let row = finding_row(alloc, path, finding, &code, &words)?;
+            push_row(Form::Json, &row, out)
+        }
+    }
+}
+
+/// Appends the lines of findings.
+#[tactic(auto, using(crate::proofs::ValidateLemmas::lines_more))]
+fn push_findings(
+    alloc: Global,
+    form: Form,
+    path: &str,
+    findings: &[Finding],
+    out: &mut Vec<u8>,
+) -> Result<()>
+    ensures ok { OnOk result (out.new.items
+        ≡ out.old.items ++ flat_map (fault_in form path.now) (map finding_view findings.now)) }
+    ensures memory { FailsOnlyForMemory result }
+{
+    for finding in findings {
+        push_finding(alloc, form, path, finding, out)?;
+    }
+    Ok(())
+}
+
+/// How many errors and warnings were found in a file.
+#[derive(Clone, Copy)]
+pub(crate) struct Tally {
+    pub(crate) errors: usize,
+    pub(crate) warnings: usize,
+}
+
+/// Returns how many of some findings are warnings.
+#[tactic(auto, using(crate::proofs::ValidateLemmas::warnings_more))]
+fn warning_count(findings: &[Finding]) -> usize
+    ensures count { result ≡ warning_count (map finding_view findings.now) }
+    ensures few { result ≤ length findings.now }
+{
+    let mut count = 0;
+    for finding in findings {
+        if finding.problem.is_warning() {
+            count += 1;
+        }
+    }
+    count
+}
+
+/// Returns how many errors and warnings there are among some findings.
+pub(crate) fn counts_of(findings: &[Finding]) -> Tally
+    ensures { tally_view result ≡ counts_of (map finding_view findings.now) }
+{
+    let warnings = warning_count(findings);
+    Tally {
+        errors: findings.len() - warnings,
+        warnings,
+    }
+}
+
+/// Appends a number of things.
+#[tactic(auto, unfolding(crate::specs::FindingLines::counted))]
+fn push_counted(alloc: Global, count: usize, thing: &str, out: &mut Vec<u8>) -> Result<()>
+    ensures ok { OnOk result (out.new.items ≡ out.old.items ++ counted count thing.now) }
+    ensures memory { FailsOnlyForMemory result }
+{
+    let ending = if count == 1 { "" } else { "s" };
+    let text = format!(in alloc; "{count} {thing}{ending}")?;
+    out.extend_from_slice(text.as_bytes())?;
+    Ok(())
+}
+
+/// Appends how many errors and warnings there are.
+#[tactic(auto, unfolding(crate::specs::FindingLines::counts_text))]
+fn push_counts(alloc: Global, tally: Tally, out: &mut Vec<u8>) -> Result<()>
+    ensures ok { OnOk result (out.new.items ≡ out.old.items ++ counts_text (tally_view tally)) }
+    ensures memory { FailsOnlyForMemory result }
+{
+    push_counted(alloc, tally.errors, "error", out)?;
+    out.extend_from_slice(b", ")?;
+    push_counted(alloc, tally.warnings, "warning", out)
+}
+
+/// Appends how many errors and warnings there are behind a colon, if there are any.
+fn push_counts_if_any(alloc: Global, tally: Tally, out: &mut Vec<u8>) -> Result<()>
+    ensures ok { OnOk result (out.new.items ≡ out.old.items ++ counts_if_any (tally_view tally)) }
+    ensures memory { FailsOnlyForMemory result }
+{
+    if tally.errors == 0 && tally.warnings == 0 {
+        return Ok(());
+    }
+    out.extend_from_slice(b": ")?;
+    push_counts(alloc, tally, out)
+}
+
+/// Returns whether a file in which so much was found is whole, in words.
+fn whole_text(tally: Tally) -> &'static str
+    ensures { result.now ≡ whole_text (tally_view tally) }
+{
+    if tally.errors == 0 {
+        return "whole";
+    }
+    "not whole"
+}
+
+/// Appends the line of a file in which so much was found, as text.
+#[tactic(auto, unfolding(crate::specs::FindingLines::file_line))]
+fn push_file_line(alloc: Global, path: &str, tally: Tally, out: &mut Vec<u8>) -> Result<()>
+    ensures ok { OnOk result (out.new.items ≡ out.old.items ++ file_line path.now (tally_view tally)) }
+    ensures memory { FailsOnlyForMemory result }
+{
+    out.extend_from_slice(path.as_bytes())?;
+    out.extend_from_slice(b": ")?;
+    out.extend_from_slice(whole_text(tally).as_bytes())?;
+    push_counts_if_any(alloc, tally, out)?;
+    out.push(b'\n')?;
+    Ok(())
+}
+
+/// Returns the fields of the line of a file, with the number of findings in it.
+fn file_row<'t>(alloc: Global, path: &'t str, tally: Tally) -> Result<Row<'t>>
+    ensures ok { IfOk result (λ row. row_shown row ≡ file_shown path.now (tally_view tally)) }
+    ensures memory { FailsOnlyForMemory result }
+{
+    let fields = vec![in alloc;
+        field("file", Value::Text(RawString::from(path))),
+        field("whole", Value::Flag(tally.errors == 0)),
+        field("errors", Value::Number(tally.errors as u64)),
+        field("warnings", Value::Number(tally.warnings as u64)),
+    ]?;
+    Ok(Row { fields })
+}
+
+/// Appends the line of a file in which so much was found, which is an object in JSON.
+fn push_file(alloc: Global, form: Form, path: &str, tally: Tally, out: &mut Vec<u8>) -> Result<()>
+    ensures ok { OnOk result (out.new.items ≡ out.old.items ++ file_in form path.now (tally_view tally)) }
+    ensures memory { FailsOnlyForMemory result }
+{
+    match form {
+        Form::Text => push_file_line(alloc, path, tally, out),
+        Form::Json => {
+            let row = file_row(alloc, path, tally)?;
+            push_row(Form::Json, &row, out)
+        }
+    }
+}
+
+/// Appends the lines of what was found in a file, and that of the file behind them.
+#[tactic(auto, unfolding(crate::specs::FindingLines::validate_lines))]
+fn push_lines(
+    alloc: Global,
+    form: Form,
+    path: &str,
+    findings: &[Finding],
+    out: &mut Vec<u8>,
+) -> Result<()>
+    ensures ok { OnOk result (out.new.items
+        ≡ out.old.items ++ validate_lines form path.now (map finding_view findings.now)) }
+    ensures memory { FailsOnlyForMemory result }
+{
+    push_findings(alloc, form, path, findings, out)?;
+    push_file(alloc, form, path, counts_of(findings), out)
+}
+
+/// Returns what is written of a file and of what was found in it: a line for each finding and one
+/// for the file; or nothing, if only the status is wanted.
+pub(crate) fn validate_lines(
+    alloc: Global,
+    is_quiet: bool,
+    form: Form,
+    path: &str,
+    findings: &[Finding],
+) -> Result<Vec<u8>>
+    ensures ok { IfOk result (λ lines. lines.items ≡
+        lines_unless is_quiet form path.now (map finding_view findings.now)) }
+    ensures memory { FailsOnlyForMemory result }
+{
+    let mut lines = Vec::new(alloc);
+    if is_quiet {
+        return Ok(lines);
+    }
+    push_lines(alloc, form, path, findings, &mut lines)?;
+    Ok(lines)
+}

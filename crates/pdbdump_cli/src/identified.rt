@@ -1,0 +1,143 @@
+//! What `id` does with a file.
+
+ghost use Rattle.std.specs.Prelude.{◌≡◌, ◌↔◌, IsTrue, IfOk};
+ghost use Rattle.std.specs.Option.{option_map};
+ghost use Rattle.pdb_base.specs.Answer.{Answers};
+ghost use Rattle.pdb_base.specs.Memory.{FailsOnlyForMemory};
+ghost use Rattle.pdbdump_cli.specs.IdWords.{identify_view};
+ghost use Rattle.pdbdump_cli.specs.Identified.{IsConcluded, IsExpected, IsFound, IsIdServed, IsIdentified, identity_in, other_format};
+
+use crate::command::Identify;
+use crate::served::end;
+use pdb_cli::{read_all, tell};
+use pdb_container::{PDB, Result};
+use pdb_identity::{Format, Identity};
+use pdb_output::Output;
+use pdbdump_rows::Form;
+use pdbdump_tables::{is_key, write_identity};
+use std::alloc::Global;
+use std::io::{Read, Write};
+
+/// What is written if the file is not the expected one.
+const UNEXPECTED: &[u8] = b"the file has another key than the expected one\n";
+
+/// Returns what is written of a file of another format than the one that is read.
+fn other_format(format: Format) -> Option<&'static str>
+    ensures { option_map (λ text. text.now) result ≡ other_format format }
+{
+    match format {
+        Format::Msf7 => None,
+        Format::Msf2 => {
+            Some("a program database of the older format MSF 2.00, which is not read\n")
+        }
+        Format::Portable => {
+            Some("a portable program database of .NET, which is another format\n")
+        }
+        Format::Compressed => Some("a compressed file of a symbol server: expand it first\n"),
+        Format::Image => Some("a program or a library, and not its program database\n"),
+        Format::Unknown => Some("no program database\n"),
+    }
+}
+
+/// Reads what identifies a file.
+#[tactic(auto, unfolding(crate::specs::Identified::identity_in))]
+fn identity_in(alloc: Global, file: Vec<u8>) -> Result<Identity>
+    ensures { Answers (λ identity. identity) result (identity_in file.items) }
+{
+    let mut file = PDB::open(alloc, file)?;
+    Identity::of(alloc, &mut file)
+}
+
+/// Returns whether a file has the key that is expected, if any is.
+fn is_expected(alloc: Global, expected: Option<&str>, identity: &Identity) -> Result<bool>
+    ensures ok { IfOk result (λ is_expected. IsTrue is_expected ↔
+        IsExpected (option_map (λ word. word.now) expected.entry) identity.now) }
+    ensures memory { FailsOnlyForMemory result }
+{
+    match expected {
+        Some(word) => is_key(alloc, word, identity),
+        None => Ok(true),
+    }
+}
+
+/// Writes what identifies a file, and returns whether it is the expected one.
+#[tactic(auto, using(pdb_output::proofs::lemmas::Written::writing))]
+fn write_found<W: Write>(
+    alloc: Global,
+    asked: &Identify<'_>,
+    identity: &Identity,
+    form: Form,
+    out: &mut Output<W>,
+) -> Result<bool>
+    ensures { IsFound form (identify_view asked.now) identity.now out.old out.new result }
+{
+    let is_expected = is_expected(alloc, asked.expected, identity)?;
+    write_identity(alloc, asked.style, asked.name, identity, form, out)?;
+    Ok(is_expected)
+}
+
+/// Finds and writes what identifies a file, and returns whether it is the expected one.
+fn identify<W: Write>(
+    alloc: Global,
+    file: Vec<u8>,
+    asked: &Identify<'_>,
+    form: Form,
+    out: &mut Output<W>,
+) -> Result<bool>
+    ensures { IsIdentified form (identify_view asked.now) file.items out.old out.new result }
+{
+    match identity_in(alloc, file) {
+        Ok(identity) => write_found(alloc, asked, &identity, form, out),
+        Err(fault) => Err(fault),
+    }
+}
+
+/// Ends the program after a file was identified.
+fn conclude<O: Write, E: Write>(
+    alloc: Global,
+    identified: Result<bool>,
+    out: &mut Output<O>,
+    err: &mut Output<E>,
+) -> u8
+    ensures { IsConcluded identified out.old out.new err.old err.new result }
+{
+    match identified {
+        Ok(true) => end(alloc, Ok(()), out, err),
+        Ok(false) => {
+            end(alloc, Ok(()), out, err);
+            err.report(UNEXPECTED);
+            1
+        }
+        Err(fault) => end(alloc, Err(fault), out, err),
+    }
+}
+
+/// Reads a file from the input and writes to the output what identifies it. Returns the status with
+/// which the program ends: 1 if the file is of another format, or not the expected one, or after a
+/// fault of the file or of a channel, which is written to the error channel, unless it is that the
+/// output was closed.
+pub fn serve_id<I: Read, O: Write, E: Write>(
+    alloc: Global,
+    asked: &Identify<'_>,
+    form: Form,
+    input: &mut I,
+    out: &mut Output<O>,
+    err: &mut Output<E>,
+) -> u8
+    ensures { IsIdServed form (identify_view asked.now) (I.remaining input.old) out.old out.new
+        err.old err.new result }
+{
+    match read_all(alloc, input) {
+        Ok(file) => match other_format(Format::of(&file)) {
+            Some(text) => {
+                err.report(text.as_bytes());
+                1
+            }
+            None => {
+                let identified = identify(alloc, file, asked, form, out);
+                conclude(alloc, identified, out, err)
+            }
+        },
+        Err(unread) => tell(alloc, &unread, err),
+    }
+}

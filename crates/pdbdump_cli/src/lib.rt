@@ -1,0 +1,40 @@
+//! What the program `pdbdump` does: the words of its command line, the lines that it lists of a
+//! program database, and the answers to questions about one.
+#![tactic(auto)]
+
+mod answer;
+mod ask;
+mod asking;
+mod command;
+mod extracted;
+mod finding_lines;
+mod help;
+mod id_words;
+mod identified;
+mod laid_out;
+mod layout_words;
+mod listed;
+mod process;
+mod question;
+mod served;
+mod validate_words;
+mod validated;
+mod words;
+
+pub use ask::ask;
+pub use asking::serve_questions;
+pub use command::{
+    Call, Command, Extract, Identify, Layouts, Misuse, Task, Validate, ValidateOptions, Verb,
+};
+pub use extracted::serve_extract;
+pub use id_words::identify_of;
+pub use identified::serve_id;
+pub use laid_out::serve_layout;
+pub use layout_words::layouts_of;
+pub use listed::list;
+pub use process::program;
+pub use question::{Question, questions_in};
+pub use served::serve;
+pub use validate_words::validate_of;
+pub use validated::serve_validate;
+pub use words::{any_is, call_of, extract_of, first_verb, plain_words, verb_named};

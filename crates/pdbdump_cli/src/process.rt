@@ -1,0 +1,331 @@
+//! The program on the channels of its process.
+
+use crate::asking::serve_questions;
+use crate::command::{
+    Call, Command, Extract, Identify, Layouts, Misuse, Task, Validate, ValidateOptions, Verb,
+};
+use crate::extracted::serve_extract;
+use crate::help::{HELP, meaning_of, usage_of};
+use crate::id_words::{WordsApart, identify_of, words_apart};
+use crate::identified::serve_id;
+use crate::laid_out::serve_layout;
+use crate::layout_words::layouts_of;
+use crate::served::serve;
+use crate::validate_words::validate_of;
+use crate::validated::serve_validate;
+use crate::words::{any_is, call_of, extract_of, first_verb, plain_words};
+use pdb_cli::{Errors, tell, texts_of, words_of};
+use pdb_container::{Error, Result};
+use pdb_output::Output;
+use pdbdump_rows::Form;
+use std::io::{BufWriter, ErrorKind};
+use std::rt::{Env, Files};
+use std::{env, fs, io};
+
+/// The number of bytes of output that are gathered before they are written.
+const BUFFER_SIZE: usize = 65_536;
+
+/// The status of a call whose words ask nothing.
+const MISUSED: u8 = 2;
+
+/// Prints how the program is called, or how one command is.
+fn print_help<P: Print>(process: &P, words: &[&str]) -> Result<u8> {
+    match first_verb(words) {
+        Some(verb) => {
+            let usage = usage_of(verb);
+            let meaning = meaning_of(verb);
+            println!(process; "{usage}\n\n{meaning}")?;
+        }
+        None => print!(process; "{HELP}")?,
+    }
+    Ok(0)
+}
+
+/// Writes to standard error why words are no command, and returns the status of misuse, which is
+/// the same if standard error fails.
+fn tell_misuse<P: Eprint + AllocGlobal>(process: &P, misuse: Misuse, words: &[&str]) -> Result<u8> {
+    let mut told = String::new(process.alloc());
+    for word in words {
+        told.push_str(" ")?;
+        told.push_str(word)?;
+    }
+    match misuse {
+        Misuse::NoCommand => {
+            let _ = eprint!(process; "pdbdump: no command is called so:{told}\n\n{HELP}");
+        }
+        Misuse::Arguments(verb) => {
+            let usage = usage_of(verb);
+            let _ = eprintln!(process; "pdbdump: these words ask nothing:{told}\nusage: {usage}");
+        }
+        Misuse::InputTwice => {
+            let usage = usage_of(Verb::Ask);
+            let _ = eprintln!(process;
+                "pdbdump: standard input has the questions, so FILE cannot be `-`\nusage: {usage}"
+            );
+        }
+    }
+    Ok(MISUSED)
+}
+
+/// Lists what a command asks of the file at a path, or of standard input if the path is `-`.
+fn list_file<P: Files + Input + Print + Eprint + AllocGlobal>(
+    process: &P,
+    path: &str,
+    command: Command,
+    form: Form,
+) -> Result<u8> {
+    let alloc = process.alloc();
+    let buffer = BufWriter::with_capacity(alloc, BUFFER_SIZE, io::writer(process))?;
+    let mut out = Output::new(buffer);
+    let mut err = Output::new(Errors { process });
+    if path == "-" {
+        let mut input = process.reader();
+        return Ok(serve(alloc, command, form, &mut input, &mut out, &mut err));
+    }
+    match fs::open(process, path) {
+        Ok(mut input) => Ok(serve(alloc, command, form, &mut input, &mut out, &mut err)),
+        Err(fault) => Ok(tell(alloc, &Error::from(fault), &mut err)),
+    }
+}
+
+/// Answers the questions on standard input about the file at a path.
+fn answer_questions<P: Files + Input + Print + Eprint + AllocGlobal>(
+    process: &P,
+    path: &str,
+    form: Form,
+) -> Result<u8> {
+    let alloc = process.alloc();
+    let buffer = BufWriter::with_capacity(alloc, BUFFER_SIZE, io::writer(process))?;
+    let mut out = Output::new(buffer);
+    let mut err = Output::new(Errors { process });
+    let mut questions = process.reader();
+    match fs::open(process, path) {
+        Ok(mut input) => Ok(serve_questions(
+            alloc,
+            form,
+            &mut input,
+            &mut questions,
+            &mut out,
+            &mut err,
+        )),
+        Err(fault) => Ok(tell(alloc, &Error::from(fault), &mut err)),
+    }
+}
+
+/// Writes what identifies the file at a path, or the one in standard input if the path is `-`.
+fn identify_file<P: Files + Input + Print + Eprint + AllocGlobal>(
+    process: &P,
+    asked: &Identify<'_>,
+    form: Form,
+) -> Result<u8> {
+    let alloc = process.alloc();
+    let mut out = Output::new(io::writer(process));
+    let mut err = Output::new(Errors { process });
+    if asked.path == "-" {
+        let mut input = process.reader();
+        return Ok(serve_id(alloc, asked, form, &mut input, &mut out, &mut err));
+    }
+    match fs::open(process, asked.path) {
+        Ok(mut input) => Ok(serve_id(alloc, asked, form, &mut input, &mut out, &mut err)),
+        Err(fault) => Ok(tell(alloc, &Error::from(fault), &mut err)),
+    }
+}
+
+/// Writes the bytes of a stream of the file at a path, or of the one in standard input if the path
+/// is `-`.
+fn extract_file<P: Files + Input + Print + Eprint + AllocGlobal>(
+    process: &P,
+    asked: &Extract<'_>,
+) -> Result<u8> {
+    let alloc = process.alloc();
+    let mut out = Output::new(io::writer(process));
+    let mut err = Output::new(Errors { process });
+    if asked.path == "-" {
+        let mut input = process.reader();
+        return Ok(serve_extract(alloc, asked, &mut input, &mut out, &mut err));
+    }
+    match fs::open(process, asked.path) {
+        Ok(mut input) => Ok(serve_extract(alloc, asked, &mut input, &mut out, &mut err)),
+        Err(fault) => Ok(tell(alloc, &Error::from(fault), &mut err)),
+    }
+}
+
+/// Writes what is found wrong in the file at a path, or in the one in standard input if the path is
+/// `-`, and returns the status for that file.
+fn validate_file<P: Files + Input + Print + Eprint + AllocGlobal>(
+    process: &P,
+    options: ValidateOptions,
+    path: &str,
+    form: Form,
+) -> u8 {
+    let alloc = process.alloc();
+    let mut out = Output::new(io::writer(process));
+    let mut err = Output::new(Errors { process });
+    if path == "-" {
+        let mut input = process.reader();
+        return serve_validate(alloc, options, form, path, &mut input, &mut out, &mut err);
+    }
+    match fs::open(process, path) {
+        Ok(mut input) => serve_validate(alloc, options, form, path, &mut input, &mut out, &mut err),
+        Err(fault) => tell(alloc, &Error::from(fault), &mut err),
+    }
+}
+
+/// Does what the words after `validate` ask: looks at each file, and returns the highest status.
+fn call_validate<P: Files + Input + Print + Eprint + AllocGlobal>(
+    process: &P,
+    plain: &[&str],
+    words: &[&str],
+    form: Form,
+) -> Result<u8> {
+    let Some(Validate { options, paths }) = validate_of(process.alloc(), plain)? else {
+        return tell_misuse(process, Misuse::Arguments(Verb::Validate), words);
+    };
+    let mut status = 0;
+    for path in paths.iter() {
+        status = status.max(validate_file(process, options, path, form));
+    }
+    Ok(status)
+}
+
+/// Shows layouts of the file at a path, or of the one in standard input if the path is `-`.
+fn show_file<P: Files + Input + Print + Eprint + AllocGlobal>(
+    process: &P,
+    asked: &Layouts<'_>,
+    form: Form,
+) -> Result<u8> {
+    let alloc = process.alloc();
+    let buffer = BufWriter::with_capacity(alloc, BUFFER_SIZE, io::writer(process))?;
+    let mut out = Output::new(buffer);
+    let mut err = Output::new(Errors { process });
+    if asked.path == "-" {
+        let mut input = process.reader();
+        return Ok(serve_layout(alloc, asked, form, &mut input, &mut out, &mut err));
+    }
+    match fs::open(process, asked.path) {
+        Ok(mut input) => Ok(serve_layout(alloc, asked, form, &mut input, &mut out, &mut err)),
+        Err(fault) => Ok(tell(alloc, &Error::from(fault), &mut err)),
+    }
+}
+
+/// Does what the words after `layout` ask.
+fn call_layout<P: Files + Input + Print + Eprint + AllocGlobal>(
+    process: &P,
+    plain: &[&str],
+    words: &[&str],
+    form: Form,
+) -> Result<u8> {
+    match layouts_of(plain) {
+        Some(asked) => show_file(process, &asked, form),
+        None => tell_misuse(process, Misuse::Arguments(Verb::Layout), words),
+    }
+}
+
+/// Does what the words after `id` ask, of each file in turn, and returns the highest status.
+fn call_id<P: Files + Input + Print + Eprint + AllocGlobal>(
+    process: &P,
+    plain: &[&str],
+    words: &[&str],
+    form: Form,
+) -> Result<u8> {
+    let WordsApart { mut options, paths } = words_apart(process.alloc(), plain)?;
+    if paths.is_empty() {
+        return tell_misuse(process, Misuse::Arguments(Verb::Id), words);
+    }
+    let mut status = 0;
+    for path in paths.iter() {
+        options.push(*path)?;
+        let Some(asked) = identify_of(&options) else {
+            return tell_misuse(process, Misuse::Arguments(Verb::Id), words);
+        };
+        status = status.max(identify_file(process, &asked, form)?);
+        options.pop();
+    }
+    Ok(status)
+}
+
+/// Does what the words after `extract` ask, which has no form in JSON.
+fn call_extract<P: Files + Input + Print + Eprint + AllocGlobal>(
+    process: &P,
+    plain: &[&str],
+    words: &[&str],
+    form: Form,
+) -> Result<u8> {
+    match (extract_of(plain), form) {
+        (Some(asked), Form::Text) => extract_file(process, &asked),
+        _ => tell_misuse(process, Misuse::Arguments(Verb::Extract), words),
+    }
+}
+
+/// Lists what the words ask, or answers questions.
+fn call_listing<P: Files + Input + Print + Eprint + AllocGlobal>(
+    process: &P,
+    plain: &[&str],
+    words: &[&str],
+    form: Form,
+) -> Result<u8> {
+    match call_of(plain) {
+        Ok(Call { path, task }) => match task {
+            Task::List(command) => list_file(process, path, command, form),
+            Task::Answer => answer_questions(process, path, form),
+        },
+        Err(misuse) => tell_misuse(process, misuse, words),
+    }
+}
+
+/// Does what the words after the program's name ask, and returns the status that it ends with.
+fn call<P: Files + Input + Print + Eprint + AllocGlobal>(
+    process: &P,
+    words: &[&str],
+) -> Result<u8> {
+    if any_is(words, "--help") {
+        return print_help(process, words);
+    }
+    let form = if any_is(words, "--json") {
+        Form::Json
+    } else {
+        Form::Text
+    };
+    let plain = plain_words(process.alloc(), words)?;
+    let Some((_, rest)) = plain.split_first() else {
+        let _ = eprint!(process; "{HELP}");
+        return Ok(MISUSED);
+    };
+    match first_verb(&plain) {
+        Some(Verb::Id) => call_id(process, rest, words, form),
+        Some(Verb::Extract) => call_extract(process, rest, words, form),
+        Some(Verb::Validate) => call_validate(process, rest, words, form),
+        Some(Verb::Layout) => call_layout(process, rest, words, form),
+        _ => call_listing(process, &plain, words, form),
+    }
+}
+
+/// Reads the words of a call, does what they ask, and returns the status that it ends with.
+fn attempt<P: Env + Files + Input + Print + Eprint + AllocGlobal>(process: &P) -> Result<u8> {
+    match env::args(process) {
+        Ok(arguments) => {
+            let words = words_of(process.alloc(), arguments)?;
+            let texts = texts_of(process.alloc(), &words)?;
+            call(process, &texts)
+        }
+        Err(error) if error.kind() == ErrorKind::InvalidData => {
+            let _ = eprint!(process; "{HELP}");
+            Ok(MISUSED)
+        }
+        Err(error) => Err(Error::from(error)),
+    }
+}
+
+/// Runs the program with the words, the files and the channels of its process, and returns the
+/// status that it ends with: 0 if all was listed or answered, 1 if something failed, 2 if the words
+/// are no command.
+pub fn program<P: Env + Files + Input + Print + Eprint + AllocGlobal>(process: &P) -> u8 {
+    match attempt(process) {
+        Ok(status) => status,
+        Err(fault) => tell(
+            process.alloc(),
+            &fault,
+            &mut Output::new(Errors { process }),
+        ),
+    }
+}

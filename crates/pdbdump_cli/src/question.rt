@@ -1,0 +1,91 @@
+//! Questions: lines, and the query that the words of each spell.
+
+ghost use Rattle.std.specs.Prelude.{◌≡◌, map, IfOk};
+ghost use Rattle.std.specs.Option.{option_map};
+ghost use Rattle.pdb_base.specs.Memory.{FailsOnlyForMemory};
+ghost use Rattle.pdbdump_cli.specs.Questions.{asked, lines_of, query_in, questions_in, texts_of, words_of};
+
+use pdb_cli::query;
+use pdb_container::{Error, Query, Result};
+use std::alloc::Global;
+
+/// A line, and its query.
+#[derive(Clone, Copy, Debug)]
+pub struct Question<'t> {
+    /// The bytes of the line.
+    pub line: &'t [u8],
+
+    /// The query that its words spell, if they spell one.
+    pub query: Option<Query>,
+}
+
+/// Returns the lines of a text, without the empty ones.
+fn lines_of<'t>(alloc: Global, text: &'t [u8]) -> Result<Vec<&'t [u8]>>
+    ensures lines { IfOk result (λ lines. map (λ line. line.now) lines.items ≡ lines_of text.now) }
+    ensures memory { FailsOnlyForMemory result }
+{
+    let lines = text
+        .split(|byte| *byte == b'\n' || *byte == b'\r')
+        .filter(|line| !line.is_empty())
+        .collect(alloc)?;
+    Ok(lines)
+}
+
+/// Returns the words of a line, between its blanks and tabs.
+fn words_of<'t>(alloc: Global, line: &'t [u8]) -> Result<Vec<&'t [u8]>>
+    ensures words { IfOk result (λ words. map (λ word. word.now) words.items ≡ words_of line.now) }
+    ensures memory { FailsOnlyForMemory result }
+{
+    let words = line
+        .split(|byte| *byte == b' ' || *byte == b'\t')
+        .filter(|word| !word.is_empty())
+        .collect(alloc)?;
+    Ok(words)
+}
+
+/// Returns words as texts, or None if one of them isn't UTF-8.
+fn texts_of<'t>(alloc: Global, words: &[&'t [u8]]) -> Result<Option<Vec<&'t str>>>
+    ensures texts { IfOk result (λ texts. option_map (λ texts. map (λ text. text.now) texts.items) texts ≡
+        texts_of (map (λ word. word.now) words.now)) }
+    ensures memory { FailsOnlyForMemory result }
+{
+    let mut texts = Vec::with_capacity(alloc, words.len())?;
+    for word in words {
+        match str::from_utf8(word) {
+            Ok(text) => texts.push(text)?,
+            Err(_) => return Ok(None),
+        }
+    }
+    Ok(Some(texts))
+}
+
+/// Returns the query that the words of a line spell, if they spell one.
+#[tactic(auto, unfolding(crate::specs::Questions::query_in))]
+fn query_in(alloc: Global, line: &[u8]) -> Result<Option<Query>>
+    ensures query { IfOk result (λ query. query ≡ query_in line.now) }
+    ensures memory { FailsOnlyForMemory result }
+{
+    let words = words_of(alloc, line)?;
+    match texts_of(alloc, &words)? {
+        Some(texts) => Ok(query(&texts)),
+        None => Ok(None),
+    }
+}
+
+/// Returns the questions of a text, one for each line that is not empty.
+///
+/// # Errors
+/// Fails with `OutOfMemory` if an allocation fails.
+#[tactic(auto, unfolding(crate::specs::Questions::questions_in))]
+pub fn questions_in<'t>(alloc: Global, text: &'t [u8]) -> Result<Vec<Question<'t>>>
+    ensures questions { IfOk result (λ questions. map asked questions.items ≡ questions_in text.now) }
+    ensures memory { FailsOnlyForMemory result }
+{
+    let lines = lines_of(alloc, text)?;
+    let mut questions = Vec::with_capacity(alloc, lines.len())?;
+    for line in &lines {
+        let query = query_in(alloc, line)?;
+        questions.push(Question { line: *line, query })?;
+    }
+    Ok(questions)
+}

@@ -1,0 +1,109 @@
+//! What `validate` does with a file.
+
+ghost use Rattle.std.specs.Prelude.{◌≡◌, ◌↔◌, map, ℕ, List, IsTrue};
+ghost use Rattle.pdb_output.specs.Output.{Writes};
+ghost use Rattle.pdb_validation.specs.Finding.{error_count, finding_view};
+ghost use Rattle.pdb_validation.specs.IsWhole.{IsWhole};
+ghost use Rattle.pdb_validation.specs.Whole.{faults_of};
+ghost use Rattle.pdbdump_cli.specs.FindingLines.{lines_unless};
+ghost use Rattle.pdbdump_cli.specs.Validated.{HasPassed, IsConcluded, IsValidateServed, IsValidated};
+
+use crate::command::ValidateOptions;
+use crate::finding_lines::{counts_of, validate_lines};
+use crate::served::end;
+use pdb_cli::{read_all, tell};
+use pdb_container::{Error, Result};
+use pdb_output::Output;
+use pdbdump_rows::Form;
+use pdb_validation::{Finding, validate};
+use std::alloc::Global;
+use std::io::{Read, Write};
+
+/// Writes what was found in the file at a path.
+#[tactic(auto, using(pdb_output::proofs::lemmas::Written::writing))]
+fn write_findings<W: Write>(
+    alloc: Global,
+    is_quiet: bool,
+    form: Form,
+    path: &str,
+    findings: &[Finding],
+    out: &mut Output<W>,
+) -> Result<()>
+    ensures { Writes (lines_unless is_quiet form path.now (map finding_view findings.now)) out.old out.new result }
+{
+    let lines = validate_lines(alloc, is_quiet, form, path, findings)?;
+    out.write(&lines)
+}
+
+/// Returns whether there is no error among what was found, and no warning either where that counts
+/// too.
+fn has_passed(is_strict: bool, findings: &[Finding]) -> bool
+    ensures { IsTrue result ↔ HasPassed is_strict (map finding_view findings.now) }
+{
+    let counts = counts_of(findings);
+    counts.errors == 0 && (!is_strict || counts.warnings == 0)
+}
+
+/// Writes what was found in the file at a path, and returns the status with which the program ends,
+/// which is 1 unless the file has passed.
+fn conclude<O: Write, E: Write>(
+    alloc: Global,
+    options: ValidateOptions,
+    form: Form,
+    path: &str,
+    findings: &[Finding],
+    out: &mut Output<O>,
+    err: &mut Output<E>,
+) -> u8
+    ensures { (file : List ℕ) → faults_of options.extent file ≡ map finding_view findings.now
+        → ((error_count (map finding_view findings.now) ≡ 0) ↔ IsWhole file)
+        → IsConcluded options form path.now file out.old out.new err.old err.new result }
+{
+    let written = write_findings(alloc, options.is_quiet, form, path, findings, out);
+    let status = end(alloc, written, out, err);
+    if has_passed(options.is_strict, findings) {
+        return status;
+    }
+    1
+}
+
+/// Writes what is found wrong in the file with a path, and returns the status with which the
+/// program ends.
+fn judge<O: Write, E: Write>(
+    alloc: Global,
+    options: ValidateOptions,
+    form: Form,
+    path: &str,
+    file: &[u8],
+    out: &mut Output<O>,
+    err: &mut Output<E>,
+) -> u8
+    ensures { IsValidated options form path.now file.now out.old out.new err.old err.new result }
+{
+    match validate(alloc, file, options.extent) {
+        Ok(findings) => conclude(alloc, options, form, path, &findings, out, err),
+        Err(_) => tell(alloc, &Error::OutOfMemory, err),
+    }
+}
+
+/// Reads a file from the input and writes to the output what is found wrong in it, under the path
+/// that it has. Returns the status with which the program ends: 0 if there is no error, and no
+/// warning where that counts too; and 1 if there is, or after a fault of a channel, which is written
+/// to the error channel, unless it is that the output was closed.
+pub fn serve_validate<I: Read, O: Write, E: Write>(
+    alloc: Global,
+    options: ValidateOptions,
+    form: Form,
+    path: &str,
+    input: &mut I,
+    out: &mut Output<O>,
+    err: &mut Output<E>,
+) -> u8
+    ensures { IsValidateServed options form path.now (I.remaining input.old) out.old out.new
+        err.old err.new result }
+{
+    match read_all(alloc, input) {
+        Ok(file) => judge(alloc, options, form, path, &file, out, err),
+        Err(unread) => tell(alloc, &unread, err),
+    }
+}

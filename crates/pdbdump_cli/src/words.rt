@@ -1,0 +1,412 @@
+//! The words that the program takes.
+
+ghost use Rattle.std.specs.Prelude.{◌≡◌, map, IfOk};
+ghost use Rattle.std.specs.Option.{option_map};
+ghost use Rattle.std.specs.List.{list_any};
+ghost use Rattle.pdb_base.specs.Memory.{FailsOnlyForMemory};
+ghost use Rattle.pdb_cli.specs.Words.{same};
+ghost use Rattle.pdbdump_cli.specs.Words.{arguments_view, arguments_with, call_of, call_view, call_with, command_with, extract_of, extract_view, first_verb, frame_option, is_option};
+ghost use Rattle.pdbdump_cli.specs.Words.{none_given, option_given, part_option, plain_words, record_option, result_view, stream_option, task_with, unless_twice, verb_of, with_operand, with_option, with_stream};
+
+use crate::command::{Call, Command, Extract, Misuse, Task, Verb};
+use pdb_cli::number;
+use pdb_container::Error;
+use pdbdump_tables::MapStreams;
+use std::alloc::Global;
+
+/// Returns whether one of the words is the wanted one.
+pub fn any_is(words: &[&str], wanted: &str) -> bool
+    ensures { result ≡ list_any (λ word. same word.now wanted.now) words.now }
+{
+    for word in words {
+        if *word == wanted {
+            return true;
+        }
+    }
+    false
+}
+
+/// Returns the words without `--json`, which may be anywhere among them.
+pub fn plain_words<'w>(alloc: Global, words: &[&'w str]) -> pdb_container::Result<Vec<&'w str>>
+    ensures plain { IfOk result (λ plain. map (λ word. word.now) plain.items ≡
+        plain_words (map (λ word. word.now) words.now)) }
+    ensures memory { FailsOnlyForMemory result }
+{
+    let mut plain = Vec::new(alloc);
+    for word in words {
+        if *word != "--json" {
+            plain.push(*word)?;
+        }
+    }
+    Ok(plain)
+}
+
+/// Returns the command of a name, if there is one.
+pub fn verb_named(word: &str) -> Option<Verb>
+    ensures { result ≡ verb_of word.now }
+{
+    match word {
+        "summary" => Some(Verb::Summary),
+        "types" => Some(Verb::Types),
+        "ids" => Some(Verb::Ids),
+        "names" => Some(Verb::Names),
+        "sections" => Some(Verb::Sections),
+        "omap" => Some(Verb::Omap),
+        "frames" => Some(Verb::Frames),
+        "map" => Some(Verb::Map),
+        "ask" => Some(Verb::Ask),
+        "id" => Some(Verb::Id),
+        "extract" => Some(Verb::Extract),
+        "validate" => Some(Verb::Validate),
+        "layout" => Some(Verb::Layout),
+        _ => None,
+    }
+}
+
+/// Returns the command that the first word names, if it names one.
+pub fn first_verb(words: &[&str]) -> Option<Verb>
+    ensures { result ≡ first_verb (map (λ word. word.now) words.now) }
+{
+    match words {
+        [word, ..] => verb_named(word),
+        [] => None,
+    }
+}
+
+/// What the options of a command say, each of which is a number.
+#[derive(Clone, Copy)]
+struct Options {
+    /// `--stream S`.
+    stream: Option<u32>,
+    /// `--index I`.
+    index: Option<u32>,
+    /// `--old S`.
+    old: Option<u32>,
+    /// `--new S`.
+    new: Option<u32>,
+    /// `--skip N`.
+    skip: Option<u32>,
+    /// `--take N`.
+    limit: Option<u32>,
+    /// The streams of an address map.
+    map: MapStreams,
+}
+
+/// The arguments of a command, which follow its name.
+#[derive(Clone, Copy)]
+struct Arguments<'w> {
+    /// The options.
+    options: Options,
+    /// The path of the file.
+    path: Option<&'w str>,
+    /// The address of `map`, or the stream of `extract`.
+    operand: Option<&'w str>,
+}
+
+/// Returns the arguments of a command with no word behind its name.
+fn none_given<'w>() -> Arguments<'w>
+    ensures { arguments_view result ≡ none_given }
+{
+    let map = MapStreams {
+        sections: None,
+        transformed: None,
+        to_original: None,
+        to_transformed: None,
+    };
+    let options = Options {
+        stream: None,
+        index: None,
+        old: None,
+        new: None,
+        skip: None,
+        limit: None,
+        map,
+    };
+    Arguments {
+        options,
+        path: None,
+        operand: None,
+    }
+}
+
+/// Returns the streams of an address map with the one that an option gives, if there is such an
+/// option and it isn't given yet.
+fn with_stream(streams: MapStreams, option: &str, stream: u32) -> Option<MapStreams>
+    ensures { result ≡ with_stream streams option.now stream }
+{
+    let stream = Some(stream);
+    match option {
+        "--sections" if streams.sections.is_none() => Some(MapStreams {
+            sections: stream,
+            ..streams
+        }),
+        "--transformed" if streams.transformed.is_none() => Some(MapStreams {
+            transformed: stream,
+            ..streams
+        }),
+        "--to" if streams.to_original.is_none() => Some(MapStreams {
+            to_original: stream,
+            ..streams
+        }),
+        "--from" if streams.to_transformed.is_none() => Some(MapStreams {
+            to_transformed: stream,
+            ..streams
+        }),
+        _ => None,
+    }
+}
+
+/// Returns the options of `types` and `ids` with one more, if they take it.
+fn record_option(options: Options, option: &str, value: u32) -> Option<Options>
+    ensures { result ≡ record_option options option.now value }
+{
+    let value = Some(value);
+    match option {
+        "--stream" if options.stream.is_none() => Some(Options {
+            stream: value,
+            ..options
+        }),
+        "--index" if options.index.is_none() => Some(Options {
+            index: value,
+            ..options
+        }),
+        _ => None,
+    }
+}
+
+/// Returns the options of `names`, `sections` and `omap` with one more, if they take it.
+fn stream_option(options: Options, option: &str, value: u32) -> Option<Options>
+    ensures { result ≡ stream_option options option.now value }
+{
+    match option {
+        "--stream" if options.stream.is_none() => Some(Options {
+            stream: Some(value),
+            ..options
+        }),
+        _ => None,
+    }
+}
+
+/// Returns the options of `frames` with one more, if it takes it.
+fn frame_option(options: Options, option: &str, value: u32) -> Option<Options>
+    ensures { result ≡ frame_option options option.now value }
+{
+    let value = Some(value);
+    match option {
+        "--old" if options.old.is_none() => Some(Options {
+            old: value,
+            ..options
+        }),
+        "--new" if options.new.is_none() => Some(Options {
+            new: value,
+            ..options
+        }),
+        _ => None,
+    }
+}
+
+/// Returns the options of `extract` with one more, if it takes it.
+fn part_option(options: Options, option: &str, value: u32) -> Option<Options>
+    ensures { result ≡ part_option options option.now value }
+{
+    let value = Some(value);
+    match option {
+        "--skip" if options.skip.is_none() => Some(Options {
+            skip: value,
+            ..options
+        }),
+        "--take" if options.limit.is_none() => Some(Options {
+            limit: value,
+            ..options
+        }),
+        _ => None,
+    }
+}
+
+/// Returns the options of a command with one more, if the command takes it.
+fn with_option(verb: Verb, options: Options, option: &str, value: u32) -> Option<Options>
+    ensures { result ≡ with_option verb options option.now value }
+{
+    match verb {
+        Verb::Types | Verb::Ids => record_option(options, option, value),
+        Verb::Names | Verb::Sections | Verb::Omap => stream_option(options, option, value),
+        Verb::Frames => frame_option(options, option, value),
+        Verb::Map => {
+            let map = with_stream(options.map, option, value)?;
+            Some(Options { map, ..options })
+        }
+        Verb::Extract => part_option(options, option, value),
+        Verb::Summary | Verb::Ask | Verb::Id | Verb::Layout | Verb::Validate => None,
+    }
+}
+
+/// Returns the options with the one that an option's name and the word after it give.
+#[tactic(auto, unfolding(crate::specs::Words::option_given))]
+fn option_given(verb: Verb, options: Options, option: &str, value: &str) -> Option<Options>
+    ensures { result ≡ option_given verb options option.now value.now }
+{
+    let value = number(value)?;
+    with_option(verb, options, option, value)
+}
+
+/// Returns the arguments with one more word that is no option: first the path, then the operand.
+fn with_operand<'w>(arguments: Arguments<'w>, word: &'w str) -> Option<Arguments<'w>>
+    ensures { option_map arguments_view result ≡ with_operand (arguments_view arguments.entry) word.now }
+{
+    let word = Some(word);
+    match (arguments.path, arguments.operand) {
+        (None, _) => Some(Arguments {
+            path: word,
+            ..arguments
+        }),
+        (Some(_), None) => Some(Arguments {
+            operand: word,
+            ..arguments
+        }),
+        (Some(_), Some(_)) => None,
+    }
+}
+
+/// Returns whether a word is the name of an option.
+pub(crate) fn is_option(word: &str) -> bool
+    ensures { result ≡ is_option word.now }
+{
+    word.as_bytes().starts_with(b"--")
+}
+
+/// Returns the arguments with all these words, in any order: options, each with a number behind it,
+/// and the others. Since none may be given twice, there is a call for each of ten words at most.
+#[tactic(auto, unfolding(crate::specs::Words::arguments_with))]
+fn arguments_with<'w>(
+    verb: Verb,
+    arguments: Arguments<'w>,
+    words: &[&'w str],
+) -> Option<Arguments<'w>>
+    ensures { option_map arguments_view result ≡
+        arguments_with verb (arguments_view arguments.entry) (map (λ word. word.now) words.now) }
+{
+    let Some((word, words)) = words.split_first() else {
+        return Some(arguments);
+    };
+    if !is_option(word) {
+        let arguments = with_operand(arguments, word)?;
+        return arguments_with(verb, arguments, words);
+    }
+    let (value, words) = words.split_first()?;
+    let options = option_given(verb, arguments.options, word, value)?;
+    let arguments = Arguments {
+        options,
+        ..arguments
+    };
+    arguments_with(verb, arguments, words)
+}
+
+/// Returns what a command lists with these options and this operand, if it takes them.
+fn command_with(verb: Verb, options: Options, operand: Option<&str>) -> Option<Command>
+    ensures { result ≡ command_with verb options (option_map (λ word. word.now) operand.entry) }
+{
+    let Options {
+        stream,
+        index,
+        old,
+        new,
+        map: streams,
+        ..
+    } = options;
+    match (verb, operand) {
+        (Verb::Map, Some(address)) => {
+            let address = number(address)?;
+            Some(Command::Map { address, streams })
+        }
+        (Verb::Map | Verb::Ask | Verb::Id | Verb::Extract | Verb::Layout | Verb::Validate, _)
+        | (_, Some(_)) => None,
+        (Verb::Summary, None) => Some(Command::Summary),
+        (Verb::Types, None) => Some(Command::Types { stream, index }),
+        (Verb::Ids, None) => Some(Command::Ids { stream, index }),
+        (Verb::Names, None) => Some(Command::Names { stream }),
+        (Verb::Sections, None) => Some(Command::Sections { stream }),
+        (Verb::Omap, None) => Some(Command::Omap { stream }),
+        (Verb::Frames, None) => match (old, new) {
+            (None, None) => Some(Command::Frames),
+            (old, new) => Some(Command::FramesIn { old, new }),
+        },
+    }
+}
+
+/// Returns what a command does with these options and this operand, if it takes them.
+fn task_with(verb: Verb, options: Options, operand: Option<&str>) -> Option<Task>
+    ensures { result ≡ task_with verb options (option_map (λ word. word.now) operand.entry) }
+{
+    match (verb, operand) {
+        (Verb::Ask, None) => Some(Task::Answer),
+        (verb, operand) => {
+            let command = command_with(verb, options, operand)?;
+            Some(Task::List(command))
+        }
+    }
+}
+
+/// Returns what a command asks with the words behind its name, and of which file, if it takes them.
+#[tactic(auto, unfolding(crate::specs::Words::call_with))]
+fn call_with<'w>(verb: Verb, words: &[&'w str]) -> Option<Call<'w>>
+    ensures { option_map call_view result ≡ call_with verb (map (λ word. word.now) words.now) }
+{
+    let arguments = arguments_with(verb, none_given(), words)?;
+    let path = arguments.path?;
+    let task = task_with(verb, arguments.options, arguments.operand)?;
+    Some(Call { path, task })
+}
+
+/// Returns the arguments of `extract` from the words behind its name, if it takes them.
+#[tactic(auto, unfolding(crate::specs::Words::extract_of))]
+pub fn extract_of<'w>(words: &[&'w str]) -> Option<Extract<'w>>
+    ensures { option_map extract_view result ≡ extract_of (map (λ word. word.now) words.now) }
+{
+    let arguments = arguments_with(Verb::Extract, none_given(), words)?;
+    let path = arguments.path?;
+    let stream = arguments.operand?;
+    let options = arguments.options;
+    Some(Extract {
+        path,
+        stream,
+        skip: options.skip.unwrap_or(0),
+        limit: options.limit,
+    })
+}
+
+/// Returns a call, unless both the file and the questions would be read from standard input.
+fn unless_twice(call: Call<'_>) -> Result<Call<'_>, Misuse>
+    ensures { result_view result ≡ unless_twice (call_view call.entry) }
+{
+    match call.task {
+        Task::Answer if call.path == "-" => Err(Misuse::InputTwice),
+        _ => Ok(call),
+    }
+}
+
+/// Returns what the words of a call ask, and of which file: `COMMAND [OPTION].. FILE [OPERAND]`, or
+/// `FILE` alone for its summary.
+///
+/// # Errors
+/// Fails with `NoCommand` if the first of several words names no command, with `Arguments` if the
+/// command doesn't take the words after it, and with `InputTwice` if the path is `-`, for standard
+/// input, and the questions are to be read from there too.
+#[tactic(auto, unfolding(crate::specs::Words::call_of))]
+pub fn call_of<'w>(words: &[&'w str]) -> Result<Call<'w>, Misuse>
+    ensures { result_view result ≡ call_of (map (λ word. word.now) words.now) }
+{
+    let Some((name, words)) = words.split_first() else {
+        return Err(Misuse::NoCommand);
+    };
+    match verb_named(name) {
+        Some(verb) => match call_with(verb, words) {
+            Some(call) => unless_twice(call),
+            None => Err(Misuse::Arguments(verb)),
+        },
+        None if words.is_empty() => Ok(Call {
+            path: name,
+            task: Task::List(Command::Summary),
+        }),
+        None => Err(Misuse::NoCommand),
+    }
+}

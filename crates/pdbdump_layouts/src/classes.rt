@@ -1,0 +1,190 @@
+//! The classes of a table.
+
+ghost use Rattle.std.specs.Prelude.{◌≡◌, ◌↔◌, map, Ok, IfOk, IfSome, IsTrue};
+ghost use Rattle.std.specs.Option.{option_map};
+ghost use Rattle.pdb_base.specs.Answer.{Answers};
+ghost use Rattle.pdb_base.specs.Memory.{FailsOnlyForMemory};
+ghost use Rattle.pdb_tpi.specs.Item.{bytes_of, index_of};
+ghost use Rattle.pdb_tpi.specs.Record.{type_of};
+ghost use Rattle.pdb_types.specs.Layout.{HasGaps, layout_value};
+ghost use Rattle.pdb_types.specs.TypeAt.{type_at};
+ghost use Rattle.pdb_values.specs.Text.{text_bytes};
+ghost use Rattle.pdb_values.specs.TypeView.{type_value};
+ghost use Rattle.pdbdump_layouts.specs.Classes.{AreClasses, IsClassIn, IsNameWanted, class_defined};
+ghost use Rattle.pdbdump_layouts.specs.Classes.{class_layout, class_of, class_value, unmodified};
+
+use crate::pattern::matches;
+use pdb_base::{Error, RawString, Result, TypeIndex};
+use pdb_tpi::{OpenTable, Type};
+use pdb_types::{Definitions, Layout};
+use pdb_values::{ClassKind, TypeData};
+use std::alloc::Global;
+
+/// How many types are read at most from one with modifiers to the one without.
+const MOST_TYPES: u32 = 16;
+
+/// What the record of a class or a union says of it.
+#[derive(Clone, Copy)]
+pub(crate) struct Class<'t> {
+    /// What it is called in C++: `struct`, `class`, `__interface` or `union`.
+    pub(crate) word: &'static str,
+
+    /// Its name.
+    pub(crate) name: RawString<'t>,
+
+    /// Whether it is only declared.
+    pub(crate) is_forward: bool,
+}
+
+/// Returns what C++ calls a kind of class.
+fn class_word(kind: ClassKind) -> &'static str {
+    match kind {
+        ClassKind::Class => "class",
+        ClassKind::Struct => "struct",
+        ClassKind::Interface => "__interface",
+    }
+}
+
+/// Returns what a record says of a class or a union, or None if it is of neither.
+pub(crate) fn class_of<'t>(value: &TypeData<'t>) -> Option<Class<'t>>
+    ensures { option_map class_value result ≡ class_of (type_value value.now) }
+{
+    match value {
+        TypeData::Class(class) => Some(Class {
+            word: class_word(class.kind),
+            name: class.name,
+            is_forward: class.properties.forward_reference(),
+        }),
+        TypeData::Union(union_type) => Some(Class {
+            word: "union",
+            name: union_type.name,
+            is_forward: union_type.properties.forward_reference(),
+        }),
+        _ => None,
+    }
+}
+
+/// Returns the class or union that a record defines, or None if it defines none.
+fn defined<'t>(value: &TypeData<'t>) -> Option<Class<'t>>
+    ensures { option_map class_value result ≡ class_defined (Ok (type_value value.now)) }
+{
+    let class = class_of(value)?;
+    if class.is_forward {
+        return None;
+    }
+    Some(class)
+}
+
+/// Returns the class or union that a record defines, or None if it defines none. A record that can't
+/// be read defines none.
+fn class_defined<'t>(alloc: Global, item: &Type<'t>) -> Result<Option<Class<'t>>>
+    ensures class { IfOk result (λ class. option_map class_value class
+        ≡ class_defined (type_of (index_of item.now).0 (bytes_of item.now))) }
+    ensures memory { FailsOnlyForMemory result }
+{
+    match item.parse(alloc) {
+        Ok(value) => Ok(defined(&value)),
+        Err(Error::OutOfMemory) => Err(Error::OutOfMemory),
+        Err(_) => Ok(None),
+    }
+}
+
+/// Returns whether a name is wanted: any is if there is no pattern.
+fn is_name_wanted(pattern: Option<&[u8]>, name: RawString<'_>) -> bool
+    ensures { IsTrue result ↔ IsNameWanted (option_map (λ signs. signs.now) pattern.entry) (text_bytes name.entry) }
+{
+    match pattern {
+        Some(pattern) => matches(pattern, name.as_bytes()),
+        None => true,
+    }
+}
+
+/// Returns whether a record is that of a class or a union that is defined and whose name is wanted.
+fn is_class(alloc: Global, item: &Type<'_>, pattern: Option<&[u8]>) -> Result<bool>
+    ensures is { IfOk result (λ is. IsTrue is ↔ IsClassIn (option_map (λ signs. signs.now) pattern.entry)
+        (type_of (index_of item.now).0 (bytes_of item.now))) }
+    ensures memory { FailsOnlyForMemory result }
+{
+    match class_defined(alloc, item)? {
+        Some(class) => Ok(is_name_wanted(pattern, class.name)),
+        None => Ok(false),
+    }
+}
+
+/// Returns the indexes of the classes and unions that a table defines and whose names match a
+/// pattern, or of all of them, in the order of the table.
+///
+/// # Errors
+/// Fails with `OutOfMemory` if an allocation fails.
+pub(crate) fn classes_in(
+    alloc: Global,
+    types: &OpenTable<TypeIndex>,
+    pattern: Option<&[u8]>,
+) -> Result<Vec<TypeIndex>>
+    ensures classes { IfOk result (λ found. AreClasses types.now.table (option_map (λ signs. signs.now) pattern.entry)
+        (map (λ index. index.0) found.items)) }
+    ensures memory { FailsOnlyForMemory result }
+{
+    let header = types.items().header();
+    let mut found = Vec::new(alloc);
+    for number in header.minimum_index..header.maximum_index {
+        // No record follows the first that is missing, whatever the header counts.
+        let Ok(item) = types.item(TypeIndex(number)) else {
+            return Ok(found);
+        };
+        if !is_class(alloc, &item, pattern)? {
+            continue;
+        }
+        found.push(TypeIndex(number))?;
+    }
+    Ok(found)
+}
+
+/// Returns the type of an index.
+///
+/// # Errors
+/// Fails as `OpenTable::item` and `Type::parse` do.
+#[tactic(auto, unfolding(pdb_types::specs::TypeAt::type_at))]
+pub(crate) fn type_at<'t>(
+    alloc: Global,
+    types: &'t OpenTable<TypeIndex>,
+    index: TypeIndex,
+) -> Result<TypeData<'t>>
+    ensures { Answers type_value result (type_at types.now.table index.0) }
+{
+    types.item(index)?.parse(alloc)
+}
+
+/// Returns the type that a type with a modifier is without it, or None for another type.
+fn unmodified(value: &TypeData<'_>) -> Option<TypeIndex>
+    ensures { option_map (λ index. index.0) result ≡ unmodified (type_value value.now) }
+{
+    match value {
+        TypeData::Modifier(modifier) => Some(modifier.underlying_type),
+        _ => None,
+    }
+}
+
+/// Returns the layout of a class or a union, also of one with modifiers. Compilers write one
+/// modifier for a type, and up to 15 are followed.
+///
+/// # Errors
+/// Fails as `Definitions::layout_of` does.
+pub(crate) fn class_layout<'t>(
+    alloc: Global,
+    definitions: &Definitions<'t>,
+    index: TypeIndex,
+) -> Result<Option<Layout<'t>>>
+    ensures fields { Answers (option_map layout_value) result (class_layout definitions.now index.0) }
+    ensures gaps { IfOk result (λ layout. IfSome layout HasGaps) }
+{
+    let mut index = index;
+    for _ in 0..MOST_TYPES {
+        let value = type_at(alloc, definitions.types(), index)?;
+        match unmodified(&value) {
+            Some(other) => index = other,
+            None => return definitions.layout_of(alloc, index),
+        }
+    }
+    Ok(None)
+}

@@ -1,0 +1,222 @@
+//! The fields and gaps of a class with those of the classes within it.
+
+ghost use Rattle.std.specs.Prelude.{◌≡◌, [], ◌+◌, ◌<◌, ◌≤◌, min, true, if◌then◌else◌, IfOk};
+ghost use Rattle.std.specs.Prelude.{IsTrue, OnOk};
+ghost use Rattle.std.specs.Option.{option_map};
+ghost use Rattle.pdbdump_layouts.specs.Expanded.{AreExpanded, AreExpandedRows, AreShown, FollowsRow};
+ghost use Rattle.pdbdump_layouts.specs.Expanded.{inner_start, inner_type};
+
+use crate::classes::class_layout;
+use crate::layout_row::{LayoutRow, rows_of};
+use pdb_base::{Result, TypeIndex};
+use pdb_types::{Definitions, FieldKind, Layout};
+use std::alloc::Global;
+
+/// How deep classes within a class are shown at most.
+const MOST_DEPTH: u32 = 256;
+
+/// How many fields and gaps of classes within a class are shown at most.
+const MOST_ROWS: usize = 65_536;
+
+/// As how many fields and gaps a class with fewer counts, so that at most 4,096 classes are shown.
+const LEAST_ROWS: usize = 16;
+
+/// For how many records a class counts as one field at least, so that no more than 1,048,576 records
+/// are read of classes that are shown.
+const RECORDS_PER_ROW: usize = 16;
+
+/// A field or a gap of a class, or of a class within it.
+#[derive(Clone, Copy, Debug)]
+pub(crate) struct ShownRow<'t> {
+    /// How deep the class is in the one that is shown, whose own fields and gaps are 0 deep.
+    pub(crate) depth: u32,
+
+    /// Where the class begins, in bytes from the start of the one that is shown.
+    pub(crate) start: u64,
+
+    /// The field or the gap.
+    pub(crate) row: LayoutRow<'t>,
+}
+
+/// A class with the classes within it.
+#[derive(Debug, Drop)]
+pub(crate) struct Expansion<'t> {
+    /// Its fields and gaps, and behind each field those of its class.
+    pub(crate) rows: Vec<ShownRow<'t>>,
+
+    /// Whether a class within was left out that is not deeper than the depth that was given.
+    pub(crate) is_cut: bool,
+}
+
+/// What may yet be shown of classes within a class.
+#[derive(Clone, Copy)]
+struct Budget {
+    /// How deep they may be.
+    asked: u32,
+
+    /// How many fields and gaps they may have.
+    most: usize,
+
+    /// Whether one was left out.
+    is_cut: bool,
+}
+
+impl Budget {
+    /// Returns whether a class within a field that is so deep is left out, whatever it is, since
+    /// another one was already.
+    fn is_spent(&self, depth: u32) -> bool
+        ensures { IsTrue result → self.now.is_cut ≡ true }
+    {
+        self.is_cut && (self.most == 0 || depth >= MOST_DEPTH)
+    }
+
+    /// Takes the fields and gaps of a class within a field that is so deep from those that may yet be
+    /// shown, and returns whether it is shown. If there aren't as many, none may be shown any more.
+    fn take(&mut self, depth: u32, count: usize, records: usize) -> bool
+        ensures asked { self.new.asked ≡ self.old.asked }
+        ensures few { (if result then count else 0) + self.new.most ≤ self.old.most }
+        ensures cut { self.new.is_cut ≡ (if result then self.old.is_cut else true) }
+        ensures deep { IsTrue result → depth < MOST_DEPTH }
+    {
+        if depth >= MOST_DEPTH {
+            self.is_cut = true;
+            return false;
+        }
+        let count = count.max(LEAST_ROWS).max(records / RECORDS_PER_ROW);
+        if count > self.most {
+            self.most = 0;
+            self.is_cut = true;
+            return false;
+        }
+        self.most -= count;
+        true
+    }
+}
+
+/// Returns the type of a field whose own fields may be shown: that of a base class or a member.
+fn inner_type(row: &LayoutRow<'_>) -> Option<TypeIndex>
+    ensures { option_map (λ index. index.0) result ≡ inner_type row.now }
+{
+    match row {
+        LayoutRow::Field(field) => match field.place.kind {
+            FieldKind::Base | FieldKind::Member(_) => Some(field.place.field_type),
+            _ => None,
+        },
+        LayoutRow::Gap(_) => None,
+    }
+}
+
+/// Returns where the class within a field begins, in bytes from the start of the class that is shown.
+fn inner_start(start: u64, row: &LayoutRow<'_>) -> u64
+    ensures { result ≡ inner_start start row.now }
+{
+    match row {
+        LayoutRow::Field(field) => start.saturating_add(field.place.offset),
+        LayoutRow::Gap(_) => start,
+    }
+}
+
+/// Appends the fields and gaps of the class that is the type of a field, if it is one.
+#[cycle(rows)]
+fn push_inner<'t>(
+    alloc: Global,
+    definitions: &Definitions<'t>,
+    outer: ShownRow<'t>,
+    budget: &mut Budget,
+    shown: &mut Vec<ShownRow<'t>>,
+) -> Result<()>
+    requires { outer.depth ≤ min budget.old.asked MOST_DEPTH }
+    ensures asked { budget.new.asked ≡ budget.old.asked }
+    ensures rows { OnOk result (AreShown outer.entry.depth budget.old.asked [] budget.old.most budget.new.most
+        shown.old.items shown.new.items) }
+    ensures follows { OnOk result (FollowsRow definitions.now budget.old.asked outer.entry
+        budget.old.is_cut budget.new.is_cut shown.old.items shown.new.items) }
+{
+    if outer.depth >= budget.asked {
+        return Ok(());
+    }
+    if budget.is_spent(outer.depth) {
+        return Ok(());
+    }
+    let Some(index) = inner_type(&outer.row) else {
+        return Ok(());
+    };
+    let Some(layout) = class_layout(alloc, definitions, index)? else {
+        return Ok(());
+    };
+    let rows = rows_of(alloc, &layout)?;
+    if !budget.take(outer.depth, rows.len(), layout.records) {
+        return Ok(());
+    }
+    push_rows(
+        alloc,
+        definitions,
+        &rows,
+        inner_start(outer.start, &outer.row),
+        outer.depth + 1,
+        budget,
+        shown,
+    )
+}
+
+/// Appends fields and gaps of a class, and behind each field those of its class.
+#[cycle(rows)]
+fn push_rows<'t>(
+    alloc: Global,
+    definitions: &Definitions<'t>,
+    rows: &[LayoutRow<'t>],
+    start: u64,
+    depth: u32,
+    budget: &mut Budget,
+    shown: &mut Vec<ShownRow<'t>>,
+) -> Result<()>
+    requires { depth ≤ min budget.old.asked MOST_DEPTH }
+    ensures asked { budget.new.asked ≡ budget.old.asked }
+    ensures rows { OnOk result (AreShown depth budget.old.asked rows.now budget.old.most budget.new.most
+        shown.old.items shown.new.items) }
+    ensures expanded { OnOk result (AreExpandedRows definitions.now budget.old.asked depth start
+        budget.old.is_cut budget.new.is_cut rows.now shown.old.items shown.new.items) }
+{
+    for row in rows {
+        let outer = ShownRow {
+            depth,
+            start,
+            row: *row,
+        };
+        shown.push(outer)?;
+        push_inner(alloc, definitions, outer, budget, shown)?;
+    }
+    Ok(())
+}
+
+/// Returns the fields and gaps of a layout, and behind each field those of its class, down to a
+/// depth.
+///
+/// In a damaged file a class may hold itself. So classes within are shown at most 256 deep, and
+/// only until they have 65,536 fields and gaps together, where each class counts as 16 of them at
+/// least, and at least as one for 16 records that it has. `is_cut` tells if one was left out.
+///
+/// # Errors
+/// Fails as `Definitions::layout_of` does for a class within, and with `OutOfMemory` if an
+/// allocation fails.
+pub(crate) fn expanded<'t>(
+    alloc: Global,
+    definitions: &Definitions<'t>,
+    layout: &Layout<'t>,
+    depth: u32,
+) -> Result<Expansion<'t>>
+    ensures { IfOk result (AreExpanded definitions.now layout.now depth) }
+{
+    let own = rows_of(alloc, layout)?;
+    let mut rows = Vec::new(alloc);
+    let mut budget = Budget {
+        asked: depth,
+        most: MOST_ROWS,
+        is_cut: false,
+    };
+    push_rows(alloc, definitions, &own, 0, 0, &mut budget, &mut rows)?;
+    Ok(Expansion {
+        rows,
+        is_cut: budget.is_cut,
+    })
+}

@@ -1,0 +1,108 @@
+//! Members of members of classes, by a path such as `Derived.inner.tag`.
+
+use crate::classes::class_layout;
+use crate::cut::cut_at;
+use crate::object::field_object;
+use crate::text::shown;
+use pdb_base::{Result, TypeIndex};
+use pdbdump_rows::{Form, push_row};
+use pdb_types::{Definitions, Extent, FieldKind, Layout, LayoutField};
+use std::alloc::Global;
+
+/// A member that a path leads to.
+#[derive(Clone, Copy)]
+pub(crate) struct FoundMember<'t> {
+    /// The member.
+    field: LayoutField<'t>,
+
+    /// Where it begins, in bytes from the start of the class with which the path begins.
+    offset: u64,
+}
+
+/// Returns the first member of a name.
+fn member_named<'t>(layout: &Layout<'t>, name: &[u8]) -> Option<LayoutField<'t>> {
+    for field in &layout.fields {
+        if let FieldKind::Member(own) = field.place.kind {
+            if own.as_bytes() == name {
+                return Some(*field);
+            }
+        }
+    }
+    None
+}
+
+/// Returns the member that a path leads to from a class.
+///
+/// # Errors
+/// Fails as `Definitions::layout_of` does for a class on the way, and with `OutOfMemory` if an
+/// allocation fails.
+pub(crate) fn member_at<'t>(
+    alloc: Global,
+    definitions: &Definitions<'t>,
+    index: TypeIndex,
+    path: &[u8],
+) -> Result<Option<FoundMember<'t>>> {
+    let mut index = index;
+    let mut offset = 0u64;
+    let mut rest = path;
+    loop {
+        let Some(layout) = class_layout(alloc, definitions, index)? else {
+            return Ok(None);
+        };
+        let (name, behind) = cut_at(b'.', rest);
+        let Some(field) = member_named(&layout, name) else {
+            return Ok(None);
+        };
+        offset = offset.saturating_add(field.place.offset);
+        match behind {
+            Some(behind) => {
+                index = field.place.field_type;
+                rest = behind;
+            }
+            None => return Ok(Some(FoundMember { field, offset })),
+        }
+    }
+}
+
+/// Returns the line of a member: its path, its offset, its size and its type.
+fn text_line(
+    alloc: Global,
+    path: &[u8],
+    type_text: &[u8],
+    found: &FoundMember<'_>,
+) -> Result<Vec<u8>> {
+    let mut line = shown(alloc, path)?;
+    let offset = found.offset;
+    let place = match found.field.extent {
+        Extent::Bytes(size) => format!(in alloc; ": offset 0x{offset:x}, size 0x{size:x}, ")?,
+        Extent::Bits(bits) => {
+            let (position, length) = (bits.position, bits.length);
+            format!(in alloc; ": offset 0x{offset:x}, bit {position}, {length} bits, ")?
+        }
+        Extent::Unknown => format!(in alloc; ": offset 0x{offset:x}, ")?,
+    };
+    line.extend_from_slice(place.as_bytes())?;
+    line.extend_from_slice(&shown(alloc, type_text)?)?;
+    line.push(b'\n')?;
+    Ok(line)
+}
+
+/// Returns the line of a member that a path leads to.
+pub(crate) fn member_text<'t>(
+    alloc: Global,
+    definitions: &Definitions<'t>,
+    path: &[u8],
+    found: &FoundMember<'t>,
+    form: Form,
+) -> Result<Vec<u8>> {
+    let type_text = definitions.text_of(alloc, found.field.place.field_type, b"")?;
+    match form {
+        Form::Text => text_line(alloc, path, &type_text, found),
+        Form::Json => {
+            let row = field_object(alloc, 0, found.offset, &found.field, &type_text, path)?;
+            let mut line = Vec::new(alloc);
+            push_row(Form::Json, &row, &mut line)?;
+            Ok(line)
+        }
+    }
+}

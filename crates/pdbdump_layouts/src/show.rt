@@ -1,0 +1,524 @@
+//! The layouts that a call shows: of all classes, or of those that names mean.
+
+ghost use Rattle.std.specs.Prelude.{◌≡◌, ◌≢◌, ◌++◌, map, true, IfOk, OnOk};
+ghost use Rattle.pdb_base.specs.Answer.{Answers};
+ghost use Rattle.pdb_base.specs.Memory.{FailsOnlyForMemory};
+ghost use Rattle.pdb_base.specs.declared.error.Error.TheVariants.{OutOfMemory};
+ghost use Rattle.pdb_output.specs.Output.{Gets, OutputState};
+ghost use Rattle.pdb_tpi.specs.Table.{table_of};
+ghost use Rattle.pdbdump_layouts.specs.Shown.{AreFirst, AreLayoutsShown, AreNamesMeant, AreOrdered};
+ghost use Rattle.pdbdump_layouts.specs.Shown.{AreTypesShown, HasLayout, IsAnswered};
+ghost use Rattle.pdbdump_layouts.specs.Shown.{IsNameMeant, IsShowResult, IsStopped, IsTold};
+ghost use Rattle.pdbdump_layouts.specs.Shown.{IsTypeShown, is_wanted, separator};
+
+use crate::c_style::c_text;
+use crate::classes::{class_layout, class_of, classes_in, type_at};
+use crate::dt_style::dt_text;
+use crate::expanded::expanded;
+use crate::json::json_text;
+use crate::named::{member_line, types_named};
+use crate::options::{Options, Order, Style};
+use crate::text::shown;
+use crate::totals::totals_of;
+use pdb_base::{Error, Result, Stream, TypeIndex};
+use pdb_output::Output;
+use pdbdump_rows::{Form, error_text};
+use pdb_tpi::{OpenTable, TypeInformation};
+use pdb_types::{Definitions, Layout};
+use std::alloc::Global;
+use std::io::Write;
+
+/// By what a class is sorted: a number, the greatest first, and then a name.
+#[derive(Clone, Copy)]
+struct Rank<'t> {
+    number: u64,
+    name: &'t [u8],
+    index: TypeIndex,
+}
+
+/// How far the layouts are shown.
+#[derive(Clone, Copy)]
+struct Progress {
+    /// Whether a layout was shown.
+    has_shown: bool,
+
+    /// Whether each name so far was found, and no class had an error.
+    is_whole: bool,
+}
+
+/// Why a type has no layout, and why a name means nothing.
+const NO_CLASS: &[u8] = b"no class or union that is defined here";
+
+const NO_NAME: &[u8] = b"no class or union is called so";
+
+/// Returns a layout as text or JSON.
+fn layout_text<'t>(
+    alloc: Global,
+    definitions: &Definitions<'t>,
+    layout: &Layout<'t>,
+    options: &Options,
+    form: Form,
+) -> Result<Vec<u8>> {
+    let class = class_of(&type_at(alloc, definitions.types(), layout.index)?);
+    let class = class.as_ref();
+    let expansion = expanded(alloc, definitions, layout, options.depth)?;
+    match (form, options.style) {
+        (Form::Json, _) => json_text(alloc, definitions, layout, class, &expansion),
+        (Form::Text, Style::C) => c_text(alloc, definitions, layout, class, &expansion),
+        (Form::Text, Style::Dt) => dt_text(alloc, definitions, class, &expansion),
+    }
+}
+
+/// Writes to the error channel why a type or a name has no layout. Then not all is there.
+fn tell<E: Write>(
+    alloc: Global,
+    what: &[u8],
+    why: &[u8],
+    progress: &mut Progress,
+    err: &mut Output<E>,
+) -> Result<()>
+    ensures told { OnOk result ((out : OutputState) → IsTold
+        (record { progress = progress.old; out = out; err = err.old })
+        (record { progress = progress.new; out = out; err = err.new })) }
+    ensures memory { FailsOnlyForMemory result }
+{
+    let mut line = shown(alloc, what)?;
+    line.extend_from_slice(b": ")?;
+    line.extend_from_slice(why)?;
+    line.push(b'\n')?;
+    progress.is_whole = false;
+    err.report(&line);
+    Ok(())
+}
+
+/// Writes to the error channel why the type of an index has no layout.
+fn tell_index<E: Write>(
+    alloc: Global,
+    index: TypeIndex,
+    why: &[u8],
+    progress: &mut Progress,
+    err: &mut Output<E>,
+) -> Result<()>
+    ensures told { OnOk result ((out : OutputState) → IsTold
+        (record { progress = progress.old; out = out; err = err.old })
+        (record { progress = progress.new; out = out; err = err.new })) }
+    ensures memory { FailsOnlyForMemory result }
+{
+    let number = index.0;
+    let what = format!(in alloc; "0x{number:x}")?;
+    tell(alloc, what.as_bytes(), why, progress, err)
+}
+
+/// Writes to the error channel the fault for which the type of an index has no layout.
+fn tell_fault<E: Write>(
+    alloc: Global,
+    index: TypeIndex,
+    fault: &Error,
+    progress: &mut Progress,
+    err: &mut Output<E>,
+) -> Result<()>
+    ensures told { OnOk result ((out : OutputState) → IsTold
+        (record { progress = progress.old; out = out; err = err.old })
+        (record { progress = progress.new; out = out; err = err.new })) }
+    ensures other { OnOk result (fault.now ≢ OutOfMemory) }
+    ensures memory { FailsOnlyForMemory result }
+{
+    match fault {
+        Error::OutOfMemory => Err(Error::OutOfMemory),
+        _ => {
+            let why = error_text(alloc, fault)?;
+            tell_index(alloc, index, &why, progress, err)
+        }
+    }
+}
+
+/// Returns whether a layout is among those that are wanted.
+fn is_wanted(layout: &Layout<'_>, options: &Options) -> bool
+    ensures { result ≡ is_wanted options.now layout.now }
+{
+    !options.has_holes || totals_of(&layout.gaps).holes > 0
+}
+
+/// Returns what is written between two layouts: a line feed, if they are texts.
+fn separator(form: Form, has_shown: bool) -> &'static [u8]
+    ensures { result.now ≡ separator form has_shown }
+{
+    match form {
+        Form::Text if has_shown => b"\n",
+        _ => b"",
+    }
+}
+
+/// Writes the text of a layout, behind an empty line if it isn't the first.
+fn write_layout<O: Write>(
+    text: &[u8],
+    form: Form,
+    progress: &mut Progress,
+    out: &mut Output<O>,
+) -> Result<()>
+    ensures written { OnOk result
+        (Gets out.old out.new (separator form progress.old.has_shown ++ text.now)) }
+    ensures shown { OnOk result (progress.new.has_shown ≡ true) }
+    ensures whole { progress.new.is_whole ≡ progress.old.is_whole }
+    ensures stopped { IsStopped out.new result }
+{
+    out.write(separator(form, progress.has_shown))?;
+    progress.has_shown = true;
+    out.write(text)
+}
+
+/// Shows a layout that is wanted, or tells why it can't be written.
+fn show_layout<O: Write, E: Write>(
+    alloc: Global,
+    definitions: &Definitions<'_>,
+    index: TypeIndex,
+    layout: &Layout<'_>,
+    options: &Options,
+    form: Form,
+    progress: &mut Progress,
+    out: &mut Output<O>,
+    err: &mut Output<E>,
+) -> Result<()>
+    requires layout { HasLayout definitions.now index.0 layout.now }
+    requires wanted { is_wanted options.now layout.now ≡ true }
+    ensures shown { OnOk result (IsTypeShown definitions.now options.now form index.0
+        (record { progress = progress.old; out = out.old; err = err.old })
+        (record { progress = progress.new; out = out.new; err = err.new })) }
+    ensures stopped { IsStopped out.new result }
+{
+    match layout_text(alloc, definitions, layout, options, form) {
+        Ok(text) => write_layout(&text, form, progress, out),
+        Err(fault) => tell_fault(alloc, index, &fault, progress, err),
+    }
+}
+
+/// Shows the layout of a type, or tells why it has none.
+fn show_type<O: Write, E: Write>(
+    alloc: Global,
+    definitions: &Definitions<'_>,
+    index: TypeIndex,
+    options: &Options,
+    form: Form,
+    progress: &mut Progress,
+    out: &mut Output<O>,
+    err: &mut Output<E>,
+) -> Result<()>
+    ensures shown { OnOk result (IsTypeShown definitions.now options.now form index.0
+        (record { progress = progress.old; out = out.old; err = err.old })
+        (record { progress = progress.new; out = out.new; err = err.new })) }
+    ensures stopped { IsStopped out.new result }
+{
+    match class_layout(alloc, definitions, index) {
+        Ok(Some(layout)) => {
+            if !is_wanted(&layout, options) {
+                return Ok(());
+            }
+            show_layout(
+                alloc,
+                definitions,
+                index,
+                &layout,
+                options,
+                form,
+                progress,
+                out,
+                err,
+            )
+        }
+        Ok(None) => tell_index(alloc, index, NO_CLASS, progress, err),
+        Err(fault) => tell_fault(alloc, index, &fault, progress, err),
+    }
+}
+
+/// Shows the layouts of types.
+fn show_types<O: Write, E: Write>(
+    alloc: Global,
+    definitions: &Definitions<'_>,
+    indexes: &[TypeIndex],
+    options: &Options,
+    form: Form,
+    progress: &mut Progress,
+    out: &mut Output<O>,
+    err: &mut Output<E>,
+) -> Result<()>
+    ensures shown { OnOk result (AreTypesShown definitions.now options.now form (map (λ index. index.0) indexes.now)
+        (record { progress = progress.old; out = out.old; err = err.old })
+        (record { progress = progress.new; out = out.new; err = err.new })) }
+    ensures stopped { IsStopped out.new result }
+{
+    for index in indexes {
+        show_type(
+            alloc,
+            definitions,
+            *index,
+            options,
+            form,
+            progress,
+            out,
+            err,
+        )?;
+    }
+    Ok(())
+}
+
+/// Returns the number by which a layout is sorted.
+fn number_of(layout: &Layout<'_>, order: Order) -> u64 {
+    match order {
+        Order::Size => layout.size,
+        Order::Holes => totals_of(&layout.gaps).hole_bytes,
+        Order::Name => 0,
+    }
+}
+
+/// Returns the number by which a type is sorted, which is 0 if it has no layout, and in the order
+/// of names, for which no layout is read.
+fn rank_number(
+    alloc: Global,
+    definitions: &Definitions<'_>,
+    index: TypeIndex,
+    order: Order,
+) -> Result<u64>
+    ensures { FailsOnlyForMemory result }
+{
+    if order == Order::Name {
+        return Ok(0);
+    }
+    match class_layout(alloc, definitions, index) {
+        Ok(Some(layout)) => Ok(number_of(&layout, order)),
+        Err(Error::OutOfMemory) => Err(Error::OutOfMemory),
+        Ok(None) | Err(_) => Ok(0),
+    }
+}
+
+/// Returns the name by which a type is sorted, which is empty if it is no class or union.
+fn rank_name<'t>(alloc: Global, definitions: &Definitions<'t>, index: TypeIndex) -> Result<&'t [u8]>
+    ensures { FailsOnlyForMemory result }
+{
+    match type_at(alloc, definitions.types(), index) {
+        Ok(value) => match class_of(&value) {
+            Some(class) => Ok(class.name.as_bytes()),
+            None => Ok(b""),
+        },
+        Err(Error::OutOfMemory) => Err(Error::OutOfMemory),
+        Err(_) => Ok(b""),
+    }
+}
+
+/// Returns by what types are sorted.
+fn ranks_of<'t>(
+    alloc: Global,
+    definitions: &Definitions<'t>,
+    indexes: &[TypeIndex],
+    order: Order,
+) -> Result<Vec<Rank<'t>>>
+    ensures indexes { IfOk result
+        (λ ranks. map (λ rank. rank.index.0) ranks.items ≡ map (λ index. index.0) indexes.now) }
+    ensures memory { FailsOnlyForMemory result }
+{
+    let mut ranks = Vec::new(alloc);
+    for index in indexes {
+        ranks.push(Rank {
+            number: rank_number(alloc, definitions, *index, order)?,
+            name: rank_name(alloc, definitions, *index)?,
+            index: *index,
+        })?;
+    }
+    Ok(ranks)
+}
+
+/// Returns the types of ranks.
+fn types_of(alloc: Global, ranks: &[Rank<'_>]) -> Result<Vec<TypeIndex>>
+    ensures types { IfOk result (λ types. map (λ index. index.0) types.items ≡ map (λ rank. rank.index.0) ranks.now) }
+    ensures memory { FailsOnlyForMemory result }
+{
+    let mut types = Vec::new(alloc);
+    for rank in ranks {
+        types.push(rank.index)?;
+    }
+    Ok(types)
+}
+
+/// Returns types in an order.
+fn sorted(
+    alloc: Global,
+    definitions: &Definitions<'_>,
+    indexes: Vec<TypeIndex>,
+    order: Option<Order>,
+) -> Result<Vec<TypeIndex>>
+    ensures ordered { IfOk result (λ sorted. AreOrdered order (map (λ index. index.0) indexes.items)
+        (map (λ index. index.0) sorted.items)) }
+    ensures memory { FailsOnlyForMemory result }
+{
+    let Some(order) = order else {
+        return Ok(indexes);
+    };
+    let mut ranks = ranks_of(alloc, definitions, &indexes, order)?;
+    ranks.sort_by(|left, right| {
+        right
+            .number
+            .cmp(&left.number)
+            .then_with(|| left.name.cmp(right.name))
+    })?;
+    types_of(alloc, &ranks)
+}
+
+/// Adds the types that a name means to those that are to be shown; writes the line of a member; or
+/// tells that the name means nothing.
+fn find_name<O: Write, E: Write>(
+    alloc: Global,
+    definitions: &Definitions<'_>,
+    name: &str,
+    form: Form,
+    found: &mut Vec<TypeIndex>,
+    progress: &mut Progress,
+    out: &mut Output<O>,
+    err: &mut Output<E>,
+) -> Result<()>
+    ensures meant { OnOk result (IsNameMeant definitions.now name.now (map (λ index. index.0) found.old.items)
+        (record { progress = progress.old; out = out.old; err = err.old })
+        (record { progress = progress.new; out = out.new; err = err.new }) (map (λ index. index.0) found.new.items)) }
+    ensures stopped { IsStopped out.new result }
+{
+    let types = types_named(alloc, definitions, name)?;
+    if !types.is_empty() {
+        found.extend_from_slice(&types)?;
+        return Ok(());
+    }
+    match member_line(alloc, definitions, name.as_bytes(), form) {
+        Ok(Some(line)) => out.write(&line),
+        Ok(None) => tell(alloc, name.as_bytes(), NO_NAME, progress, err),
+        Err(Error::OutOfMemory) => Err(Error::OutOfMemory),
+        Err(fault) => {
+            let why = error_text(alloc, &fault)?;
+            tell(alloc, name.as_bytes(), &why, progress, err)
+        }
+    }
+}
+
+/// Does the same for each of some names.
+fn find_names<O: Write, E: Write>(
+    alloc: Global,
+    definitions: &Definitions<'_>,
+    names: &[&str],
+    form: Form,
+    found: &mut Vec<TypeIndex>,
+    progress: &mut Progress,
+    out: &mut Output<O>,
+    err: &mut Output<E>,
+) -> Result<()>
+    ensures meant { OnOk result (AreNamesMeant definitions.now (map (λ name. name.now) names.now)
+        (map (λ index. index.0) found.old.items) (map (λ index. index.0) found.new.items)
+        (record { progress = progress.old; out = out.old; err = err.old })
+        (record { progress = progress.new; out = out.new; err = err.new })) }
+    ensures stopped { IsStopped out.new result }
+{
+    for name in names {
+        find_name(alloc, definitions, name, form, found, progress, out, err)?;
+    }
+    Ok(())
+}
+
+/// Returns the classes of a table if all are shown, and else none.
+fn first_types(alloc: Global, types: &OpenTable<TypeIndex>, has_all: bool) -> Result<Vec<TypeIndex>>
+    ensures first { IfOk result (λ found. AreFirst types.now.table has_all (map (λ index. index.0) found.items)) }
+    ensures memory { FailsOnlyForMemory result }
+{
+    if has_all {
+        classes_in(alloc, types, None)
+    } else {
+        Ok(Vec::new(alloc))
+    }
+}
+
+/// Shows the types of a table that are wanted, and returns whether each name was found and no
+/// class had an error.
+fn show_asked<O: Write, E: Write>(
+    alloc: Global,
+    definitions: &Definitions<'_>,
+    names: &[&str],
+    options: &Options,
+    form: Form,
+    progress: &mut Progress,
+    out: &mut Output<O>,
+    err: &mut Output<E>,
+) -> Result<()>
+    ensures shown { OnOk result (AreLayoutsShown definitions.now (map (λ name. name.now) names.now) options.now form
+        (record { progress = progress.old; out = out.old; err = err.old })
+        (record { progress = progress.new; out = out.new; err = err.new })) }
+    ensures stopped { IsStopped out.new result }
+{
+    let mut found = first_types(alloc, definitions.types(), options.all)?;
+    find_names(
+        alloc,
+        definitions,
+        names,
+        form,
+        &mut found,
+        progress,
+        out,
+        err,
+    )?;
+    let ordered = sorted(alloc, definitions, found, options.order)?;
+    show_types(
+        alloc,
+        definitions,
+        &ordered,
+        options,
+        form,
+        progress,
+        out,
+        err,
+    )
+}
+
+/// Returns a table that knows where all its types are.
+fn opened(alloc: Global, stream: Stream) -> Result<OpenTable<TypeIndex>>
+    ensures { Answers (λ types. types.table) result (table_of stream) }
+{
+    let table = TypeInformation::parse(stream)?;
+    let last = table.header().maximum_index.saturating_sub(1);
+    let mut types = OpenTable::new(alloc, table)?;
+    types.learn(TypeIndex(last));
+    Ok(types)
+}
+
+/// Shows the layouts of classes of the table in a stream: of all, or of those that names mean, in
+/// which an index such as `0x1026`, a pattern with `*` and `?`, the name of a class or a union and
+/// the path of a member behind one are allowed. Returns whether each name was found and no class
+/// had an error; what went wrong is written to the error channel.
+///
+/// # Errors
+/// Fails with the errors of `TypeInformation::parse` and with the fault at which the table stops,
+/// before anything is written; with `IoError` if the output fails; and with `OutOfMemory` if an
+/// allocation fails.
+pub fn show_layouts<O: Write, E: Write>(
+    alloc: Global,
+    stream: Stream,
+    names: &[&str],
+    options: &Options,
+    form: Form,
+    out: &mut Output<O>,
+    err: &mut Output<E>,
+) -> Result<bool>
+    ensures shown { IsShowResult stream (map (λ name. name.now) names.now) options.now form
+        out.old out.new err.old err.new result }
+    ensures answered { IsAnswered result err.old err.new }
+{
+    let types = opened(alloc, stream)?;
+    let definitions = Definitions::new(alloc, &types)?;
+    let mut progress = Progress {
+        has_shown: false,
+        is_whole: true,
+    };
+    show_asked(
+        alloc,
+        &definitions,
+        names,
+        options,
+        form,
+        &mut progress,
+        out,
+        err,
+    )?;
+    Ok(progress.is_whole)
+}

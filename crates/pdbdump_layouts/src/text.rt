@@ -1,0 +1,88 @@
+//! Pieces of text.
+
+ghost use Rattle.pdb_base.specs.Memory.{FailsOnlyForMemory};
+
+use pdb_base::{RawString, Result};
+use pdbdump_rows::{Form, Row, Value, field, push_row};
+use std::alloc::Global;
+
+/// Where the comment of a line begins.
+const COMMENT: usize = 44;
+
+/// How wide names are in the style of `dt`, with the space behind them.
+const NAME: usize = 17;
+
+/// Returns a text of a file as lines show it, with escapes for control characters.
+pub(crate) fn shown(alloc: Global, text: &[u8]) -> Result<Vec<u8>>
+    ensures { FailsOnlyForMemory result }
+{
+    let mut line = Vec::new(alloc);
+    let fields = vec![in alloc; field("name", Value::Text(RawString::from(text)))]?;
+    push_row(Form::Text, &Row { fields }, &mut line)?;
+    // The line feed behind it.
+    line.pop();
+    Ok(line)
+}
+
+/// Appends spaces up to a column, counted from the start of the line, and at least one.
+fn push_spaces(start: usize, column: usize, text: &mut Vec<u8>) -> Result<()> {
+    text.push(b' ')?;
+    for _ in text.len().saturating_sub(start)..column {
+        text.push(b' ')?;
+    }
+    Ok(())
+}
+
+/// Appends a line of text with a comment behind it.
+pub(crate) fn push_commented(line: &[u8], comment: &[u8], text: &mut Vec<u8>) -> Result<()> {
+    let start = text.len();
+    text.extend_from_slice(line)?;
+    push_spaces(start, COMMENT - 3, text)?;
+    text.extend_from_slice(b"// ")?;
+    text.extend_from_slice(comment)?;
+    text.push(b'\n')?;
+    Ok(())
+}
+
+/// Appends a comment with a further comment behind it.
+pub(crate) fn push_remark(line: &[u8], comment: &[u8], text: &mut Vec<u8>) -> Result<()> {
+    let start = text.len();
+    text.extend_from_slice(line)?;
+    push_spaces(start, COMMENT, text)?;
+    text.extend_from_slice(comment)?;
+    text.push(b'\n')?;
+    Ok(())
+}
+
+/// Appends the line of a field in the style of `dt`: its place, its name and its type.
+pub(crate) fn push_named(
+    place: &[u8],
+    name: &[u8],
+    type_text: &[u8],
+    text: &mut Vec<u8>,
+) -> Result<()> {
+    text.extend_from_slice(place)?;
+    text.push(b' ')?;
+    let start = text.len();
+    text.extend_from_slice(name)?;
+    push_spaces(start, NAME, text)?;
+    text.extend_from_slice(b": ")?;
+    text.extend_from_slice(type_text)?;
+    text.push(b'\n')?;
+    Ok(())
+}
+
+/// Returns what the word for so many things ends with.
+pub(crate) fn plural(count: u64) -> &'static str {
+    if count == 1 { "" } else { "s" }
+}
+
+/// Appends as many spaces as a depth asks for.
+pub(crate) fn push_indent(depth: u32, width: u32, text: &mut Vec<u8>) -> Result<()> {
+    for _ in 0..depth {
+        for _ in 0..width {
+            text.push(b' ')?;
+        }
+    }
+    Ok(())
+}

@@ -1,0 +1,47 @@
+-- What rows are written as: a row is a single line, and a text in JSON is a JSON string.
+use Rattle.std.specs.Prelude.{◌≡◌, ℕ, ◌==◌, ◌||◌, ◌&&◌, not, nat_le, Bool, IsTrue, List, [], ◌∷◌, ◌++◌}
+use Rattle.std.specs.List.{list_all}
+use Rattle.pdbdump_rows.specs.Lines.{line_feed}
+use Rattle.pdbdump_rows.specs.Text.{quote, backslash}
+
+-- no byte is below 0x20, as a line feed or the first byte of a terminal's escape sequence is
+abbrev pub IsPrintable : List ℕ → Type 0
+IsPrintable bytes = IsTrue (list_all (λ byte. nat_le 0x20 byte) bytes)
+
+-- one line: printable bytes, and a line feed behind them
+pub record IsLine (text : List ℕ) : Type 0 where
+  pub front : List ℕ
+  pub printable : IsPrintable front
+  pub ends : text ≡ front ++ line_feed ∷ []
+
+-- the letter of a short escape: one of `"\/bfnrt`
+abbrev pub is_short : ℕ → Bool
+is_short letter = letter == 0x22 || letter == 0x5c || letter == 0x2f || letter == 0x62 || letter == 0x66 || letter ==
+    0x6e || letter == 0x72 || letter == 0x74
+
+-- a hexadecimal digit
+abbrev pub is_hexadecimal : ℕ → Bool
+is_hexadecimal byte = nat_le 0x30 byte && nat_le byte 0x39 || nat_le 0x41 byte && nat_le byte 0x46 || nat_le 0x61 byte
+    && nat_le byte 0x66
+
+-- an escape (RFC 8259, section 7): a backslash and a letter, or a backslash, `u` and four hexadecimal digits
+pub data IsEscape : List ℕ → Type 0 where
+  short : (letter : ℕ) → IsTrue (is_short letter) → IsEscape (backslash ∷ letter ∷ [])
+  long : (a b c d : ℕ) → IsTrue (is_hexadecimal a) → IsTrue (is_hexadecimal b) → IsTrue (is_hexadecimal c)
+      → IsTrue (is_hexadecimal d) → IsEscape (backslash ∷ 0x75 ∷ a ∷ b ∷ c ∷ d ∷ [])
+
+-- a byte that stands for itself in a string: no control character, no quote and no backslash
+abbrev pub is_unescaped : ℕ → Bool
+is_unescaped byte = nat_le 0x20 byte && not (byte == quote) && not (byte == backslash)
+
+-- what stands between the quotes of a string
+pub data IsInside : List ℕ → Type 0 where
+  ended : IsInside []
+  unescaped : (byte : ℕ) (rest : List ℕ) → IsTrue (is_unescaped byte) → IsInside rest → IsInside (byte ∷ rest)
+  escaped : (front rest : List ℕ) → IsEscape front → IsInside rest → IsInside (front ++ rest)
+
+-- a string of JSON
+pub record IsString (text : List ℕ) : Type 0 where
+  pub inside : List ℕ
+  pub good : IsInside inside
+  pub between : text ≡ quote ∷ inside ++ quote ∷ []

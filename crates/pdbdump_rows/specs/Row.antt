@@ -1,0 +1,50 @@
+-- A row as a value, independent of where its bytes are stored: a name, a word or another text is the list
+-- of its bytes.
+use Rattle.std.specs.Prelude.{ℕ, ℤ, Bool, List, map}
+use Rattle.pdbdump_rows.specs.declared.row.Field.{Field}
+use Rattle.pdbdump_rows.specs.declared.row.Row.{Row}
+use Rattle.pdbdump_rows.specs.declared.row.Value.{Value}
+use Rattle.pdbdump_rows.specs.declared.row.Value.TheVariants as values
+
+-- the value that a field shows
+pub data ShownValue : Type 0 where
+  number : ℕ → ShownValue
+  signed : ℤ → ShownValue
+  hexadecimal : ℕ → ShownValue
+  kind : ℕ → ShownValue
+  flag : Bool → ShownValue
+  text : List ℕ → ShownValue
+  words : List (List ℕ) → ShownValue
+  numbers : List ℕ → ShownValue
+  indexes : List ℕ → ShownValue
+  absent : ShownValue
+
+-- a field: its name and the value that it shows
+abbrev pub ShownField : Type 0
+ShownField = List ℕ × ShownValue
+
+-- the fields of a row, in order
+abbrev pub ShownRow : Type 0
+ShownRow = List ShownField
+
+-- the shown value of a `Value`
+abbrev pub value_shown : Value → ShownValue
+value_shown (values.Number n) = number n
+value_shown (values.Signed z) = signed z
+value_shown (values.Hexadecimal n) = hexadecimal n
+value_shown (values.Kind leaf) = kind leaf
+value_shown (values.Flag holds) = flag holds
+value_shown (values.Text name) = text name.0.now
+value_shown (values.Word name) = text name.now
+value_shown (values.Words names) = words (map (λ name. name.now) names.items)
+value_shown (values.Numbers list) = numbers list.items
+value_shown (values.Indexes list) = indexes list.items
+value_shown values.Absent = absent
+
+-- the shown field of a `Field`
+abbrev pub field_shown : Field → ShownField
+field_shown field = (field.name.now, value_shown field.value)
+
+-- the shown row of a `Row`
+abbrev pub row_shown : Row → ShownRow
+row_shown row = map field_shown row.fields.items

@@ -1,0 +1,299 @@
+-- The fields that are shown of a type, behind its index and leaf. They have the names of the type's own
+-- fields. A word of flags is shown as the names of the flags that are set, and the numbers in it have
+-- fields of their own.
+use Rattle.std.specs.Prelude.{ℕ, List, [], ◌∷◌, length, map, codes, Option, Some}
+use Rattle.std.specs.Option.{option_map}
+use Rattle.pdb_base.specs.declared.index.TypeIndex.{TypeIndex}
+use Rattle.pdb_base.specs.declared.variant.Variant.{Variant}
+use Rattle.pdb_base.specs.declared.variant.Variant.TheVariants as variants
+use Rattle.pdb_flags.specs.TypeProperties.{hfa, mocom}
+use Rattle.pdb_flags.specs.FunctionAttributes.{calling_convention}
+use Rattle.pdb_flags.specs.PointerAttributes.{kind_in, mode_in, pointer_size}
+use Rattle.pdb_values.specs.Array.{ArrayValue}
+use Rattle.pdb_values.specs.Class.{ClassValue}
+use Rattle.pdb_values.specs.Enumeration.{EnumerationValue, EnumerateValue}
+use Rattle.pdb_values.specs.Member.{MemberValue, StaticMemberValue, NestedValue}
+use Rattle.pdb_values.specs.Method.{OverloadedMethodValue, MethodValue}
+use Rattle.pdb_values.specs.TableShape.{VirtualTableShapeValue}
+use Rattle.pdb_values.specs.TypeValue as values
+use Rattle.pdb_values.specs.TypeValue.{TypeValue, PlainValue, Fields, values_in}
+use Rattle.pdb_values.specs.Union.{UnionValue}
+use Rattle.pdb_values.specs.declared.base_class.BaseClassType.{BaseClassType}
+use Rattle.pdb_values.specs.declared.base_class.VirtualBaseClassType.{VirtualBaseClassType}
+use Rattle.pdb_values.specs.declared.base_class.VirtualFunctionTablePointerType.{VirtualFunctionTablePointerType}
+use Rattle.pdb_values.specs.declared.bitfield.BitfieldType.{BitfieldType}
+use Rattle.pdb_values.specs.declared.function.MemberFunctionType.{MemberFunctionType}
+use Rattle.pdb_values.specs.declared.function.ProcedureType.{ProcedureType}
+use Rattle.pdb_values.specs.declared.method.MethodListEntry.{MethodListEntry}
+use Rattle.pdb_values.specs.declared.modifier.ModifierType.{ModifierType}
+use Rattle.pdb_values.specs.declared.pointer.PointerType.{PointerType}
+use Rattle.pdb_values.specs.declared.primitive.PrimitiveType.{PrimitiveType}
+use Rattle.pdbdump_rows.specs.Fields.{type_index, optional_type, optional_number, optional_text, nonzero, headed}
+use Rattle.pdbdump_rows.specs.Row.{ShownValue, ShownRow, number, signed, flag, text, words, numbers, indexes}
+use Rattle.pdbdump_rows.specs.Words.{access_word, field_words, function_words, indirection_word, kind_word, mode_word}
+use Rattle.pdbdump_rows.specs.Words.{modifier_words, pointer_words, primitive_word, property_words}
+
+-- a type without a record
+unfoldable pub primitive_fields : PrimitiveType → ShownRow
+primitive_fields type =
+    (codes "primitive_kind", text (primitive_word type.kind))
+    ∷ (codes "indirection", optional_text (option_map indirection_word type.indirection))
+    ∷ []
+
+-- a class, a structure or an interface
+unfoldable pub class_fields : ClassValue → ShownRow
+class_fields type =
+    (codes "name", text type.name)
+    ∷ (codes "count", number type.count)
+    ∷ (codes "properties", words (property_words type.properties))
+    ∷ (codes "hfa", nonzero (hfa type.properties))
+    ∷ (codes "mocom", nonzero (mocom type.properties))
+    ∷ (codes "fields", optional_type type.fields)
+    ∷ (codes "derived_from", optional_type type.derived_from)
+    ∷ (codes "vtable_shape", optional_type type.vtable_shape)
+    ∷ (codes "size", number type.size)
+    ∷ (codes "unique_name", optional_text type.unique_name)
+    ∷ []
+
+-- a union
+unfoldable pub union_fields : UnionValue → ShownRow
+union_fields type =
+    (codes "name", text type.name)
+    ∷ (codes "count", number type.count)
+    ∷ (codes "properties", words (property_words type.properties))
+    ∷ (codes "hfa", nonzero (hfa type.properties))
+    ∷ (codes "mocom", nonzero (mocom type.properties))
+    ∷ (codes "fields", type_index type.fields)
+    ∷ (codes "size", number type.size)
+    ∷ (codes "unique_name", optional_text type.unique_name)
+    ∷ []
+
+-- an enumeration
+unfoldable pub enumeration_fields : EnumerationValue → ShownRow
+enumeration_fields type =
+    (codes "name", text type.name)
+    ∷ (codes "count", number type.count)
+    ∷ (codes "properties", words (property_words type.properties))
+    ∷ (codes "hfa", nonzero (hfa type.properties))
+    ∷ (codes "mocom", nonzero (mocom type.properties))
+    ∷ (codes "underlying_type", type_index type.underlying_type)
+    ∷ (codes "fields", type_index type.fields)
+    ∷ (codes "unique_name", optional_text type.unique_name)
+    ∷ []
+
+-- the number that a value of an enumeration stands for
+abbrev pub variant_shown : Variant → ShownValue
+variant_shown (variants.U8 n) = number n
+variant_shown (variants.U16 n) = number n
+variant_shown (variants.U32 n) = number n
+variant_shown (variants.U64 n) = number n
+variant_shown (variants.I8 z) = signed z
+variant_shown (variants.I16 z) = signed z
+variant_shown (variants.I32 z) = signed z
+variant_shown (variants.I64 z) = signed z
+
+-- a value of an enumeration
+unfoldable pub enumerate_fields : EnumerateValue → ShownRow
+enumerate_fields value =
+    (codes "name", text value.name)
+    ∷ (codes "access", optional_text (access_word value.attributes))
+    ∷ (codes "attributes", words (field_words value.attributes))
+    ∷ (codes "value", variant_shown value.value)
+    ∷ []
+
+-- a data member
+unfoldable pub member_fields : MemberValue → ShownRow
+member_fields member =
+    (codes "name", text member.name)
+    ∷ (codes "access", optional_text (access_word member.attributes))
+    ∷ (codes "attributes", words (field_words member.attributes))
+    ∷ (codes "field_type", type_index member.field_type)
+    ∷ (codes "offset", number member.offset)
+    ∷ []
+
+-- a static data member
+unfoldable pub static_member_fields : StaticMemberValue → ShownRow
+static_member_fields member =
+    (codes "name", text member.name)
+    ∷ (codes "access", optional_text (access_word member.attributes))
+    ∷ (codes "attributes", words (field_words member.attributes))
+    ∷ (codes "field_type", type_index member.field_type)
+    ∷ []
+
+-- a type that is declared in a class
+unfoldable pub nested_fields : NestedValue → ShownRow
+nested_fields nested =
+    (codes "name", text nested.name)
+    ∷ (codes "access", optional_text (access_word nested.attributes))
+    ∷ (codes "attributes", words (field_words nested.attributes))
+    ∷ (codes "nested_type", type_index nested.nested_type)
+    ∷ []
+
+-- the methods of one name
+unfoldable pub overloaded_method_fields : OverloadedMethodValue → ShownRow
+overloaded_method_fields methods =
+    (codes "name", text methods.name)
+    ∷ (codes "count", number methods.count)
+    ∷ (codes "method_list", type_index methods.method_list)
+    ∷ []
+
+-- a method that shares its name with no other
+unfoldable pub method_fields : MethodValue → ShownRow
+method_fields method =
+    (codes "name", text method.name)
+    ∷ (codes "access", optional_text (access_word method.attributes))
+    ∷ (codes "attributes", words (field_words method.attributes))
+    ∷ (codes "method_type", type_index method.method_type)
+    ∷ (codes "vtable_offset", optional_number method.vtable_offset)
+    ∷ []
+
+-- one method of a list of methods
+unfoldable pub listed_method_fields : MethodListEntry → ShownRow
+listed_method_fields method =
+    (codes "access", optional_text (access_word method.attributes))
+    ∷ (codes "attributes", words (field_words method.attributes))
+    ∷ (codes "method_type", type_index method.method_type)
+    ∷ (codes "vtable_offset", optional_number method.vtable_offset)
+    ∷ []
+
+-- a base class
+unfoldable pub base_class_fields : BaseClassType → ShownRow
+base_class_fields base =
+    (codes "access", optional_text (access_word base.attributes))
+    ∷ (codes "attributes", words (field_words base.attributes))
+    ∷ (codes "base_class", type_index base.base_class)
+    ∷ (codes "offset", number base.offset)
+    ∷ []
+
+-- a virtual base class
+unfoldable pub virtual_base_fields : VirtualBaseClassType → ShownRow
+virtual_base_fields base =
+    (codes "direct", flag base.direct)
+    ∷ (codes "access", optional_text (access_word base.attributes))
+    ∷ (codes "attributes", words (field_words base.attributes))
+    ∷ (codes "base_class", type_index base.base_class)
+    ∷ (codes "base_pointer", type_index base.base_pointer)
+    ∷ (codes "base_pointer_offset", number base.base_pointer_offset)
+    ∷ (codes "virtual_base_offset", number base.virtual_base_offset)
+    ∷ []
+
+-- the pointer to a table of virtual functions
+unfoldable pub table_pointer_fields : VirtualFunctionTablePointerType → ShownRow
+table_pointer_fields pointer = (codes "table", type_index pointer.table) ∷ []
+
+-- the type of a function
+unfoldable pub procedure_fields : ProcedureType → ShownRow
+procedure_fields type =
+    (codes "return_type", optional_type type.return_type)
+    ∷ (codes "calling_convention", number (calling_convention type.attributes))
+    ∷ (codes "attributes", words (function_words type.attributes))
+    ∷ (codes "parameter_count", number type.parameter_count)
+    ∷ (codes "argument_list", type_index type.argument_list)
+    ∷ []
+
+-- the type of a method
+unfoldable pub member_function_fields : MemberFunctionType → ShownRow
+member_function_fields type =
+    (codes "return_type", type_index type.return_type)
+    ∷ (codes "class_type", type_index type.class_type)
+    ∷ (codes "this_pointer_type", optional_type type.this_pointer_type)
+    ∷ (codes "calling_convention", number (calling_convention type.attributes))
+    ∷ (codes "attributes", words (function_words type.attributes))
+    ∷ (codes "parameter_count", number type.parameter_count)
+    ∷ (codes "argument_list", type_index type.argument_list)
+    ∷ (codes "this_adjustment", number type.this_adjustment)
+    ∷ []
+
+-- a pointer
+unfoldable pub pointer_fields : PointerType → ShownRow
+pointer_fields type =
+    (codes "underlying_type", type_index type.underlying_type)
+    ∷ (codes "pointer_kind", text (kind_word (kind_in type.attributes)))
+    ∷ (codes "pointer_mode", text (mode_word (mode_in type.attributes)))
+    ∷ (codes "attributes", words (pointer_words type.attributes))
+    ∷ (codes "size", number (pointer_size type.attributes))
+    ∷ (codes "containing_class", optional_type type.containing_class)
+    ∷ []
+
+-- a type with modifiers
+unfoldable pub modifier_fields : ModifierType → ShownRow
+modifier_fields type =
+    (codes "underlying_type", type_index type.underlying_type)
+    ∷ (codes "modifiers", words (modifier_words type))
+    ∷ []
+
+-- a bitfield
+unfoldable pub bitfield_fields : BitfieldType → ShownRow
+bitfield_fields type =
+    (codes "underlying_type", type_index type.underlying_type)
+    ∷ (codes "length", number type.length)
+    ∷ (codes "position", number type.position)
+    ∷ []
+
+-- an array
+unfoldable pub array_fields : ArrayValue → ShownRow
+array_fields type =
+    (codes "element_type", type_index type.element_type)
+    ∷ (codes "indexing_type", type_index type.indexing_type)
+    ∷ (codes "stride", optional_number type.stride)
+    ∷ (codes "dimensions", numbers type.dimensions)
+    ∷ []
+
+-- a field list: the number of its fields, and the list that continues it
+unfoldable pub field_list_fields : Fields → Option TypeIndex → ShownRow
+field_list_fields fields continuation =
+    (codes "count", number (length (values_in fields)))
+    ∷ (codes "continuation", optional_type continuation)
+    ∷ []
+
+-- the types of a function's arguments
+unfoldable pub argument_list_fields : List TypeIndex → ShownRow
+argument_list_fields arguments = (codes "arguments", indexes (map (λ index. index.0) arguments)) ∷ []
+
+-- a list of methods: how many there are, and the indexes of their types
+unfoldable pub method_list_fields : List MethodListEntry → ShownRow
+method_list_fields methods =
+    (codes "count", number (length methods))
+    ∷ (codes "methods", indexes (map (λ method. method.method_type.0) methods))
+    ∷ []
+
+-- the shape of a table of virtual functions
+unfoldable pub table_shape_fields : VirtualTableShapeValue → ShownRow
+table_shape_fields shape =
+    (codes "count", number shape.count)
+    ∷ (codes "descriptors", indexes shape.descriptors)
+    ∷ []
+
+-- the fields that are shown of a type without a list
+abbrev pub plain_fields : PlainValue → ShownRow
+plain_fields (values.primitive type) = primitive_fields type
+plain_fields (values.class type) = class_fields type
+plain_fields (values.member member) = member_fields member
+plain_fields (values.member_function type) = member_function_fields type
+plain_fields (values.overloaded_method methods) = overloaded_method_fields methods
+plain_fields (values.method method) = method_fields method
+plain_fields (values.static_member member) = static_member_fields member
+plain_fields (values.nested nested) = nested_fields nested
+plain_fields (values.base_class base) = base_class_fields base
+plain_fields (values.virtual_base_class base) = virtual_base_fields base
+plain_fields (values.virtual_function_table_pointer pointer) = table_pointer_fields pointer
+plain_fields (values.procedure type) = procedure_fields type
+plain_fields (values.pointer type) = pointer_fields type
+plain_fields (values.modifier type) = modifier_fields type
+plain_fields (values.enumeration type) = enumeration_fields type
+plain_fields (values.enumerate value) = enumerate_fields value
+plain_fields (values.union type) = union_fields type
+plain_fields (values.bitfield type) = bitfield_fields type
+plain_fields (values.virtual_table_shape shape) = table_shape_fields shape
+
+-- the fields that are shown of any type
+abbrev pub type_fields : TypeValue → ShownRow
+type_fields (values.plain value) = plain_fields value
+type_fields (values.array type) = array_fields type
+type_fields (values.field_list fields continuation) = field_list_fields fields continuation
+type_fields (values.argument_list arguments) = argument_list_fields arguments
+type_fields (values.method_list methods) = method_list_fields methods
+
+-- the row of the type of an index, whose record has this leaf
+unfoldable pub type_row : ℕ → ℕ → TypeValue → ShownRow
+type_row index leaf type = headed (Some index) leaf (type_fields type)

@@ -1,0 +1,105 @@
+//! The entries of lists as `Row`s, which have no index.
+
+ghost use Rattle.std.specs.Prelude.{◌≡◌, IfOk};
+ghost use Rattle.pdb_base.specs.Memory.{FailsOnlyForMemory};
+ghost use Rattle.pdb_values.specs.TypeView.{type_value};
+ghost use Rattle.pdbdump_rows.specs.EntryRows.{base_class_leaf, class_leaf, field_row, leaf_of, virtual_base_leaf};
+ghost use Rattle.pdbdump_rows.specs.Row.{row_shown};
+ghost use Rattle.pdbdump_rows.specs.TypeRows.{listed_method_fields};
+
+use crate::head::Head;
+use crate::row::Row;
+use crate::type_rows::{headed_row, listed_method_row};
+use pdb_base::{Error, Result};
+use pdb_values::constants::{
+    LF_ARGLIST, LF_ARRAY, LF_BCLASS, LF_BINTERFACE, LF_BITFIELD, LF_CLASS, LF_ENUM, LF_ENUMERATE,
+    LF_FIELDLIST, LF_INTERFACE, LF_IVBCLASS, LF_MEMBER, LF_METHOD, LF_METHODLIST, LF_MFUNCTION,
+    LF_MODIFIER, LF_NESTTYPE, LF_NULL, LF_ONEMETHOD, LF_POINTER, LF_PROCEDURE, LF_STMEMBER,
+    LF_STRUCTURE, LF_UNION, LF_VBCLASS, LF_VFUNCTAB, LF_VTSHAPE,
+};
+use pdb_values::{BaseClassType, ClassKind, MethodListEntry, TypeData, VirtualBaseClassType};
+use std::alloc::Global;
+
+/// Returns the record kind of a class of this kind.
+fn class_leaf(kind: ClassKind) -> u16
+    ensures { result ≡ class_leaf kind }
+{
+    match kind {
+        ClassKind::Class => LF_CLASS,
+        ClassKind::Struct => LF_STRUCTURE,
+        ClassKind::Interface => LF_INTERFACE,
+    }
+}
+
+/// Returns the record kind of a base class.
+fn base_class_leaf(base: BaseClassType) -> u16
+    ensures { result ≡ base_class_leaf base.kind }
+{
+    match base.kind {
+        ClassKind::Interface => LF_BINTERFACE,
+        _ => LF_BCLASS,
+    }
+}
+
+/// Returns the record kind of a virtual base class.
+fn virtual_base_leaf(base: VirtualBaseClassType) -> u16
+    ensures { result ≡ virtual_base_leaf base.direct }
+{
+    if base.direct { LF_VBCLASS } else { LF_IVBCLASS }
+}
+
+/// Returns the record kind that today's compilers write for a type like this.
+fn leaf_of(data: &TypeData<'_>) -> u16
+    ensures { result ≡ leaf_of (type_value «data».now) }
+{
+    match data {
+        TypeData::Primitive(_) => LF_NULL,
+        TypeData::Class(class) => class_leaf(class.kind),
+        TypeData::Member(_) => LF_MEMBER,
+        TypeData::MemberFunction(_) => LF_MFUNCTION,
+        TypeData::OverloadedMethod(_) => LF_METHOD,
+        TypeData::Method(_) => LF_ONEMETHOD,
+        TypeData::StaticMember(_) => LF_STMEMBER,
+        TypeData::Nested(_) => LF_NESTTYPE,
+        TypeData::BaseClass(base) => base_class_leaf(*base),
+        TypeData::VirtualBaseClass(base) => virtual_base_leaf(*base),
+        TypeData::VirtualFunctionTablePointer(_) => LF_VFUNCTAB,
+        TypeData::Procedure(_) => LF_PROCEDURE,
+        TypeData::Pointer(_) => LF_POINTER,
+        TypeData::Modifier(_) => LF_MODIFIER,
+        TypeData::Enumeration(_) => LF_ENUM,
+        TypeData::Enumerate(_) => LF_ENUMERATE,
+        TypeData::Array(_) => LF_ARRAY,
+        TypeData::Union(_) => LF_UNION,
+        TypeData::Bitfield(_) => LF_BITFIELD,
+        TypeData::FieldList(_) => LF_FIELDLIST,
+        TypeData::ArgumentList(_) => LF_ARGLIST,
+        TypeData::MethodList(_) => LF_METHODLIST,
+        TypeData::VirtualTableShape(_) => LF_VTSHAPE,
+    }
+}
+
+/// Returns the `Row` of an entry of a list of fields. Its kind is the record kind that today's
+/// compilers write for it.
+///
+/// # Errors
+/// Fails with `OutOfMemory` if an allocation fails.
+#[tactic(auto, unfolding(crate::specs::EntryRows::field_row))]
+pub fn field_row<'t>(alloc: Global, data: &TypeData<'t>) -> Result<Row<'t>>
+    ensures ok { IfOk result (λ row. row_shown row ≡ field_row (type_value «data».now)) }
+    ensures memory { FailsOnlyForMemory result }
+{
+    let leaf = leaf_of(data);
+    headed_row(alloc, Head { index: None, leaf }, data)
+}
+
+/// Returns the `Row` of an entry of a list of methods.
+///
+/// # Errors
+/// Fails with `OutOfMemory` if an allocation fails.
+pub fn method_row<'t>(alloc: Global, method: MethodListEntry) -> Result<Row<'t>>
+    ensures ok { IfOk result (λ row. row_shown row ≡ listed_method_fields method) }
+    ensures memory { FailsOnlyForMemory result }
+{
+    listed_method_row(alloc, method)
+}

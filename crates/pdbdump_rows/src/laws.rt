@@ -1,0 +1,22 @@
+//! What the definitions of lines come to. The functions do nothing: each contract is a law.
+
+ghost use Rattle.std.specs.Prelude.{ℕ, List};
+ghost use Rattle.pdbdump_rows.specs.declared.form.Form.{Form};
+ghost use Rattle.pdbdump_rows.specs.Laws.{IsLine, IsString};
+ghost use Rattle.pdbdump_rows.specs.Lines.{field_line, row_text};
+ghost use Rattle.pdbdump_rows.specs.Row.{ShownField, ShownRow};
+ghost use Rattle.pdbdump_rows.specs.Text.{quoted};
+
+/// A `Row` is one line in either form, and so is a field alone, whatever bytes names hold: the only
+/// control character is the line feed at its end.
+#[tactic(auto, using(crate::proofs::LineLaws::row_is_line, crate::proofs::LineLaws::field_is_line))]
+pub fn lines()
+    ensures rows { (form : Form) (row : ShownRow) → IsLine (row_text form row) }
+    ensures fields { (field : ShownField) → IsLine (field_line field) }
+{}
+
+/// A text in JSON is a string of RFC 8259, whatever bytes it holds.
+#[tactic(auto, using(crate::proofs::StringLaws::text_is_string))]
+pub fn strings()
+    ensures { (bytes : List ℕ) → IsString (quoted Form.Json bytes) }
+{}

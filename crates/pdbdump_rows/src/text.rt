@@ -1,0 +1,121 @@
+//! Text as it is written.
+
+ghost use Rattle.std.specs.Prelude.{◌≡◌, ◌<◌, ◌↔◌, ◌++◌, IsTrue, OnOk};
+ghost use Rattle.std.specs.List.{list_all};
+ghost use Rattle.pdb_base.specs.Memory.{FailsOnlyForMemory};
+ghost use Rattle.pdbdump_rows.specs.Text.{escape, is_escaped, is_plain, short_escape, quoted, shown_char, shown_text};
+
+use crate::form::Form;
+use crate::number::four_digits;
+use bstr::{ByteSlice, ByteVec};
+use pdb_base::{Error, Result};
+
+/// Returns whether a byte is a character that is written unescaped in every form.
+fn is_plain(byte: u8) -> bool
+    ensures { result ≡ is_plain byte }
+{
+    matches!(byte, b' '..=b'~') && byte != b'"' && byte != b'\\'
+}
+
+/// Returns whether each byte of a text is such a character.
+fn is_all_plain(text: &[u8]) -> bool
+    ensures { result ≡ list_all is_plain text.now }
+{
+    text.iter().all(|byte| is_plain(*byte))
+}
+
+/// Returns whether a form writes a character as an escape: text the control characters, and JSON
+/// those below U+0020, the quote and the backslash.
+fn is_escaped(form: Form, c: char) -> bool
+    ensures { result ≡ is_escaped form c }
+{
+    match form {
+        Form::Text => c < ' ' || ('\u{7f}' <= c && c < '\u{a0}'),
+        Form::Json => c < ' ' || c == '"' || c == '\\',
+    }
+}
+
+/// Returns what follows the backslash in a character's short escape, if it has one.
+fn short_escape(c: char) -> Option<u8>
+    ensures { result ≡ short_escape c }
+{
+    match c {
+        '"' => Some(b'"'),
+        '\\' => Some(b'\\'),
+        '\u{8}' => Some(b'b'),
+        '\t' => Some(b't'),
+        '\n' => Some(b'n'),
+        '\u{c}' => Some(b'f'),
+        '\r' => Some(b'r'),
+        _ => None,
+    }
+}
+
+/// Appends the escape of a character below U+0100, as JSON has it.
+#[tactic(auto, unfolding(crate::specs::Text::escape))]
+fn push_escape(c: char, out: &mut Vec<u8>) -> Result<()>
+    requires { c < 256 }
+    ensures ok { OnOk result (out.new.items ≡ out.old.items ++ escape c) }
+    ensures memory { FailsOnlyForMemory result }
+{
+    out.push(b'\\')?;
+    match short_escape(c) {
+        Some(letter) => {
+            out.push(letter)?;
+            Ok(())
+        }
+        None => {
+            out.push(b'u')?;
+            out.extend_from_slice(&four_digits(c as u16))?;
+            Ok(())
+        }
+    }
+}
+
+/// Appends a character, as an escape if the form writes it so.
+#[tactic(auto, unfolding(crate::specs::Text::shown_char))]
+fn push_char(form: Form, c: char, out: &mut Vec<u8>) -> Result<()>
+    ensures ok { OnOk result (out.new.items ≡ out.old.items ++ shown_char form c) }
+    ensures memory { FailsOnlyForMemory result }
+{
+    if is_escaped(form, c) {
+        push_escape(c, out)
+    } else {
+        out.push_char(c)?;
+        Ok(())
+    }
+}
+
+/// Appends a text, with U+FFFD for each run of bytes that isn't a character, and with escapes for
+/// the characters that the form doesn't write as they are.
+#[tactic(auto, using(crate::proofs::PlainText::plain_text, std::proofs::lemmas::List::flat_map_more), unfolding(crate::specs::Text::shown_text))]
+pub(crate) fn push_text(form: Form, text: &[u8], out: &mut Vec<u8>) -> Result<()>
+    ensures ok { OnOk result (out.new.items ≡ out.old.items ++ shown_text form text.now) }
+    ensures memory { FailsOnlyForMemory result }
+{
+    if is_all_plain(text) {
+        out.extend_from_slice(text)?;
+        return Ok(());
+    }
+    for c in text.chars() {
+        push_char(form, c, out)?;
+    }
+    Ok(())
+}
+
+/// Appends a text, in quotes if the form is JSON.
+#[tactic(auto, unfolding(crate::specs::Text::quoted))]
+pub(crate) fn push_quoted(form: Form, text: &[u8], out: &mut Vec<u8>) -> Result<()>
+    ensures ok { OnOk result (out.new.items ≡ out.old.items ++ quoted form text.now) }
+    ensures memory { FailsOnlyForMemory result }
+{
+    match form {
+        Form::Text => push_text(form, text, out),
+        Form::Json => {
+            out.push(b'"')?;
+            push_text(form, text, out)?;
+            out.push(b'"')?;
+            Ok(())
+        }
+    }
+}

@@ -1,0 +1,9 @@
+pub mod ListingLemmas
+pub mod ShownLemmas
+pub mod MapLemmas
+pub mod StreamLemmas
+pub mod KindLemmas
+pub mod LineLemmas
+pub mod TallyLemmas
+pub mod TableLemmas
+pub mod ListedLemmas

@@ -1,0 +1,97 @@
+-- The stream that a word means, and a part of its bytes.
+use Rattle.std.specs.Prelude.{ℕ, if◌then◌else◌, List, take, drop, codes, Option, Some, None, Ok, Err}
+use Rattle.std.specs.Str.{bytes_eq}
+use Rattle.pdb_base.specs.Answer.{Answer, ◌>>=◌}
+use Rattle.pdb_base.specs.Index.{stream_number}
+use Rattle.pdb_base.specs.Refusal.{stream_name_not_found}
+use Rattle.pdb_base.specs.declared.index.StreamIndex.{StreamIndex}
+use Rattle.pdb_msf.specs.File.{stream_of}
+use Rattle.pdb_msf.specs.Header.{Head}
+use Rattle.pdb_file.specs.File.{file_number, file_roles}
+use Rattle.pdb_file.specs.declared.debug_header.DBIExtraStreams.{DBIExtraStreams}
+use Rattle.pdbdump_tables.specs.declared.extract.ListedRole.{ListedRole}
+use Rattle.pdbdump_tables.specs.declared.extract.ListedRole.TheVariants as roles
+use Rattle.pdbdump_tables.specs.Listing.{Listing, listed_of, whole}
+
+-- the stream whose role is fixed by its number, with the words that a summary has for them
+unfoldable pub fixed_stream : List ℕ → Option ℕ
+fixed_stream word =
+    if bytes_eq word (codes "pdb_information") then Some 1
+    else if bytes_eq word (codes "types") then Some 2
+    else if bytes_eq word (codes "debug_information") then Some 3
+    else if bytes_eq word (codes "ids") then Some 4
+    else None
+
+-- the role that a word names, of those which the debug header gives to streams: first those of the sections
+unfoldable pub section_role : List ℕ → Option ListedRole
+section_role word =
+    if bytes_eq word (codes "section_headers") then Some roles.SectionHeaders
+    else if bytes_eq word (codes "original_section_headers") then Some roles.OriginalSectionHeaders
+    else if bytes_eq word (codes "xdata") then Some roles.Xdata
+    else if bytes_eq word (codes "pdata") then Some roles.Pdata
+    else if bytes_eq word (codes "token_rid_map") then Some roles.TokenRidMap
+    else None
+
+-- and those of addresses
+unfoldable pub address_role : List ℕ → Option ListedRole
+address_role word =
+    if bytes_eq word (codes "fpo") then Some roles.Fpo
+    else if bytes_eq word (codes "exception") then Some roles.Exception
+    else if bytes_eq word (codes "fixup") then Some roles.Fixup
+    else if bytes_eq word (codes "omap_to_src") then Some roles.OmapToSrc
+    else if bytes_eq word (codes "omap_from_src") then Some roles.OmapFromSrc
+    else if bytes_eq word (codes "framedata") then Some roles.Framedata
+    else None
+
+abbrev pub either_role : Option ListedRole → Option ListedRole → Option ListedRole
+either_role (Some role) other = Some role
+either_role None other = other
+
+abbrev pub listed_role_of : List ℕ → Option ListedRole
+listed_role_of word = either_role (section_role word) (address_role word)
+
+-- the stream that has a role
+abbrev pub index_of : DBIExtraStreams → ListedRole → StreamIndex
+index_of streams roles.Fpo = streams.fpo
+index_of streams roles.Exception = streams.exception
+index_of streams roles.Fixup = streams.fixup
+index_of streams roles.OmapToSrc = streams.omap_to_src
+index_of streams roles.OmapFromSrc = streams.omap_from_src
+index_of streams roles.SectionHeaders = streams.section_headers
+index_of streams roles.TokenRidMap = streams.token_rid_map
+index_of streams roles.Xdata = streams.xdata
+index_of streams roles.Pdata = streams.pdata
+index_of streams roles.Framedata = streams.framedata
+index_of streams roles.OriginalSectionHeaders = streams.original_section_headers
+
+-- a number, or the refusal if there is none
+abbrev pub number_or_refused : Option ℕ → Answer ℕ
+number_or_refused (Some number) = Ok number
+number_or_refused None = Err stream_name_not_found
+
+-- the number of the stream that the debug header gives a role
+unfoldable pub role_number : List ℕ → Head → ListedRole → Answer ℕ
+role_number file head role = file_roles file head
+    >>= λ streams. number_or_refused (stream_number (index_of streams role).0)
+
+-- the number of the stream that has a role or else a name
+abbrev pub role_or_name : List ℕ → Head → List ℕ → Option ListedRole → Answer ℕ
+role_or_name file head word (Some role) = role_number file head role
+role_or_name file head word None = file_number file head word
+
+abbrev pub fixed_or_other : List ℕ → Head → List ℕ → Option ℕ → Answer ℕ
+fixed_or_other file head word (Some number) = Ok number
+fixed_or_other file head word None = role_or_name file head word (listed_role_of word)
+
+-- the number of the stream that a word means
+unfoldable pub stream_meant : List ℕ → Head → List ℕ → Answer ℕ
+stream_meant file head word = fixed_or_other file head word (fixed_stream word)
+
+-- the bytes after the first `skip`, and of these at most as many as the limit says
+abbrev pub part_of : ℕ → Option ℕ → List ℕ → List ℕ
+part_of skip None bytes = drop skip bytes
+part_of skip (Some limit) bytes = take limit (drop skip bytes)
+
+-- that part of stream n of a file, and nothing else
+unfoldable pub extraction : List ℕ → Head → ℕ → ℕ → Option ℕ → Listing
+extraction file head n skip limit = listed_of (λ stream. whole (part_of skip limit stream)) (stream_of file head n None)

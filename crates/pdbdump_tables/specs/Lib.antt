@@ -1,0 +1,16 @@
+pub mod Lines
+pub mod Listed
+pub mod Given
+pub mod Made
+pub mod Mapped
+pub mod Refused
+pub mod Streams
+pub mod Known
+pub mod Kinds
+pub mod Tally
+pub mod Summary
+pub mod Identity
+pub mod Extracted
+pub mod Listing
+pub mod Tables
+pub mod Files

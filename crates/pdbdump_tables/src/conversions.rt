@@ -1,0 +1,53 @@
+//! What an address map makes of an address.
+
+ghost use Rattle.pdbdump_tables.specs.Made.{IsMadeOfInternal, IsMadeOfLoaded};
+
+use pdb_space::{AddressMap, PdbInternalRva, PdbInternalSectionOffset, Rva, SectionOffset};
+
+/// What is made of an address in the image as it is loaded.
+#[derive(Clone, Copy, Debug)]
+pub struct OfLoaded {
+    /// The place of the address in a section of that image.
+    pub section_offset: Option<SectionOffset>,
+
+    /// The address in the original image from which it was moved.
+    pub internal_rva: Option<PdbInternalRva>,
+
+    /// The place of that address in a section of the original image.
+    pub internal_offset: Option<PdbInternalSectionOffset>,
+}
+
+/// What is made of an address in the original image.
+#[derive(Clone, Copy, Debug)]
+pub struct OfInternal {
+    /// The place of the address in a section of that image.
+    pub internal_offset: Option<PdbInternalSectionOffset>,
+
+    /// The address in the image as it is loaded to which it was moved.
+    pub rva: Option<Rva>,
+
+    /// The place of that address in a section of the image as it is loaded.
+    pub section_offset: Option<SectionOffset>,
+}
+
+/// Returns what a map makes of an address in the image as it is loaded.
+pub fn made_of_loaded(map: &AddressMap, address: Rva) -> OfLoaded
+    ensures { IsMadeOfLoaded map.now address result }
+{
+    OfLoaded {
+        section_offset: address.to_section_offset(map),
+        internal_rva: address.to_internal_rva(map),
+        internal_offset: address.to_internal_offset(map),
+    }
+}
+
+/// Returns what a map makes of an address in the original image.
+pub fn made_of_internal(map: &AddressMap, address: PdbInternalRva) -> OfInternal
+    ensures { IsMadeOfInternal map.now address result }
+{
+    OfInternal {
+        internal_offset: address.to_internal_offset(map),
+        rva: address.to_rva(map),
+        section_offset: address.to_section_offset(map),
+    }
+}

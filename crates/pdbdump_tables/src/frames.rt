@@ -1,0 +1,34 @@
+//! The frames of frame tables.
+
+ghost use Rattle.std.specs.Prelude.{◌≡◌};
+ghost use Rattle.pdbdump_tables.specs.Listing.{IsListed};
+ghost use Rattle.pdbdump_tables.specs.Tables.{frames_listing};
+
+use pdb_base::{FallibleIterator, Result};
+use pdb_frames::FrameTable;
+use pdb_output::Output;
+use pdbdump_rows::{Form, frame_row, write_row};
+use std::alloc::Global;
+use std::io::Write;
+
+/// Lists the frames of a table, by their starts, as `FrameTable::iter` yields them: if an old and a
+/// new record start at the same address, only the new one.
+///
+/// # Errors
+/// Fails with `IoError` if the writer fails, and with `OutOfMemory` if an allocation fails.
+pub fn write_frames<W: Write>(
+    alloc: Global,
+    table: &FrameTable,
+    form: Form,
+    out: &mut Output<W>,
+) -> Result<()>
+    ensures { IsListed (frames_listing form table.now) out.old out.new result }
+{
+    let mut line = Vec::new(alloc);
+    let mut frames = table.iter();
+    while let Ok(Some(frame)) = frames.next() {
+        let row = frame_row(alloc, &frame)?;
+        write_row(form, &row, &mut line, out)?;
+    }
+    Ok(())
+}

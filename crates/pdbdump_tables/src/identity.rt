@@ -1,0 +1,278 @@
+//! The identity of a file, as a line.
+
+ghost use Rattle.std.specs.Prelude.{◌≡◌, ◌↔◌, map, string_bytes, IsTrue, IfOk};
+ghost use Rattle.std.specs.Char.{to_ascii_lowercase};
+ghost use Rattle.uuid.specs.Text.{hyphenated_text, upper};
+ghost use Rattle.pdb_base.specs.Memory.{FailsOnlyForMemory};
+ghost use Rattle.pdb_output.specs.Output.{Writes};
+ghost use Rattle.pdbdump_rows.specs.Row.{row_shown, value_shown};
+ghost use Rattle.pdb_identity.specs.Header.{cpu_of};
+ghost use Rattle.pdbdump_tables.specs.Identity.{IsKey, age_source, feature_words, guid_line, identity_line, identity_shown, key_line, lower_key_of, module_line, module_text, optional_features, optional_flag, optional_machine, store_path, upper_key_of};
+
+use pdb_base::{RawString, Result};
+use pdb_file::Features;
+use pdb_identity::Identity;
+use pdb_output::Output;
+use pdbdump_rows::{Form, Row, Value, chosen, field, write_row};
+use std::alloc::Global;
+use std::io::Write;
+
+/// How the identity of a file is written as text.
+#[derive(Clone, Copy, Debug, PartialEq, Eq)]
+pub enum KeyStyle {
+    /// The path of the file in a symbol store: `NAME/KEY/NAME`.
+    Key,
+
+    /// That path in lower case, the name too, as the conventions for SSQP have it.
+    Ssqp,
+
+    /// The first line of a symbol file of Breakpad: `MODULE windows CPU KEY NAME`.
+    Breakpad,
+
+    /// The GUID alone, with hyphens.
+    Guid,
+}
+
+/// Returns the path of a file in a symbol store as a line.
+#[tactic(auto, unfolding(crate::specs::Identity::store_path))]
+fn upper_path(alloc: Global, name: &str, identity: &Identity) -> Result<Vec<u8>>
+    ensures ok { IfOk result (λ line. line.items ≡ store_path name.now (upper_key_of identity.now)) }
+    ensures memory { FailsOnlyForMemory result }
+{
+    let key = identity.key();
+    Ok(format!(in alloc; "{name}/{key}/{name}\n")?.into_bytes())
+}
+
+/// Returns the path of a file in a symbol store as a line in lower case.
+#[tactic(auto, unfolding(crate::specs::Identity::store_path))]
+fn lower_path(alloc: Global, name: &str, identity: &Identity) -> Result<Vec<u8>>
+    ensures ok { IfOk result (λ line. line.items ≡
+        store_path (map to_ascii_lowercase name.now) (lower_key_of identity.now)) }
+    ensures memory { FailsOnlyForMemory result }
+{
+    let name = name.to_ascii_lowercase(alloc)?;
+    let key = identity.lower_key();
+    Ok(format!(in alloc; "{name}/{key}/{name}\n")?.into_bytes())
+}
+
+/// Returns the key of a file as text.
+fn key_text(alloc: Global, identity: &Identity) -> Result<String>
+    ensures ok { IfOk result (λ text. string_bytes text ≡ upper_key_of identity.now) }
+    ensures memory { FailsOnlyForMemory result }
+{
+    let key = identity.key();
+    Ok(format!(in alloc; "{key}")?)
+}
+
+/// Returns what the first line of a symbol file of Breakpad says of a file.
+#[tactic(auto, unfolding(crate::specs::Identity::module_text))]
+fn module_text(alloc: Global, cpu: &str, key: &str, name: &str) -> Result<String>
+    ensures ok { IfOk result (λ text. string_bytes text ≡ module_text cpu.now key.now name.now) }
+    ensures memory { FailsOnlyForMemory result }
+{
+    Ok(format!(in alloc; "{cpu} {key} {name}\n")?)
+}
+
+/// Returns the line that a symbol file of Breakpad begins with.
+#[tactic(auto, unfolding(crate::specs::Identity::module_line))]
+fn module_line(alloc: Global, cpu: &str, key: &str, name: &str) -> Result<Vec<u8>>
+    ensures ok { IfOk result (λ line. line.items ≡ module_line cpu.now key.now name.now) }
+    ensures memory { FailsOnlyForMemory result }
+{
+    let text = module_text(alloc, cpu, key, name)?;
+    Ok(format!(in alloc; "MODULE windows {text}")?.into_bytes())
+}
+
+/// Returns the line of a file that its symbol file of Breakpad begins with.
+fn breakpad_line(alloc: Global, name: &str, identity: &Identity) -> Result<Vec<u8>>
+    ensures ok { IfOk result (λ line. line.items ≡
+        module_line (cpu_of identity.now) (upper_key_of identity.now) name.now) }
+    ensures memory { FailsOnlyForMemory result }
+{
+    let key = key_text(alloc, identity)?;
+    module_line(alloc, identity.cpu(), &key, name)
+}
+
+/// Returns the GUID of a file as a line.
+#[tactic(auto, unfolding(crate::specs::Identity::guid_line))]
+fn guid_line(alloc: Global, identity: &Identity) -> Result<Vec<u8>>
+    ensures ok { IfOk result (λ line. line.items ≡ guid_line identity.now) }
+    ensures memory { FailsOnlyForMemory result }
+{
+    let mut buffer = [0u8; 36];
+    let guid = identity.guid.hyphenated().encode_upper(&mut buffer);
+    Ok(format!(in alloc; "{guid}\n")?.into_bytes())
+}
+
+/// Returns the line of a file's identity in a style.
+fn key_line(alloc: Global, style: KeyStyle, name: &str, identity: &Identity) -> Result<Vec<u8>>
+    ensures ok { IfOk result (λ line. line.items ≡ key_line style name.now identity.now) }
+    ensures memory { FailsOnlyForMemory result }
+{
+    match style {
+        KeyStyle::Key => upper_path(alloc, name, identity),
+        KeyStyle::Ssqp => lower_path(alloc, name, identity),
+        KeyStyle::Breakpad => breakpad_line(alloc, name, identity),
+        KeyStyle::Guid => guid_line(alloc, identity),
+    }
+}
+
+/// Returns the word for the stream from which the age in the key is.
+fn age_source(identity: &Identity) -> &'static str
+    ensures { result.now ≡ age_source identity.now.debug_header }
+{
+    match identity.debug_header {
+        Some(_) => "dbi",
+        None => "pdb",
+    }
+}
+
+/// Returns the value of a machine, or `Absent` if there is none.
+fn optional_machine<'t>(machine: Option<u16>) -> Value<'t>
+    ensures { value_shown result ≡ optional_machine machine }
+{
+    match machine {
+        Some(machine) => Value::Number(machine as u64),
+        None => Value::Absent,
+    }
+}
+
+/// Returns the value of a flag, or `Absent` if there is none.
+fn optional_flag<'t>(flag: Option<bool>) -> Value<'t>
+    ensures { value_shown result ≡ optional_flag flag }
+{
+    match flag {
+        Some(flag) => Value::Flag(flag),
+        None => Value::Absent,
+    }
+}
+
+/// Returns the words for the features that a file tells of itself.
+#[tactic(auto, unfolding(crate::specs::Identity::feature_words))]
+fn feature_words(alloc: Global, features: Features) -> Result<Vec<&'static str>>
+    ensures ok { IfOk result (λ words. map (λ name. name.now) words.items ≡ feature_words features) }
+    ensures memory { FailsOnlyForMemory result }
+{
+    let words = chosen(
+        alloc,
+        &[
+            (features.vc110, "vc110"),
+            (features.vc140, "vc140"),
+            (features.no_type_merge, "no-type-merge"),
+            (features.minimal, "minimal"),
+        ],
+    )?;
+    Ok(words)
+}
+
+/// Returns the value of the features, or `Absent` if there are none to be found.
+fn optional_features<'t>(alloc: Global, features: Option<Features>) -> Result<Value<'t>>
+    ensures ok { IfOk result (λ value. value_shown value ≡ optional_features features) }
+    ensures memory { FailsOnlyForMemory result }
+{
+    match features {
+        Some(features) => Ok(Value::Words(feature_words(alloc, features)?)),
+        None => Ok(Value::Absent),
+    }
+}
+
+/// Returns the `Row` of all that identifies a file, with the texts of its GUID and of its key.
+fn identity_row<'t>(
+    alloc: Global,
+    name: &'t str,
+    identity: &Identity,
+    guid: &'t str,
+    key: &'t str,
+) -> Result<Row<'t>>
+    requires guid { guid.now ≡ hyphenated_text upper identity.now.guid }
+    requires key { key.now ≡ upper_key_of identity.now }
+    ensures ok { IfOk result (λ row. row_shown row ≡ identity_shown name.now identity.now) }
+    ensures memory { FailsOnlyForMemory result }
+{
+    let features = optional_features(alloc, identity.features)?;
+    let fields = vec![in alloc;
+        field("name", Value::Text(RawString::from(name))),
+        field("format", Value::Word("MSF 7.00")),
+        field("guid", Value::Text(RawString::from(guid))),
+        field("age", Value::Number(identity.age() as u64)),
+        field("age_from", Value::Word(age_source(identity))),
+        field(
+            "information_age",
+            Value::Number(identity.information_age as u64)
+        ),
+        field("signature", Value::Number(identity.signature as u64)),
+        field("version", Value::Number(identity.version as u64)),
+        field("features", features),
+        field("machine", optional_machine(identity.machine())),
+        field("cpu", Value::Word(identity.cpu())),
+        field("stripped", optional_flag(identity.is_stripped())),
+        field("key", Value::Text(RawString::from(key))),
+    ]?;
+    Ok(Row { fields })
+}
+
+/// Writes all that identifies a file as an object of JSON.
+#[tactic(auto, unfolding(crate::specs::Identity::identity_line), using(pdb_output::proofs::lemmas::Written::writing))]
+fn write_object<W: Write>(
+    alloc: Global,
+    style: KeyStyle,
+    name: &str,
+    identity: &Identity,
+    out: &mut Output<W>,
+) -> Result<()>
+    ensures { Writes (identity_line Form.Json style name.now identity.now) out.old out.new result }
+{
+    let mut buffer = [0u8; 36];
+    let guid = identity.guid.hyphenated().encode_upper(&mut buffer);
+    let key = key_text(alloc, identity)?;
+    let row = identity_row(alloc, name, identity, guid, &key)?;
+    write_row(Form::Json, &row, &mut Vec::new(alloc), out)
+}
+
+/// Writes the line of a file's identity in a style.
+#[tactic(auto, unfolding(crate::specs::Identity::identity_line), using(pdb_output::proofs::lemmas::Written::writing))]
+fn write_line<W: Write>(
+    alloc: Global,
+    style: KeyStyle,
+    name: &str,
+    identity: &Identity,
+    out: &mut Output<W>,
+) -> Result<()>
+    ensures { Writes (identity_line Form.Text style name.now identity.now) out.old out.new result }
+{
+    let line = key_line(alloc, style, name, identity)?;
+    out.write(&line)
+}
+
+/// Writes the identity of a file of this name: a line in the style, or an object of JSON with all
+/// of it.
+///
+/// # Errors
+/// Fails with `IoError` if the writer fails, and with `OutOfMemory` if an allocation fails.
+pub fn write_identity<W: Write>(
+    alloc: Global,
+    style: KeyStyle,
+    name: &str,
+    identity: &Identity,
+    form: Form,
+    out: &mut Output<W>,
+) -> Result<()>
+    ensures { Writes (identity_line form style name.now identity.now) out.old out.new result }
+{
+    match form {
+        Form::Text => write_line(alloc, style, name, identity, out),
+        Form::Json => write_object(alloc, style, name, identity, out),
+    }
+}
+
+/// Returns whether a word is the key of a file, in upper or in lower case.
+///
+/// # Errors
+/// Fails with `OutOfMemory` if an allocation fails.
+pub fn is_key(alloc: Global, word: &str, identity: &Identity) -> Result<bool>
+    ensures ok { IfOk result (λ is_key. IsTrue is_key ↔ IsKey word.now identity.now) }
+    ensures memory { FailsOnlyForMemory result }
+{
+    let key = key_text(alloc, identity)?;
+    Ok(word.eq_ignore_ascii_case(&key))
+}

@@ -1,0 +1,186 @@
+//! The kinds of the records of a table.
+
+ghost use Rattle.std.specs.Prelude.{◌≡◌, ℕ, ◌+◌, ◌<◌, ◌≤◌, ◌^◌, length, slice_index_or, slice_set, vec_len, IfOk, if◌then◌else◌};
+ghost use Rattle.std.specs.List.{range_with_len};
+ghost use Rattle.pdb_base.specs.Memory.{FailsOnlyForMemory};
+ghost use Rattle.pdbdump_tables.specs.Kinds.{goes_on, present, ranked};
+ghost use Rattle.pdbdump_tables.specs.Tally.{IsTally, IsWalked};
+ghost use Rattle.pdb_tpi.specs.Item.{bytes_of, index_of};
+
+use pdb_base::{Error, FallibleIterator, Result, TypeIndex};
+use pdb_tpi::{Item, TypeInformation};
+use pdb_values::TypeData;
+use pdb_values::constants::LF_FIELDLIST;
+use std::alloc::Global;
+use std::cmp::Reverse;
+
+/// How many numbers a kind can be.
+const KINDS: usize = 0x10000;
+
+/// A kind of records, and how many there are.
+#[derive(Clone, Copy, Debug, PartialEq, Eq)]
+pub struct KindCount {
+    /// The number of the record kind.
+    pub leaf: u16,
+    /// How many records of the kind there are.
+    pub count: u64,
+}
+
+/// Returns the kinds that have records, the lowest number first.
+fn present(alloc: Global, counts: &[u64]) -> Result<Vec<KindCount>>
+    requires { length counts.now ≡ 0x10000 }
+    ensures present { IfOk result (λ kinds. kinds.items ≡
+        present (λ leaf. slice_index_or counts.now leaf 0) (range_with_len 0 0x10000)) }
+    ensures memory { FailsOnlyForMemory result }
+{
+    let mut kinds = Vec::new(alloc);
+    for leaf in 0..KINDS {
+        let count = counts[leaf];
+        if count != 0 {
+            kinds.push(KindCount {
+                leaf: leaf as u16,
+                count,
+            })?;
+        }
+    }
+    Ok(kinds)
+}
+
+/// Returns the kinds that have records, the most frequent first.
+fn rank(alloc: Global, counts: &[u64]) -> Result<Vec<KindCount>>
+    requires { length counts.now ≡ 0x10000 }
+    ensures ranked { (most : ℕ) → ((leaf : ℕ) → slice_index_or counts.now leaf 0 ≤ most)
+        → IfOk result (λ kinds. kinds.items ≡ ranked (λ leaf. slice_index_or counts.now leaf 0) most) }
+    ensures memory { FailsOnlyForMemory result }
+{
+    let mut kinds = present(alloc, counts)?;
+    kinds.sort_by_key(|kind| Reverse(kind.count))?;
+    Ok(kinds)
+}
+
+/// What a walk over a table counts.
+#[derive(Drop)]
+struct Tally {
+    /// How many records of each kind there are, by the number of the kind.
+    counts: Vec<u64>,
+    /// How many records there are.
+    records: u64,
+    /// How many of them are lists of fields that another list continues.
+    continued: u64,
+    /// The fault at which the walk stops, if it does.
+    fault: Option<Error>,
+}
+
+/// Counts one more record of a kind.
+fn note(counts: &mut Vec<u64>, kind: u16)
+    requires kinds { vec_len counts.old ≡ 0x10000 }
+    requires room { slice_index_or counts.old.items kind 0 + 1 < 2 ^ 64 }
+    ensures noted { counts.new.items ≡ slice_set counts.old.items kind (slice_index_or counts.old.items kind 0 + 1) }
+    ensures kinds { vec_len counts.new ≡ 0x10000 }
+{
+    counts[kind as usize] += 1;
+}
+
+/// Returns `count` counts of 0.
+fn zeros(alloc: Global, count: usize) -> Result<Vec<u64>>
+    ensures kinds { IfOk result (λ counts. vec_len counts ≡ count) }
+    ensures zeros { IfOk result (λ counts. (leaf : ℕ) → leaf < count → slice_index_or counts.items leaf 0 ≡ 0) }
+    ensures memory { FailsOnlyForMemory result }
+{
+    let counts = vec![in alloc; 0; count]?;
+    Ok(counts)
+}
+
+/// Returns whether a record is a list of fields that another list continues.
+#[tactic(auto, unfolding(crate::specs::Kinds::goes_on))]
+fn goes_on(alloc: Global, item: &Item<'_, TypeIndex>) -> Result<bool>
+    ensures ok { IfOk result (λ is. is ≡ goes_on (index_of item.now).0 (bytes_of item.now)) }
+    ensures memory { FailsOnlyForMemory result }
+{
+    if item.raw_kind() != LF_FIELDLIST {
+        return Ok(false);
+    }
+    match item.parse(alloc) {
+        Ok(TypeData::FieldList(list)) => Ok(list.continuation.is_some()),
+        Err(Error::OutOfMemory) => Err(Error::OutOfMemory),
+        _ => Ok(false),
+    }
+}
+
+/// Returns 1 if `is` holds, and 0 otherwise.
+fn as_count(is: bool) -> u64
+    ensures { result ≡ (if is then 1 else 0) }
+{
+    if is { 1 } else { 0 }
+}
+
+/// Walks over a table, and counts its records.
+fn count_records(alloc: Global, table: &TypeInformation) -> Result<Tally>
+    ensures tally { IfOk result (IsTally table.now) }
+    ensures memory { FailsOnlyForMemory result }
+{
+    let mut counts = zeros(alloc, KINDS)?;
+    let mut records = 0;
+    let mut continued = 0;
+    let mut items = table.iter();
+    loop {
+        match items.next() {
+            Ok(Some(item)) => {
+                let is_continued = goes_on(alloc, &item)?;
+                note(&mut counts, item.raw_kind());
+                records += 1;
+                continued += as_count(is_continued);
+            }
+            Ok(None) => {
+                return Ok(Tally {
+                    counts,
+                    records,
+                    continued,
+                    fault: None,
+                });
+            }
+            Err(fault) => {
+                return Ok(Tally {
+                    counts,
+                    records,
+                    continued,
+                    fault: Some(fault),
+                });
+            }
+        }
+    }
+}
+
+/// What a walk over a table says of its records.
+#[derive(Drop)]
+pub struct Walked {
+    /// Their kinds, the most frequent first.
+    pub kinds: Vec<KindCount>,
+    /// How many there are.
+    pub records: u64,
+    /// How many of them are lists of fields that another list continues.
+    pub continued: u64,
+    /// The fault at which the walk stops, if it does.
+    pub fault: Option<Error>,
+}
+
+/// Walks over a table, and returns which kinds its records have, how many records there are, and
+/// the fault at which the walk stops, if it does.
+pub fn walk_over(alloc: Global, table: &TypeInformation) -> Result<Walked>
+    ensures walked { IfOk result (IsWalked table.now) }
+    ensures memory { FailsOnlyForMemory result }
+{
+    let Tally {
+        counts,
+        records,
+        continued,
+        fault,
+    } = count_records(alloc, table)?;
+    let kinds = rank(alloc, &counts)?;
+    Ok(Walked {
+        kinds,
+        records,
+        continued,
+        fault,
+    })
+}

@@ -1,0 +1,56 @@
+//! Lists what a file's address map makes of an address.
+
+ghost use Rattle.pdbdump_tables.specs.Given.{map_in};
+ghost use Rattle.pdbdump_tables.specs.Mapped.{IsMapped};
+ghost use Rattle.std.specs.Prelude.{Ok};
+
+use crate::map_source::{MapStreams, map_in};
+use crate::conversions::{made_of_internal, made_of_loaded};
+use crate::map_lines::write_made;
+use pdb_base::Result;
+use pdb_file::PDB;
+use pdb_output::Output;
+use pdbdump_rows::Form;
+use pdb_space::{AddressMap, PdbInternalRva, Rva};
+use std::alloc::Global;
+use std::io::Write;
+
+/// Writes what a map makes of a number, first as an address of the image as it is loaded, and then
+/// as one of the original image.
+fn write_map<W: Write>(
+    alloc: Global,
+    map: &AddressMap,
+    address: u32,
+    form: Form,
+    out: &mut Output<W>,
+) -> Result<()>
+    ensures { IsMapped form (Ok map.now) address out.old out.new result }
+{
+    let loaded = made_of_loaded(map, Rva(address));
+    let internal = made_of_internal(map, PdbInternalRva(address));
+    write_made(alloc, &loaded, &internal, form, out)
+}
+
+/// Lists what an address map makes of a number, with a line for each conversion, even if it has no
+/// result: first as an address of the image as it is loaded, and then as one of the original image.
+/// The map is the file's own, unless streams are given that make another.
+///
+/// # Errors
+/// If no stream is given, fails as `address_map` does. Otherwise, for each given stream in the
+/// order of the fields of `MapStreams`, fails as `Msf::get` does, and then with `UnexpectedEof` if
+/// a section header is cut short, or with `InvalidStreamLength` if an OMAP record is. Fails with
+/// `IoError` if the writer fails, and with `OutOfMemory` if an allocation fails.
+pub fn list_map<W: Write>(
+    alloc: Global,
+    mut file: PDB<Vec<u8>>,
+    address: u32,
+    streams: MapStreams,
+    form: Form,
+    out: &mut Output<W>,
+) -> Result<()>
+    ensures { IsMapped form (map_in file.source.items file.head streams) address
+        out.old out.new result }
+{
+    let map = map_in(alloc, &mut file, streams)?;
+    write_map(alloc, &map, address, form, out)
+}

@@ -1,0 +1,77 @@
+//! The role and the name of a stream.
+
+ghost use Rattle.std.specs.Prelude.{◌≡◌, map};
+ghost use Rattle.std.specs.Option.{option_map};
+ghost use Rattle.pdb_file.specs.StreamNames.{named_view};
+ghost use Rattle.pdbdump_tables.specs.Streams.{is_of, listed_role, name_of, role_of};
+
+use pdb_base::{RawString, StreamIndex};
+use pdb_file::{DBIExtraStreams, StreamName};
+
+/// Returns whether an index names the stream with this number.
+fn is_of(index: StreamIndex, number: u32) -> bool
+    ensures { result ≡ is_of index number }
+{
+    match index.msf_number() {
+        Some(named) => named == number,
+        None => false,
+    }
+}
+
+/// Returns the role that the debug header gives a stream, the first one if it gives several.
+#[tactic(auto, unfolding(crate::specs::Streams::listed_role))]
+fn listed_role(roles: &DBIExtraStreams, number: u32) -> Option<&'static str>
+    ensures { option_map (λ role. role.now) result ≡ listed_role roles.now number }
+{
+    if is_of(roles.fpo, number) {
+        Some("fpo")
+    } else if is_of(roles.exception, number) {
+        Some("exception")
+    } else if is_of(roles.fixup, number) {
+        Some("fixup")
+    } else if is_of(roles.omap_to_src, number) {
+        Some("omap_to_src")
+    } else if is_of(roles.omap_from_src, number) {
+        Some("omap_from_src")
+    } else if is_of(roles.section_headers, number) {
+        Some("section_headers")
+    } else if is_of(roles.token_rid_map, number) {
+        Some("token_rid_map")
+    } else if is_of(roles.xdata, number) {
+        Some("xdata")
+    } else if is_of(roles.pdata, number) {
+        Some("pdata")
+    } else if is_of(roles.framedata, number) {
+        Some("framedata")
+    } else if is_of(roles.original_section_headers, number) {
+        Some("original_section_headers")
+    } else {
+        None
+    }
+}
+
+/// Returns the role of a stream, if it has one. The roles of streams 1 to 4 are fixed.
+#[tactic(auto, unfolding(crate::specs::Streams::role_of))]
+pub fn role_of(roles: &DBIExtraStreams, number: u32) -> Option<&'static str>
+    ensures { option_map (λ role. role.now) result ≡ role_of roles.now number }
+{
+    match number {
+        1 => Some("pdb_information"),
+        2 => Some("types"),
+        3 => Some("debug_information"),
+        4 => Some("ids"),
+        _ => listed_role(roles, number),
+    }
+}
+
+/// Returns the first name of a stream, if it has one.
+pub fn name_of<'n>(names: &[StreamName<'n>], number: u32) -> Option<RawString<'n>>
+    ensures { option_map (λ name. name.0.now) result ≡ name_of (map named_view names.now) number }
+{
+    for named in names {
+        if named.stream_id.0 as u32 == number {
+            return Some(named.name);
+        }
+    }
+    None
+}

@@ -1,0 +1,145 @@
+//! The streams of a file, one line for each.
+
+ghost use Rattle.std.specs.Prelude.{◌≡◌, map, None, IfOk};
+ghost use Rattle.std.specs.Option.{option_map};
+ghost use Rattle.pdb_base.specs.Memory.{FailsOnlyForMemory};
+ghost use Rattle.pdb_base.specs.Answer.{Answers};
+ghost use Rattle.pdb_msf.specs.Directory.{stream_count_in};
+ghost use Rattle.pdb_msf.specs.File.{stream_of};
+ghost use Rattle.pdb_file.specs.StreamNames.{named_view};
+ghost use Rattle.pdbdump_rows.specs.Row.{row_shown, value_shown};
+ghost use Rattle.pdb_output.specs.Output.{Writes};
+ghost use Rattle.pdbdump_tables.specs.Known.{known_view};
+ghost use Rattle.pdbdump_tables.specs.Streams.{nameable, pages_held, size_line, stream_line, stream_lines, stream_shown};
+
+use crate::parts::{Part, write_refused};
+use crate::roles::{name_of, role_of};
+use pdb_base::{Error, RawString, Result, Stream};
+use pdb_file::{DBIExtraStreams, PDB, StreamName};
+use pdb_msf::{Layout, Msf};
+use pdb_output::Output;
+use pdbdump_rows::{Form, Row, Value, field, optional_text, optional_word, write_row};
+use std::alloc::Global;
+use std::io::Write;
+
+/// The number of 16 bits that names no stream.
+const NO_STREAM: u32 = 0xffff;
+
+/// What is known of a file's streams apart from their bytes.
+#[derive(Clone, Copy)]
+pub struct Known<'k, 'n> {
+    /// Where the directory places the streams.
+    pub layout: &'k Layout,
+    /// The roles of streams.
+    pub roles: DBIExtraStreams,
+    /// The streams that have names.
+    pub names: &'k [StreamName<'n>],
+}
+
+/// Reads the stream with this number.
+pub fn stream(alloc: Global, file: &mut PDB<Vec<u8>>, number: u32) -> Result<Stream>
+    ensures stream { Answers (λ stream. stream) result (stream_of file.old.source.items file.old.head number None) }
+    ensures bytes { file.new.source.items ≡ file.old.source.items }
+    ensures head { file.new.head ≡ file.old.head }
+{
+    file.get(alloc, number, None)
+}
+
+/// Returns how many pages hold `size` bytes, or no value if the size of a page is not known.
+#[tactic(auto, unfolding(pdb_msf::specs::Pages::pages))]
+fn pages_held<'t>(page_size: u32, size: u32) -> Value<'t>
+    ensures { value_shown result ≡ pages_held page_size size }
+{
+    if page_size == 0 {
+        return Value::Absent;
+    }
+    Value::Number((size as u64).div_ceil(page_size as u64))
+}
+
+/// Returns the `Row` of a stream: its number, its size in bytes, how many pages hold it, its role
+/// and its name.
+fn stream_row<'t>(
+    alloc: Global,
+    page_size: u32,
+    number: u32,
+    size: u32,
+    role: Option<&'static str>,
+    name: Option<RawString<'t>>,
+) -> Result<Row<'t>>
+    ensures ok { IfOk result (λ row. row_shown row
+        ≡ stream_shown page_size number size (option_map (λ role. role.now) role.entry)
+        (option_map (λ name. name.0.now) name.entry)) }
+    ensures memory { FailsOnlyForMemory result }
+{
+    let fields = vec![in alloc;
+        field("stream", Value::Number(number as u64)),
+        field("bytes", Value::Number(size as u64)),
+        field("pages", pages_held(page_size, size)),
+        field("role", optional_word(role)),
+        field("name", optional_text(name)),
+    ]?;
+    Ok(Row { fields })
+}
+
+/// Writes the line of a stream with this number and this size in bytes.
+#[tactic(auto, using(pdb_output::proofs::lemmas::Written::writing))]
+fn write_size<W: Write>(
+    alloc: Global,
+    number: u32,
+    size: u32,
+    known: Known<'_, '_>,
+    form: Form,
+    out: &mut Output<W>,
+) -> Result<()>
+    ensures { Writes (size_line form (known_view known.entry) number size)
+        out.old out.new result }
+{
+    let role = role_of(&known.roles, number);
+    let name = name_of(known.names, number);
+    let row = stream_row(alloc, known.layout.page_size(), number, size, role, name)?;
+    write_row(form, &row, &mut Vec::new(alloc), out)
+}
+
+/// Writes the line of the stream with this number, if there is one. If its size can't be read, the
+/// line has the error.
+#[tactic(auto, unfolding(crate::specs::Streams::stream_line), using(pdb_output::proofs::lemmas::Written::writing))]
+fn write_stream<W: Write>(
+    alloc: Global,
+    number: u32,
+    known: Known<'_, '_>,
+    form: Form,
+    out: &mut Output<W>,
+) -> Result<()>
+    ensures { Writes (stream_line form (known_view known.entry) number) out.old out.new result }
+{
+    match known.layout.stream_size(number) {
+        Ok(size) => write_size(alloc, number, size, known, form, out),
+        Err(Error::StreamNotFound(_)) => Ok(()),
+        Err(error) => write_refused(alloc, Part::Stream(number), &error, form, out),
+    }
+}
+
+/// Returns how many streams of a layout a number of 16 bits can name.
+fn nameable(layout: &Layout) -> u32
+    ensures { result ≡ nameable (stream_count_in layout.now.directory) }
+{
+    match layout.stream_count() {
+        Ok(count) => count.min(NO_STREAM),
+        Err(_) => 0,
+    }
+}
+
+/// Writes a line for each stream.
+pub fn write_streams<W: Write>(
+    alloc: Global,
+    known: Known<'_, '_>,
+    form: Form,
+    out: &mut Output<W>,
+) -> Result<()>
+    ensures { Writes (stream_lines form (known_view known.entry)) out.old out.new result }
+{
+    for number in 0..nameable(known.layout) {
+        write_stream(alloc, number, known, form, out)?;
+    }
+    Ok(())
+}

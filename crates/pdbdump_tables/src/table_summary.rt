@@ -1,0 +1,203 @@
+//! The tables of a file, and the kinds of their records.
+
+ghost use Rattle.std.specs.Prelude.{◌≡◌, ◌++◌, IfOk};
+ghost use Rattle.std.specs.Option.{option_map};
+ghost use Rattle.pdb_base.specs.Memory.{FailsOnlyForMemory};
+ghost use Rattle.pdb_base.specs.Answer.{Answers};
+ghost use Rattle.pdb_base.specs.Refusal.{refusal_of};
+ghost use Rattle.pdbdump_rows.specs.Lines.{row_text};
+ghost use Rattle.pdbdump_rows.specs.Row.{row_shown};
+ghost use Rattle.pdb_output.specs.Output.{Writes};
+ghost use Rattle.pdbdump_tables.specs.Kinds.{kind_lines, kind_shown, stop_line, table_found, table_lines, table_part, table_shown};
+
+use crate::kinds::{KindCount, Walked, walk_over};
+use crate::parts::{Part, write_refused};
+use crate::streams::stream;
+use pdb_base::{Error, Result};
+use pdb_file::PDB;
+use pdb_output::Output;
+use pdbdump_rows::{Form, Row, Value, field, write_row};
+use pdb_tpi::TypeInformation;
+use std::alloc::Global;
+use std::io::Write;
+
+/// Returns the `Row` of a table: the number of its stream, how many records it has and how many of
+/// them are lists of fields that another list continues, and the indexes that its header counts.
+fn table_row<'t>(
+    alloc: Global,
+    number: u32,
+    walked: &Walked,
+    least: u32,
+    end: u32,
+) -> Result<Row<'t>>
+    ensures ok { IfOk result (λ row. row_shown row ≡
+        table_shown number walked.now.records walked.now.continued least end) }
+    ensures memory { FailsOnlyForMemory result }
+{
+    let fields = vec![in alloc;
+        field("table", Value::Number(number as u64)),
+        field("records", Value::Number(walked.records)),
+        field("minimum_index", Value::Hexadecimal(least)),
+        field("maximum_index", Value::Hexadecimal(end)),
+        field("continued_field_lists", Value::Number(walked.continued)),
+    ]?;
+    Ok(Row { fields })
+}
+
+/// Writes the line of a table: how many records it has and how many of them are lists of fields
+/// that another list continues, and the indexes that its header counts.
+#[tactic(auto, using(pdb_output::proofs::lemmas::Written::writing))]
+fn write_head<W: Write>(
+    alloc: Global,
+    number: u32,
+    table: &TypeInformation,
+    walked: &Walked,
+    form: Form,
+    out: &mut Output<W>,
+) -> Result<()>
+    ensures { Writes (row_text form
+        (table_shown number walked.now.records walked.now.continued table.now.header.minimum_index
+        table.now.header.maximum_index)) out.old out.new result }
+{
+    let header = table.header();
+    let row = table_row(
+        alloc,
+        number,
+        walked,
+        header.minimum_index,
+        header.maximum_index,
+    )?;
+    write_row(form, &row, &mut Vec::new(alloc), out)
+}
+
+/// Returns the `Row` of a kind of a table's records, and how many there are.
+fn kind_row<'t>(alloc: Global, number: u32, kind: KindCount) -> Result<Row<'t>>
+    ensures ok { IfOk result (λ row. row_shown row ≡ kind_shown number kind) }
+    ensures memory { FailsOnlyForMemory result }
+{
+    let fields = vec![in alloc;
+        field("table", Value::Number(number as u64)),
+        field("kind", Value::Kind(kind.leaf)),
+        field("count", Value::Number(kind.count)),
+    ]?;
+    Ok(Row { fields })
+}
+
+/// Writes a line for each kind of a table's records.
+fn write_kinds<W: Write>(
+    alloc: Global,
+    number: u32,
+    kinds: &[KindCount],
+    form: Form,
+    out: &mut Output<W>,
+) -> Result<()>
+    ensures { Writes (kind_lines form number kinds.now) out.old out.new result }
+{
+    let mut line = Vec::new(alloc);
+    for kind in kinds {
+        let row = kind_row(alloc, number, *kind)?;
+        write_row(form, &row, &mut line, out)?;
+    }
+    Ok(())
+}
+
+/// Writes the fault at which the walk over a table stops, if it does.
+fn write_stop<W: Write>(
+    alloc: Global,
+    number: u32,
+    fault: &Option<Error>,
+    form: Form,
+    out: &mut Output<W>,
+) -> Result<()>
+    ensures { Writes (stop_line form number (option_map refusal_of fault.now))
+        out.old out.new result }
+{
+    match fault {
+        Some(fault) => write_refused(alloc, Part::Table(number), fault, form, out),
+        None => Ok(()),
+    }
+}
+
+/// Writes the kinds of a table's records, and the fault at which its walk stops, if it does.
+#[tactic(auto, using(pdb_output::proofs::lemmas::Written::writing))]
+fn write_rest<W: Write>(
+    alloc: Global,
+    number: u32,
+    walked: &Walked,
+    form: Form,
+    out: &mut Output<W>,
+) -> Result<()>
+    ensures { Writes (kind_lines form number walked.now.kinds.items ++
+        stop_line form number (option_map refusal_of walked.now.fault))
+        out.old out.new result }
+{
+    write_kinds(alloc, number, &walked.kinds, form, out)?;
+    write_stop(alloc, number, &walked.fault, form, out)
+}
+
+/// Writes a table that was walked over: its line, the kinds of its records, and the fault at which
+/// its walk stops, if it does.
+#[tactic(auto, using(pdb_output::proofs::lemmas::Written::writing))]
+fn write_walked<W: Write>(
+    alloc: Global,
+    number: u32,
+    table: &TypeInformation,
+    walked: &Walked,
+    form: Form,
+    out: &mut Output<W>,
+) -> Result<()>
+    ensures { Writes (row_text form (table_shown number walked.now.records walked.now.continued
+        table.now.header.minimum_index table.now.header.maximum_index)
+        ++ (kind_lines form number walked.now.kinds.items ++
+        stop_line form number (option_map refusal_of walked.now.fault)))
+        out.old out.new result }
+{
+    write_head(alloc, number, table, walked, form, out)?;
+    write_rest(alloc, number, walked, form, out)
+}
+
+/// Walks over a table, and writes what it holds.
+#[tactic(auto, unfolding(crate::specs::Kinds::table_lines), using(pdb_output::proofs::lemmas::Written::writing))]
+fn write_found<W: Write>(
+    alloc: Global,
+    number: u32,
+    table: &TypeInformation,
+    form: Form,
+    out: &mut Output<W>,
+) -> Result<()>
+    ensures { Writes (table_lines form number table.now) out.old out.new result }
+{
+    let walked = walk_over(alloc, table)?;
+    write_walked(alloc, number, table, &walked, form, out)
+}
+
+/// Reads the table in the stream with this number.
+#[tactic(auto, unfolding(crate::specs::Kinds::table_found))]
+fn table_found(alloc: Global, file: &mut PDB<Vec<u8>>, number: u32) -> Result<TypeInformation>
+    ensures table { Answers (λ table. table) result (table_found file.old.source.items file.old.head number) }
+    ensures bytes { file.new.source.items ≡ file.old.source.items }
+    ensures head { file.new.head ≡ file.old.head }
+{
+    TypeInformation::parse(stream(alloc, file, number)?)
+}
+
+/// Writes the table in the stream with this number, or its error.
+#[tactic(auto, unfolding(crate::specs::Kinds::table_part), using(pdb_output::proofs::lemmas::Written::writing))]
+pub fn write_table<W: Write>(
+    alloc: Global,
+    file: &mut PDB<Vec<u8>>,
+    number: u32,
+    form: Form,
+    out: &mut Output<W>,
+) -> Result<()>
+    ensures lines { Writes (table_part form number file.old.source.items file.old.head)
+        out.old out.new result }
+    ensures bytes { file.new.source.items ≡ file.old.source.items }
+    ensures head { file.new.head ≡ file.old.head }
+{
+    match table_found(alloc, file, number) {
+        Ok(table) => write_found(alloc, number, &table, form, out),
+        Err(Error::OutOfMemory) => Err(Error::OutOfMemory),
+        Err(error) => write_refused(alloc, Part::Table(number), &error, form, out),
+    }
+}

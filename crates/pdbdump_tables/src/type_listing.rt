@@ -1,0 +1,122 @@
+//! Tables of types.
+
+ghost use Rattle.std.specs.Prelude.{◌≡◌, IfOk};
+ghost use Rattle.pdb_base.specs.Memory.{FailsOnlyForMemory};
+ghost use Rattle.pdbdump_tables.specs.Lines.{type_at, type_line, type_shown};
+ghost use Rattle.pdbdump_tables.specs.Listed.{IsListed, IsShown, IsWalked};
+
+use crate::item_line::push_type;
+use crate::members::{list_of_fields, push_members};
+use pdb_base::{FallibleIterator, Result, Stream, TypeIndex};
+use pdb_output::Output;
+use pdbdump_rows::{Form, push_fields, type_row};
+use pdb_tpi::{OpenTable, TypeInformation};
+use std::alloc::Global;
+use std::io::Write;
+
+/// Writes a line for each type of a table.
+fn list_types<W: Write>(
+    alloc: Global,
+    table: &TypeInformation,
+    form: Form,
+    out: &mut Output<W>,
+) -> Result<()>
+    ensures { IsWalked (type_line form) table.now out.old out.new result }
+{
+    let mut items = table.iter();
+    let mut line = Vec::new(alloc);
+    while let Some(item) = items.next()? {
+        line.clear();
+        push_type(alloc, form, &item, &mut line)?;
+        out.write(&line)?;
+    }
+    Ok(())
+}
+
+/// Writes a line for each type of the table in a stream, in the order of the table. A record that
+/// can't be parsed has a line with the error. At most one parsed record and its line are held in
+/// memory.
+///
+/// # Errors
+/// Fails as `TypeInformation::parse` does, before anything is written; with the error at which the
+/// table stops, after the lines of the types before it; with `IoError` if the writer fails, after a
+/// prefix of what is meant to be written; and with `OutOfMemory` if an allocation fails, after the
+/// lines so far.
+pub fn types<W: Write>(alloc: Global, stream: Stream, form: Form, out: &mut Output<W>) -> Result<()>
+    ensures { IsListed (type_line form) stream out.old out.new result }
+{
+    let table = TypeInformation::parse(stream)?;
+    list_types(alloc, &table, form, out)
+}
+
+/// Returns the list in which the fields of the type of an index begin.
+///
+/// # Errors
+/// Fails with the error of the look-up or the record, and with `OutOfMemory` if an allocation
+/// fails.
+fn list_at(
+    alloc: Global,
+    types: &OpenTable<TypeIndex>,
+    index: TypeIndex,
+) -> Result<Option<TypeIndex>> {
+    let value = types.item(index)?.parse(alloc)?;
+    Ok(list_of_fields(index, &value))
+}
+
+/// Opens a table for look-ups of the type of an index, and of the lists that hold its fields.
+fn opened(alloc: Global, table: TypeInformation, index: TypeIndex) -> Result<OpenTable<TypeIndex>>
+    ensures table { IfOk result (λ types. types.table ≡ table) }
+    ensures memory { FailsOnlyForMemory result }
+{
+    let mut types = OpenTable::new(alloc, table)?;
+    types.learn(index);
+    if let Ok(Some(list)) = list_at(alloc, &types, index) {
+        types.learn(list);
+    }
+    Ok(types)
+}
+
+/// Looks up the type of an index in a table and writes it in full, and then a line for each of its
+/// members.
+fn show_type<W: Write>(
+    alloc: Global,
+    types: &OpenTable<TypeIndex>,
+    index: u32,
+    form: Form,
+    out: &mut Output<W>,
+) -> Result<()>
+    ensures { IsShown (type_shown form index types.now.table) out.old out.new result }
+{
+    let item = types.item(TypeIndex(index))?;
+    let value = item.parse(alloc)?;
+    let row = type_row(alloc, index, item.raw_kind(), &value)?;
+    let mut text = Vec::new(alloc);
+    push_fields(form, &row, &mut text)?;
+    out.write(&text)?;
+    let mut lines = Vec::new(alloc);
+    push_members(alloc, form, types, TypeIndex(index), &value, &mut lines)?;
+    out.write(&lines)?;
+    Ok(())
+}
+
+/// Looks up the type of an index in the table in a stream and writes it in full, and then a line
+/// for each of its members: the fields of a class, a union, an enumeration or a list of fields,
+/// through all lists that hold them, or the methods of a list.
+///
+/// # Errors
+/// Fails with the error of the table, the look-up or the record, before anything is written; with
+/// the error of the lists of fields, after the type itself; with `IoError` if the writer fails,
+/// after a prefix of what is meant to be written; and with `OutOfMemory` if an allocation fails.
+pub fn type_at<W: Write>(
+    alloc: Global,
+    stream: Stream,
+    index: u32,
+    form: Form,
+    out: &mut Output<W>,
+) -> Result<()>
+    ensures { IsShown (type_at form index stream) out.old out.new result }
+{
+    let table = TypeInformation::parse(stream)?;
+    let types = opened(alloc, table, TypeIndex(index))?;
+    show_type(alloc, &types, index, form, out)
+}
