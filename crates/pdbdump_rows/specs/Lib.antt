@@ -1,6 +1,7 @@
 pub mod Row
 pub mod Text
 pub mod Lines
+pub mod Line
 pub mod Words
 pub mod Fields
 pub mod TypeRows

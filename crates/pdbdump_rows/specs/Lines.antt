@@ -11,6 +11,11 @@ use Rattle.pdbdump_rows.specs.Row as rows
 use Rattle.pdbdump_rows.specs.Row.{ShownValue, ShownField, ShownRow}
 use Rattle.pdbdump_rows.specs.Text.{four_digits, shown_text, quoted}
 
+-- whether there is no item
+abbrev pub is_none : {A : Type 0} → List A → Bool
+is_none [] = true
+is_none (item ∷ items) = false
+
 -- the texts of items, with a separator between each two
 abbrev pub separated : {A : Type 0} → List ℕ → (A → List ℕ) → List A → List ℕ
 separated separator text [] = []

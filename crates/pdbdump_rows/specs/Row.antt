@@ -1,10 +1,9 @@
 -- A row as a value, independent of where its bytes are stored: a name, a word or another text is the list
 -- of its bytes.
 use Rattle.std.specs.Prelude.{ℕ, ℤ, Bool, List, map}
-use Rattle.pdbdump_rows.specs.declared.row.Field.{Field}
-use Rattle.pdbdump_rows.specs.declared.row.Row.{Row}
-use Rattle.pdbdump_rows.specs.declared.row.Value.{Value}
-use Rattle.pdbdump_rows.specs.declared.row.Value.TheVariants as values
+use Rattle.pdbdump_rows.specs.declared.value.Value.{Value}
+use Rattle.pdbdump_rows.specs.declared.value.Value.TheVariants as values
+use Rattle.pdbdump_rows.specs.Words.{chosen}
 
 -- the value that a field shows
 pub data ShownValue : Type 0 where
@@ -36,15 +35,7 @@ value_shown (values.Kind leaf) = kind leaf
 value_shown (values.Flag holds) = flag holds
 value_shown (values.Text name) = text name.0.now
 value_shown (values.Word name) = text name.now
-value_shown (values.Words names) = words (map (λ name. name.now) names.items)
-value_shown (values.Numbers list) = numbers list.items
-value_shown (values.Indexes list) = indexes list.items
+value_shown (values.Words flags) = words (chosen (map (λ flag. (flag.0, flag.1.now)) flags.now))
+value_shown (values.Numbers list) = numbers list.now
+value_shown (values.Indexes list) = indexes list.now
 value_shown values.Absent = absent
-
--- the shown field of a `Field`
-abbrev pub field_shown : Field → ShownField
-field_shown field = (field.name.now, value_shown field.value)
-
--- the shown row of a `Row`
-abbrev pub row_shown : Row → ShownRow
-row_shown row = map field_shown row.fields.items

@@ -1,15 +1,12 @@
-//! The entries of lists as `Row`s, which have no index.
+//! The entries of lists, field by field. They have no index.
 
-ghost use Rattle.std.specs.Prelude.{◌≡◌, IfOk};
-ghost use Rattle.pdb_base.specs.Memory.{FailsOnlyForMemory};
+ghost use Rattle.std.specs.Prelude.{◌≡◌};
 ghost use Rattle.pdb_values.specs.TypeView.{type_value};
 ghost use Rattle.pdbdump_rows.specs.EntryRows.{base_class_leaf, class_leaf, field_row, leaf_of, virtual_base_leaf};
-ghost use Rattle.pdbdump_rows.specs.Row.{row_shown};
-ghost use Rattle.pdbdump_rows.specs.TypeRows.{listed_method_fields};
+ghost use Rattle.pdbdump_rows.specs.Line.{Shows};
 
-use crate::head::Head;
-use crate::row::Row;
-use crate::type_rows::{headed_row, listed_method_row};
+use crate::line::Line;
+use crate::type_rows::{show_fields, show_head};
 use pdb_base::{Error, Result};
 use pdb_values::constants::{
     LF_ARGLIST, LF_ARRAY, LF_BCLASS, LF_BINTERFACE, LF_BITFIELD, LF_CLASS, LF_ENUM, LF_ENUMERATE,
@@ -17,7 +14,7 @@ use pdb_values::constants::{
     LF_MODIFIER, LF_NESTTYPE, LF_NULL, LF_ONEMETHOD, LF_POINTER, LF_PROCEDURE, LF_STMEMBER,
     LF_STRUCTURE, LF_UNION, LF_VBCLASS, LF_VFUNCTAB, LF_VTSHAPE,
 };
-use pdb_values::{BaseClassType, ClassKind, MethodListEntry, TypeData, VirtualBaseClassType};
+use pdb_values::{BaseClassType, ClassKind, TypeData, VirtualBaseClassType};
 use std::alloc::Global;
 
 /// Returns the record kind of a class of this kind.
@@ -79,27 +76,15 @@ fn leaf_of(data: &TypeData<'_>) -> u16
     }
 }
 
-/// Returns the `Row` of an entry of a list of fields. Its kind is the record kind that today's
+/// Adds the fields of an entry of a list of fields. Its kind is the record kind that today's
 /// compilers write for it.
 ///
 /// # Errors
 /// Fails with `OutOfMemory` if an allocation fails.
 #[tactic(auto, unfolding(crate::specs::EntryRows::field_row))]
-pub fn field_row<'t>(alloc: Global, data: &TypeData<'t>) -> Result<Row<'t>>
-    ensures ok { IfOk result (λ row. row_shown row ≡ field_row (type_value «data».now)) }
-    ensures memory { FailsOnlyForMemory result }
+pub fn show_entry(alloc: Global, line: &mut Line, data: &TypeData<'_>) -> Result<()>
+    ensures { Shows (field_row (type_value «data».now)) line.old line.new result }
 {
-    let leaf = leaf_of(data);
-    headed_row(alloc, Head { index: None, leaf }, data)
-}
-
-/// Returns the `Row` of an entry of a list of methods.
-///
-/// # Errors
-/// Fails with `OutOfMemory` if an allocation fails.
-pub fn method_row<'t>(alloc: Global, method: MethodListEntry) -> Result<Row<'t>>
-    ensures ok { IfOk result (λ row. row_shown row ≡ listed_method_fields method) }
-    ensures memory { FailsOnlyForMemory result }
-{
-    listed_method_row(alloc, method)
+    show_head(line, None, leaf_of(data))?;
+    show_fields(alloc, line, data)
 }

@@ -1,17 +1,16 @@
-//! Frames as `Row`s.
+//! Frames, field by field.
 
-ghost use Rattle.std.specs.Prelude.{◌≡◌, IfOk};
-ghost use Rattle.pdb_base.specs.Memory.{FailsOnlyForMemory};
+ghost use Rattle.std.specs.Prelude.{◌≡◌};
 ghost use Rattle.pdb_frames.specs.FrameNumbers.{kind_text};
-ghost use Rattle.pdbdump_rows.specs.Row.{row_shown, value_shown};
+ghost use Rattle.pdbdump_rows.specs.Line.{Shows};
+ghost use Rattle.pdbdump_rows.specs.Row.{value_shown};
 ghost use Rattle.pdbdump_rows.specs.TableRows.{frame_row, program_place};
 
-use crate::head::{field, optional_number};
-use crate::row::{Row, Value};
+use crate::line::Line;
+use crate::value::{Value, optional_number};
 use pdb_base::{Error, Result};
 use pdb_frames::{FrameData, FrameType};
 use pdb_space::StringRef;
-use std::alloc::Global;
 
 /// Returns the name of a kind of frame, as it is printed.
 fn frame_word(kind: FrameType) -> &'static str
@@ -38,32 +37,29 @@ fn program<'t>(place: Option<StringRef>) -> Value<'t>
     }
 }
 
-/// Returns the `Row` of a frame.
+/// Adds the fields of a frame.
 ///
 /// # Errors
 /// Fails with `OutOfMemory` if an allocation fails.
 #[tactic(auto, unfolding(crate::specs::TableRows::frame_row))]
-pub fn frame_row<'t>(alloc: Global, frame: &FrameData) -> Result<Row<'t>>
-    ensures ok { IfOk result (λ row. row_shown row ≡ frame_row frame.now) }
-    ensures memory { FailsOnlyForMemory result }
+pub fn show_frame(line: &mut Line, frame: &FrameData) -> Result<()>
+    ensures { Shows (frame_row frame.now) line.old line.new result }
 {
-    let fields = vec![in alloc;
-        field("code_start", Value::Hexadecimal(frame.code_start.0)),
-        field("code_size", Value::Number(frame.code_size as u64)),
-        field("locals_size", Value::Number(frame.locals_size as u64)),
-        field("params_size", Value::Number(frame.params_size as u64)),
-        field("prolog_size", Value::Number(frame.prolog_size as u64)),
-        field(
-            "saved_regs_size",
-            Value::Number(frame.saved_regs_size as u64),
-        ),
-        field("max_stack_size", optional_number(frame.max_stack_size)),
-        field("ty", Value::Word(frame_word(frame.ty))),
-        field("has_structured_eh", Value::Flag(frame.has_structured_eh)),
-        field("has_cpp_eh", Value::Flag(frame.has_cpp_eh)),
-        field("is_function_start", Value::Flag(frame.is_function_start)),
-        field("uses_base_pointer", Value::Flag(frame.uses_base_pointer)),
-        field("program", program(frame.program)),
-    ]?;
-    Ok(Row { fields })
+    line.field("code_start", Value::Hexadecimal(frame.code_start.0))?;
+    line.field("code_size", Value::Number(frame.code_size as u64))?;
+    line.field("locals_size", Value::Number(frame.locals_size as u64))?;
+    line.field("params_size", Value::Number(frame.params_size as u64))?;
+    line.field("prolog_size", Value::Number(frame.prolog_size as u64))?;
+    line.field(
+        "saved_regs_size",
+        Value::Number(frame.saved_regs_size as u64),
+    )?;
+    line.field("max_stack_size", optional_number(frame.max_stack_size))?;
+    line.field("ty", Value::Word(frame_word(frame.ty)))?;
+    line.field("has_structured_eh", Value::Flag(frame.has_structured_eh))?;
+    line.field("has_cpp_eh", Value::Flag(frame.has_cpp_eh))?;
+    line.field("is_function_start", Value::Flag(frame.is_function_start))?;
+    line.field("uses_base_pointer", Value::Flag(frame.uses_base_pointer))?;
+    line.field("program", program(frame.program))?;
+    Ok(())
 }

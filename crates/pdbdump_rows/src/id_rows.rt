@@ -1,15 +1,15 @@
-//! Ids as `Row`s.
+//! Ids, field by field.
 
-ghost use Rattle.std.specs.Prelude.{◌≡◌, IfOk};
-ghost use Rattle.pdb_base.specs.Memory.{FailsOnlyForMemory};
+ghost use Rattle.std.specs.Prelude.{◌≡◌};
 ghost use Rattle.pdb_values.specs.IdValue.{build_arguments, function_value, id_value, member_function_value, string_value, text_parts};
-ghost use Rattle.pdbdump_rows.specs.Fields.{headed};
-ghost use Rattle.pdbdump_rows.specs.IdRows.{build_info_fields, function_fields, id_row, member_function_fields, source_fields, source_file, source_module, string_fields, string_list_fields};
-ghost use Rattle.pdbdump_rows.specs.Row.{row_shown, value_shown};
+ghost use Rattle.pdbdump_rows.specs.Line.{Shows};
+ghost use Rattle.pdbdump_rows.specs.IdRows.{build_info_fields, function_fields, id_fields, id_row, member_function_fields, source_fields, source_file, source_module, string_fields, string_list_fields};
+ghost use Rattle.pdbdump_rows.specs.Row.{value_shown};
 
-use crate::head::{Head, field, optional_id, type_index};
+use crate::line::Line;
 use crate::lists::{id_numbers, type_numbers};
-use crate::row::{Row, Value};
+use crate::type_rows::show_head;
+use crate::value::{Value, optional_id, type_index};
 use pdb_base::{Error, Result};
 use pdb_values::{
     BuildInfoId, FunctionId, IdData, MemberFunctionId, StringId, StringListId,
@@ -17,86 +17,56 @@ use pdb_values::{
 };
 use std::alloc::Global;
 
-/// Returns the `Row` of a function.
+/// Adds the fields of a function.
 #[tactic(auto, unfolding(crate::specs::IdRows::function_fields))]
-fn function_row<'t>(alloc: Global, head: Head, id: &FunctionId<'t>) -> Result<Row<'t>>
-    ensures ok { IfOk result (λ row. row_shown row ≡
-        headed head.index head.leaf (function_fields (function_value id.now))) }
-    ensures memory { FailsOnlyForMemory result }
+fn show_function(line: &mut Line, id: &FunctionId<'_>) -> Result<()>
+    ensures { Shows (function_fields (function_value id.now)) line.old line.new result }
 {
-    let fields = vec![in alloc;
-        head.index(),
-        head.kind(),
-        field("name", Value::Text(id.name)),
-        field("scope", optional_id(id.scope)),
-        field("function_type", type_index(id.function_type)),
-    ]?;
-    Ok(Row { fields })
+    line.field("name", Value::Text(id.name))?;
+    line.field("scope", optional_id(id.scope))?;
+    line.field("function_type", type_index(id.function_type))?;
+    Ok(())
 }
 
-/// Returns the `Row` of a method.
+/// Adds the fields of a method.
 #[tactic(auto, unfolding(crate::specs::IdRows::member_function_fields))]
-fn member_function_row<'t>(alloc: Global, head: Head, id: &MemberFunctionId<'t>) -> Result<Row<'t>>
-    ensures ok { IfOk result (λ row. row_shown row ≡
-        headed head.index head.leaf (member_function_fields (member_function_value id.now))) }
-    ensures memory { FailsOnlyForMemory result }
+fn show_member_function(line: &mut Line, id: &MemberFunctionId<'_>) -> Result<()>
+    ensures { Shows (member_function_fields (member_function_value id.now)) line.old line.new result }
 {
-    let fields = vec![in alloc;
-        head.index(),
-        head.kind(),
-        field("name", Value::Text(id.name)),
-        field("parent", type_index(id.parent)),
-        field("function_type", type_index(id.function_type)),
-    ]?;
-    Ok(Row { fields })
+    line.field("name", Value::Text(id.name))?;
+    line.field("parent", type_index(id.parent))?;
+    line.field("function_type", type_index(id.function_type))?;
+    Ok(())
 }
 
-/// Returns the `Row` of what a module was built with.
+/// Adds the fields of what a module was built with.
 #[tactic(auto, unfolding(crate::specs::IdRows::build_info_fields))]
-fn build_info_row<'t>(alloc: Global, head: Head, id: &BuildInfoId) -> Result<Row<'t>>
-    ensures ok { IfOk result (λ row. row_shown row ≡
-        headed head.index head.leaf (build_info_fields (build_arguments id.now))) }
-    ensures memory { FailsOnlyForMemory result }
+fn show_build_info(alloc: Global, line: &mut Line, id: &BuildInfoId) -> Result<()>
+    ensures { Shows (build_info_fields (build_arguments id.now)) line.old line.new result }
 {
     let arguments = id_numbers(alloc, &id.arguments)?;
-    let fields = vec![in alloc;
-        head.index(),
-        head.kind(),
-        field("arguments", Value::Indexes(arguments)),
-    ]?;
-    Ok(Row { fields })
+    line.field("arguments", Value::Indexes(&arguments))?;
+    Ok(())
 }
 
-/// Returns the `Row` of the parts of a text.
+/// Adds the fields of the parts of a text.
 #[tactic(auto, unfolding(crate::specs::IdRows::string_list_fields))]
-fn string_list_row<'t>(alloc: Global, head: Head, id: &StringListId) -> Result<Row<'t>>
-    ensures ok { IfOk result (λ row. row_shown row ≡
-        headed head.index head.leaf (string_list_fields (text_parts id.now))) }
-    ensures memory { FailsOnlyForMemory result }
+fn show_string_list(alloc: Global, line: &mut Line, id: &StringListId) -> Result<()>
+    ensures { Shows (string_list_fields (text_parts id.now)) line.old line.new result }
 {
     let substrings = type_numbers(alloc, &id.substrings)?;
-    let fields = vec![in alloc;
-        head.index(),
-        head.kind(),
-        field("substrings", Value::Indexes(substrings)),
-    ]?;
-    Ok(Row { fields })
+    line.field("substrings", Value::Indexes(&substrings))?;
+    Ok(())
 }
 
-/// Returns the `Row` of a text.
+/// Adds the fields of a text.
 #[tactic(auto, unfolding(crate::specs::IdRows::string_fields))]
-fn string_row<'t>(alloc: Global, head: Head, id: &StringId<'t>) -> Result<Row<'t>>
-    ensures ok { IfOk result (λ row. row_shown row ≡
-        headed head.index head.leaf (string_fields (string_value id.now))) }
-    ensures memory { FailsOnlyForMemory result }
+fn show_string(line: &mut Line, id: &StringId<'_>) -> Result<()>
+    ensures { Shows (string_fields (string_value id.now)) line.old line.new result }
 {
-    let fields = vec![in alloc;
-        head.index(),
-        head.kind(),
-        field("name", Value::Text(id.name)),
-        field("substrings", optional_id(id.substrings)),
-    ]?;
-    Ok(Row { fields })
+    line.field("name", Value::Text(id.name))?;
+    line.field("substrings", optional_id(id.substrings))?;
+    Ok(())
 }
 
 /// Returns the value of the number of the module whose file it is, or `Absent` if the file isn't
@@ -120,40 +90,46 @@ fn source_file<'t>(file: UserDefinedTypeSourceFileRef) -> Value<'t>
     }
 }
 
-/// Returns the `Row` of the place where a type is declared.
+/// Adds the fields of the place where a type is declared.
 #[tactic(auto, unfolding(crate::specs::IdRows::source_fields))]
-fn source_row<'t>(alloc: Global, head: Head, id: &UserDefinedTypeSourceId) -> Result<Row<'t>>
-    ensures ok { IfOk result (λ row. row_shown row ≡ headed head.index head.leaf (source_fields id.now)) }
-    ensures memory { FailsOnlyForMemory result }
+fn show_source(line: &mut Line, id: &UserDefinedTypeSourceId) -> Result<()>
+    ensures { Shows (source_fields id.now) line.old line.new result }
 {
-    let fields = vec![in alloc;
-        head.index(),
-        head.kind(),
-        field("udt", type_index(id.udt)),
-        field("source_file", source_file(id.source_file)),
-        field("module", source_module(id.source_file)),
-        field("line", Value::Number(id.line as u64)),
-    ]?;
-    Ok(Row { fields })
+    line.field("udt", type_index(id.udt))?;
+    line.field("source_file", source_file(id.source_file))?;
+    line.field("module", source_module(id.source_file))?;
+    line.field("line", Value::Number(id.line as u64))?;
+    Ok(())
 }
 
-/// Returns the `Row` of the id of this index, whose record is of this kind.
+/// Adds the fields of an id.
+fn show_fields(alloc: Global, line: &mut Line, data: &IdData<'_>) -> Result<()>
+    ensures { Shows (id_fields (id_value «data».now)) line.old line.new result }
+{
+    match data {
+        IdData::Function(id) => show_function(line, id),
+        IdData::MemberFunction(id) => show_member_function(line, id),
+        IdData::BuildInfo(id) => show_build_info(alloc, line, id),
+        IdData::StringList(id) => show_string_list(alloc, line, id),
+        IdData::String(id) => show_string(line, id),
+        IdData::UserDefinedTypeSource(id) => show_source(line, id),
+    }
+}
+
+/// Adds the fields of the id of this index, whose record is of this kind.
 ///
 /// # Errors
 /// Fails with `OutOfMemory` if an allocation fails.
 #[tactic(auto, unfolding(crate::specs::IdRows::id_row))]
-pub fn id_row<'t>(alloc: Global, index: u32, leaf: u16, data: &IdData<'t>) -> Result<Row<'t>>
-    ensures ok { IfOk result (λ row. row_shown row ≡ id_row index leaf (id_value «data».now)) }
-    ensures memory { FailsOnlyForMemory result }
+pub fn show_id(
+    alloc: Global,
+    line: &mut Line,
+    index: u32,
+    leaf: u16,
+    data: &IdData<'_>,
+) -> Result<()>
+    ensures { Shows (id_row index leaf (id_value «data».now)) line.old line.new result }
 {
-    let index = Some(index);
-    let head = Head { index, leaf };
-    match data {
-        IdData::Function(id) => function_row(alloc, head, id),
-        IdData::MemberFunction(id) => member_function_row(alloc, head, id),
-        IdData::BuildInfo(id) => build_info_row(alloc, head, id),
-        IdData::StringList(id) => string_list_row(alloc, head, id),
-        IdData::String(id) => string_row(alloc, head, id),
-        IdData::UserDefinedTypeSource(id) => source_row(alloc, head, id),
-    }
+    show_head(line, Some(index), leaf)?;
+    show_fields(alloc, line, data)
 }

@@ -1,18 +1,26 @@
 //! What the definitions of lines come to. The functions do nothing: each contract is a law.
 
-ghost use Rattle.std.specs.Prelude.{ℕ, List};
+ghost use Rattle.std.specs.Prelude.{◌≡◌, ℕ, List};
 ghost use Rattle.pdbdump_rows.specs.declared.form.Form.{Form};
 ghost use Rattle.pdbdump_rows.specs.Laws.{IsLine, IsString};
-ghost use Rattle.pdbdump_rows.specs.Lines.{field_line, row_text};
+ghost use Rattle.pdbdump_rows.specs.Line.{all_shown, begun, begun_full, ended};
+ghost use Rattle.pdbdump_rows.specs.Lines.{field_line, full_text, row_text};
 ghost use Rattle.pdbdump_rows.specs.Row.{ShownField, ShownRow};
 ghost use Rattle.pdbdump_rows.specs.Text.{quoted};
 
-/// A `Row` is one line in either form, and so is a field alone, whatever bytes names hold: the only
+/// A record is one line in either form, and so is a field alone, whatever bytes names hold: the only
 /// control character is the line feed at its end.
 #[tactic(auto, using(crate::proofs::LineLaws::row_is_line, crate::proofs::LineLaws::field_is_line))]
 pub fn lines()
     ensures rows { (form : Form) (row : ShownRow) → IsLine (row_text form row) }
     ensures fields { (field : ShownField) → IsLine (field_line field) }
+{}
+
+/// What is written field by field is the one line of its fields, or in full a line for each.
+#[tactic(auto, using(crate::proofs::lemmas::Line::line_is, crate::proofs::lemmas::Line::full_is))]
+pub fn written()
+    ensures lines { (form : Form) (row : ShownRow) → ended (all_shown (begun form) row) ≡ row_text form row }
+    ensures full { (form : Form) (row : ShownRow) → ended (all_shown (begun_full form) row) ≡ full_text form row }
 {}
 
 /// A text in JSON is a string of RFC 8259, whatever bytes it holds.

@@ -1,4 +1,4 @@
-//! Lists of numbers that a `Row` shows.
+//! Lists of numbers that a line shows.
 
 ghost use Rattle.std.specs.Prelude.{◌≡◌, map, IfOk};
 ghost use Rattle.pdb_base.specs.Memory.{FailsOnlyForMemory};
@@ -47,13 +47,4 @@ pub(crate) fn byte_numbers(alloc: Global, bytes: &[u8]) -> Result<Vec<u32>>
         numbers.push(*byte as u32)?;
     }
     Ok(numbers)
-}
-
-/// Returns a copy of numbers.
-pub(crate) fn copied_numbers(alloc: Global, numbers: &[u32]) -> Result<Vec<u32>>
-    ensures ok { IfOk result (λ copies. copies.items ≡ numbers.now) }
-    ensures memory { FailsOnlyForMemory result }
-{
-    let copies = Vec::from_slice(alloc, numbers)?;
-    Ok(copies)
 }

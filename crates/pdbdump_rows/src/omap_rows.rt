@@ -1,34 +1,28 @@
-//! Records of OMAP tables as `Row`s.
+//! Records of OMAP tables, field by field.
 
-ghost use Rattle.std.specs.Prelude.{◌≡◌, IfOk};
-ghost use Rattle.pdb_base.specs.Memory.{FailsOnlyForMemory};
-ghost use Rattle.pdbdump_rows.specs.Row.{row_shown};
+ghost use Rattle.pdbdump_rows.specs.Line.{Shows};
 ghost use Rattle.pdbdump_rows.specs.TableRows.{omap_row};
 
-use crate::head::field;
-use crate::row::{Row, Value};
+use crate::line::Line;
+use crate::value::Value;
 use pdb_base::{Error, Result};
 use pdb_space::OMAPRecord;
-use std::alloc::Global;
 
-/// Returns the `Row` of a record of an OMAP table.
+/// Adds the fields of a record of an OMAP table.
 ///
 /// # Errors
 /// Fails with `OutOfMemory` if an allocation fails.
 #[tactic(auto, unfolding(crate::specs::TableRows::omap_row))]
-pub fn omap_row<'t>(alloc: Global, mapping: OMAPRecord) -> Result<Row<'t>>
-    ensures ok { IfOk result (λ row. row_shown row ≡ omap_row mapping) }
-    ensures memory { FailsOnlyForMemory result }
+pub fn show_omap(line: &mut Line, mapping: OMAPRecord) -> Result<()>
+    ensures { Shows (omap_row mapping) line.old line.new result }
 {
-    let fields = vec![in alloc;
-        field(
-            "source_address",
-            Value::Hexadecimal(mapping.source_address()),
-        ),
-        field(
-            "target_address",
-            Value::Hexadecimal(mapping.target_address()),
-        ),
-    ]?;
-    Ok(Row { fields })
+    line.field(
+        "source_address",
+        Value::Hexadecimal(mapping.source_address()),
+    )?;
+    line.field(
+        "target_address",
+        Value::Hexadecimal(mapping.target_address()),
+    )?;
+    Ok(())
 }

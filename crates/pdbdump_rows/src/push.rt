@@ -1,15 +1,17 @@
-//! `Row`s as lines.
+//! The parts of a line.
 
-ghost use Rattle.std.specs.Prelude.{◌≡◌, ◌++◌, if◌then◌else◌, [], map, codes, OnOk};
+ghost use Rattle.std.specs.Prelude.{◌≡◌, ◌++◌, if◌then◌else◌, [], codes, map, not, OnOk};
 ghost use Rattle.pdb_base.specs.Memory.{FailsOnlyForMemory};
-ghost use Rattle.pdbdump_rows.specs.Lines.{field_line, field_text, fields_text, full_text, index_text, is_leading, is_shown_value, kind_text, list_text, row_text, separator, value_text};
-ghost use Rattle.pdbdump_rows.specs.Row.{field_shown, row_shown, value_shown};
+ghost use Rattle.pdbdump_rows.specs.Line.{ending, opening};
+ghost use Rattle.pdbdump_rows.specs.Lines.{field_line, field_text, index_text, is_leading, is_none, is_shown_value, kind_text, list_text, separator, value_text};
+ghost use Rattle.pdbdump_rows.specs.Row.{value_shown};
 ghost use Rattle.pdbdump_rows.specs.Text.{quoted};
+ghost use Rattle.pdbdump_rows.specs.Words.{chosen};
 
 use crate::form::Form;
 use crate::number::{four_digits, push_decimal, push_hexadecimal, push_signed};
-use crate::row::{Field, Row, Value};
 use crate::text::{push_quoted, push_text};
+use crate::value::{Flag, Value};
 use pdb_base::{Error, Result};
 use pdb_values::leaf_name;
 
@@ -39,22 +41,36 @@ fn push_kind(form: Form, leaf: u16, out: &mut Vec<u8>) -> Result<()>
     }
 }
 
-/// Appends words as a list.
-#[tactic(auto, unfolding(crate::specs::Lines::list_text), using(crate::proofs::Separated::one_more))]
-fn push_words(form: Form, words: &[&'static str], out: &mut Vec<u8>) -> Result<()>
+/// Returns whether a flag is set.
+#[tactic(auto, using(crate::proofs::WordLemmas::chosen_more), unfolding(crate::specs::Words::chosen))]
+fn is_any_set(flags: &[Flag]) -> bool
+    ensures { result ≡ not (is_none (chosen (map (λ flag. (flag.0, flag.1.now)) flags.now))) }
+{
+    for (is_set, _) in flags {
+        if *is_set {
+            return true;
+        }
+    }
+    false
+}
+
+/// Appends the words of the flags that are set, as a list.
+#[tactic(auto, unfolding(crate::specs::Lines::list_text), using(crate::proofs::WordLemmas::words_more, crate::proofs::WordLemmas::words_same))]
+fn push_words(form: Form, flags: &[Flag], out: &mut Vec<u8>) -> Result<()>
     ensures ok { OnOk result (out.new.items
-        ≡ out.old.items ++ list_text (quoted form) (map (λ word. word.now) words.now)) }
+        ≡ out.old.items ++ list_text (quoted form) (chosen (map (λ flag. (flag.0, flag.1.now)) flags.now))) }
     ensures memory { FailsOnlyForMemory result }
 {
-    let Some((first, rest)) = words.split_first() else {
-        out.extend_from_slice(b"[]")?;
-        return Ok(());
-    };
     out.push(b'[')?;
-    push_quoted(form, first.as_bytes(), out)?;
-    for word in rest {
-        out.push(b',')?;
-        push_quoted(form, word.as_bytes(), out)?;
+    let mut is_first = true;
+    for (is_set, word) in flags {
+        if *is_set {
+            if !is_first {
+                out.push(b',')?;
+            }
+            push_quoted(form, word.as_bytes(), out)?;
+            is_first = false;
+        }
     }
     out.push(b']')?;
     Ok(())
@@ -108,13 +124,13 @@ fn push_value(form: Form, value: &Value<'_>, out: &mut Vec<u8>) -> Result<()>
 }
 
 /// Returns whether a form shows a field that has this value.
-fn is_shown(form: Form, value: &Value<'_>) -> bool
+pub(crate) fn is_shown(form: Form, value: &Value<'_>) -> bool
     ensures { result ≡ is_shown_value form (value_shown value.now) }
 {
     match value {
         Value::Absent => false,
         Value::Words(words) => match form {
-            Form::Text => !words.is_empty(),
+            Form::Text => is_any_set(words),
             Form::Json => true,
         },
         _ => true,
@@ -131,22 +147,32 @@ fn is_leading(name: &str) -> bool
 
 /// Appends a field of a line.
 #[tactic(auto, unfolding(crate::specs::Lines::field_text))]
-fn push_field(form: Form, field: &Field<'_>, out: &mut Vec<u8>) -> Result<()>
-    ensures ok { OnOk result (out.new.items ≡ out.old.items ++ field_text form (field_shown field.now)) }
+fn push_field(form: Form, name: &str, value: &Value<'_>, out: &mut Vec<u8>) -> Result<()>
+    ensures ok { OnOk result (out.new.items ≡ out.old.items ++ field_text form (name.now, value_shown value.now)) }
     ensures memory { FailsOnlyForMemory result }
 {
     match form {
-        Form::Text if is_leading(field.name) => push_value(form, &field.value, out),
+        Form::Text if is_leading(name) => push_value(form, value, out),
         Form::Text => {
-            push_text(form, field.name.as_bytes(), out)?;
+            push_text(form, name.as_bytes(), out)?;
             out.push(b'=')?;
-            push_value(form, &field.value, out)
+            push_value(form, value, out)
         }
         Form::Json => {
-            push_quoted(form, field.name.as_bytes(), out)?;
+            push_quoted(form, name.as_bytes(), out)?;
             out.push(b':')?;
-            push_value(form, &field.value, out)
+            push_value(form, value, out)
         }
+    }
+}
+
+/// Returns what is written before the first field of a line.
+fn opening(form: Form) -> &'static [u8]
+    ensures { result.now ≡ opening form }
+{
+    match form {
+        Form::Text => b"",
+        Form::Json => b"{",
     }
 }
 
@@ -160,102 +186,59 @@ fn separator(form: Form) -> &'static [u8]
     }
 }
 
-/// Appends a field of a line, after a separator if it isn't the first.
-fn push_next(form: Form, is_first: bool, field: &Field<'_>, out: &mut Vec<u8>) -> Result<()>
-    ensures ok { OnOk result (out.new.items
-        ≡ out.old.items ++ (if is_first then [] else separator form) ++ field_text form (field_shown field.now)) }
-    ensures memory { FailsOnlyForMemory result }
+/// Returns what is written after the last field of a line.
+fn ending(form: Form) -> &'static [u8]
+    ensures { result.now ≡ ending form }
 {
-    if is_first {
-        return push_field(form, field, out);
+    match form {
+        Form::Text => b"\n",
+        Form::Json => b"}\n",
     }
-    out.extend_from_slice(separator(form))?;
-    push_field(form, field, out)
 }
 
-/// Appends the fields of a line that are shown.
-#[tactic(auto, unfolding(crate::specs::Lines::fields_text))]
-fn push_joined(form: Form, fields: &[Field<'_>], out: &mut Vec<u8>) -> Result<()>
-    ensures ok { OnOk result (out.new.items ≡ out.old.items ++ fields_text form (map field_shown fields.now)) }
+/// Appends a field of a line, the first one or one after others.
+pub(crate) fn push_next(
+    form: Form,
+    is_first: bool,
+    name: &str,
+    value: &Value<'_>,
+    out: &mut Vec<u8>,
+) -> Result<()>
+    ensures ok { OnOk result (out.new.items ≡ out.old.items
+        ++ ((if is_first then opening form else separator form) ++ field_text form (name.now, value_shown value.now))) }
     ensures memory { FailsOnlyForMemory result }
 {
-    let mut is_first = true;
-    for field in fields {
-        if is_shown(form, &field.value) {
-            push_next(form, is_first, field, out)?;
-            is_first = false;
-        }
+    let before = if is_first {
+        opening(form)
+    } else {
+        separator(form)
+    };
+    out.extend_from_slice(before)?;
+    push_field(form, name, value, out)
+}
+
+/// Appends the end of a line, which may have no field.
+pub(crate) fn push_end(form: Form, is_empty: bool, out: &mut Vec<u8>) -> Result<()>
+    ensures ok { OnOk result (out.new.items ≡ out.old.items
+        ++ ((if is_empty then opening form else []) ++ ending form)) }
+    ensures memory { FailsOnlyForMemory result }
+{
+    if is_empty {
+        out.extend_from_slice(opening(form))?;
     }
+    out.extend_from_slice(ending(form))?;
     Ok(())
 }
 
-/// Appends a `Row` as one line with its line feed: in text one such as `0x1000 LF_STRUCTURE S
-/// count=1 size=4`, where the fields that are called index, number, kind and name are written
-/// without their names, or in JSON one object with a member for each field.
-///
-/// A field whose value is absent is left out, and in text also one that holds no words.
-///
-/// # Errors
-/// Fails with `OutOfMemory` if an allocation fails. A part of the line may then be in `out`.
-#[tactic(auto, unfolding(crate::specs::Lines::row_text))]
-pub fn push_row(form: Form, row: &Row<'_>, out: &mut Vec<u8>) -> Result<()>
-    ensures ok { OnOk result (out.new.items ≡ out.old.items ++ row_text form (row_shown row.now)) }
-    ensures memory { FailsOnlyForMemory result }
-{
-    match form {
-        Form::Text => {
-            push_joined(form, &row.fields, out)?;
-            out.push(b'\n')?;
-            Ok(())
-        }
-        Form::Json => {
-            out.push(b'{')?;
-            push_joined(form, &row.fields, out)?;
-            out.extend_from_slice(b"}\n")?;
-            Ok(())
-        }
-    }
-}
-
-/// Appends a field as a line of its own.
+/// Appends a field of text as a line of its own.
 #[tactic(auto, unfolding(crate::specs::Lines::field_line))]
-fn push_line(field: &Field<'_>, out: &mut Vec<u8>) -> Result<()>
-    ensures ok { OnOk result (out.new.items ≡ out.old.items ++ field_line (field_shown field.now)) }
+pub(crate) fn push_line(name: &str, value: &Value<'_>, out: &mut Vec<u8>) -> Result<()>
+    ensures ok { OnOk result (out.new.items ≡ out.old.items ++ field_line (name.now, value_shown value.now)) }
     ensures memory { FailsOnlyForMemory result }
 {
-    push_text(Form::Text, field.name.as_bytes(), out)?;
+    push_text(Form::Text, name.as_bytes(), out)?;
     out.extend_from_slice(b": ")?;
-    push_value(Form::Text, &field.value, out)?;
+    push_value(Form::Text, value, out)?;
     out.push(b'\n')?;
     Ok(())
-}
-
-/// Appends a line for each field that text shows.
-#[tactic(auto, unfolding(crate::specs::Lines::full_text))]
-fn push_lines(fields: &[Field<'_>], out: &mut Vec<u8>) -> Result<()>
-    ensures ok { OnOk result (out.new.items ≡ out.old.items ++ full_text Form.Text (map field_shown fields.now)) }
-    ensures memory { FailsOnlyForMemory result }
-{
-    for field in fields {
-        if is_shown(Form::Text, &field.value) {
-            push_line(field, out)?;
-        }
-    }
-    Ok(())
-}
-
-/// Appends a `Row` in full: in text a line `name: value` for each field that is shown, or in JSON
-/// the line of `push_row`.
-///
-/// # Errors
-/// Fails with `OutOfMemory` if an allocation fails. A part of the lines may then be in `out`.
-#[tactic(auto, unfolding(crate::specs::Lines::full_text))]
-pub fn push_fields(form: Form, row: &Row<'_>, out: &mut Vec<u8>) -> Result<()>
-    ensures ok { OnOk result (out.new.items ≡ out.old.items ++ full_text form (row_shown row.now)) }
-    ensures memory { FailsOnlyForMemory result }
-{
-    match form {
-        Form::Text => push_lines(&row.fields, out),
-        Form::Json => push_row(form, row, out),
-    }
 }

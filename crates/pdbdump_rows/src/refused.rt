@@ -1,13 +1,13 @@
 //! The error of a record or of another part of a file, as a field.
 
-ghost use Rattle.std.specs.Prelude.{◌≡◌, codes, IfOk};
+ghost use Rattle.std.specs.Prelude.{◌≡◌, [], ◌∷◌, IfOk};
 ghost use Rattle.pdb_base.specs.Memory.{FailsOnlyForMemory};
 ghost use Rattle.pdb_base.specs.Refusal.{refusal_of};
-ghost use Rattle.pdbdump_rows.specs.Refused.{refusal_text};
-ghost use Rattle.pdbdump_rows.specs.Row.{field_shown};
-ghost use Rattle.pdbdump_rows.specs.Row.{text as shown_text};
+ghost use Rattle.pdbdump_rows.specs.Line.{Shows};
+ghost use Rattle.pdbdump_rows.specs.Refused.{refusal_shown, refusal_text};
 
-use crate::row::{Field, Value};
+use crate::line::Line;
+use crate::value::Value;
 use pdb_base::{Error, RawString, Result};
 use std::alloc::Global;
 
@@ -26,12 +26,14 @@ pub fn error_text(alloc: Global, error: &Error) -> Result<Vec<u8>>
     }
 }
 
-/// Returns the field with the text of an error.
-pub fn error_field(text: &[u8]) -> Field<'_>
-    ensures { field_shown result ≡ (codes "error", shown_text text.now) }
+/// Adds the field with the text of an error.
+///
+/// # Errors
+/// Fails with `OutOfMemory` if an allocation fails.
+pub fn show_error(alloc: Global, line: &mut Line, error: &Error) -> Result<()>
+    ensures { Shows (refusal_shown (refusal_of error.now) ∷ []) line.old line.new result }
 {
-    Field {
-        name: "error",
-        value: Value::Text(RawString::from(text)),
-    }
+    let text = error_text(alloc, error)?;
+    line.field("error", Value::Text(RawString::from(text.as_slice())))?;
+    Ok(())
 }

@@ -1,11 +1,11 @@
-//! Types as `Row`s.
+//! Types, field by field.
 
-ghost use Rattle.std.specs.Prelude.{◌≡◌, IfOk};
-ghost use Rattle.pdb_base.specs.Memory.{FailsOnlyForMemory};
 ghost use Rattle.pdb_values.specs.TypeView.{type_value};
-ghost use Rattle.pdbdump_rows.specs.Fields.{headed};
-ghost use Rattle.pdbdump_rows.specs.Row.{row_shown};
+ghost use Rattle.pdbdump_rows.specs.Fields.{optional_hexadecimal};
+ghost use Rattle.pdbdump_rows.specs.Line.{Shows};
+ghost use Rattle.pdbdump_rows.specs.Row.{kind};
 ghost use Rattle.pdbdump_rows.specs.TypeRows.{type_fields, type_row};
+ghost use Rattle.std.specs.Prelude.{[], ◌∷◌, codes};
 
 mod base_class;
 mod class;
@@ -17,66 +17,80 @@ mod method;
 mod pointer;
 mod primitive;
 
-use crate::head::Head;
-use crate::row::Row;
-use crate::type_rows::base_class::{base_class_row, table_pointer_row, virtual_base_row};
-use crate::type_rows::class::{class_row, union_row};
-use crate::type_rows::enumeration::{enumerate_row, enumeration_row};
-use crate::type_rows::function::{member_function_row, procedure_row};
+use crate::line::Line;
+use crate::type_rows::base_class::{show_base_class, show_table_pointer, show_virtual_base};
+use crate::type_rows::class::{show_class, show_union};
+use crate::type_rows::enumeration::{show_enumerate, show_enumeration};
+use crate::type_rows::function::{show_member_function, show_procedure};
 use crate::type_rows::list::{
-    argument_list_row, array_row, field_list_row, method_list_row, table_shape_row,
+    show_argument_list, show_array, show_field_list, show_method_list, show_table_shape,
 };
-use crate::type_rows::member::{member_row, nested_row, static_member_row};
-pub(crate) use crate::type_rows::method::listed_method_row;
-use crate::type_rows::method::{method_row, overloaded_method_row};
-use crate::type_rows::pointer::{bitfield_row, modifier_row, pointer_row};
-use crate::type_rows::primitive::primitive_row;
+use crate::type_rows::member::{show_member, show_nested, show_static_member};
+pub use crate::type_rows::method::show_listed_method;
+use crate::type_rows::method::{show_method, show_overloaded_method};
+use crate::type_rows::pointer::{show_bitfield, show_modifier, show_pointer};
+use crate::type_rows::primitive::show_primitive;
+use crate::value::{Value, optional_hexadecimal};
 use pdb_base::{Error, Result};
 use pdb_values::TypeData;
 use std::alloc::Global;
 
-/// Returns the `Row` of a type, which begins with this head.
-pub(crate) fn headed_row<'t>(alloc: Global, head: Head, data: &TypeData<'t>) -> Result<Row<'t>>
-    ensures ok { IfOk result (λ row. row_shown row ≡
-        headed head.index head.leaf (type_fields (type_value «data».now))) }
-    ensures memory { FailsOnlyForMemory result }
+/// Adds what the fields of a record begin with: its index, which an entry of a list doesn't have,
+/// and the record kind.
+pub(crate) fn show_head(line: &mut Line, index: Option<u32>, leaf: u16) -> Result<()>
+    ensures { Shows ((codes "index", optional_hexadecimal index) ∷ (codes "kind", kind leaf) ∷ [])
+        line.old line.new result }
+{
+    line.field("index", optional_hexadecimal(index))?;
+    line.field("kind", Value::Kind(leaf))?;
+    Ok(())
+}
+
+/// Adds the fields of a type.
+pub(crate) fn show_fields(alloc: Global, line: &mut Line, data: &TypeData<'_>) -> Result<()>
+    ensures { Shows (type_fields (type_value «data».now)) line.old line.new result }
 {
     match data {
-        TypeData::Primitive(primitive) => primitive_row(alloc, head, *primitive),
-        TypeData::Class(class) => class_row(alloc, head, class),
-        TypeData::Member(member) => member_row(alloc, head, member),
-        TypeData::MemberFunction(function) => member_function_row(alloc, head, *function),
-        TypeData::OverloadedMethod(methods) => overloaded_method_row(alloc, head, methods),
-        TypeData::Method(method) => method_row(alloc, head, method),
-        TypeData::StaticMember(member) => static_member_row(alloc, head, member),
-        TypeData::Nested(nested) => nested_row(alloc, head, nested),
-        TypeData::BaseClass(base) => base_class_row(alloc, head, *base),
-        TypeData::VirtualBaseClass(base) => virtual_base_row(alloc, head, *base),
-        TypeData::VirtualFunctionTablePointer(pointer) => table_pointer_row(alloc, head, *pointer),
-        TypeData::Procedure(procedure) => procedure_row(alloc, head, *procedure),
-        TypeData::Pointer(pointer) => pointer_row(alloc, head, *pointer),
-        TypeData::Modifier(modifier) => modifier_row(alloc, head, *modifier),
-        TypeData::Enumeration(enumeration) => enumeration_row(alloc, head, enumeration),
-        TypeData::Enumerate(value) => enumerate_row(alloc, head, value),
-        TypeData::Array(array) => array_row(alloc, head, array),
-        TypeData::Union(union_type) => union_row(alloc, head, union_type),
-        TypeData::Bitfield(bitfield) => bitfield_row(alloc, head, *bitfield),
-        TypeData::FieldList(list) => field_list_row(alloc, head, list),
-        TypeData::ArgumentList(list) => argument_list_row(alloc, head, list),
-        TypeData::MethodList(list) => method_list_row(alloc, head, list),
-        TypeData::VirtualTableShape(shape) => table_shape_row(alloc, head, *shape),
+        TypeData::Primitive(primitive) => show_primitive(line, *primitive),
+        TypeData::Class(class) => show_class(line, class),
+        TypeData::Member(member) => show_member(line, member),
+        TypeData::MemberFunction(function) => show_member_function(line, *function),
+        TypeData::OverloadedMethod(methods) => show_overloaded_method(line, methods),
+        TypeData::Method(method) => show_method(line, method),
+        TypeData::StaticMember(member) => show_static_member(line, member),
+        TypeData::Nested(nested) => show_nested(line, nested),
+        TypeData::BaseClass(base) => show_base_class(line, *base),
+        TypeData::VirtualBaseClass(base) => show_virtual_base(line, *base),
+        TypeData::VirtualFunctionTablePointer(pointer) => show_table_pointer(line, *pointer),
+        TypeData::Procedure(procedure) => show_procedure(line, *procedure),
+        TypeData::Pointer(pointer) => show_pointer(line, *pointer),
+        TypeData::Modifier(modifier) => show_modifier(line, *modifier),
+        TypeData::Enumeration(enumeration) => show_enumeration(line, enumeration),
+        TypeData::Enumerate(value) => show_enumerate(line, value),
+        TypeData::Array(array) => show_array(line, array),
+        TypeData::Union(union_type) => show_union(line, union_type),
+        TypeData::Bitfield(bitfield) => show_bitfield(line, *bitfield),
+        TypeData::FieldList(list) => show_field_list(line, list),
+        TypeData::ArgumentList(list) => show_argument_list(alloc, line, list),
+        TypeData::MethodList(list) => show_method_list(alloc, line, list),
+        TypeData::VirtualTableShape(shape) => show_table_shape(alloc, line, *shape),
     }
 }
 
-/// Returns the `Row` of the type of this index, whose record is of this kind.
+/// Adds the fields of the type of this index, whose record is of this kind.
 ///
 /// # Errors
 /// Fails with `OutOfMemory` if an allocation fails.
 #[tactic(auto, unfolding(crate::specs::TypeRows::type_row))]
-pub fn type_row<'t>(alloc: Global, index: u32, leaf: u16, data: &TypeData<'t>) -> Result<Row<'t>>
-    ensures ok { IfOk result (λ row. row_shown row ≡ type_row index leaf (type_value «data».now)) }
-    ensures memory { FailsOnlyForMemory result }
+pub fn show_type(
+    alloc: Global,
+    line: &mut Line,
+    index: u32,
+    leaf: u16,
+    data: &TypeData<'_>,
+) -> Result<()>
+    ensures { Shows (type_row index leaf (type_value «data».now)) line.old line.new result }
 {
-    let index = Some(index);
-    headed_row(alloc, Head { index, leaf }, data)
+    show_head(line, Some(index), leaf)?;
+    show_fields(alloc, line, data)
 }

@@ -1,77 +1,51 @@
-//! Data members and nested types as `Row`s.
+//! Data members and nested types, field by field.
 
-ghost use Rattle.std.specs.Prelude.{◌≡◌, IfOk};
-ghost use Rattle.pdb_base.specs.Memory.{FailsOnlyForMemory};
 ghost use Rattle.pdb_values.specs.Member.{member_value, nested_value, static_member_value};
-ghost use Rattle.pdbdump_rows.specs.Fields.{headed};
-ghost use Rattle.pdbdump_rows.specs.Row.{row_shown};
+ghost use Rattle.pdbdump_rows.specs.Line.{Shows};
 ghost use Rattle.pdbdump_rows.specs.TypeRows.{member_fields, nested_fields, static_member_fields};
 
-use crate::head::{Head, field, optional_word, type_index};
-use crate::row::{Row, Value};
-use crate::words::{access_word, field_words};
+use crate::line::Line;
+use crate::value::{Value, optional_word, type_index};
+use crate::words::{access_word, field_flags};
 use pdb_base::{Error, Result};
 use pdb_values::{MemberType, NestedType, StaticMemberType};
-use std::alloc::Global;
 
-/// Returns the `Row` of a data member.
+/// Adds the fields of a data member.
 #[tactic(auto, unfolding(crate::specs::TypeRows::member_fields))]
-pub(crate) fn member_row<'t>(alloc: Global, head: Head, member: &MemberType<'t>) -> Result<Row<'t>>
-    ensures ok { IfOk result (λ row. row_shown row ≡
-        headed head.index head.leaf (member_fields (member_value member.now))) }
-    ensures memory { FailsOnlyForMemory result }
+pub(crate) fn show_member(line: &mut Line, member: &MemberType<'_>) -> Result<()>
+    ensures { Shows (member_fields (member_value member.now)) line.old line.new result }
 {
-    let attributes = field_words(alloc, member.attributes)?;
-    let fields = vec![in alloc;
-        head.index(),
-        head.kind(),
-        field("name", Value::Text(member.name)),
-        field("access", optional_word(access_word(member.attributes))),
-        field("attributes", Value::Words(attributes)),
-        field("field_type", type_index(member.field_type)),
-        field("offset", Value::Number(member.offset)),
-    ]?;
-    Ok(Row { fields })
+    let attributes = field_flags(member.attributes);
+    line.field("name", Value::Text(member.name))?;
+    line.field("access", optional_word(access_word(member.attributes)))?;
+    line.field("attributes", Value::Words(&attributes))?;
+    line.field("field_type", type_index(member.field_type))?;
+    line.field("offset", Value::Number(member.offset))?;
+    Ok(())
 }
 
-/// Returns the `Row` of a static data member.
+/// Adds the fields of a static data member.
 #[tactic(auto, unfolding(crate::specs::TypeRows::static_member_fields))]
-pub(crate) fn static_member_row<'t>(
-    alloc: Global,
-    head: Head,
-    member: &StaticMemberType<'t>,
-) -> Result<Row<'t>>
-    ensures ok { IfOk result (λ row. row_shown row ≡
-        headed head.index head.leaf (static_member_fields (static_member_value member.now))) }
-    ensures memory { FailsOnlyForMemory result }
+pub(crate) fn show_static_member(line: &mut Line, member: &StaticMemberType<'_>) -> Result<()>
+    ensures { Shows (static_member_fields (static_member_value member.now)) line.old line.new result }
 {
-    let attributes = field_words(alloc, member.attributes)?;
-    let fields = vec![in alloc;
-        head.index(),
-        head.kind(),
-        field("name", Value::Text(member.name)),
-        field("access", optional_word(access_word(member.attributes))),
-        field("attributes", Value::Words(attributes)),
-        field("field_type", type_index(member.field_type)),
-    ]?;
-    Ok(Row { fields })
+    let attributes = field_flags(member.attributes);
+    line.field("name", Value::Text(member.name))?;
+    line.field("access", optional_word(access_word(member.attributes)))?;
+    line.field("attributes", Value::Words(&attributes))?;
+    line.field("field_type", type_index(member.field_type))?;
+    Ok(())
 }
 
-/// Returns the `Row` of a type that is declared in a class.
+/// Adds the fields of a type that is declared in a class.
 #[tactic(auto, unfolding(crate::specs::TypeRows::nested_fields))]
-pub(crate) fn nested_row<'t>(alloc: Global, head: Head, nested: &NestedType<'t>) -> Result<Row<'t>>
-    ensures ok { IfOk result (λ row. row_shown row ≡
-        headed head.index head.leaf (nested_fields (nested_value nested.now))) }
-    ensures memory { FailsOnlyForMemory result }
+pub(crate) fn show_nested(line: &mut Line, nested: &NestedType<'_>) -> Result<()>
+    ensures { Shows (nested_fields (nested_value nested.now)) line.old line.new result }
 {
-    let attributes = field_words(alloc, nested.attributes)?;
-    let fields = vec![in alloc;
-        head.index(),
-        head.kind(),
-        field("name", Value::Text(nested.name)),
-        field("access", optional_word(access_word(nested.attributes))),
-        field("attributes", Value::Words(attributes)),
-        field("nested_type", type_index(nested.nested_type)),
-    ]?;
-    Ok(Row { fields })
+    let attributes = field_flags(nested.attributes);
+    line.field("name", Value::Text(nested.name))?;
+    line.field("access", optional_word(access_word(nested.attributes)))?;
+    line.field("attributes", Value::Words(&attributes))?;
+    line.field("nested_type", type_index(nested.nested_type))?;
+    Ok(())
 }

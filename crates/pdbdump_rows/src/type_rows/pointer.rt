@@ -1,67 +1,48 @@
-//! Pointers, modified types and bit fields as `Row`s.
+//! Pointers, modified types and bit fields, field by field.
 
-ghost use Rattle.std.specs.Prelude.{◌≡◌, IfOk};
-ghost use Rattle.pdb_base.specs.Memory.{FailsOnlyForMemory};
-ghost use Rattle.pdbdump_rows.specs.Fields.{headed};
-ghost use Rattle.pdbdump_rows.specs.Row.{row_shown};
+ghost use Rattle.pdbdump_rows.specs.Line.{Shows};
 ghost use Rattle.pdbdump_rows.specs.TypeRows.{bitfield_fields, modifier_fields, pointer_fields};
 
-use crate::head::{Head, field, optional_type, type_index};
-use crate::row::{Row, Value};
-use crate::words::{kind_word, mode_word, modifier_words, pointer_words};
+use crate::line::Line;
+use crate::value::{Value, optional_type, type_index};
+use crate::words::{kind_word, mode_word, modifier_flags, pointer_flags};
 use pdb_base::{Error, Result};
 use pdb_values::{BitfieldType, ModifierType, PointerType};
-use std::alloc::Global;
 
-/// Returns the `Row` of a pointer.
+/// Adds the fields of a pointer.
 #[tactic(auto, unfolding(crate::specs::TypeRows::pointer_fields))]
-pub(crate) fn pointer_row<'t>(alloc: Global, head: Head, pointer: PointerType) -> Result<Row<'t>>
-    ensures ok { IfOk result (λ row. row_shown row ≡ headed head.index head.leaf (pointer_fields pointer)) }
-    ensures memory { FailsOnlyForMemory result }
+pub(crate) fn show_pointer(line: &mut Line, pointer: PointerType) -> Result<()>
+    ensures { Shows (pointer_fields pointer) line.old line.new result }
 {
     let word = pointer.attributes;
-    let attributes = pointer_words(alloc, word)?;
-    let fields = vec![in alloc;
-        head.index(),
-        head.kind(),
-        field("underlying_type", type_index(pointer.underlying_type)),
-        field("pointer_kind", Value::Word(kind_word(word.pointer_kind()))),
-        field("pointer_mode", Value::Word(mode_word(word.pointer_mode()))),
-        field("attributes", Value::Words(attributes)),
-        field("size", Value::Number(word.size() as u64)),
-        field("containing_class", optional_type(pointer.containing_class)),
-    ]?;
-    Ok(Row { fields })
+    let attributes = pointer_flags(word);
+    line.field("underlying_type", type_index(pointer.underlying_type))?;
+    line.field("pointer_kind", Value::Word(kind_word(word.pointer_kind())))?;
+    line.field("pointer_mode", Value::Word(mode_word(word.pointer_mode())))?;
+    line.field("attributes", Value::Words(&attributes))?;
+    line.field("size", Value::Number(word.size() as u64))?;
+    line.field("containing_class", optional_type(pointer.containing_class))?;
+    Ok(())
 }
 
-/// Returns the `Row` of a type with modifiers.
+/// Adds the fields of a type with modifiers.
 #[tactic(auto, unfolding(crate::specs::TypeRows::modifier_fields))]
-pub(crate) fn modifier_row<'t>(alloc: Global, head: Head, modifier: ModifierType) -> Result<Row<'t>>
-    ensures ok { IfOk result (λ row. row_shown row ≡ headed head.index head.leaf (modifier_fields modifier)) }
-    ensures memory { FailsOnlyForMemory result }
+pub(crate) fn show_modifier(line: &mut Line, modifier: ModifierType) -> Result<()>
+    ensures { Shows (modifier_fields modifier) line.old line.new result }
 {
-    let modifiers = modifier_words(alloc, modifier)?;
-    let fields = vec![in alloc;
-        head.index(),
-        head.kind(),
-        field("underlying_type", type_index(modifier.underlying_type)),
-        field("modifiers", Value::Words(modifiers)),
-    ]?;
-    Ok(Row { fields })
+    let modifiers = modifier_flags(modifier);
+    line.field("underlying_type", type_index(modifier.underlying_type))?;
+    line.field("modifiers", Value::Words(&modifiers))?;
+    Ok(())
 }
 
-/// Returns the `Row` of a bit field, a member that takes some bits of its type.
+/// Adds the fields of a bit field, a member that takes some bits of its type.
 #[tactic(auto, unfolding(crate::specs::TypeRows::bitfield_fields))]
-pub(crate) fn bitfield_row<'t>(alloc: Global, head: Head, bitfield: BitfieldType) -> Result<Row<'t>>
-    ensures ok { IfOk result (λ row. row_shown row ≡ headed head.index head.leaf (bitfield_fields bitfield)) }
-    ensures memory { FailsOnlyForMemory result }
+pub(crate) fn show_bitfield(line: &mut Line, bitfield: BitfieldType) -> Result<()>
+    ensures { Shows (bitfield_fields bitfield) line.old line.new result }
 {
-    let fields = vec![in alloc;
-        head.index(),
-        head.kind(),
-        field("underlying_type", type_index(bitfield.underlying_type)),
-        field("length", Value::Number(bitfield.length as u64)),
-        field("position", Value::Number(bitfield.position as u64)),
-    ]?;
-    Ok(Row { fields })
+    line.field("underlying_type", type_index(bitfield.underlying_type))?;
+    line.field("length", Value::Number(bitfield.length as u64))?;
+    line.field("position", Value::Number(bitfield.position as u64))?;
+    Ok(())
 }

@@ -1,30 +1,22 @@
 //! Attributes of a function in words.
 
-ghost use Rattle.std.specs.Prelude.{◌≡◌, map, IfOk};
-ghost use Rattle.pdb_base.specs.Memory.{FailsOnlyForMemory};
-ghost use Rattle.pdbdump_rows.specs.Words.{function_words};
+ghost use Rattle.std.specs.Prelude.{◌≡◌, map};
+ghost use Rattle.pdbdump_rows.specs.Words.{chosen, function_words};
 
-use crate::words::chosen::chosen;
-use pdb_base::{Error, Result};
+use crate::value::Flag;
 use pdb_flags::FunctionAttributes;
-use std::alloc::Global;
 
-/// Returns the words for the attributes that a function has.
+/// Returns the flags of the attributes that a function has.
 #[tactic(auto, unfolding(crate::specs::Words::function_words))]
-pub(crate) fn function_words(alloc: Global, word: FunctionAttributes) -> Result<Vec<&'static str>>
-    ensures ok { IfOk result (λ words. map (λ name. name.now) words.items ≡ function_words word) }
-    ensures memory { FailsOnlyForMemory result }
+pub(crate) fn function_flags(word: FunctionAttributes) -> [Flag; 3]
+    ensures { chosen (map (λ flag. (flag.0, flag.1.now)) result) ≡ function_words word }
 {
-    let words = chosen(
-        alloc,
-        &[
-            (word.cxx_return_udt(), "cxx_return_udt"),
-            (word.is_constructor(), "is_constructor"),
-            (
-                word.is_constructor_with_virtual_bases(),
-                "is_constructor_with_virtual_bases",
-            ),
-        ],
-    )?;
-    Ok(words)
+    [
+        (word.cxx_return_udt(), "cxx_return_udt"),
+        (word.is_constructor(), "is_constructor"),
+        (
+            word.is_constructor_with_virtual_bases(),
+            "is_constructor_with_virtual_bases",
+        ),
+    ]
 }

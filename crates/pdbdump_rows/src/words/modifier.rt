@@ -1,27 +1,19 @@
 //! Modifiers in words.
 
-ghost use Rattle.std.specs.Prelude.{◌≡◌, map, IfOk};
-ghost use Rattle.pdb_base.specs.Memory.{FailsOnlyForMemory};
-ghost use Rattle.pdbdump_rows.specs.Words.{modifier_words};
+ghost use Rattle.std.specs.Prelude.{◌≡◌, map};
+ghost use Rattle.pdbdump_rows.specs.Words.{chosen, modifier_words};
 
-use crate::words::chosen::chosen;
-use pdb_base::{Error, Result};
+use crate::value::Flag;
 use pdb_values::ModifierType;
-use std::alloc::Global;
 
-/// Returns the words for the modifiers that a type has.
+/// Returns the flags of the modifiers that a type has.
 #[tactic(auto, unfolding(crate::specs::Words::modifier_words))]
-pub(crate) fn modifier_words(alloc: Global, modifier: ModifierType) -> Result<Vec<&'static str>>
-    ensures ok { IfOk result (λ words. map (λ name. name.now) words.items ≡ modifier_words modifier) }
-    ensures memory { FailsOnlyForMemory result }
+pub(crate) fn modifier_flags(modifier: ModifierType) -> [Flag; 3]
+    ensures { chosen (map (λ flag. (flag.0, flag.1.now)) result) ≡ modifier_words modifier }
 {
-    let words = chosen(
-        alloc,
-        &[
-            (modifier.constant, "constant"),
-            (modifier.volatile, "volatile"),
-            (modifier.unaligned, "unaligned"),
-        ],
-    )?;
-    Ok(words)
+    [
+        (modifier.constant, "constant"),
+        (modifier.volatile, "volatile"),
+        (modifier.unaligned, "unaligned"),
+    ]
 }

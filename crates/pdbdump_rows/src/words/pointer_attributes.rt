@@ -1,14 +1,11 @@
 //! Attributes of a pointer in words.
 
-ghost use Rattle.std.specs.Prelude.{◌≡◌, map, IfOk};
-ghost use Rattle.pdb_base.specs.Memory.{FailsOnlyForMemory};
+ghost use Rattle.std.specs.Prelude.{◌≡◌, map};
 ghost use Rattle.pdb_flags.specs.PointerNumbers.{kind_number, mode_number};
-ghost use Rattle.pdbdump_rows.specs.Words.{kind_word, mode_word, pointer_words};
+ghost use Rattle.pdbdump_rows.specs.Words.{chosen, kind_word, mode_word, pointer_words};
 
-use crate::words::chosen::chosen;
-use pdb_base::{Error, Result};
+use crate::value::Flag;
 use pdb_flags::{PointerAttributes, PointerKind, PointerMode};
-use std::alloc::Global;
 
 /// Returns the name of a pointer's kind.
 #[tactic(auto, unfolding(crate::specs::Words::kind_word))]
@@ -46,22 +43,17 @@ pub(crate) fn mode_word(mode: PointerMode) -> &'static str
     }
 }
 
-/// Returns the words for the attributes that a pointer has.
+/// Returns the flags of the attributes that a pointer has.
 #[tactic(auto, unfolding(crate::specs::Words::pointer_words))]
-pub(crate) fn pointer_words(alloc: Global, word: PointerAttributes) -> Result<Vec<&'static str>>
-    ensures ok { IfOk result (λ words. map (λ name. name.now) words.items ≡ pointer_words word) }
-    ensures memory { FailsOnlyForMemory result }
+pub(crate) fn pointer_flags(word: PointerAttributes) -> [Flag; 6]
+    ensures { chosen (map (λ flag. (flag.0, flag.1.now)) result) ≡ pointer_words word }
 {
-    let words = chosen(
-        alloc,
-        &[
-            (word.is_flat_32(), "is_flat_32"),
-            (word.is_volatile(), "is_volatile"),
-            (word.is_const(), "is_const"),
-            (word.is_unaligned(), "is_unaligned"),
-            (word.is_restrict(), "is_restrict"),
-            (word.is_mocom(), "is_mocom"),
-        ],
-    )?;
-    Ok(words)
+    [
+        (word.is_flat_32(), "is_flat_32"),
+        (word.is_volatile(), "is_volatile"),
+        (word.is_const(), "is_const"),
+        (word.is_unaligned(), "is_unaligned"),
+        (word.is_restrict(), "is_restrict"),
+        (word.is_mocom(), "is_mocom"),
+    ]
 }

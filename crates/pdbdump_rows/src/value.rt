@@ -1,49 +1,57 @@
-//! The fields that the `Row` of each record begins with, and the values of fields.
+//! What the fields of lines hold.
 
-ghost use Rattle.std.specs.Prelude.{◌≡◌, codes};
+ghost use Rattle.std.specs.Prelude.{◌≡◌};
 ghost use Rattle.std.specs.Option.{option_map};
 ghost use Rattle.pdb_values.specs.Text.{text_bytes};
 ghost use Rattle.pdbdump_rows.specs.Fields.{nonzero, optional_hexadecimal, optional_id, optional_number, optional_text, optional_type, type_index};
-ghost use Rattle.pdbdump_rows.specs.Row.{field_shown, kind, value_shown};
+ghost use Rattle.pdbdump_rows.specs.Row.{value_shown};
 
-use crate::row::{Field, Value};
 use pdb_base::{IdIndex, RawString, TypeIndex};
 
-/// What a `Row` begins with: the index of its record, and the record kind.
-#[derive(Clone, Copy, Debug)]
-pub(crate) struct Head {
-    /// The index of the record, or None for an entry of a list.
-    pub(crate) index: Option<u32>,
+/// A flag, and the word that is shown if it is set.
+pub type Flag = (bool, &'static str);
 
-    /// The record kind.
-    pub(crate) leaf: u16,
-}
+/// What a field of a line holds.
+#[derive(Clone, Copy)]
+pub enum Value<'t> {
+    /// A number, shown in decimal.
+    Number(u64),
 
-impl Head {
-    /// Returns the field of the index.
-    pub(crate) fn index<'t>(self) -> Field<'t>
-        ensures { field_shown result ≡ (codes "index", optional_hexadecimal self.index) }
-    {
-        field("index", optional_hexadecimal(self.index))
-    }
+    /// A number with a sign, shown in decimal.
+    Signed(i64),
 
-    /// Returns the field of the record kind.
-    pub(crate) fn kind<'t>(self) -> Field<'t>
-        ensures { field_shown result ≡ (codes "kind", kind self.leaf) }
-    {
-        field("kind", Value::Kind(self.leaf))
-    }
-}
+    /// An index or an address: shown in hexadecimal in text, and as a number in JSON.
+    Hexadecimal(u32),
 
-/// Returns a field with this name and this value.
-pub fn field<'t>(name: &'static str, value: Value<'t>) -> Field<'t>
-    ensures { field_shown result ≡ (name.now, value_shown value.entry) }
-{
-    Field { name, value }
+    /// The kind of a record: shown by its name, or as `0x` and four hexadecimal digits if it has
+    /// none.
+    Kind(u16),
+
+    /// Whether something holds.
+    Flag(bool),
+
+    /// A name or another text of a file, shown with U+FFFD for each run of bytes that isn't a
+    /// character.
+    Text(RawString<'t>),
+
+    /// A word of this library.
+    Word(&'static str),
+
+    /// The words of the flags that are set.
+    Words(&'t [Flag]),
+
+    /// Numbers, shown in decimal.
+    Numbers(&'t [u32]),
+
+    /// Indexes: shown in hexadecimal in text, and as numbers in JSON.
+    Indexes(&'t [u32]),
+
+    /// Nothing: the field is left out.
+    Absent,
 }
 
 /// Returns the value of a number shown in hexadecimal, or `Absent` if there is none.
-pub(crate) fn optional_hexadecimal<'t>(number: Option<u32>) -> Value<'t>
+pub fn optional_hexadecimal<'t>(number: Option<u32>) -> Value<'t>
     ensures { value_shown result ≡ optional_hexadecimal number }
 {
     match number {
@@ -80,7 +88,7 @@ pub(crate) fn optional_id<'t>(index: Option<IdIndex>) -> Value<'t>
 }
 
 /// Returns the value of a number, or `Absent` if there is none.
-pub(crate) fn optional_number<'t>(number: Option<u32>) -> Value<'t>
+pub fn optional_number<'t>(number: Option<u32>) -> Value<'t>
     ensures { value_shown result ≡ optional_number number }
 {
     match number {

@@ -1,0 +1,129 @@
+-- A line that is written field by field is the one line of its fields.
+use Rattle.std.proofs.Common.{◌≡◌, ℕ, Bool, true, false, List, [], ◌∷◌, ◌++◌, codes, refl, ap, sym, ◌∙◌, ⊎_elim, append_assoc}
+use Rattle.std.specs.List.{filter, flat_map}
+use Rattle.std.proofs.lemmas.Bool.{cond-true, cond-false, cases_Bool}
+use Rattle.std.proofs.lemmas.List.{append-nil}
+use Rattle.pdbdump_rows.specs.declared.form.Form.{Form}
+use Rattle.pdbdump_rows.specs.declared.form.Form.TheVariants.{Text, Json}
+use Rattle.pdbdump_rows.specs.Line.{LineState, all_shown, begun, begun_full, ended, ending, opening, shown}
+use Rattle.pdbdump_rows.specs.Lines.{field_line, field_text, fields_text, full_text, is_shown, row_text, separated, separator}
+use Rattle.pdbdump_rows.specs.Row.{ShownField, ShownRow}
+
+-- a line that shows a field
+abbrev after : Form → List ℕ → LineState
+after form bytes = record { form = form; is_full = false; bytes = bytes; is_empty = false }
+
+-- a line of text with a line for each field
+abbrev full : List ℕ → Bool → LineState
+full bytes empty = record { form = Text; is_full = true; bytes = bytes; is_empty = empty }
+
+-- the fields behind the first, each behind a separator
+abbrev rest_text : Form → ShownRow → List ℕ
+rest_text form row = flat_map (λ next. separator form ++ field_text form next) (filter (is_shown form) row)
+
+shows_after : (form : Form) (bytes : List ℕ) (field : ShownField) → is_shown form field ≡ true
+    → shown (after form bytes) field ≡ after form (bytes ++ (separator form ++ field_text form field))
+unfolding shown
+shows_after form bytes field yes = cond-true (is_shown form field) _ _ yes
+
+shows_first : (form : Form) (field : ShownField) → is_shown form field ≡ true
+    → shown (begun form) field ≡ after form (opening form ++ field_text form field)
+unfolding shown
+shows_first form field yes = cond-true (is_shown form field) _ _ yes
+
+shows_full : (bytes : List ℕ) (empty : Bool) (field : ShownField) → is_shown Text field ≡ true
+    → shown (full bytes empty) field ≡ full (bytes ++ field_line field) false
+unfolding shown
+shows_full bytes empty field yes = cond-true (is_shown Text field) _ _ yes
+
+shows_not : (line : LineState) (field : ShownField) → is_shown line.form field ≡ false → shown line field ≡ line
+unfolding shown
+shows_not line field no = cond-false (is_shown line.form field) _ _ no
+
+kept : (form : Form) (field : ShownField) (row : ShownRow) → is_shown form field ≡ true
+    → filter (is_shown form) (field ∷ row) ≡ field ∷ filter (is_shown form) row
+kept form field row yes = cond-true (is_shown form field) _ _ yes
+
+dropped : (form : Form) (field : ShownField) (row : ShownRow) → is_shown form field ≡ false
+    → filter (is_shown form) (field ∷ row) ≡ filter (is_shown form) row
+dropped form field row no = cond-false (is_shown form field) _ _ no
+
+all_after : (form : Form) (bytes : List ℕ) (row : ShownRow)
+    → all_shown (after form bytes) row ≡ after form (bytes ++ rest_text form row)
+all_after form bytes [] = ap (after form) (sym (append-nil bytes))
+all_after form bytes (field ∷ row) =
+    let each = λ (next : ShownField). separator form ++ field_text form next in
+    ⊎_elim
+    (λ (yes : is_shown form field ≡ true).
+    ap (λ (line : LineState). all_shown line row) (shows_after form bytes field yes)
+    ∙ all_after form (bytes ++ each field) row
+    ∙ ap (after form) (append_assoc bytes (each field) (rest_text form row)
+    ∙ ap (λ (shown : ShownRow). bytes ++ flat_map each shown) (sym (kept form field row yes))))
+    (λ (no : is_shown form field ≡ false).
+    ap (λ (line : LineState). all_shown line row) (shows_not (after form bytes) field no)
+    ∙ all_after form bytes row
+    ∙ ap (λ (shown : ShownRow). after form (bytes ++ flat_map each shown)) (sym (dropped form field row no)))
+    (cases_Bool (is_shown form field))
+
+-- what a line comes to
+ended_after : (form : Form) (bytes : List ℕ) → ended (after form bytes) ≡ bytes ++ ending form
+unfolding ended
+ended_after form bytes = refl
+
+ended_begun : (form : Form) → ended (begun form) ≡ opening form ++ ending form
+unfolding ended
+ended_begun form = refl
+
+ended_full : (bytes : List ℕ) (empty : Bool) → ended (full bytes empty) ≡ bytes
+unfolding ended
+ended_full bytes empty = append-nil bytes
+
+-- the fields between what stands before and behind them
+whole : Form → List ShownField → List ℕ
+whole form row = opening form ++ separated (separator form) (field_text form) row ++ ending form
+
+all_begun : (form : Form) (row : ShownRow)
+    → ended (all_shown (begun form) row) ≡ whole form (filter (is_shown form) row)
+unfolding whole
+all_begun form [] = ended_begun form ∙ ap (λ (front : List ℕ). front ++ ending form) (sym (append-nil (opening form)))
+all_begun form (field ∷ row) = ⊎_elim
+    (λ (yes : is_shown form field ≡ true).
+    ap (λ (line : LineState). ended (all_shown line row)) (shows_first form field yes)
+    ∙ ap ended (all_after form (opening form ++ field_text form field) row)
+    ∙ ended_after form ((opening form ++ field_text form field) ++ rest_text form row)
+    ∙ ap (λ (front : List ℕ). front ++ ending form)
+    (append_assoc (opening form) (field_text form field) (rest_text form row))
+    ∙ ap (whole form) (sym (kept form field row yes)))
+    (λ (no : is_shown form field ≡ false).
+    ap (λ (line : LineState). ended (all_shown line row)) (shows_not (begun form) field no)
+    ∙ all_begun form row
+    ∙ ap (whole form) (sym (dropped form field row no)))
+    (cases_Bool (is_shown form field))
+
+whole_is : (form : Form) (row : ShownRow) → whole form (filter (is_shown form) row) ≡ row_text form row
+unfolding whole row_text fields_text
+whole_is Text row = refl
+whole_is Json row = sym (append_assoc (codes "{" ++ fields_text Json row) (codes "}") (10 ∷ []))
+
+pub line_is : (form : Form) (row : ShownRow) → ended (all_shown (begun form) row) ≡ row_text form row
+line_is form row = all_begun form row ∙ whole_is form row
+
+all_full : (bytes : List ℕ) (empty : Bool) (row : ShownRow)
+    → ended (all_shown (full bytes empty) row) ≡ bytes ++ flat_map field_line (filter (is_shown Text) row)
+all_full bytes empty [] = ended_full bytes empty ∙ sym (append-nil bytes)
+all_full bytes empty (field ∷ row) = ⊎_elim
+    (λ (yes : is_shown Text field ≡ true).
+    ap (λ (line : LineState). ended (all_shown line row)) (shows_full bytes empty field yes)
+    ∙ all_full (bytes ++ field_line field) false row
+    ∙ append_assoc bytes (field_line field) (flat_map field_line (filter (is_shown Text) row))
+    ∙ ap (λ (shown : ShownRow). bytes ++ flat_map field_line shown) (sym (kept Text field row yes)))
+    (λ (no : is_shown Text field ≡ false).
+    ap (λ (line : LineState). ended (all_shown line row)) (shows_not (full bytes empty) field no)
+    ∙ all_full bytes empty row
+    ∙ ap (λ (shown : ShownRow). bytes ++ flat_map field_line shown) (sym (dropped Text field row no)))
+    (cases_Bool (is_shown Text field))
+
+pub full_is : (form : Form) (row : ShownRow) → ended (all_shown (begun_full form) row) ≡ full_text form row
+unfolding full_text
+full_is Text row = all_full [] true row
+full_is Json row = line_is Json row

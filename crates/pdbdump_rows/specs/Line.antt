@@ -1,0 +1,65 @@
+-- A line as it is written, field by field.
+use Rattle.std.specs.Prelude.{◌≡◌, ℕ, if◌then◌else◌, Bool, true, false, List, [], ◌∷◌, ◌++◌, codes, Result, Ok, Err}
+use Rattle.pdb_base.specs.declared.error.Error.{Error}
+use Rattle.pdb_base.specs.declared.error.Error.TheVariants.{OutOfMemory}
+use Rattle.pdbdump_rows.specs.declared.form.Form.{Form}
+use Rattle.pdbdump_rows.specs.declared.form.Form.TheVariants.{Text, Json}
+use Rattle.pdbdump_rows.specs.Lines.{field_line, field_text, is_shown, line_feed, separator}
+use Rattle.pdbdump_rows.specs.Row.{ShownField, ShownRow}
+
+-- A line so far: its form, whether each field has a line of its own, the bytes, and whether it shows no field yet.
+pub record LineState : Type 0 where
+  pub form : Form
+  pub is_full : Bool
+  pub bytes : List ℕ
+  pub is_empty : Bool
+
+-- a line before its first field
+abbrev pub begun : Form → LineState
+begun form = record { form = form; is_full = false; bytes = []; is_empty = true }
+
+-- the same, where text has a line for each field
+abbrev pub begun_full : Form → LineState
+begun_full Text = record { form = Text; is_full = true; bytes = []; is_empty = true }
+begun_full Json = begun Json
+
+-- what stands before the first field, and behind the last
+abbrev pub opening : Form → List ℕ
+opening Text = []
+opening Json = codes "{"
+
+abbrev pub ending : Form → List ℕ
+ending Text = line_feed ∷ []
+ending Json = codes "}" ++ line_feed ∷ []
+
+-- what stands between the bytes of a line and its next field
+abbrev pub between : LineState → List ℕ
+between line = if line.is_empty then opening line.form else separator line.form
+
+-- what a field adds that its form shows
+abbrev pub field_bytes : LineState → ShownField → List ℕ
+field_bytes line field = if line.is_full then field_line field else between line ++ field_text line.form field
+
+-- a line with one field more; a field that its form does not show changes nothing
+unfoldable pub shown : LineState → ShownField → LineState
+shown line field = if is_shown line.form field
+    then record { form = line.form; is_full = line.is_full; bytes = line.bytes ++ field_bytes line field; is_empty = false }
+    else line
+
+-- a line with more fields, one after another
+abbrev pub all_shown : LineState → ShownRow → LineState
+all_shown line [] = line
+all_shown line (field ∷ row) = all_shown (shown line field) row
+
+-- what the end of a line adds
+abbrev pub end_bytes : LineState → List ℕ
+end_bytes line = if line.is_full then [] else (if line.is_empty then opening line.form else []) ++ ending line.form
+
+-- the bytes of a line that has ended
+unfoldable pub ended : LineState → List ℕ
+ended line = line.bytes ++ end_bytes line
+
+-- Fields were added to a line; or memory was refused.
+abbrev pub Shows : ShownRow → LineState → LineState → Result (Unit {0}) Error → Type 0
+Shows row old new (Ok done) = new ≡ all_shown old row
+Shows row old new (Err e) = e ≡ OutOfMemory

@@ -1,0 +1,131 @@
+//! A line that is written field by field.
+
+ghost use Rattle.std.specs.Prelude.{◌≡◌, OnOk};
+ghost use Rattle.pdb_base.specs.Memory.{FailsOnlyForMemory};
+ghost use Rattle.pdb_output.specs.Output.{Writes};
+ghost use Rattle.pdbdump_rows.specs.Line.{begun, begun_full, ended, shown};
+ghost use Rattle.pdbdump_rows.specs.Row.{value_shown};
+
+use crate::form::Form;
+use crate::push::{is_shown, push_end, push_line, push_next};
+use crate::value::Value;
+use pdb_base::{Error, Result};
+use pdb_output::Output;
+use std::alloc::Global;
+use std::io::Write;
+use std::marker::Model;
+
+/// A line that is written field by field: in text one such as `0x1000 LF_STRUCTURE S count=1
+/// size=4`, where the fields that are called index, number, kind and name are written without
+/// their names, or in JSON an object with a member for each field.
+///
+/// A field whose value is absent is left out, and in text also one that holds no words.
+#[derive(Drop)]
+pub struct Line {
+    form: Form,
+    is_full: bool,
+    bytes: Vec<u8>,
+    is_empty: bool,
+}
+
+impl Model for Line {
+    ghost use Rattle.pdbdump_rows.specs.Line.{LineState};
+
+    ghost Value = { LineState };
+
+    ghost view = { λ line. record {
+      form = line.form;
+      is_full = line.is_full;
+      bytes = line.bytes.items;
+      is_empty = line.is_empty;
+    } };
+}
+
+impl Line {
+    /// Returns a line of text without fields.
+    pub fn new(alloc: Global) -> Self
+        ensures { result ≡ begun Form.Text }
+    {
+        Line {
+            form: Form::Text,
+            is_full: false,
+            bytes: Vec::new(alloc),
+            is_empty: true,
+        }
+    }
+
+    /// Begins another line. What was written so far is gone.
+    pub fn begin(&mut self, form: Form)
+        ensures { self.new ≡ begun form }
+    {
+        self.form = form;
+        self.is_full = false;
+        self.bytes.clear();
+        self.is_empty = true;
+    }
+
+    /// Begins another line, which in text has a line `name: value` for each field. What was written
+    /// so far is gone.
+    pub fn begin_full(&mut self, form: Form)
+        ensures { self.new ≡ begun_full form }
+    {
+        self.begin(form);
+        self.is_full = matches!(form, Form::Text);
+    }
+
+    /// Adds a field.
+    ///
+    /// # Errors
+    /// Fails with `OutOfMemory` if an allocation fails. A part of the field may then be there.
+    #[tactic(auto, unfolding(crate::specs::Line::shown))]
+    pub fn field(&mut self, name: &'static str, value: Value<'_>) -> Result<()>
+        ensures ok { OnOk result (self.new ≡ shown self.old (name.now, value_shown value.entry)) }
+        ensures memory { FailsOnlyForMemory result }
+    {
+        if !is_shown(self.form, &value) {
+            return Ok(());
+        }
+        if self.is_full {
+            push_line(name, &value, &mut self.bytes)?;
+        } else {
+            push_next(self.form, self.is_empty, name, &value, &mut self.bytes)?;
+        }
+        self.is_empty = false;
+        Ok(())
+    }
+
+    /// Ends the line, with its line feed.
+    ///
+    /// # Errors
+    /// Fails with `OutOfMemory` if an allocation fails.
+    #[tactic(auto, unfolding(crate::specs::Line::ended))]
+    pub fn end(&mut self) -> Result<()>
+        ensures ok { OnOk result (self.new.bytes ≡ ended self.old) }
+        ensures memory { FailsOnlyForMemory result }
+    {
+        if self.is_full {
+            return Ok(());
+        }
+        push_end(self.form, self.is_empty, &mut self.bytes)
+    }
+
+    /// Returns the bytes of the line.
+    pub fn as_bytes(&self) -> &[u8]
+        ensures { result.now ≡ self.now.bytes }
+    {
+        &self.bytes
+    }
+}
+
+/// Ends a line and writes it.
+///
+/// # Errors
+/// Fails with `OutOfMemory` if an allocation fails, and with `IoError` if the output fails, which
+/// may then have got a prefix of the line.
+#[tactic(auto, using(pdb_output::proofs::lemmas::Written::writing))]
+pub fn write_line<W: Write>(line: &mut Line, out: &mut Output<W>) -> Result<()>
+    ensures { Writes (ended line.old) out.old out.new result }
+{
+    line.end()?;
+    out.write(line.as_bytes())
+}
