@@ -1,10 +1,9 @@
 //! A line that is written field by field.
 
-ghost use Rattle.std.specs.Prelude.{◌≡◌, OnOk};
-ghost use Rattle.pdb_base.specs.Memory.{FailsOnlyForMemory};
+ghost use Rattle.std.specs.Prelude.{◌≡◌, [], ◌∷◌};
 ghost use Rattle.pdb_output.specs.Output.{Writes};
 ghost use Rattle.pdbdump_rows.specs.declared.form.Form.{Form};
-ghost use Rattle.pdbdump_rows.specs.Line.{Adds, Ends, LineState, Shows, begun, begun_full, ended, shown};
+ghost use Rattle.pdbdump_rows.specs.Line.{Adds, Ends, LineState, Shows, begun, begun_full, ended};
 ghost use Rattle.pdbdump_rows.specs.Lines.{full_text, row_text};
 ghost use Rattle.pdbdump_rows.specs.Row.{ShownRow, value_shown};
 
@@ -81,8 +80,7 @@ impl Line {
     /// Fails with `OutOfMemory` if an allocation fails. A part of the field may then be there.
     #[tactic(auto, unfolding(crate::specs::Line::shown))]
     pub fn field(&mut self, name: &'static str, value: Value<'_>) -> Result<()>
-        ensures ok { OnOk result (self.new ≡ shown self.old (name.now, value_shown value.entry)) }
-        ensures memory { FailsOnlyForMemory result }
+        ensures { Shows ((name.now, value_shown value.entry) ∷ []) self.old self.new result }
     {
         if !is_shown(self.form, &value) {
             return Ok(());

@@ -9,8 +9,8 @@ use Rattle.pdb_msf.specs.File.{stream_of}
 use Rattle.pdb_msf.specs.Header.{Head}
 use Rattle.pdb_file.specs.File.{file_number, file_roles}
 use Rattle.pdb_file.specs.declared.debug_header.DBIExtraStreams.{DBIExtraStreams}
-use Rattle.pdbdump_tables.specs.declared.extract.ListedRole.{ListedRole}
-use Rattle.pdbdump_tables.specs.declared.extract.ListedRole.TheVariants as roles
+use Rattle.pdbdump_tables.specs.declared.extraction.ListedRole.{ListedRole}
+use Rattle.pdbdump_tables.specs.declared.extraction.ListedRole.TheVariants as roles
 use Rattle.pdbdump_tables.specs.Listing.{Listing, listed_of, whole}
 
 -- the stream whose role is fixed by its number, with the words that a summary has for them

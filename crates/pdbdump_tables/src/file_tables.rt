@@ -8,15 +8,15 @@ ghost use Rattle.pdbdump_tables.specs.Listing.{IsListed};
 
 use crate::frames::write_frames;
 use crate::names::write_table;
-use crate::sections::write_sections;
 use crate::section_stream::section_number;
+use crate::sections::write_sections;
 use pdb_base::Result;
 use pdb_file::PDB;
 use pdb_frames::FrameTable;
 use pdb_msf::{Msf, Source};
 use pdb_output::Output;
-use pdbdump_rows::Form;
 use pdb_space::StringTable;
+use pdbdump_rows::Form;
 use std::alloc::Global;
 use std::io::Write;
 

@@ -10,9 +10,9 @@ ghost use Rattle.pdbdump_tables.specs.Listed.{IsTableListed, IsShown, IsWalked};
 use crate::item_line::make_id;
 use pdb_base::{FallibleIterator, IdIndex, Result, Stream};
 use pdb_output::Output;
-use pdbdump_rows::{Form, Line, show_id};
 use pdb_tpi::{IdInformation, OpenTable};
 use pdb_values::IdData;
+use pdbdump_rows::{Form, Line, show_id};
 use std::alloc::Global;
 use std::io::Write;
 

@@ -184,19 +184,22 @@ fn show_identity(
     requires key { key.now ≡ upper_key_of identity.now }
     ensures { Shows (identity_shown name.now identity.now) line.old line.new result }
 {
-    line.field(NAME, Value::Text(RawString::from(name)))?;
-    line.field(FORMAT, Value::Word("MSF 7.00"))?;
-    line.field(GUID, Value::Text(RawString::from(guid)))?;
-    line.field(AGE, Value::Number(identity.age() as u64))?;
-    line.field(AGE_FROM, Value::Word(age_source(identity)))?;
-    line.field(INFORMATION_AGE, Value::Number(identity.information_age as u64))?;
-    line.field(SIGNATURE, Value::Number(identity.signature as u64))?;
-    line.field(VERSION, Value::Number(identity.version as u64))?;
+    line.field("name", Value::Text(RawString::from(name)))?;
+    line.field("format", Value::Word("MSF 7.00"))?;
+    line.field("guid", Value::Text(RawString::from(guid)))?;
+    line.field("age", Value::Number(identity.age() as u64))?;
+    line.field("age_from", Value::Word(age_source(identity)))?;
+    line.field(
+        "information_age",
+        Value::Number(identity.information_age as u64),
+    )?;
+    line.field("signature", Value::Number(identity.signature as u64))?;
+    line.field("version", Value::Number(identity.version as u64))?;
     show_features(line, identity.features)?;
-    line.field(MACHINE, optional_machine(identity.machine()))?;
-    line.field(CPU, Value::Word(identity.cpu()))?;
-    line.field(STRIPPED, optional_flag(identity.is_stripped()))?;
-    line.field(KEY, Value::Text(RawString::from(key)))?;
+    line.field("machine", optional_machine(identity.machine()))?;
+    line.field("cpu", Value::Word(identity.cpu()))?;
+    line.field("stripped", optional_flag(identity.is_stripped()))?;
+    line.field("key", Value::Text(RawString::from(key)))?;
     Ok(())
 }
 
@@ -222,7 +225,7 @@ fn write_object<W: Write>(
 
 /// Writes the line of a file's identity in a style.
 #[tactic(auto, unfolding(crate::specs::Identity::identity_line), using(pdb_output::proofs::lemmas::Written::writing))]
-fn write_line<W: Write>(
+fn write_key<W: Write>(
     alloc: Global,
     style: KeyStyle,
     name: &str,
@@ -251,7 +254,7 @@ pub fn write_identity<W: Write>(
     ensures { Writes (identity_line form style name.now identity.now) out.old out.new result }
 {
     match form {
-        Form::Text => write_line(alloc, style, name, identity, out),
+        Form::Text => write_key(alloc, style, name, identity, out),
         Form::Json => write_object(alloc, style, name, identity, out),
     }
 }

@@ -3,7 +3,7 @@
 #![tactic(auto)]
 
 mod conversions;
-mod extract;
+mod extraction;
 mod file_tables;
 mod frames;
 mod id_listing;
@@ -28,7 +28,7 @@ mod table_summary;
 mod type_listing;
 
 pub use conversions::{OfInternal, OfLoaded, made_of_internal, made_of_loaded};
-pub use extract::{extract, stream_meant};
+pub use extraction::{extract, stream_meant};
 pub use file_tables::{list_frames, list_frames_in, list_names, list_sections};
 pub use id_listing::{id_at, ids};
 pub use identity::{KeyStyle, is_key, write_identity};

@@ -4,14 +4,14 @@ ghost use Rattle.pdbdump_tables.specs.Given.{map_in};
 ghost use Rattle.pdbdump_tables.specs.Mapped.{IsMapped};
 ghost use Rattle.std.specs.Prelude.{Ok};
 
-use crate::map_source::{MapStreams, map_in};
 use crate::conversions::{made_of_internal, made_of_loaded};
 use crate::map_lines::write_made;
+use crate::map_source::{MapStreams, map_in};
 use pdb_base::Result;
 use pdb_file::PDB;
 use pdb_output::Output;
-use pdbdump_rows::{Form, Line};
 use pdb_space::{AddressMap, PdbInternalRva, Rva};
+use pdbdump_rows::{Form, Line};
 use std::alloc::Global;
 use std::io::Write;
 

@@ -10,10 +10,8 @@ ghost use Rattle.pdb_output.specs.Output.{Writes};
 use crate::conversions::{OfInternal, OfLoaded};
 use pdb_base::{Error, Result};
 use pdb_output::Output;
-use pdbdump_rows::{
-    Form, Line, Value, optional_hexadecimal, optional_number, write_line,
-};
 use pdb_space::{PdbInternalRva, PdbInternalSectionOffset, Rva, SectionOffset};
+use pdbdump_rows::{Form, Line, Value, optional_hexadecimal, optional_number, write_line};
 use std::io::Write;
 
 /// Adds the fields of an address that is made of another.

@@ -13,9 +13,9 @@ ghost use Rattle.pdbdump_rows.specs.TypeRows.{listed_method_fields};
 ghost use Rattle.pdb_values.specs.TypeView.{type_value};
 
 use pdb_base::{Error, Result, TypeIndex};
-use pdbdump_rows::{Form, Line, append_line, show_entry, show_listed_method};
 use pdb_tpi::OpenTable;
 use pdb_values::{MethodListEntry, TypeData};
+use pdbdump_rows::{Form, Line, append_line, show_entry, show_listed_method};
 use std::alloc::Global;
 
 /// Appends the line of a field.

@@ -1,16 +1,14 @@
 //! The names of string tables.
 
 ghost use Rattle.std.specs.Prelude.{◌≡◌};
-ghost use Rattle.pdb_output.specs.Output.{Writes};
 ghost use Rattle.pdbdump_rows.specs.Line.{Shows};
-ghost use Rattle.pdbdump_rows.specs.Lines.{row_text};
 ghost use Rattle.pdbdump_tables.specs.Listing.{IsListed, whole};
 ghost use Rattle.pdbdump_tables.specs.Tables.{all_names, name_lines, name_shown, next_place};
 
 use pdb_base::{Error, RawString, Result};
 use pdb_output::Output;
-use pdbdump_rows::{Form, Line, Value, write_line};
 use pdb_space::{StringRef, StringTable};
+use pdbdump_rows::{Form, Line, Value, write_line};
 use std::alloc::Global;
 use std::io::Write;
 
@@ -32,21 +30,6 @@ fn show_name(line: &mut Line, place: u32, name: RawString<'_>) -> Result<()>
     Ok(())
 }
 
-/// Writes the line of a name.
-fn write_name<W: Write>(
-    form: Form,
-    place: u32,
-    name: RawString<'_>,
-    line: &mut Line,
-    out: &mut Output<W>,
-) -> Result<()>
-    ensures { Writes (row_text form (name_shown (place, name.entry.0.now))) out.old out.new result }
-{
-    line.begin(form);
-    let added = show_name(line, place, name);
-    write_line(added, line, out)
-}
-
 /// Writes the names of a table, each with its offset.
 pub(crate) fn write_table<W: Write>(
     alloc: Global,
@@ -63,7 +46,9 @@ pub(crate) fn write_table<W: Write>(
         let Ok(name) = table.get(StringRef(place)) else {
             return Ok(());
         };
-        write_name(form, place, name, &mut line, out)?;
+        line.begin(form);
+        let added = show_name(&mut line, place, name);
+        write_line(added, &mut line, out)?;
         let Some(next) = next_place(place, name.len()) else {
             return Ok(());
         };

@@ -2,31 +2,16 @@
 
 ghost use Rattle.std.specs.Prelude.{◌≡◌};
 ghost use Rattle.pdbdump_rows.specs.Lines.{row_text};
-ghost use Rattle.pdbdump_rows.specs.TableRows.{omap_row};
 ghost use Rattle.pdb_output.specs.Output.{Writes};
 ghost use Rattle.pdbdump_tables.specs.Listing.{IsListed};
 ghost use Rattle.pdbdump_tables.specs.Tables.{omap_all, omap_lines, omap_listing, order_shown, rises};
 
 use pdb_base::{Error, Result, Stream};
 use pdb_output::Output;
-use pdb_space::{OMAPRecord, OMAPTable};
+use pdb_space::OMAPTable;
 use pdbdump_rows::{Form, Line, Value, show_omap, write_line};
 use std::alloc::Global;
 use std::io::Write;
-
-/// Writes the line of a record.
-fn write_record<W: Write>(
-    form: Form,
-    record: OMAPRecord,
-    line: &mut Line,
-    out: &mut Output<W>,
-) -> Result<()>
-    ensures { Writes (row_text form (omap_row record)) out.old out.new result }
-{
-    line.begin(form);
-    let added = show_omap(line, record);
-    write_line(added, line, out)
-}
 
 /// Writes the records of a table.
 fn write_records<W: Write>(
@@ -38,7 +23,9 @@ fn write_records<W: Write>(
     ensures { Writes (omap_lines form table.now) out.old out.new result }
 {
     for record in table.records() {
-        write_record(form, record, line, out)?;
+        line.begin(form);
+        let added = show_omap(line, record);
+        write_line(added, line, out)?;
     }
     Ok(())
 }

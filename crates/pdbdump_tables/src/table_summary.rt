@@ -15,8 +15,8 @@ use crate::streams::stream;
 use pdb_base::{Error, Result};
 use pdb_file::PDB;
 use pdb_output::Output;
-use pdbdump_rows::{Form, Line, Value, write_line};
 use pdb_tpi::TypeInformation;
+use pdbdump_rows::{Form, Line, Value, write_line};
 use std::alloc::Global;
 use std::io::Write;
 
@@ -71,21 +71,6 @@ fn show_kind(line: &mut Line, number: u32, kind: KindCount) -> Result<()>
     Ok(())
 }
 
-/// Writes the line of a kind of a table's records.
-fn write_kind<W: Write>(
-    number: u32,
-    kind: KindCount,
-    form: Form,
-    line: &mut Line,
-    out: &mut Output<W>,
-) -> Result<()>
-    ensures { Writes (row_text form (kind_shown number kind)) out.old out.new result }
-{
-    line.begin(form);
-    let added = show_kind(line, number, kind);
-    write_line(added, line, out)
-}
-
 /// Writes a line for each kind of a table's records.
 fn write_kinds<W: Write>(
     alloc: Global,
@@ -98,7 +83,9 @@ fn write_kinds<W: Write>(
 {
     let mut line = Line::new(alloc);
     for kind in kinds {
-        write_kind(number, *kind, form, &mut line, out)?;
+        line.begin(form);
+        let added = show_kind(&mut line, number, *kind);
+        write_line(added, &mut line, out)?;
     }
     Ok(())
 }

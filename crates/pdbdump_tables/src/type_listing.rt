@@ -13,9 +13,9 @@ use crate::item_line::make_type;
 use crate::members::{list_of_fields, push_members};
 use pdb_base::{FallibleIterator, Result, Stream, TypeIndex};
 use pdb_output::Output;
-use pdbdump_rows::{Form, Line, show_type};
 use pdb_tpi::{OpenTable, TypeInformation};
 use pdb_values::TypeData;
+use pdbdump_rows::{Form, Line, show_type};
 use std::alloc::Global;
 use std::io::Write;
 
@@ -68,7 +68,11 @@ fn list_at(
 }
 
 /// Opens a table for look-ups of the type of an index, and of the lists that hold its fields.
-fn open_table(alloc: Global, table: TypeInformation, index: TypeIndex) -> Result<OpenTable<TypeIndex>>
+fn open_table(
+    alloc: Global,
+    table: TypeInformation,
+    index: TypeIndex,
+) -> Result<OpenTable<TypeIndex>>
     ensures table { IfOk result (λ types. types.table ≡ table) }
     ensures memory { FailsOnlyForMemory result }
 {

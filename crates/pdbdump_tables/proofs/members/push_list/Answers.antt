@@ -19,7 +19,7 @@ returns c =
     let before = c.args.lines.now.items in (
       flat_map line (map type_value c.in_ok-fields.fields.items),
       ap told c.in_ok-fields.ensures,
-      c.in_ok-push_entries.ensures.ok
+      c.in_ok-push_entries.ensures
           ∙ ap (λ (fields : List TypeData). before ++ flat_map
           (λ field. line (type_value field)) fields) c.as_slice.ensures.value
           ∙ ap (λ (lines : List ℕ). before ++ lines) (sym (flat_map-map line type_value c.in_ok-fields.fields.items)),

@@ -7,11 +7,13 @@ pub loop-record-preserved : goal.loop-record-preserved
 loop-record-preserved g c =
     let next = omap_next c.args.form c.loop-record.record-iterator c.in-Some.record c.next.new.self
     c.in-Some.ensures.steps in
-    written_more _ _ _ _ _ _ _ next c.loop-record.invariant c.in_ok-write_record.ensures
+    written_more _ _ _ _ _ _ _ next c.loop-record.invariant
+    (c.in_ok-write_line.ensures _ _ _ c.show_omap-added.ensures c.begin.ensures)
 
-pub returns-in_err-write_record : goal.returns-in_err-write_record
-returns-in_err-write_record g c =
+pub returns-in_err-write_line : goal.returns-in_err-write_line
+returns-in_err-write_line g c =
     let next = omap_next c.args.form c.loop-record.record-iterator c.in-Some.record c.next.new.self
     c.in-Some.ensures.steps in
     rw (passed_on _ _ c.from_residual.ensures.1)
-    (cut_more _ _ _ _ _ _ _ _ next c.loop-record.invariant c.in_err-write_record.ensures)
+    (cut_more _ _ _ _ _ _ _ _ next c.loop-record.invariant
+    (c.in_err-write_line.ensures _ _ _ c.show_omap-added.ensures c.begin.ensures))

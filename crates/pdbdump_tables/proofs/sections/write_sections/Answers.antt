@@ -21,7 +21,7 @@ loop-place-preserved g c =
     (left c.parse.new.buffer) long c.in_ok-header.ensures.read in
     let next = section_next c.args.form _ _ c.in_ok-header.header _ step.0 in
     record {
-      written = written_more _ _ _ _ _ _ _ next c.loop-place.invariant.written c.in_ok-write_header.ensures;
+      written = written_more _ _ _ _ _ _ _ next c.loop-place.invariant.written (c.in_ok-write_line.ensures _ _ _ c.show_section-added.ensures c.begin.ensures);
       rest = omega (arith, step.1, c.loop-place.invariant.rest, c.loop-place-test.true);
     }
 
@@ -44,13 +44,13 @@ returns g c =
       written_all _ _ _ _ (no_section c.args.form _ _ short) c.loop-place.invariant.written,
     )
 
-pub returns-in_err-write_header : goal.returns-in_err-write_header
+pub returns-in_err-write_line : goal.returns-in_err-write_line
 unfolding sections_listing
-returns-in_err-write_header g c =
+returns-in_err-write_line g c =
     let long : 40 ≤ length (left c.loop-place.buffer) =
     omega (arith, c.loop-place.invariant.rest, c.loop-place-test.true, ap length c.as_slice-size.ensures.bytes) in
     let step = read_first (left c.loop-place.buffer) c.in_ok-header.header
     (left c.parse.new.buffer) long c.in_ok-header.ensures.read in
     let next = section_next c.args.form _ _ c.in_ok-header.header _ step.0 in
-    rw (passed_on _ _ c.from_residual-in_err-write_header.ensures.1)
-    (inr (cut_more _ _ _ _ _ _ _ _ next c.loop-place.invariant.written c.in_err-write_header.ensures))
+    rw (passed_on _ _ c.from_residual-in_err-write_line.ensures.1)
+    (inr (cut_more _ _ _ _ _ _ _ _ next c.loop-place.invariant.written (c.in_err-write_line.ensures _ _ _ c.show_section-added.ensures c.begin.ensures)))
