@@ -51,6 +51,7 @@ pub fn ids<W: Write>(alloc: Global, stream: Stream, form: Form, out: &mut Output
 }
 
 /// Makes the text of an id in full.
+#[tactic(auto, using(pdbdump_rows::proofs::lemmas::Line::showing))]
 fn make_full(
     alloc: Global,
     form: Form,

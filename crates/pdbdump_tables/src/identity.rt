@@ -204,7 +204,7 @@ fn show_identity(
 }
 
 /// Writes all that identifies a file as an object of JSON.
-#[tactic(auto, unfolding(crate::specs::Identity::identity_line), using(pdb_output::proofs::lemmas::Written::writing))]
+#[tactic(auto, unfolding(crate::specs::Identity::identity_line), using(pdbdump_rows::proofs::lemmas::Line::showing, pdb_output::proofs::lemmas::Written::writing))]
 fn write_object<W: Write>(
     alloc: Global,
     style: KeyStyle,

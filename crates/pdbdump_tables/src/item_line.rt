@@ -29,7 +29,7 @@ fn show_type_item(alloc: Global, item: &Item<'_, TypeIndex>, line: &mut Line) ->
 ///
 /// # Errors
 /// Fails with `OutOfMemory` if an allocation fails.
-#[tactic(auto, unfolding(crate::specs::Lines::type_line))]
+#[tactic(auto, unfolding(crate::specs::Lines::type_line), using(pdbdump_rows::proofs::lemmas::Line::showing))]
 pub(crate) fn make_type(
     alloc: Global,
     form: Form,
@@ -61,7 +61,7 @@ fn show_id_item(alloc: Global, item: &Item<'_, IdIndex>, line: &mut Line) -> Res
 ///
 /// # Errors
 /// Fails with `OutOfMemory` if an allocation fails.
-#[tactic(auto, unfolding(crate::specs::Lines::id_line))]
+#[tactic(auto, unfolding(crate::specs::Lines::id_line), using(pdbdump_rows::proofs::lemmas::Line::showing))]
 pub(crate) fn make_id(
     alloc: Global,
     form: Form,

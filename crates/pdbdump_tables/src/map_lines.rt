@@ -96,6 +96,7 @@ fn numbers_of(place: Option<PdbInternalSectionOffset>) -> Option<SectionOffset>
 }
 
 /// Writes the line of an address that is made of another.
+#[tactic(auto, using(pdbdump_rows::proofs::lemmas::Line::showing))]
 fn write_address<W: Write>(
     form: Form,
     from: &'static str,
@@ -112,6 +113,7 @@ fn write_address<W: Write>(
 }
 
 /// Writes the line of a place in a section that is made of an address.
+#[tactic(auto, using(pdbdump_rows::proofs::lemmas::Line::showing))]
 fn write_place<W: Write>(
     form: Form,
     from: &'static str,

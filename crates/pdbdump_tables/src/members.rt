@@ -19,6 +19,7 @@ use pdbdump_rows::{Form, Line, append_line, show_entry, show_listed_method};
 use std::alloc::Global;
 
 /// Appends the line of a field.
+#[tactic(auto, using(pdbdump_rows::proofs::lemmas::Line::showing))]
 fn push_entry(
     alloc: Global,
     form: Form,
@@ -52,6 +53,7 @@ fn push_entries(
 }
 
 /// Appends the line of a method.
+#[tactic(auto, using(pdbdump_rows::proofs::lemmas::Line::showing))]
 fn push_method(
     form: Form,
     method: MethodListEntry,

@@ -38,7 +38,7 @@ fn is_sorted(table: &OMAPTable) -> bool
 }
 
 /// Writes whether a table is sorted.
-#[tactic(auto)]
+#[tactic(auto, using(pdbdump_rows::proofs::lemmas::Line::showing))]
 fn write_order<W: Write>(
     form: Form,
     is_sorted: bool,

@@ -26,6 +26,7 @@ fn show_role(line: &mut Line, role: &'static str, number: u32) -> Result<()>
 }
 
 /// Writes the role of the table that follows, and the number of its stream.
+#[tactic(auto, using(pdbdump_rows::proofs::lemmas::Line::showing))]
 fn write_role<W: Write>(
     alloc: Global,
     role: &'static str,

@@ -53,7 +53,7 @@ fn show_refused(alloc: Global, line: &mut Line, part: Part, error: &Error) -> Re
 }
 
 /// Writes which part has an error, and which error.
-#[tactic(auto, unfolding(crate::specs::Refused::refused_line))]
+#[tactic(auto, unfolding(crate::specs::Refused::refused_line), using(pdbdump_rows::proofs::lemmas::Line::showing))]
 pub fn write_refused<W: Write>(
     alloc: Global,
     part: Part,

@@ -78,6 +78,7 @@ fn show_stream(
 }
 
 /// Writes the line of a stream with this number and this size in bytes.
+#[tactic(auto, using(pdbdump_rows::proofs::lemmas::Line::showing))]
 fn write_size<W: Write>(
     number: u32,
     size: u32,

@@ -233,7 +233,7 @@ fn write_parts<W: Write>(
 }
 
 /// Writes the line of a file, or the error of its header.
-#[tactic(auto, unfolding(crate::specs::Summary::pages_line), using(pdb_output::proofs::lemmas::Written::writing))]
+#[tactic(auto, unfolding(crate::specs::Summary::pages_line), using(pdbdump_rows::proofs::lemmas::Line::showing, pdb_output::proofs::lemmas::Written::writing))]
 fn write_pages<W: Write>(alloc: Global, file: &[u8], form: Form, out: &mut Output<W>) -> Result<()>
     ensures { Writes (pages_line form file.now) out.old out.new result }
 {

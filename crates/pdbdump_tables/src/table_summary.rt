@@ -36,6 +36,7 @@ fn show_table(line: &mut Line, number: u32, walked: &Walked, least: u32, end: u3
 
 /// Writes the line of a table: how many records it has and how many of them are lists of fields
 /// that another list continues, and the indexes that its header counts.
+#[tactic(auto, using(pdbdump_rows::proofs::lemmas::Line::showing))]
 fn write_head<W: Write>(
     alloc: Global,
     number: u32,

@@ -85,6 +85,7 @@ fn open_table(
 }
 
 /// Makes the text of a type in full.
+#[tactic(auto, using(pdbdump_rows::proofs::lemmas::Line::showing))]
 fn make_full(
     alloc: Global,
     form: Form,

@@ -10,14 +10,14 @@ pub loop-kind-preserved : goal.loop-kind-preserved
 loop-kind-preserved g c =
     let next = kind_next c.args.form c.args.number c.args.kinds.now c.loop-kind.kind-index _ c.loop-kind-test.true in
     written_more _ _ _ _ _ _ _ next c.loop-kind.invariant
-    (c.in_ok-write_line.ensures _ _ _ c.show_kind-added.ensures c.begin.ensures)
+    (c.in_ok-write_line.ensures.row _ _ _ c.show_kind-added.ensures c.begin.ensures)
 
 pub returns-in_err-write_line : goal.returns-in_err-write_line
 returns-in_err-write_line g c =
     let next = kind_next c.args.form c.args.number c.args.kinds.now c.loop-kind.kind-index _ c.loop-kind-test.true in
     rw (passed_on _ _ c.from_residual.ensures.1)
     (cut_more _ _ _ _ _ _ _ _ next c.loop-kind.invariant
-    (c.in_err-write_line.ensures _ _ _ c.show_kind-added.ensures c.begin.ensures))
+    (c.in_err-write_line.ensures.row _ _ _ c.show_kind-added.ensures c.begin.ensures))
 
 pub returns : goal.returns
 returns g c = written_all _ _ _ _ (kinds_end c.args.form c.args.number c.args.kinds.now _ c.loop-kind-test.false)
