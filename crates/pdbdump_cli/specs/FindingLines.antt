@@ -6,9 +6,10 @@ use Rattle.std.specs.List.{flat_map}
 use Rattle.pdb_base.specs.ErrorText.{hexadecimal}
 use Rattle.pdbdump_rows.specs.declared.form.Form.{Form}
 use Rattle.pdbdump_rows.specs.declared.form.Form.TheVariants as forms
+use Rattle.pdbdump_rows.specs.Fields.{optional_number}
 use Rattle.pdbdump_rows.specs.Lines.{line_feed, row_text}
 use Rattle.pdbdump_rows.specs.Refused.{refusal_text}
-use Rattle.pdbdump_rows.specs.Row.{ShownRow, ShownValue, absent, flag, number, text}
+use Rattle.pdbdump_rows.specs.Row.{ShownRow, flag, number, text}
 use Rattle.pdbdump_cli.specs.declared.finding_lines.Tally.{Tally}
 use Rattle.pdb_validation.specs.Finding.{Fault, error_count, fault_code, part_code, warning_count}
 use Rattle.pdb_validation.specs.Problem.{ProblemValue, failure, inconsistent, inconsistency_text, is_tolerated}
@@ -95,10 +96,6 @@ file_line path counts =
     path ++ codes ": " ++ whole_text counts ++ counts_if_any counts ++ line_feed ∷ []
 
 -- ---- JSON
-
-abbrev pub optional_number : Option ℕ → ShownValue
-optional_number (Some n) = number n
-optional_number None = absent
 
 -- a fault of the file with a path as a row
 abbrev pub fault_shown : List ℕ → Fault → ShownRow
