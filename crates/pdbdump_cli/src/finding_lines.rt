@@ -14,8 +14,8 @@ ghost use Rattle.pdbdump_cli.specs.FindingLines.{label_and_number, labelled, lin
 ghost use Rattle.pdbdump_cli.specs.FindingLines.{problem_words, severity, tally_view, validate_lines, whole_text};
 
 use pdb_base::{RawString, Result};
-use pdbdump_rows::{Form, Line, Value, error_text, optional_number};
 use pdb_validation::{Finding, Problem};
+use pdbdump_rows::{Form, Line, Value, error_text, optional_number};
 use std::alloc::Global;
 
 /// Appends a label and a number behind it in hexadecimal digits.

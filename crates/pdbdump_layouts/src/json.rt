@@ -6,8 +6,8 @@ use crate::layout_row::LayoutRow;
 use crate::object::{show_field, show_gap};
 use crate::totals::totals_of;
 use pdb_base::Result;
-use pdbdump_rows::{Form, Line, Value, optional_text, optional_word};
 use pdb_types::{Definitions, FieldKind, Layout, LayoutField};
+use pdbdump_rows::{Form, Line, Value, optional_text, optional_word};
 use std::alloc::Global;
 
 /// Adds what the object of a field holds.

@@ -5,8 +5,8 @@ use crate::cut::cut_at;
 use crate::object::show_field;
 use crate::text::shown;
 use pdb_base::{Result, TypeIndex};
-use pdbdump_rows::{Form, Line};
 use pdb_types::{Definitions, Extent, FieldKind, Layout, LayoutField};
+use pdbdump_rows::{Form, Line};
 use std::alloc::Global;
 
 /// A member that a path leads to.

@@ -11,8 +11,8 @@ ghost use Rattle.pdbdump_layouts.specs.Object.{role_name, role_word, virtual_bas
 
 use crate::gap_place::gap_place;
 use pdb_base::{Error, RawString, Result};
-use pdbdump_rows::{Line, Value, optional_text};
 use pdb_types::{Extent, FieldKind, Gap, GapKind, LayoutField};
+use pdbdump_rows::{Line, Value, optional_text};
 
 /// Returns the word for what a field is.
 fn role_word(kind: &FieldKind<'_>) -> &'static str

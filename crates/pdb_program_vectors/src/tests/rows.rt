@@ -4,11 +4,11 @@
 use pdb_base::{RawString, Result, TypeIndex};
 use pdb_flags::TypeProperties;
 use pdb_frames::{FrameData, FrameType};
-use pdbdump_rows::{Form, Line, show_frame, show_omap, show_section, show_type};
 use pdb_space::{
     ImageSectionHeader, OMAPRecord, PdbInternalRva, SectionCharacteristics, StringRef,
 };
 use pdb_values::{ClassKind, ClassType, TypeData, leaf_name};
+use pdbdump_rows::{Form, Line, show_frame, show_omap, show_section, show_type};
 use std::alloc::Global;
 use std::test::Fail;
 
