@@ -5,3 +5,4 @@ pub mod RowLemmas
 pub mod Separated
 pub mod StringLaws
 pub mod WordLemmas
+pub mod lemmas

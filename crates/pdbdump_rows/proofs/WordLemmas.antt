@@ -1,6 +1,7 @@
 -- Words of flags, one after another.
 use Rattle.std.proofs.Common.{◌≡◌, ℕ, ◌+◌, ◌<◌, Bool, true, false, cond, codes, List, [], ◌∷◌, ◌++◌, length, take, map, get_or}
-use Rattle.std.proofs.Common.{refl, ap, ◌∙◌, Bor}
+use Rattle.std.proofs.Common.{zero, suc, refl, sym, ap, ◌∙◌, arith, append_assoc, Bor}
+use Rattle.std.proofs.lemmas.Bool.{false≢true}
 use Rattle.std.proofs.lemmas.List.{append-nil, map-append, take_more}
 use Rattle.pdbdump_rows.specs.Lines.{is_none, separated}
 use Rattle.pdbdump_rows.proofs.Separated.{before, separated_more}
@@ -42,7 +43,7 @@ some_last [] item = refl
 some_last (first ∷ items) item = refl
 
 -- a flag that is set adds its word, behind a comma unless it is the first
-pub words_more : (text : List ℕ → List ℕ) (flags : List Flag) (i : ℕ) (d : Flag) → i < length flags
+words_more : (text : List ℕ → List ℕ) (flags : List Flag) (i : ℕ) (d : Flag) → i < length flags
     → (get_or flags i d).0 ≡ true
     → (separated (codes ",") text (chosen (map told (take (i + 1) flags)))
     ≡ separated (codes ",") text (chosen (map told (take i flags)))
@@ -58,8 +59,49 @@ words_more text flags i d within is_set =
     )
 
 -- a flag that is not set adds nothing
-pub words_same : (flags : List Flag) (i : ℕ) (d : Flag) → i < length flags → (get_or flags i d).0 ≡ false
+words_same : (flags : List Flag) (i : ℕ) (d : Flag) → i < length flags → (get_or flags i d).0 ≡ false
     → chosen (map told (take (i + 1) flags)) ≡ chosen (map told (take i flags))
 words_same flags i d within is_not =
     chosen_more flags i d within ∙ ap (λ (set : Bool). chosen (map told (take i flags))
     ++ cond set ((get_or flags i d).1.now ∷ []) []) is_not ∙ append-nil (chosen (map told (take i flags)))
+
+-- where a flag is set there are words
+pub any_chosen : (flags : List Flag) (i : ℕ) (d : Flag) → i < length flags → (get_or flags i d).0 ≡ true
+    → is_none (chosen (map told flags)) ≡ false
+unfolding chosen
+any_chosen [] i d within is_set = absurd (omega (arith, within))
+any_chosen ((true, word) ∷ flags) i d within is_set = refl
+any_chosen ((false, word) ∷ flags) zero d within is_set = absurd (false≢true is_set)
+any_chosen ((false, word) ∷ flags) (suc i) d within is_set = any_chosen flags i d (omega (arith, within)) is_set
+
+-- the words of the flags before a place
+abbrev words_to : List Flag → ℕ → List (List ℕ)
+words_to flags i = chosen (map told (take i flags))
+
+-- what is written after one flag more: its word, if it is set
+pub word_added : (text : List ℕ → List ℕ) (flags : List Flag) (i : ℕ) (d : Flag) (first next : Bool)
+    (start old new : List ℕ) → i < length flags → (get_or flags i d).0 ≡ true → first ≡ is_none (words_to flags i)
+    → old ≡ start ++ separated (codes ",") text (words_to flags i) → next ≡ false
+    → new ≡ old ++ (cond first [] (codes ",") ++ text (get_or flags i d).1.now)
+    → (next ≡ is_none (words_to flags (i + 1)))
+    × (new ≡ start ++ separated (codes ",") text (words_to flags (i + 1)))
+word_added text flags i d first next start old new within is_set none so_far is add =
+    let more = words_more text flags i d within is_set in
+    let word = text (get_or flags i d).1.now in (
+      is ∙ sym more.1,
+      add ∙ ap (λ (b : Bool). old ++ (cond b [] (codes ",") ++ word)) none
+          ∙ ap (λ (front : List ℕ). front ++ (before (codes ",") (words_to flags i) ++ word)) so_far
+          ∙ append_assoc start (separated (codes ",") text (words_to flags i)) (before (codes ",") (words_to flags i) ++ word)
+          ∙ ap (λ (all : List ℕ). start ++ all) (sym more.0),
+    )
+
+pub word_kept : (text : List ℕ → List ℕ) (flags : List Flag) (i : ℕ) (d : Flag) (first next : Bool)
+    (start old new : List ℕ) → i < length flags → (get_or flags i d).0 ≡ false → first ≡ is_none (words_to flags i)
+    → old ≡ start ++ separated (codes ",") text (words_to flags i) → next ≡ first → new ≡ old
+    → (next ≡ is_none (words_to flags (i + 1)))
+    × (new ≡ start ++ separated (codes ",") text (words_to flags (i + 1)))
+word_kept text flags i d first next start old new within is_not none so_far is add =
+    let same = words_same flags i d within is_not in (
+      is ∙ none ∙ ap is_none (sym same),
+      add ∙ so_far ∙ ap (λ (words : List (List ℕ)). start ++ separated (codes ",") text words) (sym same),
+    )

@@ -1,7 +1,8 @@
 -- The values of the fields of rows.
-use Rattle.std.specs.Prelude.{ℕ, ◌==◌, if◌then◌else◌, List, ◌∷◌, codes, Option, Some, None}
+use Rattle.std.specs.Prelude.{ℕ, ◌==◌, if◌then◌else◌, List, ◌∷◌, Option, Some, None}
 use Rattle.pdb_base.specs.declared.index.TypeIndex.{TypeIndex}
 use Rattle.pdb_base.specs.declared.index.IdIndex.{IdIndex}
+use Rattle.pdbdump_rows.specs.declared.names.TheConstants.{INDEX, KIND}
 use Rattle.pdbdump_rows.specs.Row.{ShownValue, ShownRow, number, hexadecimal, kind, text, absent}
 
 -- an index or an address that may be absent
@@ -39,4 +40,4 @@ optional_text None = absent
 
 -- what the row of a record begins with: its index, which an entry of a list doesn't have, and its leaf
 abbrev pub headed : Option ℕ → ℕ → ShownRow → ShownRow
-headed index leaf fields = (codes "index", optional_hexadecimal index) ∷ (codes "kind", kind leaf) ∷ fields
+headed index leaf fields = (INDEX.now, optional_hexadecimal index) ∷ (KIND.now, kind leaf) ∷ fields

@@ -1,6 +1,6 @@
 -- The fields that are shown of an id, behind its index and leaf. They have the names of the id's own
 -- fields.
-use Rattle.std.specs.Prelude.{ℕ, List, [], ◌∷◌, map, codes, Some}
+use Rattle.std.specs.Prelude.{ℕ, List, [], ◌∷◌, map, Some}
 use Rattle.pdb_base.specs.declared.index.TypeIndex.{TypeIndex}
 use Rattle.pdb_base.specs.declared.index.IdIndex.{IdIndex}
 use Rattle.pdb_values.specs.IdValue as values
@@ -8,30 +8,32 @@ use Rattle.pdb_values.specs.IdValue.{IdValue, PlainIdValue, FunctionValue, Membe
 use Rattle.pdb_values.specs.declared.source_id.UserDefinedTypeSourceFileRef.{UserDefinedTypeSourceFileRef}
 use Rattle.pdb_values.specs.declared.source_id.UserDefinedTypeSourceFileRef.TheVariants.{Local, Remote}
 use Rattle.pdb_values.specs.declared.source_id.UserDefinedTypeSourceId.{UserDefinedTypeSourceId}
+use Rattle.pdbdump_rows.specs.declared.names.TheConstants.{ARGUMENTS, FUNCTION_TYPE, LINE, MODULE, NAME, PARENT}
+use Rattle.pdbdump_rows.specs.declared.names.TheConstants.{SCOPE, SOURCE_FILE, SUBSTRINGS, UDT}
 use Rattle.pdbdump_rows.specs.Fields.{type_index, optional_id, headed}
 use Rattle.pdbdump_rows.specs.Row.{ShownValue, ShownRow, number, hexadecimal, text, indexes, absent}
 
 -- a function
 unfoldable pub function_fields : FunctionValue → ShownRow
 function_fields id =
-    (codes "name", text id.name)
-    ∷ (codes "scope", optional_id id.scope)
-    ∷ (codes "function_type", type_index id.function_type)
+    (NAME.now, text id.name)
+    ∷ (SCOPE.now, optional_id id.scope)
+    ∷ (FUNCTION_TYPE.now, type_index id.function_type)
     ∷ []
 
 -- a method
 unfoldable pub member_function_fields : MemberFunctionValue → ShownRow
 member_function_fields id =
-    (codes "name", text id.name)
-    ∷ (codes "parent", type_index id.parent)
-    ∷ (codes "function_type", type_index id.function_type)
+    (NAME.now, text id.name)
+    ∷ (PARENT.now, type_index id.parent)
+    ∷ (FUNCTION_TYPE.now, type_index id.function_type)
     ∷ []
 
 -- a string
 unfoldable pub string_fields : StringValue → ShownRow
 string_fields id =
-    (codes "name", text id.name)
-    ∷ (codes "substrings", optional_id id.substrings)
+    (NAME.now, text id.name)
+    ∷ (SUBSTRINGS.now, optional_id id.substrings)
     ∷ []
 
 -- the id of a file's name, or the offset of the name in the string table
@@ -47,19 +49,19 @@ source_module (Remote module_number place) = number module_number
 -- where a type is declared
 unfoldable pub source_fields : UserDefinedTypeSourceId → ShownRow
 source_fields id =
-    (codes "udt", type_index id.udt)
-    ∷ (codes "source_file", source_file id.source_file)
-    ∷ (codes "module", source_module id.source_file)
-    ∷ (codes "line", number id.line)
+    (UDT.now, type_index id.udt)
+    ∷ (SOURCE_FILE.now, source_file id.source_file)
+    ∷ (MODULE.now, source_module id.source_file)
+    ∷ (LINE.now, number id.line)
     ∷ []
 
 -- what a module was built with
 unfoldable pub build_info_fields : List IdIndex → ShownRow
-build_info_fields arguments = (codes "arguments", indexes (map (λ index. index.0) arguments)) ∷ []
+build_info_fields arguments = (ARGUMENTS.now, indexes (map (λ index. index.0) arguments)) ∷ []
 
 -- the parts of a text
 unfoldable pub string_list_fields : List TypeIndex → ShownRow
-string_list_fields substrings = (codes "substrings", indexes (map (λ index. index.0) substrings)) ∷ []
+string_list_fields substrings = (SUBSTRINGS.now, indexes (map (λ index. index.0) substrings)) ∷ []
 
 -- an id without a list
 abbrev pub plain_fields : PlainIdValue → ShownRow

@@ -2,6 +2,7 @@
 use Rattle.std.specs.Prelude.{ℕ, List, codes, unwrap_or}
 use Rattle.pdb_base.specs.ErrorText.{text_of}
 use Rattle.pdb_base.specs.Refusal.{Refusal}
+use Rattle.pdbdump_rows.specs.declared.names.TheConstants.{ERROR}
 use Rattle.pdbdump_rows.specs.Row.{ShownField, text}
 
 -- the text of a refusal; that of an error of the source says only that it is one
@@ -10,4 +11,4 @@ refusal_text refusal = unwrap_or (text_of refusal) (codes "IO error while readin
 
 -- the field that says why something is refused
 abbrev pub refusal_shown : Refusal → ShownField
-refusal_shown refusal = (codes "error", text (refusal_text refusal))
+refusal_shown refusal = (ERROR.now, text (refusal_text refusal))

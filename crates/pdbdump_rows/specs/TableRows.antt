@@ -7,6 +7,10 @@ use Rattle.pdb_space.specs.Omap.{OmapValue}
 use Rattle.pdb_space.specs.SectionHeader.{alignment_of, section_name}
 use Rattle.pdb_space.specs.declared.section_header.ImageSectionHeader.{ImageSectionHeader}
 use Rattle.pdb_space.specs.declared.string_ref.StringRef.{StringRef}
+use Rattle.pdbdump_rows.specs.declared.names.TheConstants.{ALIGNMENT, CHARACTERISTICS, CODE_SIZE, CODE_START}
+use Rattle.pdbdump_rows.specs.declared.names.TheConstants.{HAS_CPP_EH, HAS_STRUCTURED_EH, IS_FUNCTION_START}
+use Rattle.pdbdump_rows.specs.declared.names.TheConstants.{LOCALS_SIZE, MAX_STACK_SIZE, NAME, NUMBER, PARAMS_SIZE}
+use Rattle.pdbdump_rows.specs.declared.names.TheConstants.{PROGRAM, PROLOG_SIZE, TY, USES_BASE_POINTER, VIRTUAL_SIZE}
 use Rattle.pdbdump_rows.specs.Fields.{optional_number}
 use Rattle.pdbdump_rows.specs.Row.{ShownValue, ShownRow, number, hexadecimal, flag, text, words, absent}
 use Rattle.pdbdump_rows.specs.Words.{section_words}
@@ -14,18 +18,18 @@ use Rattle.pdbdump_rows.specs.Words.{section_words}
 -- the header of the section with this number
 unfoldable pub section_row : ℕ → ImageSectionHeader → ShownRow
 section_row section header =
-    (codes "number", number section)
-    ∷ (codes "name", text (section_name header))
+    (NUMBER.now, number section)
+    ∷ (NAME.now, text (section_name header))
     ∷ (codes "virtual_address", hexadecimal header.virtual_address)
-    ∷ (codes "virtual_size", number header.virtual_size)
+    ∷ (VIRTUAL_SIZE.now, number header.virtual_size)
     ∷ (codes "pointer_to_raw_data", hexadecimal header.pointer_to_raw_data)
     ∷ (codes "size_of_raw_data", number header.size_of_raw_data)
     ∷ (codes "pointer_to_relocations", hexadecimal header.pointer_to_relocations)
     ∷ (codes "number_of_relocations", number header.number_of_relocations)
     ∷ (codes "pointer_to_line_numbers", hexadecimal header.pointer_to_line_numbers)
     ∷ (codes "number_of_line_numbers", number header.number_of_line_numbers)
-    ∷ (codes "characteristics", words (section_words header.characteristics.0))
-    ∷ (codes "alignment", optional_number (alignment_of header.characteristics.0))
+    ∷ (CHARACTERISTICS.now, words (section_words header.characteristics.0))
+    ∷ (ALIGNMENT.now, optional_number (alignment_of header.characteristics.0))
     ∷ []
 
 -- a record of an OMAP table
@@ -43,17 +47,17 @@ program_place None = absent
 -- a frame
 unfoldable pub frame_row : FrameData → ShownRow
 frame_row frame =
-    (codes "code_start", hexadecimal frame.code_start)
-    ∷ (codes "code_size", number frame.code_size)
-    ∷ (codes "locals_size", number frame.locals_size)
-    ∷ (codes "params_size", number frame.params_size)
-    ∷ (codes "prolog_size", number frame.prolog_size)
+    (CODE_START.now, hexadecimal frame.code_start)
+    ∷ (CODE_SIZE.now, number frame.code_size)
+    ∷ (LOCALS_SIZE.now, number frame.locals_size)
+    ∷ (PARAMS_SIZE.now, number frame.params_size)
+    ∷ (PROLOG_SIZE.now, number frame.prolog_size)
     ∷ (codes "saved_regs_size", number frame.saved_regs_size)
-    ∷ (codes "max_stack_size", optional_number frame.max_stack_size)
-    ∷ (codes "ty", text (frames.kind_text frame.ty))
-    ∷ (codes "has_structured_eh", flag frame.has_structured_eh)
-    ∷ (codes "has_cpp_eh", flag frame.has_cpp_eh)
-    ∷ (codes "is_function_start", flag frame.is_function_start)
-    ∷ (codes "uses_base_pointer", flag frame.uses_base_pointer)
-    ∷ (codes "program", program_place frame.program)
+    ∷ (MAX_STACK_SIZE.now, optional_number frame.max_stack_size)
+    ∷ (TY.now, text (frames.kind_text frame.ty))
+    ∷ (HAS_STRUCTURED_EH.now, flag frame.has_structured_eh)
+    ∷ (HAS_CPP_EH.now, flag frame.has_cpp_eh)
+    ∷ (IS_FUNCTION_START.now, flag frame.is_function_start)
+    ∷ (USES_BASE_POINTER.now, flag frame.uses_base_pointer)
+    ∷ (PROGRAM.now, program_place frame.program)
     ∷ []

@@ -28,6 +28,15 @@ use Rattle.pdb_values.specs.declared.method.MethodListEntry.{MethodListEntry}
 use Rattle.pdb_values.specs.declared.modifier.ModifierType.{ModifierType}
 use Rattle.pdb_values.specs.declared.pointer.PointerType.{PointerType}
 use Rattle.pdb_values.specs.declared.primitive.PrimitiveType.{PrimitiveType}
+use Rattle.pdbdump_rows.specs.declared.names.TheConstants.{ACCESS, ARGUMENT_LIST, ARGUMENTS, ATTRIBUTES, BASE_CLASS}
+use Rattle.pdbdump_rows.specs.declared.names.TheConstants.{BASE_POINTER, CLASS_TYPE, CONTAINING_CLASS, CONTINUATION}
+use Rattle.pdbdump_rows.specs.declared.names.TheConstants.{COUNT, DERIVED_FROM, DESCRIPTORS, DIMENSIONS, DIRECT}
+use Rattle.pdbdump_rows.specs.declared.names.TheConstants.{ELEMENT_TYPE, FIELD_TYPE, FIELDS, HFA, INDEXING_TYPE}
+use Rattle.pdbdump_rows.specs.declared.names.TheConstants.{INDIRECTION, LENGTH, METHOD_LIST, METHOD_TYPE, METHODS}
+use Rattle.pdbdump_rows.specs.declared.names.TheConstants.{MOCOM, MODIFIERS, NAME, NESTED_TYPE, OFFSET, POINTER_KIND}
+use Rattle.pdbdump_rows.specs.declared.names.TheConstants.{POINTER_MODE, POSITION, PROPERTIES, RETURN_TYPE, SIZE}
+use Rattle.pdbdump_rows.specs.declared.names.TheConstants.{STRIDE, TABLE, UNDERLYING_TYPE, UNIQUE_NAME, VALUE}
+use Rattle.pdbdump_rows.specs.declared.names.TheConstants.{VTABLE_OFFSET, VTABLE_SHAPE}
 use Rattle.pdbdump_rows.specs.Fields.{type_index, optional_type, optional_number, optional_text, nonzero, headed}
 use Rattle.pdbdump_rows.specs.Row.{ShownValue, ShownRow, number, signed, flag, text, words, numbers, indexes}
 use Rattle.pdbdump_rows.specs.Words.{access_word, field_words, function_words, indirection_word, kind_word, mode_word}
@@ -37,48 +46,48 @@ use Rattle.pdbdump_rows.specs.Words.{modifier_words, pointer_words, primitive_wo
 unfoldable pub primitive_fields : PrimitiveType → ShownRow
 primitive_fields type =
     (codes "primitive_kind", text (primitive_word type.kind))
-    ∷ (codes "indirection", optional_text (option_map indirection_word type.indirection))
+    ∷ (INDIRECTION.now, optional_text (option_map indirection_word type.indirection))
     ∷ []
 
 -- a class, a structure or an interface
 unfoldable pub class_fields : ClassValue → ShownRow
 class_fields type =
-    (codes "name", text type.name)
-    ∷ (codes "count", number type.count)
-    ∷ (codes "properties", words (property_words type.properties))
-    ∷ (codes "hfa", nonzero (hfa type.properties))
-    ∷ (codes "mocom", nonzero (mocom type.properties))
-    ∷ (codes "fields", optional_type type.fields)
-    ∷ (codes "derived_from", optional_type type.derived_from)
-    ∷ (codes "vtable_shape", optional_type type.vtable_shape)
-    ∷ (codes "size", number type.size)
-    ∷ (codes "unique_name", optional_text type.unique_name)
+    (NAME.now, text type.name)
+    ∷ (COUNT.now, number type.count)
+    ∷ (PROPERTIES.now, words (property_words type.properties))
+    ∷ (HFA.now, nonzero (hfa type.properties))
+    ∷ (MOCOM.now, nonzero (mocom type.properties))
+    ∷ (FIELDS.now, optional_type type.fields)
+    ∷ (DERIVED_FROM.now, optional_type type.derived_from)
+    ∷ (VTABLE_SHAPE.now, optional_type type.vtable_shape)
+    ∷ (SIZE.now, number type.size)
+    ∷ (UNIQUE_NAME.now, optional_text type.unique_name)
     ∷ []
 
 -- a union
 unfoldable pub union_fields : UnionValue → ShownRow
 union_fields type =
-    (codes "name", text type.name)
-    ∷ (codes "count", number type.count)
-    ∷ (codes "properties", words (property_words type.properties))
-    ∷ (codes "hfa", nonzero (hfa type.properties))
-    ∷ (codes "mocom", nonzero (mocom type.properties))
-    ∷ (codes "fields", type_index type.fields)
-    ∷ (codes "size", number type.size)
-    ∷ (codes "unique_name", optional_text type.unique_name)
+    (NAME.now, text type.name)
+    ∷ (COUNT.now, number type.count)
+    ∷ (PROPERTIES.now, words (property_words type.properties))
+    ∷ (HFA.now, nonzero (hfa type.properties))
+    ∷ (MOCOM.now, nonzero (mocom type.properties))
+    ∷ (FIELDS.now, type_index type.fields)
+    ∷ (SIZE.now, number type.size)
+    ∷ (UNIQUE_NAME.now, optional_text type.unique_name)
     ∷ []
 
 -- an enumeration
 unfoldable pub enumeration_fields : EnumerationValue → ShownRow
 enumeration_fields type =
-    (codes "name", text type.name)
-    ∷ (codes "count", number type.count)
-    ∷ (codes "properties", words (property_words type.properties))
-    ∷ (codes "hfa", nonzero (hfa type.properties))
-    ∷ (codes "mocom", nonzero (mocom type.properties))
-    ∷ (codes "underlying_type", type_index type.underlying_type)
-    ∷ (codes "fields", type_index type.fields)
-    ∷ (codes "unique_name", optional_text type.unique_name)
+    (NAME.now, text type.name)
+    ∷ (COUNT.now, number type.count)
+    ∷ (PROPERTIES.now, words (property_words type.properties))
+    ∷ (HFA.now, nonzero (hfa type.properties))
+    ∷ (MOCOM.now, nonzero (mocom type.properties))
+    ∷ (UNDERLYING_TYPE.now, type_index type.underlying_type)
+    ∷ (FIELDS.now, type_index type.fields)
+    ∷ (UNIQUE_NAME.now, optional_text type.unique_name)
     ∷ []
 
 -- the number that a value of an enumeration stands for
@@ -95,173 +104,173 @@ variant_shown (variants.I64 z) = signed z
 -- a value of an enumeration
 unfoldable pub enumerate_fields : EnumerateValue → ShownRow
 enumerate_fields value =
-    (codes "name", text value.name)
-    ∷ (codes "access", optional_text (access_word value.attributes))
-    ∷ (codes "attributes", words (field_words value.attributes))
-    ∷ (codes "value", variant_shown value.value)
+    (NAME.now, text value.name)
+    ∷ (ACCESS.now, optional_text (access_word value.attributes))
+    ∷ (ATTRIBUTES.now, words (field_words value.attributes))
+    ∷ (VALUE.now, variant_shown value.value)
     ∷ []
 
 -- a data member
 unfoldable pub member_fields : MemberValue → ShownRow
 member_fields member =
-    (codes "name", text member.name)
-    ∷ (codes "access", optional_text (access_word member.attributes))
-    ∷ (codes "attributes", words (field_words member.attributes))
-    ∷ (codes "field_type", type_index member.field_type)
-    ∷ (codes "offset", number member.offset)
+    (NAME.now, text member.name)
+    ∷ (ACCESS.now, optional_text (access_word member.attributes))
+    ∷ (ATTRIBUTES.now, words (field_words member.attributes))
+    ∷ (FIELD_TYPE.now, type_index member.field_type)
+    ∷ (OFFSET.now, number member.offset)
     ∷ []
 
 -- a static data member
 unfoldable pub static_member_fields : StaticMemberValue → ShownRow
 static_member_fields member =
-    (codes "name", text member.name)
-    ∷ (codes "access", optional_text (access_word member.attributes))
-    ∷ (codes "attributes", words (field_words member.attributes))
-    ∷ (codes "field_type", type_index member.field_type)
+    (NAME.now, text member.name)
+    ∷ (ACCESS.now, optional_text (access_word member.attributes))
+    ∷ (ATTRIBUTES.now, words (field_words member.attributes))
+    ∷ (FIELD_TYPE.now, type_index member.field_type)
     ∷ []
 
 -- a type that is declared in a class
 unfoldable pub nested_fields : NestedValue → ShownRow
 nested_fields nested =
-    (codes "name", text nested.name)
-    ∷ (codes "access", optional_text (access_word nested.attributes))
-    ∷ (codes "attributes", words (field_words nested.attributes))
-    ∷ (codes "nested_type", type_index nested.nested_type)
+    (NAME.now, text nested.name)
+    ∷ (ACCESS.now, optional_text (access_word nested.attributes))
+    ∷ (ATTRIBUTES.now, words (field_words nested.attributes))
+    ∷ (NESTED_TYPE.now, type_index nested.nested_type)
     ∷ []
 
 -- the methods of one name
 unfoldable pub overloaded_method_fields : OverloadedMethodValue → ShownRow
 overloaded_method_fields methods =
-    (codes "name", text methods.name)
-    ∷ (codes "count", number methods.count)
-    ∷ (codes "method_list", type_index methods.method_list)
+    (NAME.now, text methods.name)
+    ∷ (COUNT.now, number methods.count)
+    ∷ (METHOD_LIST.now, type_index methods.method_list)
     ∷ []
 
 -- a method that shares its name with no other
 unfoldable pub method_fields : MethodValue → ShownRow
 method_fields method =
-    (codes "name", text method.name)
-    ∷ (codes "access", optional_text (access_word method.attributes))
-    ∷ (codes "attributes", words (field_words method.attributes))
-    ∷ (codes "method_type", type_index method.method_type)
-    ∷ (codes "vtable_offset", optional_number method.vtable_offset)
+    (NAME.now, text method.name)
+    ∷ (ACCESS.now, optional_text (access_word method.attributes))
+    ∷ (ATTRIBUTES.now, words (field_words method.attributes))
+    ∷ (METHOD_TYPE.now, type_index method.method_type)
+    ∷ (VTABLE_OFFSET.now, optional_number method.vtable_offset)
     ∷ []
 
 -- one method of a list of methods
 unfoldable pub listed_method_fields : MethodListEntry → ShownRow
 listed_method_fields method =
-    (codes "access", optional_text (access_word method.attributes))
-    ∷ (codes "attributes", words (field_words method.attributes))
-    ∷ (codes "method_type", type_index method.method_type)
-    ∷ (codes "vtable_offset", optional_number method.vtable_offset)
+    (ACCESS.now, optional_text (access_word method.attributes))
+    ∷ (ATTRIBUTES.now, words (field_words method.attributes))
+    ∷ (METHOD_TYPE.now, type_index method.method_type)
+    ∷ (VTABLE_OFFSET.now, optional_number method.vtable_offset)
     ∷ []
 
 -- a base class
 unfoldable pub base_class_fields : BaseClassType → ShownRow
 base_class_fields base =
-    (codes "access", optional_text (access_word base.attributes))
-    ∷ (codes "attributes", words (field_words base.attributes))
-    ∷ (codes "base_class", type_index base.base_class)
-    ∷ (codes "offset", number base.offset)
+    (ACCESS.now, optional_text (access_word base.attributes))
+    ∷ (ATTRIBUTES.now, words (field_words base.attributes))
+    ∷ (BASE_CLASS.now, type_index base.base_class)
+    ∷ (OFFSET.now, number base.offset)
     ∷ []
 
 -- a virtual base class
 unfoldable pub virtual_base_fields : VirtualBaseClassType → ShownRow
 virtual_base_fields base =
-    (codes "direct", flag base.direct)
-    ∷ (codes "access", optional_text (access_word base.attributes))
-    ∷ (codes "attributes", words (field_words base.attributes))
-    ∷ (codes "base_class", type_index base.base_class)
-    ∷ (codes "base_pointer", type_index base.base_pointer)
+    (DIRECT.now, flag base.direct)
+    ∷ (ACCESS.now, optional_text (access_word base.attributes))
+    ∷ (ATTRIBUTES.now, words (field_words base.attributes))
+    ∷ (BASE_CLASS.now, type_index base.base_class)
+    ∷ (BASE_POINTER.now, type_index base.base_pointer)
     ∷ (codes "base_pointer_offset", number base.base_pointer_offset)
     ∷ (codes "virtual_base_offset", number base.virtual_base_offset)
     ∷ []
 
 -- the pointer to a table of virtual functions
 unfoldable pub table_pointer_fields : VirtualFunctionTablePointerType → ShownRow
-table_pointer_fields pointer = (codes "table", type_index pointer.table) ∷ []
+table_pointer_fields pointer = (TABLE.now, type_index pointer.table) ∷ []
 
 -- the type of a function
 unfoldable pub procedure_fields : ProcedureType → ShownRow
 procedure_fields type =
-    (codes "return_type", optional_type type.return_type)
+    (RETURN_TYPE.now, optional_type type.return_type)
     ∷ (codes "calling_convention", number (calling_convention type.attributes))
-    ∷ (codes "attributes", words (function_words type.attributes))
+    ∷ (ATTRIBUTES.now, words (function_words type.attributes))
     ∷ (codes "parameter_count", number type.parameter_count)
-    ∷ (codes "argument_list", type_index type.argument_list)
+    ∷ (ARGUMENT_LIST.now, type_index type.argument_list)
     ∷ []
 
 -- the type of a method
 unfoldable pub member_function_fields : MemberFunctionType → ShownRow
 member_function_fields type =
-    (codes "return_type", type_index type.return_type)
-    ∷ (codes "class_type", type_index type.class_type)
+    (RETURN_TYPE.now, type_index type.return_type)
+    ∷ (CLASS_TYPE.now, type_index type.class_type)
     ∷ (codes "this_pointer_type", optional_type type.this_pointer_type)
     ∷ (codes "calling_convention", number (calling_convention type.attributes))
-    ∷ (codes "attributes", words (function_words type.attributes))
+    ∷ (ATTRIBUTES.now, words (function_words type.attributes))
     ∷ (codes "parameter_count", number type.parameter_count)
-    ∷ (codes "argument_list", type_index type.argument_list)
+    ∷ (ARGUMENT_LIST.now, type_index type.argument_list)
     ∷ (codes "this_adjustment", number type.this_adjustment)
     ∷ []
 
 -- a pointer
 unfoldable pub pointer_fields : PointerType → ShownRow
 pointer_fields type =
-    (codes "underlying_type", type_index type.underlying_type)
-    ∷ (codes "pointer_kind", text (kind_word (kind_in type.attributes)))
-    ∷ (codes "pointer_mode", text (mode_word (mode_in type.attributes)))
-    ∷ (codes "attributes", words (pointer_words type.attributes))
-    ∷ (codes "size", number (pointer_size type.attributes))
-    ∷ (codes "containing_class", optional_type type.containing_class)
+    (UNDERLYING_TYPE.now, type_index type.underlying_type)
+    ∷ (POINTER_KIND.now, text (kind_word (kind_in type.attributes)))
+    ∷ (POINTER_MODE.now, text (mode_word (mode_in type.attributes)))
+    ∷ (ATTRIBUTES.now, words (pointer_words type.attributes))
+    ∷ (SIZE.now, number (pointer_size type.attributes))
+    ∷ (CONTAINING_CLASS.now, optional_type type.containing_class)
     ∷ []
 
 -- a type with modifiers
 unfoldable pub modifier_fields : ModifierType → ShownRow
 modifier_fields type =
-    (codes "underlying_type", type_index type.underlying_type)
-    ∷ (codes "modifiers", words (modifier_words type))
+    (UNDERLYING_TYPE.now, type_index type.underlying_type)
+    ∷ (MODIFIERS.now, words (modifier_words type))
     ∷ []
 
 -- a bitfield
 unfoldable pub bitfield_fields : BitfieldType → ShownRow
 bitfield_fields type =
-    (codes "underlying_type", type_index type.underlying_type)
-    ∷ (codes "length", number type.length)
-    ∷ (codes "position", number type.position)
+    (UNDERLYING_TYPE.now, type_index type.underlying_type)
+    ∷ (LENGTH.now, number type.length)
+    ∷ (POSITION.now, number type.position)
     ∷ []
 
 -- an array
 unfoldable pub array_fields : ArrayValue → ShownRow
 array_fields type =
-    (codes "element_type", type_index type.element_type)
-    ∷ (codes "indexing_type", type_index type.indexing_type)
-    ∷ (codes "stride", optional_number type.stride)
-    ∷ (codes "dimensions", numbers type.dimensions)
+    (ELEMENT_TYPE.now, type_index type.element_type)
+    ∷ (INDEXING_TYPE.now, type_index type.indexing_type)
+    ∷ (STRIDE.now, optional_number type.stride)
+    ∷ (DIMENSIONS.now, numbers type.dimensions)
     ∷ []
 
 -- a field list: the number of its fields, and the list that continues it
 unfoldable pub field_list_fields : Fields → Option TypeIndex → ShownRow
 field_list_fields fields continuation =
-    (codes "count", number (length (values_in fields)))
-    ∷ (codes "continuation", optional_type continuation)
+    (COUNT.now, number (length (values_in fields)))
+    ∷ (CONTINUATION.now, optional_type continuation)
     ∷ []
 
 -- the types of a function's arguments
 unfoldable pub argument_list_fields : List TypeIndex → ShownRow
-argument_list_fields arguments = (codes "arguments", indexes (map (λ index. index.0) arguments)) ∷ []
+argument_list_fields arguments = (ARGUMENTS.now, indexes (map (λ index. index.0) arguments)) ∷ []
 
 -- a list of methods: how many there are, and the indexes of their types
 unfoldable pub method_list_fields : List MethodListEntry → ShownRow
 method_list_fields methods =
-    (codes "count", number (length methods))
-    ∷ (codes "methods", indexes (map (λ method. method.method_type.0) methods))
+    (COUNT.now, number (length methods))
+    ∷ (METHODS.now, indexes (map (λ method. method.method_type.0) methods))
     ∷ []
 
 -- the shape of a table of virtual functions
 unfoldable pub table_shape_fields : VirtualTableShapeValue → ShownRow
 table_shape_fields shape =
-    (codes "count", number shape.count)
-    ∷ (codes "descriptors", indexes shape.descriptors)
+    (COUNT.now, number shape.count)
+    ∷ (DESCRIPTORS.now, indexes shape.descriptors)
     ∷ []
 
 -- the fields that are shown of a type without a list

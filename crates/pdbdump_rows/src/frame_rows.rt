@@ -7,6 +7,10 @@ ghost use Rattle.pdbdump_rows.specs.Row.{value_shown};
 ghost use Rattle.pdbdump_rows.specs.TableRows.{frame_row, program_place};
 
 use crate::line::Line;
+use crate::names::{
+    CODE_SIZE, CODE_START, HAS_CPP_EH, HAS_STRUCTURED_EH, IS_FUNCTION_START, LOCALS_SIZE,
+    MAX_STACK_SIZE, PARAMS_SIZE, PROGRAM, PROLOG_SIZE, TY, USES_BASE_POINTER,
+};
 use crate::value::{Value, optional_number};
 use pdb_base::{Error, Result};
 use pdb_frames::{FrameData, FrameType};
@@ -45,21 +49,21 @@ fn program<'t>(place: Option<StringRef>) -> Value<'t>
 pub fn show_frame(line: &mut Line, frame: &FrameData) -> Result<()>
     ensures { Shows (frame_row frame.now) line.old line.new result }
 {
-    line.field("code_start", Value::Hexadecimal(frame.code_start.0))?;
-    line.field("code_size", Value::Number(frame.code_size as u64))?;
-    line.field("locals_size", Value::Number(frame.locals_size as u64))?;
-    line.field("params_size", Value::Number(frame.params_size as u64))?;
-    line.field("prolog_size", Value::Number(frame.prolog_size as u64))?;
+    line.field(CODE_START, Value::Hexadecimal(frame.code_start.0))?;
+    line.field(CODE_SIZE, Value::Number(frame.code_size as u64))?;
+    line.field(LOCALS_SIZE, Value::Number(frame.locals_size as u64))?;
+    line.field(PARAMS_SIZE, Value::Number(frame.params_size as u64))?;
+    line.field(PROLOG_SIZE, Value::Number(frame.prolog_size as u64))?;
     line.field(
         "saved_regs_size",
         Value::Number(frame.saved_regs_size as u64),
     )?;
-    line.field("max_stack_size", optional_number(frame.max_stack_size))?;
-    line.field("ty", Value::Word(frame_word(frame.ty)))?;
-    line.field("has_structured_eh", Value::Flag(frame.has_structured_eh))?;
-    line.field("has_cpp_eh", Value::Flag(frame.has_cpp_eh))?;
-    line.field("is_function_start", Value::Flag(frame.is_function_start))?;
-    line.field("uses_base_pointer", Value::Flag(frame.uses_base_pointer))?;
-    line.field("program", program(frame.program))?;
+    line.field(MAX_STACK_SIZE, optional_number(frame.max_stack_size))?;
+    line.field(TY, Value::Word(frame_word(frame.ty)))?;
+    line.field(HAS_STRUCTURED_EH, Value::Flag(frame.has_structured_eh))?;
+    line.field(HAS_CPP_EH, Value::Flag(frame.has_cpp_eh))?;
+    line.field(IS_FUNCTION_START, Value::Flag(frame.is_function_start))?;
+    line.field(USES_BASE_POINTER, Value::Flag(frame.uses_base_pointer))?;
+    line.field(PROGRAM, program(frame.program))?;
     Ok(())
 }

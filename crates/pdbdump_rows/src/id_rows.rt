@@ -8,6 +8,9 @@ ghost use Rattle.pdbdump_rows.specs.Row.{value_shown};
 
 use crate::line::Line;
 use crate::lists::{id_numbers, type_numbers};
+use crate::names::{
+    ARGUMENTS, FUNCTION_TYPE, LINE, MODULE, NAME, PARENT, SCOPE, SOURCE_FILE, SUBSTRINGS, UDT,
+};
 use crate::type_rows::show_head;
 use crate::value::{Value, optional_id, type_index};
 use pdb_base::{Error, Result};
@@ -22,9 +25,9 @@ use std::alloc::Global;
 fn show_function(line: &mut Line, id: &FunctionId<'_>) -> Result<()>
     ensures { Shows (function_fields (function_value id.now)) line.old line.new result }
 {
-    line.field("name", Value::Text(id.name))?;
-    line.field("scope", optional_id(id.scope))?;
-    line.field("function_type", type_index(id.function_type))?;
+    line.field(NAME, Value::Text(id.name))?;
+    line.field(SCOPE, optional_id(id.scope))?;
+    line.field(FUNCTION_TYPE, type_index(id.function_type))?;
     Ok(())
 }
 
@@ -33,9 +36,9 @@ fn show_function(line: &mut Line, id: &FunctionId<'_>) -> Result<()>
 fn show_member_function(line: &mut Line, id: &MemberFunctionId<'_>) -> Result<()>
     ensures { Shows (member_function_fields (member_function_value id.now)) line.old line.new result }
 {
-    line.field("name", Value::Text(id.name))?;
-    line.field("parent", type_index(id.parent))?;
-    line.field("function_type", type_index(id.function_type))?;
+    line.field(NAME, Value::Text(id.name))?;
+    line.field(PARENT, type_index(id.parent))?;
+    line.field(FUNCTION_TYPE, type_index(id.function_type))?;
     Ok(())
 }
 
@@ -45,7 +48,7 @@ fn show_build_info(alloc: Global, line: &mut Line, id: &BuildInfoId) -> Result<(
     ensures { Shows (build_info_fields (build_arguments id.now)) line.old line.new result }
 {
     let arguments = id_numbers(alloc, &id.arguments)?;
-    line.field("arguments", Value::Indexes(&arguments))?;
+    line.field(ARGUMENTS, Value::Indexes(&arguments))?;
     Ok(())
 }
 
@@ -55,7 +58,7 @@ fn show_string_list(alloc: Global, line: &mut Line, id: &StringListId) -> Result
     ensures { Shows (string_list_fields (text_parts id.now)) line.old line.new result }
 {
     let substrings = type_numbers(alloc, &id.substrings)?;
-    line.field("substrings", Value::Indexes(&substrings))?;
+    line.field(SUBSTRINGS, Value::Indexes(&substrings))?;
     Ok(())
 }
 
@@ -64,8 +67,8 @@ fn show_string_list(alloc: Global, line: &mut Line, id: &StringListId) -> Result
 fn show_string(line: &mut Line, id: &StringId<'_>) -> Result<()>
     ensures { Shows (string_fields (string_value id.now)) line.old line.new result }
 {
-    line.field("name", Value::Text(id.name))?;
-    line.field("substrings", optional_id(id.substrings))?;
+    line.field(NAME, Value::Text(id.name))?;
+    line.field(SUBSTRINGS, optional_id(id.substrings))?;
     Ok(())
 }
 
@@ -95,10 +98,10 @@ fn source_file<'t>(file: UserDefinedTypeSourceFileRef) -> Value<'t>
 fn show_source(line: &mut Line, id: &UserDefinedTypeSourceId) -> Result<()>
     ensures { Shows (source_fields id.now) line.old line.new result }
 {
-    line.field("udt", type_index(id.udt))?;
-    line.field("source_file", source_file(id.source_file))?;
-    line.field("module", source_module(id.source_file))?;
-    line.field("line", Value::Number(id.line as u64))?;
+    line.field(UDT, type_index(id.udt))?;
+    line.field(SOURCE_FILE, source_file(id.source_file))?;
+    line.field(MODULE, source_module(id.source_file))?;
+    line.field(LINE, Value::Number(id.line as u64))?;
     Ok(())
 }
 

@@ -3,8 +3,10 @@
 ghost use Rattle.std.specs.Prelude.{◌≡◌, OnOk};
 ghost use Rattle.pdb_base.specs.Memory.{FailsOnlyForMemory};
 ghost use Rattle.pdb_output.specs.Output.{Writes};
-ghost use Rattle.pdbdump_rows.specs.Line.{begun, begun_full, ended, shown};
-ghost use Rattle.pdbdump_rows.specs.Row.{value_shown};
+ghost use Rattle.pdbdump_rows.specs.declared.form.Form.{Form};
+ghost use Rattle.pdbdump_rows.specs.Line.{Shows, begun, begun_full, ended, shown};
+ghost use Rattle.pdbdump_rows.specs.Lines.{full_text, row_text};
+ghost use Rattle.pdbdump_rows.specs.Row.{ShownRow, value_shown};
 
 use crate::form::Form;
 use crate::push::{is_shown, push_end, push_line, push_next};
@@ -118,14 +120,30 @@ impl Line {
 }
 
 /// Ends a line and writes it.
-///
-/// # Errors
-/// Fails with `OutOfMemory` if an allocation fails, and with `IoError` if the output fails, which
-/// may then have got a prefix of the line.
 #[tactic(auto, using(pdb_output::proofs::lemmas::Written::writing))]
-pub fn write_line<W: Write>(line: &mut Line, out: &mut Output<W>) -> Result<()>
+fn write_ended<W: Write>(line: &mut Line, out: &mut Output<W>) -> Result<()>
     ensures { Writes (ended line.old) out.old out.new result }
 {
-    line.end()?;
-    out.write(line.as_bytes())
+    match line.end() {
+        Ok(()) => out.write(line.as_bytes()),
+        Err(fault) => Err(fault),
+    }
+}
+
+/// Ends a line to which fields were added, and writes it.
+///
+/// # Errors
+/// Fails as adding the fields did, with `OutOfMemory` if an allocation fails, and with `IoError` if
+/// the output fails, which may then have got a prefix of the line.
+#[tactic(auto, using(crate::proofs::lemmas::Line::writes_row, crate::proofs::lemmas::Line::writes_full, pdb_output::proofs::lemmas::Written::writing))]
+pub fn write_line<W: Write>(added: Result<()>, line: &mut Line, out: &mut Output<W>) -> Result<()>
+    ensures line { (form : Form) (row : ShownRow) → Shows row (begun form) line.old added
+        → Writes (row_text form row) out.old out.new result }
+    ensures full { (form : Form) (row : ShownRow) → Shows row (begun_full form) line.old added
+        → Writes (full_text form row) out.old out.new result }
+{
+    match added {
+        Ok(()) => write_ended(line, out),
+        Err(fault) => Err(fault),
+    }
 }

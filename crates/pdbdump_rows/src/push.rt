@@ -54,8 +54,19 @@ fn is_any_set(flags: &[Flag]) -> bool
     false
 }
 
+/// Appends a word of a list, the first one or one after others.
+fn push_word(form: Form, is_first: bool, word: &str, out: &mut Vec<u8>) -> Result<()>
+    ensures ok { OnOk result (out.new.items
+        ≡ out.old.items ++ ((if is_first then [] else codes ",") ++ quoted form word.now)) }
+    ensures memory { FailsOnlyForMemory result }
+{
+    let before: &[u8] = if is_first { b"" } else { b"," };
+    out.extend_from_slice(before)?;
+    push_quoted(form, word.as_bytes(), out)
+}
+
 /// Appends the words of the flags that are set, as a list.
-#[tactic(auto, unfolding(crate::specs::Lines::list_text), using(crate::proofs::WordLemmas::words_more, crate::proofs::WordLemmas::words_same))]
+#[tactic(auto, unfolding(crate::specs::Lines::list_text))]
 fn push_words(form: Form, flags: &[Flag], out: &mut Vec<u8>) -> Result<()>
     ensures ok { OnOk result (out.new.items
         ≡ out.old.items ++ list_text (quoted form) (chosen (map (λ flag. (flag.0, flag.1.now)) flags.now))) }
@@ -65,10 +76,7 @@ fn push_words(form: Form, flags: &[Flag], out: &mut Vec<u8>) -> Result<()>
     let mut is_first = true;
     for (is_set, word) in flags {
         if *is_set {
-            if !is_first {
-                out.push(b',')?;
-            }
-            push_quoted(form, word.as_bytes(), out)?;
+            push_word(form, is_first, word, out)?;
             is_first = false;
         }
     }

@@ -7,6 +7,7 @@ ghost use Rattle.pdbdump_rows.specs.Line.{Shows};
 ghost use Rattle.pdbdump_rows.specs.Refused.{refusal_shown, refusal_text};
 
 use crate::line::Line;
+use crate::names::ERROR;
 use crate::value::Value;
 use pdb_base::{Error, RawString, Result};
 use std::alloc::Global;
@@ -34,6 +35,6 @@ pub fn show_error(alloc: Global, line: &mut Line, error: &Error) -> Result<()>
     ensures { Shows (refusal_shown (refusal_of error.now) ∷ []) line.old line.new result }
 {
     let text = error_text(alloc, error)?;
-    line.field("error", Value::Text(RawString::from(text.as_slice())))?;
+    line.field(ERROR, Value::Text(RawString::from(text.as_slice())))?;
     Ok(())
 }

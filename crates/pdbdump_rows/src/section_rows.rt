@@ -8,6 +8,7 @@ ghost use Rattle.pdbdump_rows.specs.Row.{value_shown};
 ghost use Rattle.pdbdump_rows.specs.TableRows.{section_row};
 
 use crate::line::Line;
+use crate::names::{ALIGNMENT, CHARACTERISTICS, NAME, NUMBER, VIRTUAL_SIZE};
 use crate::value::Value;
 use crate::words::section_flags;
 use pdb_base::{Error, RawString, Result};
@@ -43,13 +44,13 @@ pub fn show_section(line: &mut Line, number: u32, header: &ImageSectionHeader) -
 {
     let name = RawString::from(name_bytes(header));
     let characteristics = section_flags(header.characteristics);
-    line.field("number", Value::Number(number as u64))?;
-    line.field("name", Value::Text(name))?;
+    line.field(NUMBER, Value::Number(number as u64))?;
+    line.field(NAME, Value::Text(name))?;
     line.field(
         "virtual_address",
         Value::Hexadecimal(header.virtual_address),
     )?;
-    line.field("virtual_size", Value::Number(header.virtual_size as u64))?;
+    line.field(VIRTUAL_SIZE, Value::Number(header.virtual_size as u64))?;
     line.field(
         "pointer_to_raw_data",
         Value::Hexadecimal(header.pointer_to_raw_data),
@@ -74,7 +75,7 @@ pub fn show_section(line: &mut Line, number: u32, header: &ImageSectionHeader) -
         "number_of_line_numbers",
         Value::Number(header.number_of_line_numbers as u64),
     )?;
-    line.field("characteristics", Value::Words(&characteristics))?;
-    line.field("alignment", alignment(header.characteristics.alignment()))?;
+    line.field(CHARACTERISTICS, Value::Words(&characteristics))?;
+    line.field(ALIGNMENT, alignment(header.characteristics.alignment()))?;
     Ok(())
 }

@@ -5,7 +5,7 @@ ghost use Rattle.pdbdump_rows.specs.Fields.{optional_hexadecimal};
 ghost use Rattle.pdbdump_rows.specs.Line.{Shows};
 ghost use Rattle.pdbdump_rows.specs.Row.{kind};
 ghost use Rattle.pdbdump_rows.specs.TypeRows.{type_fields, type_row};
-ghost use Rattle.std.specs.Prelude.{[], ◌∷◌, codes};
+ghost use Rattle.std.specs.Prelude.{[], ◌∷◌};
 
 mod base_class;
 mod class;
@@ -18,6 +18,7 @@ mod pointer;
 mod primitive;
 
 use crate::line::Line;
+use crate::names::{INDEX, KIND};
 use crate::type_rows::base_class::{show_base_class, show_table_pointer, show_virtual_base};
 use crate::type_rows::class::{show_class, show_union};
 use crate::type_rows::enumeration::{show_enumerate, show_enumeration};
@@ -38,11 +39,11 @@ use std::alloc::Global;
 /// Adds what the fields of a record begin with: its index, which an entry of a list doesn't have,
 /// and the record kind.
 pub(crate) fn show_head(line: &mut Line, index: Option<u32>, leaf: u16) -> Result<()>
-    ensures { Shows ((codes "index", optional_hexadecimal index) ∷ (codes "kind", kind leaf) ∷ [])
+    ensures { Shows ((INDEX.now, optional_hexadecimal index) ∷ (KIND.now, kind leaf) ∷ [])
         line.old line.new result }
 {
-    line.field("index", optional_hexadecimal(index))?;
-    line.field("kind", Value::Kind(leaf))?;
+    line.field(INDEX, optional_hexadecimal(index))?;
+    line.field(KIND, Value::Kind(leaf))?;
     Ok(())
 }
 

@@ -1,8 +1,10 @@
 -- A line that is written field by field is the one line of its fields.
-use Rattle.std.proofs.Common.{◌≡◌, ℕ, Bool, true, false, List, [], ◌∷◌, ◌++◌, codes, refl, ap, sym, ◌∙◌, ⊎_elim, append_assoc}
+use Rattle.std.proofs.Common.{◌≡◌, ℕ, Bool, true, false, List, [], ◌∷◌, ◌++◌, codes, refl, ap, sym, subst, Result, ◌∙◌, ⊎_elim, append_assoc}
 use Rattle.std.specs.List.{filter, flat_map}
 use Rattle.std.proofs.lemmas.Bool.{cond-true, cond-false, cases_Bool}
 use Rattle.std.proofs.lemmas.List.{append-nil}
+use Rattle.pdb_base.specs.declared.error.Error.{Error}
+use Rattle.pdb_output.specs.Output.{OutputState, Writes}
 use Rattle.pdbdump_rows.specs.declared.form.Form.{Form}
 use Rattle.pdbdump_rows.specs.declared.form.Form.TheVariants.{Text, Json}
 use Rattle.pdbdump_rows.specs.Line.{LineState, all_shown, begun, begun_full, ended, ending, opening, shown}
@@ -24,29 +26,29 @@ rest_text form row = flat_map (λ next. separator form ++ field_text form next) 
 shows_after : (form : Form) (bytes : List ℕ) (field : ShownField) → is_shown form field ≡ true
     → shown (after form bytes) field ≡ after form (bytes ++ (separator form ++ field_text form field))
 unfolding shown
-shows_after form bytes field yes = cond-true (is_shown form field) _ _ yes
+shows_after form bytes field holds = cond-true (is_shown form field) _ _ holds
 
 shows_first : (form : Form) (field : ShownField) → is_shown form field ≡ true
     → shown (begun form) field ≡ after form (opening form ++ field_text form field)
 unfolding shown
-shows_first form field yes = cond-true (is_shown form field) _ _ yes
+shows_first form field holds = cond-true (is_shown form field) _ _ holds
 
 shows_full : (bytes : List ℕ) (empty : Bool) (field : ShownField) → is_shown Text field ≡ true
     → shown (full bytes empty) field ≡ full (bytes ++ field_line field) false
 unfolding shown
-shows_full bytes empty field yes = cond-true (is_shown Text field) _ _ yes
+shows_full bytes empty field holds = cond-true (is_shown Text field) _ _ holds
 
 shows_not : (line : LineState) (field : ShownField) → is_shown line.form field ≡ false → shown line field ≡ line
 unfolding shown
-shows_not line field no = cond-false (is_shown line.form field) _ _ no
+shows_not line field fails = cond-false (is_shown line.form field) _ _ fails
 
 kept : (form : Form) (field : ShownField) (row : ShownRow) → is_shown form field ≡ true
     → filter (is_shown form) (field ∷ row) ≡ field ∷ filter (is_shown form) row
-kept form field row yes = cond-true (is_shown form field) _ _ yes
+kept form field row holds = cond-true (is_shown form field) _ _ holds
 
 dropped : (form : Form) (field : ShownField) (row : ShownRow) → is_shown form field ≡ false
     → filter (is_shown form) (field ∷ row) ≡ filter (is_shown form) row
-dropped form field row no = cond-false (is_shown form field) _ _ no
+dropped form field row fails = cond-false (is_shown form field) _ _ fails
 
 all_after : (form : Form) (bytes : List ℕ) (row : ShownRow)
     → all_shown (after form bytes) row ≡ after form (bytes ++ rest_text form row)
@@ -54,15 +56,15 @@ all_after form bytes [] = ap (after form) (sym (append-nil bytes))
 all_after form bytes (field ∷ row) =
     let each = λ (next : ShownField). separator form ++ field_text form next in
     ⊎_elim
-    (λ (yes : is_shown form field ≡ true).
-    ap (λ (line : LineState). all_shown line row) (shows_after form bytes field yes)
+    (λ (holds : is_shown form field ≡ true).
+    ap (λ (line : LineState). all_shown line row) (shows_after form bytes field holds)
     ∙ all_after form (bytes ++ each field) row
     ∙ ap (after form) (append_assoc bytes (each field) (rest_text form row)
-    ∙ ap (λ (shown : ShownRow). bytes ++ flat_map each shown) (sym (kept form field row yes))))
-    (λ (no : is_shown form field ≡ false).
-    ap (λ (line : LineState). all_shown line row) (shows_not (after form bytes) field no)
+    ∙ ap (λ (shown : ShownRow). bytes ++ flat_map each shown) (sym (kept form field row holds))))
+    (λ (fails : is_shown form field ≡ false).
+    ap (λ (line : LineState). all_shown line row) (shows_not (after form bytes) field fails)
     ∙ all_after form bytes row
-    ∙ ap (λ (shown : ShownRow). after form (bytes ++ flat_map each shown)) (sym (dropped form field row no)))
+    ∙ ap (λ (shown : ShownRow). after form (bytes ++ flat_map each shown)) (sym (dropped form field row fails)))
     (cases_Bool (is_shown form field))
 
 -- what a line comes to
@@ -87,17 +89,17 @@ all_begun : (form : Form) (row : ShownRow)
 unfolding whole
 all_begun form [] = ended_begun form ∙ ap (λ (front : List ℕ). front ++ ending form) (sym (append-nil (opening form)))
 all_begun form (field ∷ row) = ⊎_elim
-    (λ (yes : is_shown form field ≡ true).
-    ap (λ (line : LineState). ended (all_shown line row)) (shows_first form field yes)
+    (λ (holds : is_shown form field ≡ true).
+    ap (λ (line : LineState). ended (all_shown line row)) (shows_first form field holds)
     ∙ ap ended (all_after form (opening form ++ field_text form field) row)
     ∙ ended_after form ((opening form ++ field_text form field) ++ rest_text form row)
     ∙ ap (λ (front : List ℕ). front ++ ending form)
     (append_assoc (opening form) (field_text form field) (rest_text form row))
-    ∙ ap (whole form) (sym (kept form field row yes)))
-    (λ (no : is_shown form field ≡ false).
-    ap (λ (line : LineState). ended (all_shown line row)) (shows_not (begun form) field no)
+    ∙ ap (whole form) (sym (kept form field row holds)))
+    (λ (fails : is_shown form field ≡ false).
+    ap (λ (line : LineState). ended (all_shown line row)) (shows_not (begun form) field fails)
     ∙ all_begun form row
-    ∙ ap (whole form) (sym (dropped form field row no)))
+    ∙ ap (whole form) (sym (dropped form field row fails)))
     (cases_Bool (is_shown form field))
 
 whole_is : (form : Form) (row : ShownRow) → whole form (filter (is_shown form) row) ≡ row_text form row
@@ -112,18 +114,34 @@ all_full : (bytes : List ℕ) (empty : Bool) (row : ShownRow)
     → ended (all_shown (full bytes empty) row) ≡ bytes ++ flat_map field_line (filter (is_shown Text) row)
 all_full bytes empty [] = ended_full bytes empty ∙ sym (append-nil bytes)
 all_full bytes empty (field ∷ row) = ⊎_elim
-    (λ (yes : is_shown Text field ≡ true).
-    ap (λ (line : LineState). ended (all_shown line row)) (shows_full bytes empty field yes)
+    (λ (holds : is_shown Text field ≡ true).
+    ap (λ (line : LineState). ended (all_shown line row)) (shows_full bytes empty field holds)
     ∙ all_full (bytes ++ field_line field) false row
     ∙ append_assoc bytes (field_line field) (flat_map field_line (filter (is_shown Text) row))
-    ∙ ap (λ (shown : ShownRow). bytes ++ flat_map field_line shown) (sym (kept Text field row yes)))
-    (λ (no : is_shown Text field ≡ false).
-    ap (λ (line : LineState). ended (all_shown line row)) (shows_not (full bytes empty) field no)
+    ∙ ap (λ (shown : ShownRow). bytes ++ flat_map field_line shown) (sym (kept Text field row holds)))
+    (λ (fails : is_shown Text field ≡ false).
+    ap (λ (line : LineState). ended (all_shown line row)) (shows_not (full bytes empty) field fails)
     ∙ all_full bytes empty row
-    ∙ ap (λ (shown : ShownRow). bytes ++ flat_map field_line shown) (sym (dropped Text field row no)))
+    ∙ ap (λ (shown : ShownRow). bytes ++ flat_map field_line shown) (sym (dropped Text field row fails)))
     (cases_Bool (is_shown Text field))
 
 pub full_is : (form : Form) (row : ShownRow) → ended (all_shown (begun_full form) row) ≡ full_text form row
 unfolding full_text
 full_is Text row = all_full [] true row
 full_is Json row = line_is Json row
+
+-- ---- a line that is written
+
+-- what a line with these fields is written as
+pub writes_row : (form : Form) (row : ShownRow) (line : LineState) (old new : OutputState)
+    (result : Result (Unit {0}) Error) → line ≡ all_shown (begun form) row → Writes (ended line) old new result
+    → Writes (row_text form row) old new result
+writes_row form row line old new result is writes =
+    subst (λ (text : List ℕ). Writes text old new result) (ap ended is ∙ line_is form row) writes
+
+-- the same in full
+pub writes_full : (form : Form) (row : ShownRow) (line : LineState) (old new : OutputState)
+    (result : Result (Unit {0}) Error) → line ≡ all_shown (begun_full form) row → Writes (ended line) old new result
+    → Writes (full_text form row) old new result
+writes_full form row line old new result is writes =
+    subst (λ (text : List ℕ). Writes text old new result) (ap ended is ∙ full_is form row) writes

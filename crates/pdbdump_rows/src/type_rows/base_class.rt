@@ -4,6 +4,7 @@ ghost use Rattle.pdbdump_rows.specs.Line.{Shows};
 ghost use Rattle.pdbdump_rows.specs.TypeRows.{base_class_fields, table_pointer_fields, virtual_base_fields};
 
 use crate::line::Line;
+use crate::names::{ACCESS, ATTRIBUTES, BASE_CLASS, BASE_POINTER, DIRECT, OFFSET, TABLE};
 use crate::value::{Value, optional_word, type_index};
 use crate::words::{access_word, field_flags};
 use pdb_base::{Error, Result};
@@ -15,10 +16,10 @@ pub(crate) fn show_base_class(line: &mut Line, base: BaseClassType) -> Result<()
     ensures { Shows (base_class_fields base) line.old line.new result }
 {
     let attributes = field_flags(base.attributes);
-    line.field("access", optional_word(access_word(base.attributes)))?;
-    line.field("attributes", Value::Words(&attributes))?;
-    line.field("base_class", type_index(base.base_class))?;
-    line.field("offset", Value::Number(base.offset as u64))?;
+    line.field(ACCESS, optional_word(access_word(base.attributes)))?;
+    line.field(ATTRIBUTES, Value::Words(&attributes))?;
+    line.field(BASE_CLASS, type_index(base.base_class))?;
+    line.field(OFFSET, Value::Number(base.offset as u64))?;
     Ok(())
 }
 
@@ -28,11 +29,11 @@ pub(crate) fn show_virtual_base(line: &mut Line, base: VirtualBaseClassType) -> 
     ensures { Shows (virtual_base_fields base) line.old line.new result }
 {
     let attributes = field_flags(base.attributes);
-    line.field("direct", Value::Flag(base.direct))?;
-    line.field("access", optional_word(access_word(base.attributes)))?;
-    line.field("attributes", Value::Words(&attributes))?;
-    line.field("base_class", type_index(base.base_class))?;
-    line.field("base_pointer", type_index(base.base_pointer))?;
+    line.field(DIRECT, Value::Flag(base.direct))?;
+    line.field(ACCESS, optional_word(access_word(base.attributes)))?;
+    line.field(ATTRIBUTES, Value::Words(&attributes))?;
+    line.field(BASE_CLASS, type_index(base.base_class))?;
+    line.field(BASE_POINTER, type_index(base.base_pointer))?;
     line.field(
         "base_pointer_offset",
         Value::Number(base.base_pointer_offset as u64),
@@ -52,6 +53,6 @@ pub(crate) fn show_table_pointer(
 ) -> Result<()>
     ensures { Shows (table_pointer_fields pointer) line.old line.new result }
 {
-    line.field("table", type_index(pointer.table))?;
+    line.field(TABLE, type_index(pointer.table))?;
     Ok(())
 }

@@ -6,6 +6,9 @@ ghost use Rattle.pdbdump_rows.specs.Line.{Shows};
 ghost use Rattle.pdbdump_rows.specs.TypeRows.{class_fields, union_fields};
 
 use crate::line::Line;
+use crate::names::{
+    COUNT, DERIVED_FROM, FIELDS, HFA, MOCOM, NAME, PROPERTIES, SIZE, UNIQUE_NAME, VTABLE_SHAPE,
+};
 use crate::value::{Value, nonzero, optional_text, optional_type, type_index};
 use crate::words::property_flags;
 use pdb_base::{Error, Result};
@@ -17,16 +20,16 @@ pub(crate) fn show_class(line: &mut Line, class: &ClassType<'_>) -> Result<()>
     ensures { Shows (class_fields (class_value class.now)) line.old line.new result }
 {
     let properties = property_flags(class.properties);
-    line.field("name", Value::Text(class.name))?;
-    line.field("count", Value::Number(class.count as u64))?;
-    line.field("properties", Value::Words(&properties))?;
-    line.field("hfa", nonzero(class.properties.hfa()))?;
-    line.field("mocom", nonzero(class.properties.mocom()))?;
-    line.field("fields", optional_type(class.fields))?;
-    line.field("derived_from", optional_type(class.derived_from))?;
-    line.field("vtable_shape", optional_type(class.vtable_shape))?;
-    line.field("size", Value::Number(class.size))?;
-    line.field("unique_name", optional_text(class.unique_name))?;
+    line.field(NAME, Value::Text(class.name))?;
+    line.field(COUNT, Value::Number(class.count as u64))?;
+    line.field(PROPERTIES, Value::Words(&properties))?;
+    line.field(HFA, nonzero(class.properties.hfa()))?;
+    line.field(MOCOM, nonzero(class.properties.mocom()))?;
+    line.field(FIELDS, optional_type(class.fields))?;
+    line.field(DERIVED_FROM, optional_type(class.derived_from))?;
+    line.field(VTABLE_SHAPE, optional_type(class.vtable_shape))?;
+    line.field(SIZE, Value::Number(class.size))?;
+    line.field(UNIQUE_NAME, optional_text(class.unique_name))?;
     Ok(())
 }
 
@@ -36,13 +39,13 @@ pub(crate) fn show_union(line: &mut Line, union_type: &UnionType<'_>) -> Result<
     ensures { Shows (union_fields (union_value union_type.now)) line.old line.new result }
 {
     let properties = property_flags(union_type.properties);
-    line.field("name", Value::Text(union_type.name))?;
-    line.field("count", Value::Number(union_type.count as u64))?;
-    line.field("properties", Value::Words(&properties))?;
-    line.field("hfa", nonzero(union_type.properties.hfa()))?;
-    line.field("mocom", nonzero(union_type.properties.mocom()))?;
-    line.field("fields", type_index(union_type.fields))?;
-    line.field("size", Value::Number(union_type.size))?;
-    line.field("unique_name", optional_text(union_type.unique_name))?;
+    line.field(NAME, Value::Text(union_type.name))?;
+    line.field(COUNT, Value::Number(union_type.count as u64))?;
+    line.field(PROPERTIES, Value::Words(&properties))?;
+    line.field(HFA, nonzero(union_type.properties.hfa()))?;
+    line.field(MOCOM, nonzero(union_type.properties.mocom()))?;
+    line.field(FIELDS, type_index(union_type.fields))?;
+    line.field(SIZE, Value::Number(union_type.size))?;
+    line.field(UNIQUE_NAME, optional_text(union_type.unique_name))?;
     Ok(())
 }

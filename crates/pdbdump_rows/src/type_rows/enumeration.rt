@@ -7,6 +7,10 @@ ghost use Rattle.pdbdump_rows.specs.Row.{value_shown};
 ghost use Rattle.pdbdump_rows.specs.TypeRows.{enumerate_fields, enumeration_fields, variant_shown};
 
 use crate::line::Line;
+use crate::names::{
+    ACCESS, ATTRIBUTES, COUNT, FIELDS, HFA, MOCOM, NAME, PROPERTIES, UNDERLYING_TYPE, UNIQUE_NAME,
+    VALUE,
+};
 use crate::value::{Value, nonzero, optional_text, optional_word, type_index};
 use crate::words::{access_word, field_flags, property_flags};
 use pdb_base::{Error, Result, Variant};
@@ -18,14 +22,14 @@ pub(crate) fn show_enumeration(line: &mut Line, enumeration: &EnumerationType<'_
     ensures { Shows (enumeration_fields (enumeration_value enumeration.now)) line.old line.new result }
 {
     let properties = property_flags(enumeration.properties);
-    line.field("name", Value::Text(enumeration.name))?;
-    line.field("count", Value::Number(enumeration.count as u64))?;
-    line.field("properties", Value::Words(&properties))?;
-    line.field("hfa", nonzero(enumeration.properties.hfa()))?;
-    line.field("mocom", nonzero(enumeration.properties.mocom()))?;
-    line.field("underlying_type", type_index(enumeration.underlying_type))?;
-    line.field("fields", type_index(enumeration.fields))?;
-    line.field("unique_name", optional_text(enumeration.unique_name))?;
+    line.field(NAME, Value::Text(enumeration.name))?;
+    line.field(COUNT, Value::Number(enumeration.count as u64))?;
+    line.field(PROPERTIES, Value::Words(&properties))?;
+    line.field(HFA, nonzero(enumeration.properties.hfa()))?;
+    line.field(MOCOM, nonzero(enumeration.properties.mocom()))?;
+    line.field(UNDERLYING_TYPE, type_index(enumeration.underlying_type))?;
+    line.field(FIELDS, type_index(enumeration.fields))?;
+    line.field(UNIQUE_NAME, optional_text(enumeration.unique_name))?;
     Ok(())
 }
 
@@ -51,9 +55,9 @@ pub(crate) fn show_enumerate(line: &mut Line, value: &EnumerateType<'_>) -> Resu
     ensures { Shows (enumerate_fields (enumerate_value value.now)) line.old line.new result }
 {
     let attributes = field_flags(value.attributes);
-    line.field("name", Value::Text(value.name))?;
-    line.field("access", optional_word(access_word(value.attributes)))?;
-    line.field("attributes", Value::Words(&attributes))?;
-    line.field("value", variant(value.value))?;
+    line.field(NAME, Value::Text(value.name))?;
+    line.field(ACCESS, optional_word(access_word(value.attributes)))?;
+    line.field(ATTRIBUTES, Value::Words(&attributes))?;
+    line.field(VALUE, variant(value.value))?;
     Ok(())
 }

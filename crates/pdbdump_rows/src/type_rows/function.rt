@@ -4,6 +4,7 @@ ghost use Rattle.pdbdump_rows.specs.Line.{Shows};
 ghost use Rattle.pdbdump_rows.specs.TypeRows.{member_function_fields, procedure_fields};
 
 use crate::line::Line;
+use crate::names::{ARGUMENT_LIST, ATTRIBUTES, CLASS_TYPE, RETURN_TYPE};
 use crate::value::{Value, optional_type, type_index};
 use crate::words::function_flags;
 use pdb_base::{Error, Result};
@@ -15,17 +16,17 @@ pub(crate) fn show_procedure(line: &mut Line, procedure: ProcedureType) -> Resul
     ensures { Shows (procedure_fields procedure) line.old line.new result }
 {
     let attributes = function_flags(procedure.attributes);
-    line.field("return_type", optional_type(procedure.return_type))?;
+    line.field(RETURN_TYPE, optional_type(procedure.return_type))?;
     line.field(
         "calling_convention",
         Value::Number(procedure.attributes.calling_convention() as u64),
     )?;
-    line.field("attributes", Value::Words(&attributes))?;
+    line.field(ATTRIBUTES, Value::Words(&attributes))?;
     line.field(
         "parameter_count",
         Value::Number(procedure.parameter_count as u64),
     )?;
-    line.field("argument_list", type_index(procedure.argument_list))?;
+    line.field(ARGUMENT_LIST, type_index(procedure.argument_list))?;
     Ok(())
 }
 
@@ -35,8 +36,8 @@ pub(crate) fn show_member_function(line: &mut Line, function: MemberFunctionType
     ensures { Shows (member_function_fields function) line.old line.new result }
 {
     let attributes = function_flags(function.attributes);
-    line.field("return_type", type_index(function.return_type))?;
-    line.field("class_type", type_index(function.class_type))?;
+    line.field(RETURN_TYPE, type_index(function.return_type))?;
+    line.field(CLASS_TYPE, type_index(function.class_type))?;
     line.field(
         "this_pointer_type",
         optional_type(function.this_pointer_type),
@@ -45,12 +46,12 @@ pub(crate) fn show_member_function(line: &mut Line, function: MemberFunctionType
         "calling_convention",
         Value::Number(function.attributes.calling_convention() as u64),
     )?;
-    line.field("attributes", Value::Words(&attributes))?;
+    line.field(ATTRIBUTES, Value::Words(&attributes))?;
     line.field(
         "parameter_count",
         Value::Number(function.parameter_count as u64),
     )?;
-    line.field("argument_list", type_index(function.argument_list))?;
+    line.field(ARGUMENT_LIST, type_index(function.argument_list))?;
     line.field(
         "this_adjustment",
         Value::Number(function.this_adjustment as u64),

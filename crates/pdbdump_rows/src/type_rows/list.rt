@@ -10,6 +10,10 @@ ghost use Rattle.pdbdump_rows.specs.TypeRows.{argument_list_fields, array_fields
 
 use crate::line::Line;
 use crate::lists::{byte_numbers, method_numbers, type_numbers};
+use crate::names::{
+    ARGUMENTS, CONTINUATION, COUNT, DESCRIPTORS, DIMENSIONS, ELEMENT_TYPE, INDEXING_TYPE, METHODS,
+    STRIDE,
+};
 use crate::value::{Value, optional_number, optional_type, type_index};
 use pdb_base::{Error, Result};
 use pdb_values::{ArgumentList, ArrayType, FieldList, MethodList, VirtualTableShapeType};
@@ -20,10 +24,10 @@ use std::alloc::Global;
 pub(crate) fn show_array(line: &mut Line, array: &ArrayType) -> Result<()>
     ensures { Shows (array_fields (array_value array.now)) line.old line.new result }
 {
-    line.field("element_type", type_index(array.element_type))?;
-    line.field("indexing_type", type_index(array.indexing_type))?;
-    line.field("stride", optional_number(array.stride))?;
-    line.field("dimensions", Value::Numbers(&array.dimensions))?;
+    line.field(ELEMENT_TYPE, type_index(array.element_type))?;
+    line.field(INDEXING_TYPE, type_index(array.indexing_type))?;
+    line.field(STRIDE, optional_number(array.stride))?;
+    line.field(DIMENSIONS, Value::Numbers(&array.dimensions))?;
     Ok(())
 }
 
@@ -32,8 +36,8 @@ pub(crate) fn show_array(line: &mut Line, array: &ArrayType) -> Result<()>
 pub(crate) fn show_field_list(line: &mut Line, list: &FieldList<'_>) -> Result<()>
     ensures { Shows (type_fields (field_list_value list.now)) line.old line.new result }
 {
-    line.field("count", Value::Number(list.fields.as_slice().len() as u64))?;
-    line.field("continuation", optional_type(list.continuation))?;
+    line.field(COUNT, Value::Number(list.fields.as_slice().len() as u64))?;
+    line.field(CONTINUATION, optional_type(list.continuation))?;
     Ok(())
 }
 
@@ -43,7 +47,7 @@ pub(crate) fn show_argument_list(alloc: Global, line: &mut Line, list: &Argument
     ensures { Shows (argument_list_fields (argument_types list.now)) line.old line.new result }
 {
     let arguments = type_numbers(alloc, &list.arguments)?;
-    line.field("arguments", Value::Indexes(&arguments))?;
+    line.field(ARGUMENTS, Value::Indexes(&arguments))?;
     Ok(())
 }
 
@@ -54,8 +58,8 @@ pub(crate) fn show_method_list(alloc: Global, line: &mut Line, list: &MethodList
 {
     let methods = list.methods.as_slice();
     let numbers = method_numbers(alloc, methods)?;
-    line.field("count", Value::Number(methods.len() as u64))?;
-    line.field("methods", Value::Indexes(&numbers))?;
+    line.field(COUNT, Value::Number(methods.len() as u64))?;
+    line.field(METHODS, Value::Indexes(&numbers))?;
     Ok(())
 }
 
@@ -69,7 +73,7 @@ pub(crate) fn show_table_shape(
     ensures { Shows (table_shape_fields (table_shape_value shape.entry)) line.old line.new result }
 {
     let descriptors = byte_numbers(alloc, shape.descriptors)?;
-    line.field("count", Value::Number(shape.count as u64))?;
-    line.field("descriptors", Value::Indexes(&descriptors))?;
+    line.field(COUNT, Value::Number(shape.count as u64))?;
+    line.field(DESCRIPTORS, Value::Indexes(&descriptors))?;
     Ok(())
 }

@@ -5,6 +5,7 @@ ghost use Rattle.pdbdump_rows.specs.Line.{Shows};
 ghost use Rattle.pdbdump_rows.specs.TypeRows.{member_fields, nested_fields, static_member_fields};
 
 use crate::line::Line;
+use crate::names::{ACCESS, ATTRIBUTES, FIELD_TYPE, NAME, NESTED_TYPE, OFFSET};
 use crate::value::{Value, optional_word, type_index};
 use crate::words::{access_word, field_flags};
 use pdb_base::{Error, Result};
@@ -16,11 +17,11 @@ pub(crate) fn show_member(line: &mut Line, member: &MemberType<'_>) -> Result<()
     ensures { Shows (member_fields (member_value member.now)) line.old line.new result }
 {
     let attributes = field_flags(member.attributes);
-    line.field("name", Value::Text(member.name))?;
-    line.field("access", optional_word(access_word(member.attributes)))?;
-    line.field("attributes", Value::Words(&attributes))?;
-    line.field("field_type", type_index(member.field_type))?;
-    line.field("offset", Value::Number(member.offset))?;
+    line.field(NAME, Value::Text(member.name))?;
+    line.field(ACCESS, optional_word(access_word(member.attributes)))?;
+    line.field(ATTRIBUTES, Value::Words(&attributes))?;
+    line.field(FIELD_TYPE, type_index(member.field_type))?;
+    line.field(OFFSET, Value::Number(member.offset))?;
     Ok(())
 }
 
@@ -30,10 +31,10 @@ pub(crate) fn show_static_member(line: &mut Line, member: &StaticMemberType<'_>)
     ensures { Shows (static_member_fields (static_member_value member.now)) line.old line.new result }
 {
     let attributes = field_flags(member.attributes);
-    line.field("name", Value::Text(member.name))?;
-    line.field("access", optional_word(access_word(member.attributes)))?;
-    line.field("attributes", Value::Words(&attributes))?;
-    line.field("field_type", type_index(member.field_type))?;
+    line.field(NAME, Value::Text(member.name))?;
+    line.field(ACCESS, optional_word(access_word(member.attributes)))?;
+    line.field(ATTRIBUTES, Value::Words(&attributes))?;
+    line.field(FIELD_TYPE, type_index(member.field_type))?;
     Ok(())
 }
 
@@ -43,9 +44,9 @@ pub(crate) fn show_nested(line: &mut Line, nested: &NestedType<'_>) -> Result<()
     ensures { Shows (nested_fields (nested_value nested.now)) line.old line.new result }
 {
     let attributes = field_flags(nested.attributes);
-    line.field("name", Value::Text(nested.name))?;
-    line.field("access", optional_word(access_word(nested.attributes)))?;
-    line.field("attributes", Value::Words(&attributes))?;
-    line.field("nested_type", type_index(nested.nested_type))?;
+    line.field(NAME, Value::Text(nested.name))?;
+    line.field(ACCESS, optional_word(access_word(nested.attributes)))?;
+    line.field(ATTRIBUTES, Value::Words(&attributes))?;
+    line.field(NESTED_TYPE, type_index(nested.nested_type))?;
     Ok(())
 }

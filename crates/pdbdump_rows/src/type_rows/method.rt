@@ -5,6 +5,7 @@ ghost use Rattle.pdbdump_rows.specs.Line.{Shows};
 ghost use Rattle.pdbdump_rows.specs.TypeRows.{listed_method_fields, method_fields, overloaded_method_fields};
 
 use crate::line::Line;
+use crate::names::{ACCESS, ATTRIBUTES, COUNT, METHOD_LIST, METHOD_TYPE, NAME, VTABLE_OFFSET};
 use crate::value::{Value, optional_number, optional_word, type_index};
 use crate::words::{access_word, field_flags};
 use pdb_base::{Error, Result};
@@ -18,9 +19,9 @@ pub(crate) fn show_overloaded_method(
 ) -> Result<()>
     ensures { Shows (overloaded_method_fields (overloaded_method_value methods.now)) line.old line.new result }
 {
-    line.field("name", Value::Text(methods.name))?;
-    line.field("count", Value::Number(methods.count as u64))?;
-    line.field("method_list", type_index(methods.method_list))?;
+    line.field(NAME, Value::Text(methods.name))?;
+    line.field(COUNT, Value::Number(methods.count as u64))?;
+    line.field(METHOD_LIST, type_index(methods.method_list))?;
     Ok(())
 }
 
@@ -30,23 +31,23 @@ pub(crate) fn show_method(line: &mut Line, method: &MethodType<'_>) -> Result<()
     ensures { Shows (method_fields (method_value method.now)) line.old line.new result }
 {
     let attributes = field_flags(method.attributes);
-    line.field("name", Value::Text(method.name))?;
-    line.field("access", optional_word(access_word(method.attributes)))?;
-    line.field("attributes", Value::Words(&attributes))?;
-    line.field("method_type", type_index(method.method_type))?;
-    line.field("vtable_offset", optional_number(method.vtable_offset))?;
+    line.field(NAME, Value::Text(method.name))?;
+    line.field(ACCESS, optional_word(access_word(method.attributes)))?;
+    line.field(ATTRIBUTES, Value::Words(&attributes))?;
+    line.field(METHOD_TYPE, type_index(method.method_type))?;
+    line.field(VTABLE_OFFSET, optional_number(method.vtable_offset))?;
     Ok(())
 }
 
 /// Adds the fields of one of the methods of a name.
 #[tactic(auto, unfolding(crate::specs::TypeRows::listed_method_fields))]
-pub(crate) fn show_listed_method(line: &mut Line, method: MethodListEntry) -> Result<()>
+pub fn show_listed_method(line: &mut Line, method: MethodListEntry) -> Result<()>
     ensures { Shows (listed_method_fields method) line.old line.new result }
 {
     let attributes = field_flags(method.attributes);
-    line.field("access", optional_word(access_word(method.attributes)))?;
-    line.field("attributes", Value::Words(&attributes))?;
-    line.field("method_type", type_index(method.method_type))?;
-    line.field("vtable_offset", optional_number(method.vtable_offset))?;
+    line.field(ACCESS, optional_word(access_word(method.attributes)))?;
+    line.field(ATTRIBUTES, Value::Words(&attributes))?;
+    line.field(METHOD_TYPE, type_index(method.method_type))?;
+    line.field(VTABLE_OFFSET, optional_number(method.vtable_offset))?;
     Ok(())
 }

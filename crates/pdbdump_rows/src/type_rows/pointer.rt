@@ -4,6 +4,10 @@ ghost use Rattle.pdbdump_rows.specs.Line.{Shows};
 ghost use Rattle.pdbdump_rows.specs.TypeRows.{bitfield_fields, modifier_fields, pointer_fields};
 
 use crate::line::Line;
+use crate::names::{
+    ATTRIBUTES, CONTAINING_CLASS, LENGTH, MODIFIERS, POINTER_KIND, POINTER_MODE, POSITION, SIZE,
+    UNDERLYING_TYPE,
+};
 use crate::value::{Value, optional_type, type_index};
 use crate::words::{kind_word, mode_word, modifier_flags, pointer_flags};
 use pdb_base::{Error, Result};
@@ -16,12 +20,12 @@ pub(crate) fn show_pointer(line: &mut Line, pointer: PointerType) -> Result<()>
 {
     let word = pointer.attributes;
     let attributes = pointer_flags(word);
-    line.field("underlying_type", type_index(pointer.underlying_type))?;
-    line.field("pointer_kind", Value::Word(kind_word(word.pointer_kind())))?;
-    line.field("pointer_mode", Value::Word(mode_word(word.pointer_mode())))?;
-    line.field("attributes", Value::Words(&attributes))?;
-    line.field("size", Value::Number(word.size() as u64))?;
-    line.field("containing_class", optional_type(pointer.containing_class))?;
+    line.field(UNDERLYING_TYPE, type_index(pointer.underlying_type))?;
+    line.field(POINTER_KIND, Value::Word(kind_word(word.pointer_kind())))?;
+    line.field(POINTER_MODE, Value::Word(mode_word(word.pointer_mode())))?;
+    line.field(ATTRIBUTES, Value::Words(&attributes))?;
+    line.field(SIZE, Value::Number(word.size() as u64))?;
+    line.field(CONTAINING_CLASS, optional_type(pointer.containing_class))?;
     Ok(())
 }
 
@@ -31,8 +35,8 @@ pub(crate) fn show_modifier(line: &mut Line, modifier: ModifierType) -> Result<(
     ensures { Shows (modifier_fields modifier) line.old line.new result }
 {
     let modifiers = modifier_flags(modifier);
-    line.field("underlying_type", type_index(modifier.underlying_type))?;
-    line.field("modifiers", Value::Words(&modifiers))?;
+    line.field(UNDERLYING_TYPE, type_index(modifier.underlying_type))?;
+    line.field(MODIFIERS, Value::Words(&modifiers))?;
     Ok(())
 }
 
@@ -41,8 +45,8 @@ pub(crate) fn show_modifier(line: &mut Line, modifier: ModifierType) -> Result<(
 pub(crate) fn show_bitfield(line: &mut Line, bitfield: BitfieldType) -> Result<()>
     ensures { Shows (bitfield_fields bitfield) line.old line.new result }
 {
-    line.field("underlying_type", type_index(bitfield.underlying_type))?;
-    line.field("length", Value::Number(bitfield.length as u64))?;
-    line.field("position", Value::Number(bitfield.position as u64))?;
+    line.field(UNDERLYING_TYPE, type_index(bitfield.underlying_type))?;
+    line.field(LENGTH, Value::Number(bitfield.length as u64))?;
+    line.field(POSITION, Value::Number(bitfield.position as u64))?;
     Ok(())
 }

@@ -9,6 +9,7 @@ ghost use Rattle.pdbdump_rows.specs.TypeRows.{primitive_fields};
 ghost use Rattle.pdbdump_rows.specs.Words.{indirection_word};
 
 use crate::line::Line;
+use crate::names::INDIRECTION;
 use crate::value::Value;
 use crate::words::{indirection_word, primitive_word};
 use pdb_base::{Error, Result};
@@ -32,6 +33,6 @@ pub(crate) fn show_primitive(line: &mut Line, primitive: PrimitiveType) -> Resul
         "primitive_kind",
         Value::Word(primitive_word(primitive.kind)),
     )?;
-    line.field("indirection", indirection(primitive.indirection))?;
+    line.field(INDIRECTION, indirection(primitive.indirection))?;
     Ok(())
 }
