@@ -32,12 +32,12 @@ pub data IsListedIn (listed : List ℕ → OutputState → OutputState → Resul
 
 -- the types of a table, or the one of an index
 abbrev pub AreTypes : Form → Option ℕ → List ℕ → OutputState → OutputState → Result (Unit {0}) Error → Type 0
-AreTypes form None stream = records.IsListed (type_line form) stream
+AreTypes form None stream = records.IsTableListed (type_line form) stream
 AreTypes form (Some index) stream = records.IsShown (type_at form index stream)
 
 -- the ids of a table, or the one of an index
 abbrev pub AreIds : Form → Option ℕ → List ℕ → OutputState → OutputState → Result (Unit {0}) Error → Type 0
-AreIds form None stream = records.IsListed (id_line form) stream
+AreIds form None stream = records.IsTableListed (id_line form) stream
 AreIds form (Some index) stream = records.IsShown (id_at form index stream)
 
 -- what a command does with a file with this header

@@ -63,3 +63,13 @@ ended line = line.bytes ++ end_bytes line
 abbrev pub Shows : ShownRow → LineState → LineState → Result (Unit {0}) Error → Type 0
 Shows row old new (Ok done) = new ≡ all_shown old row
 Shows row old new (Err e) = e ≡ OutOfMemory
+
+-- A line has ended with this text; or memory was refused.
+abbrev pub Ends : List ℕ → LineState → Result (Unit {0}) Error → Type 0
+Ends text new (Ok done) = new.bytes ≡ text
+Ends text new (Err e) = e ≡ OutOfMemory
+
+-- Bytes were added to others; or memory was refused.
+abbrev pub Adds : List ℕ → List ℕ → List ℕ → Result (Unit {0}) Error → Type 0
+Adds text old new (Ok done) = new ≡ old ++ text
+Adds text old new (Err e) = e ≡ OutOfMemory

@@ -4,7 +4,7 @@ ghost use Rattle.std.specs.Prelude.{◌≡◌, OnOk};
 ghost use Rattle.pdb_base.specs.Memory.{FailsOnlyForMemory};
 ghost use Rattle.pdb_output.specs.Output.{Writes};
 ghost use Rattle.pdbdump_rows.specs.declared.form.Form.{Form};
-ghost use Rattle.pdbdump_rows.specs.Line.{Shows, begun, begun_full, ended, shown};
+ghost use Rattle.pdbdump_rows.specs.Line.{Adds, Ends, LineState, Shows, begun, begun_full, ended, shown};
 ghost use Rattle.pdbdump_rows.specs.Lines.{full_text, row_text};
 ghost use Rattle.pdbdump_rows.specs.Row.{ShownRow, value_shown};
 
@@ -97,18 +97,31 @@ impl Line {
     }
 
     /// Ends the line, with its line feed.
-    ///
-    /// # Errors
-    /// Fails with `OutOfMemory` if an allocation fails.
     #[tactic(auto, unfolding(crate::specs::Line::ended))]
-    pub fn end(&mut self) -> Result<()>
-        ensures ok { OnOk result (self.new.bytes ≡ ended self.old) }
-        ensures memory { FailsOnlyForMemory result }
+    fn end(&mut self) -> Result<()>
+        ensures { Ends (ended self.old) self.new result }
     {
         if self.is_full {
             return Ok(());
         }
         push_end(self.form, self.is_empty, &mut self.bytes)
+    }
+
+    /// Ends the line, to which fields were added as `added` says.
+    ///
+    /// # Errors
+    /// Fails as adding the fields did, and with `OutOfMemory` if an allocation fails.
+    #[tactic(auto, using(crate::proofs::lemmas::Line::ends_line, crate::proofs::lemmas::Line::ends_full))]
+    pub fn finish(&mut self, added: Result<()>) -> Result<()>
+        ensures line { (form : Form) (start : LineState) (row : ShownRow) → Shows row start self.old added
+            → start ≡ begun form → Ends (row_text form row) self.new result }
+        ensures full { (form : Form) (start : LineState) (row : ShownRow) → Shows row start self.old added
+            → start ≡ begun_full form → Ends (full_text form row) self.new result }
+    {
+        match added {
+            Ok(()) => self.end(),
+            Err(fault) => Err(fault),
+        }
     }
 
     /// Returns the bytes of the line.
@@ -119,31 +132,34 @@ impl Line {
     }
 }
 
-/// Ends a line and writes it.
-#[tactic(auto, using(pdb_output::proofs::lemmas::Written::writing))]
-fn write_ended<W: Write>(line: &mut Line, out: &mut Output<W>) -> Result<()>
-    ensures { Writes (ended line.old) out.old out.new result }
+/// Ends a line, to which fields were added as `added` says, and writes it.
+///
+/// # Errors
+/// Fails as adding the fields did, with `OutOfMemory` if an allocation fails, and with `IoError` if
+/// the output fails, which may then have got a prefix of the line.
+pub fn write_line<W: Write>(added: Result<()>, line: &mut Line, out: &mut Output<W>) -> Result<()>
+    ensures { (form : Form) (start : LineState) (row : ShownRow) → Shows row start line.old added
+        → start ≡ begun form → Writes (row_text form row) out.old out.new result }
 {
-    match line.end() {
+    match line.finish(added) {
         Ok(()) => out.write(line.as_bytes()),
         Err(fault) => Err(fault),
     }
 }
 
-/// Ends a line to which fields were added, and writes it.
+/// Ends a line, to which fields were added as `added` says, and appends it to a text.
 ///
 /// # Errors
-/// Fails as adding the fields did, with `OutOfMemory` if an allocation fails, and with `IoError` if
-/// the output fails, which may then have got a prefix of the line.
-#[tactic(auto, using(crate::proofs::lemmas::Line::writes_row, crate::proofs::lemmas::Line::writes_full, pdb_output::proofs::lemmas::Written::writing))]
-pub fn write_line<W: Write>(added: Result<()>, line: &mut Line, out: &mut Output<W>) -> Result<()>
-    ensures line { (form : Form) (row : ShownRow) → Shows row (begun form) line.old added
-        → Writes (row_text form row) out.old out.new result }
-    ensures full { (form : Form) (row : ShownRow) → Shows row (begun_full form) line.old added
-        → Writes (full_text form row) out.old out.new result }
+/// Fails as adding the fields did, and with `OutOfMemory` if an allocation fails.
+pub fn append_line(added: Result<()>, line: &mut Line, text: &mut Vec<u8>) -> Result<()>
+    ensures { (form : Form) (start : LineState) (row : ShownRow) → Shows row start line.old added
+        → start ≡ begun form → Adds (row_text form row) text.old.items text.new.items result }
 {
-    match added {
-        Ok(()) => write_ended(line, out),
+    match line.finish(added) {
+        Ok(()) => {
+            text.extend_from_slice(line.as_bytes())?;
+            Ok(())
+        }
         Err(fault) => Err(fault),
     }
 }

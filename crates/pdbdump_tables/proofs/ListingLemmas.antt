@@ -177,10 +177,8 @@ ends_lacking line table stand fault out out' so want =
     lacking (stand.index - table.header.minimum_index) so.lines in
     subst (λ (e : Error). IsWalked line table out out' (Err e)) (sym want) all
 
--- what is written of a line that was put together in a cleared buffer
-pub line_written : (mid out' : OutputState) (cleared filled written text : List ℕ) (result : Result (Unit {0}) Error)
-    → cleared ≡ [] → filled ≡ cleared ++ text → written ≡ filled → Writes written mid out' result
-    → Writes text mid out' result
-line_written mid out' cleared filled written text result none fill write writes =
-    subst (λ (bytes : List ℕ). Writes bytes mid out' result)
-    (write ∙ fill ∙ ap (λ (front : List ℕ). front ++ text) none) writes
+-- what is written of a line that was made
+pub line_written : (mid out' : OutputState) (made written text : List ℕ) (result : Result (Unit {0}) Error)
+    → made ≡ text → written ≡ made → Writes written mid out' result → Writes text mid out' result
+line_written mid out' made written text result is write writes =
+    subst (λ (bytes : List ℕ). Writes bytes mid out' result) (write ∙ is) writes

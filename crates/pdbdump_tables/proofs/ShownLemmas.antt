@@ -57,14 +57,17 @@ pub then_refuses : {A B : Type 0} (answer : Answer A) (more : A → Answer B) (f
 then_refuses answer more fault (inl is) = inl (ap (λ a. a >>= more) is)
 then_refuses answer more fault (inr want) = inr want
 
--- what is written of the record in full, put together in a new buffer
-pub full_written : (form : Form) (row : ℕ → ShownRow) (leaf told : ℕ) (shown : ShownRow) (out mid : OutputState)
-    (new filled written : List ℕ) (result : Result (Unit {0}) Error) → shown ≡ row told → told ≡ leaf
-    → new ≡ [] → filled ≡ new ++ full_text form shown → written ≡ filled → Writes written out mid result
-    → Writes (full_text form (row leaf)) out mid result
-full_written form row leaf told shown out mid new filled written result is same none fill write writes =
-    line_written out mid new filled written (full_text form (row leaf)) result none
-    (fill ∙ ap (λ (r : ShownRow). new ++ full_text form r) (is ∙ ap row same)) write writes
+-- what is written of the record in full, made of the kind that was read
+pub full_written : (form : Form) (row : ℕ → ShownRow) (leaf told : ℕ) (out mid : OutputState)
+    (made written : List ℕ) (result : Result (Unit {0}) Error) → told ≡ leaf → made ≡ full_text form (row told)
+    → written ≡ made → Writes written out mid result → Writes (full_text form (row leaf)) out mid result
+full_written form row leaf told out mid made written result same is write writes =
+    line_written out mid made written (full_text form (row leaf)) result
+    (is ∙ ap (λ (kind : ℕ). full_text form (row kind)) same) write writes
+
+-- lines that were appended to none
+pub behind_none : (old new lines : List ℕ) → old ≡ [] → new ≡ old ++ lines → new ≡ lines
+behind_none old new lines none added = added ∙ ap (λ (front : List ℕ). front ++ lines) none
 
 -- the output fails within the record
 pub cut_record : (meant : Meant) (out out' : OutputState) (text : List ℕ) (members : Answer (List ℕ)) (fault : Error)

@@ -22,26 +22,23 @@ use Rattle.pdb_frames.specs.declared.frame_data.FrameData.{FrameData}
 use Rattle.pdbdump_rows.specs.declared.form.Form.{Form}
 use Rattle.pdbdump_rows.specs.Lines.{row_text}
 use Rattle.pdbdump_rows.specs.TableRows.{section_row, omap_row, frame_row}
-use Rattle.pdbdump_rows.specs.Row.{ShownRow}
 use Rattle.pdbdump_tables.specs.Tables.{section_lines, omap_lines, frame_lines, rises, name_lines, name_shown, names_from}
 use Rattle.pdbdump_tables.specs.Tables.{next_place}
 
 -- the line of a first record stands before those of the others
 pub omap_next : (form : Form) (records : List OmapValue) (mapping : OmapValue) (others : List OmapValue)
-    (row : ShownRow) → records ≡ mapping ∷ others → row ≡ omap_row mapping
-    → omap_lines form records ≡ row_text form row ++ omap_lines form others
-omap_next form records mapping others row first shown = rw (first, shown) refl
+    → records ≡ mapping ∷ others → omap_lines form records ≡ row_text form (omap_row mapping) ++ omap_lines form others
+omap_next form records mapping others first = rw first refl
 
-pub frame_next : (form : Form) (frames : List FrameData) (frame : FrameData) (others : List FrameData) (row : ShownRow)
-    → frames ≡ frame ∷ others → row ≡ frame_row frame
-    → frame_lines form frames ≡ row_text form row ++ frame_lines form others
-frame_next form frames frame others row first shown = rw (first, shown) refl
+pub frame_next : (form : Form) (frames : List FrameData) (frame : FrameData) (others : List FrameData)
+    → frames ≡ frame ∷ others → frame_lines form frames ≡ row_text form (frame_row frame) ++ frame_lines form others
+frame_next form frames frame others first = rw first refl
 
 pub section_next : (form : Form) (number : ℕ) (headers : List ImageSectionHeader) (header : ImageSectionHeader)
-    (others : List ImageSectionHeader) (row : ShownRow) → headers ≡ header ∷ others
-    → row ≡ section_row number header → section_lines form number headers ≡ row_text form row
+    (others : List ImageSectionHeader) → headers ≡ header ∷ others
+    → section_lines form number headers ≡ row_text form (section_row number header)
     ++ section_lines form (number + 1) others
-section_next form number headers header others row first shown = rw (first, shown) refl
+section_next form number headers header others first = rw first refl
 
 abbrev given : {A E : Type 0} → Option A → Result (Option A) E
 given item = Ok item
@@ -147,31 +144,29 @@ unfolding names_from
 names_first most names place name read = rw read refl
 
 -- the line of a name that is read stands first
-pub name_first : (form : Form) (all at : ℕ) (names : List ℕ) (place : ℕ) (name : List ℕ) (row : ShownRow) → at < all
-    → name_of names place ≡ Ok name → row ≡ name_shown (place, name)
-    → name_lines form (names_from (all - at) names place) ≡ row_text form row
+pub name_first : (form : Form) (all at : ℕ) (names : List ℕ) (place : ℕ) (name : List ℕ) → at < all
+    → name_of names place ≡ Ok name
+    → name_lines form (names_from (all - at) names place) ≡ row_text form (name_shown (place, name))
     ++ name_lines form (names_behind (all - (at + 1)) names place name)
-name_first form all at names place name row within read shown =
+name_first form all at names place name within read =
     let left : all - at ≡ suc (all - (at + 1)) = omega (arith, within) in
-    rw (left, names_first (all - (at + 1)) names place name read, shown) refl
+    rw (left, names_first (all - (at + 1)) names place name read) refl
 
 -- the line of a name that is read stands before those of the others
-pub name_step : (form : Form) (all at : ℕ) (names : List ℕ) (place : ℕ) (name : List ℕ) (next : ℕ) (row : ShownRow)
-    → at < all → name_of names place ≡ Ok name
-    → Some next ≡ next_place place (length name) → row ≡ name_shown (place, name)
-    → name_lines form (names_from (all - at) names place) ≡ row_text form row
+pub name_step : (form : Form) (all at : ℕ) (names : List ℕ) (place : ℕ) (name : List ℕ) (next : ℕ) → at < all
+    → name_of names place ≡ Ok name → Some next ≡ next_place place (length name)
+    → name_lines form (names_from (all - at) names place) ≡ row_text form (name_shown (place, name))
     ++ name_lines form (names_from (all - (at + 1)) names next)
-name_step form all at names place name next row within read more shown =
+name_step form all at names place name next within read more =
     let left : all - at ≡ suc (all - (at + 1)) = omega (arith, within) in
-    rw (left, names_next (all - (at + 1)) names place name next read (sym more), shown) refl
+    rw (left, names_next (all - (at + 1)) names place name next read (sym more)) refl
 
-pub name_end : (form : Form) (all at : ℕ) (names : List ℕ) (place : ℕ) (name : List ℕ) (row : ShownRow) → at < all
-    → name_of names place ≡ Ok name
-    → None ≡ next_place place (length name) → row ≡ name_shown (place, name)
-    → name_lines form (names_from (all - at) names place) ≡ row_text form row ++ []
-name_end form all at names place name row within read more shown =
+pub name_end : (form : Form) (all at : ℕ) (names : List ℕ) (place : ℕ) (name : List ℕ) → at < all
+    → name_of names place ≡ Ok name → None ≡ next_place place (length name)
+    → name_lines form (names_from (all - at) names place) ≡ row_text form (name_shown (place, name)) ++ []
+name_end form all at names place name within read more =
     let left : all - at ≡ suc (all - (at + 1)) = omega (arith, within) in
-    rw (left, names_last (all - (at + 1)) names place name read (sym more), shown) refl
+    rw (left, names_last (all - (at + 1)) names place name read (sym more)) refl
 
 -- no line is left where no name stands, or where as many as there may be are written
 pub name_none : (form : Form) (most : ℕ) (names : List ℕ) (place : ℕ) (e : Refusal) → name_of names place ≡ Err e

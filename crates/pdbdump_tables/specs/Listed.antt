@@ -40,12 +40,12 @@ pub data IsWalked (line : ℕ → List ℕ → List ℕ) (table : Table) (out ou
       → IsWalked line table out out' (Err fault)
 
 -- The table that a stream holds was listed; or the stream is refused as a table, and nothing was written.
-pub data IsListed (line : ℕ → List ℕ → List ℕ) (stream : List ℕ) (out out' : OutputState)
+pub data IsTableListed (line : ℕ → List ℕ → List ℕ) (stream : List ℕ) (out out' : OutputState)
     (result : Result (Unit {0}) Error) : Type 0 where
   walked : (table : Table) → table_of stream ≡ Ok table → IsWalked line table out out' result
-      → IsListed line stream out out' result
+      → IsTableListed line stream out out' result
   refused : (fault : Error) → result ≡ Err fault → table_of stream ≡ Err (refusal_of fault) → out' ≡ out
-      → IsListed line stream out out' result
+      → IsTableListed line stream out out' result
 
 -- the lines of members; none if the members are refused
 abbrev pub members_text : Answer (List ℕ) → List ℕ

@@ -1,13 +1,18 @@
 //! Tables of ids.
 
+ghost use Rattle.pdb_values.specs.IdValue.{id_value};
+ghost use Rattle.pdbdump_rows.specs.IdRows.{id_row};
+ghost use Rattle.pdbdump_rows.specs.Line.{Ends};
+ghost use Rattle.pdbdump_rows.specs.Lines.{full_text};
 ghost use Rattle.pdbdump_tables.specs.Lines.{id_at, id_line, id_shown};
-ghost use Rattle.pdbdump_tables.specs.Listed.{IsListed, IsShown, IsWalked};
+ghost use Rattle.pdbdump_tables.specs.Listed.{IsTableListed, IsShown, IsWalked};
 
-use crate::item_line::push_id;
+use crate::item_line::make_id;
 use pdb_base::{FallibleIterator, IdIndex, Result, Stream};
 use pdb_output::Output;
-use pdbdump_rows::{Form, id_row, push_fields};
+use pdbdump_rows::{Form, Line, show_id};
 use pdb_tpi::{IdInformation, OpenTable};
+use pdb_values::IdData;
 use std::alloc::Global;
 use std::io::Write;
 
@@ -21,11 +26,10 @@ fn list_ids<W: Write>(
     ensures { IsWalked (id_line form) table.now out.old out.new result }
 {
     let mut items = table.iter();
-    let mut line = Vec::new(alloc);
+    let mut line = Line::new(alloc);
     while let Some(item) = items.next()? {
-        line.clear();
-        push_id(alloc, form, &item, &mut line)?;
-        out.write(&line)?;
+        make_id(alloc, form, &item, &mut line)?;
+        out.write(line.as_bytes())?;
     }
     Ok(())
 }
@@ -40,14 +44,30 @@ fn list_ids<W: Write>(
 /// prefix of what is meant to be written; and with `OutOfMemory` if an allocation fails, after the
 /// lines so far.
 pub fn ids<W: Write>(alloc: Global, stream: Stream, form: Form, out: &mut Output<W>) -> Result<()>
-    ensures { IsListed (id_line form) stream out.old out.new result }
+    ensures { IsTableListed (id_line form) stream out.old out.new result }
 {
     let table = IdInformation::parse(stream)?;
     list_ids(alloc, &table, form, out)
 }
 
+/// Makes the text of an id in full.
+fn make_full(
+    alloc: Global,
+    form: Form,
+    index: u32,
+    leaf: u16,
+    value: &IdData<'_>,
+    line: &mut Line,
+) -> Result<()>
+    ensures { Ends (full_text form (id_row index leaf (id_value value.now))) line.new result }
+{
+    line.begin_full(form);
+    let added = show_id(alloc, line, index, leaf, value);
+    line.finish(added)
+}
+
 /// Looks up the id of an index in a table and writes it in full.
-fn show_id<W: Write>(
+fn write_id<W: Write>(
     alloc: Global,
     ids: &OpenTable<IdIndex>,
     index: u32,
@@ -58,10 +78,9 @@ fn show_id<W: Write>(
 {
     let item = ids.item(IdIndex(index))?;
     let value = item.parse(alloc)?;
-    let row = id_row(alloc, index, item.raw_kind(), &value)?;
-    let mut text = Vec::new(alloc);
-    push_fields(form, &row, &mut text)?;
-    out.write(&text)?;
+    let mut line = Line::new(alloc);
+    make_full(alloc, form, index, item.raw_kind(), &value, &mut line)?;
+    out.write(line.as_bytes())?;
     Ok(())
 }
 
@@ -82,5 +101,5 @@ pub fn id_at<W: Write>(
 {
     let table = IdInformation::parse(stream)?;
     let ids = OpenTable::new(alloc, table)?;
-    show_id(alloc, &ids, index, form, out)
+    write_id(alloc, &ids, index, form, out)
 }

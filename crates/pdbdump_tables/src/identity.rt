@@ -1,11 +1,13 @@
 //! The identity of a file, as a line.
 
-ghost use Rattle.std.specs.Prelude.{◌≡◌, ◌↔◌, map, string_bytes, IsTrue, IfOk};
+ghost use Rattle.std.specs.Prelude.{◌≡◌, ◌↔◌, [], ◌∷◌, codes, map, string_bytes, IsTrue, IfOk};
 ghost use Rattle.std.specs.Char.{to_ascii_lowercase};
 ghost use Rattle.uuid.specs.Text.{hyphenated_text, upper};
 ghost use Rattle.pdb_base.specs.Memory.{FailsOnlyForMemory};
 ghost use Rattle.pdb_output.specs.Output.{Writes};
-ghost use Rattle.pdbdump_rows.specs.Row.{row_shown, value_shown};
+ghost use Rattle.pdbdump_rows.specs.Line.{Shows};
+ghost use Rattle.pdbdump_rows.specs.Row.{value_shown};
+ghost use Rattle.pdbdump_rows.specs.Words.{chosen};
 ghost use Rattle.pdb_identity.specs.Header.{cpu_of};
 ghost use Rattle.pdbdump_tables.specs.Identity.{IsKey, age_source, feature_words, guid_line, identity_line, identity_shown, key_line, lower_key_of, module_line, module_text, optional_features, optional_flag, optional_machine, store_path, upper_key_of};
 
@@ -13,7 +15,7 @@ use pdb_base::{RawString, Result};
 use pdb_file::Features;
 use pdb_identity::Identity;
 use pdb_output::Output;
-use pdbdump_rows::{Form, Row, Value, chosen, field, write_row};
+use pdbdump_rows::{Flag, Form, Line, Value, write_line};
 use std::alloc::Global;
 use std::io::Write;
 
@@ -147,68 +149,55 @@ fn optional_flag<'t>(flag: Option<bool>) -> Value<'t>
     }
 }
 
-/// Returns the words for the features that a file tells of itself.
+/// Returns the flags of the features that a file tells of itself.
 #[tactic(auto, unfolding(crate::specs::Identity::feature_words))]
-fn feature_words(alloc: Global, features: Features) -> Result<Vec<&'static str>>
-    ensures ok { IfOk result (λ words. map (λ name. name.now) words.items ≡ feature_words features) }
-    ensures memory { FailsOnlyForMemory result }
+fn feature_flags(features: Features) -> [Flag; 4]
+    ensures { chosen (map (λ flag. (flag.0, flag.1.now)) result) ≡ feature_words features }
 {
-    let words = chosen(
-        alloc,
-        &[
-            (features.vc110, "vc110"),
-            (features.vc140, "vc140"),
-            (features.no_type_merge, "no-type-merge"),
-            (features.minimal, "minimal"),
-        ],
-    )?;
-    Ok(words)
+    [
+        (features.vc110, "vc110"),
+        (features.vc140, "vc140"),
+        (features.no_type_merge, "no-type-merge"),
+        (features.minimal, "minimal"),
+    ]
 }
 
-/// Returns the value of the features, or `Absent` if there are none to be found.
-fn optional_features<'t>(alloc: Global, features: Option<Features>) -> Result<Value<'t>>
-    ensures ok { IfOk result (λ value. value_shown value ≡ optional_features features) }
-    ensures memory { FailsOnlyForMemory result }
+/// Adds the features, if there are any to be found.
+fn show_features(line: &mut Line, features: Option<Features>) -> Result<()>
+    ensures { Shows ((codes "features", optional_features features) ∷ []) line.old line.new result }
 {
     match features {
-        Some(features) => Ok(Value::Words(feature_words(alloc, features)?)),
-        None => Ok(Value::Absent),
+        Some(features) => line.field("features", Value::Words(&feature_flags(features))),
+        None => line.field("features", Value::Absent),
     }
 }
 
-/// Returns the `Row` of all that identifies a file, with the texts of its GUID and of its key.
-fn identity_row<'t>(
-    alloc: Global,
-    name: &'t str,
+/// Adds the fields of all that identifies a file, with the texts of its GUID and of its key.
+fn show_identity(
+    line: &mut Line,
+    name: &str,
     identity: &Identity,
-    guid: &'t str,
-    key: &'t str,
-) -> Result<Row<'t>>
+    guid: &str,
+    key: &str,
+) -> Result<()>
     requires guid { guid.now ≡ hyphenated_text upper identity.now.guid }
     requires key { key.now ≡ upper_key_of identity.now }
-    ensures ok { IfOk result (λ row. row_shown row ≡ identity_shown name.now identity.now) }
-    ensures memory { FailsOnlyForMemory result }
+    ensures { Shows (identity_shown name.now identity.now) line.old line.new result }
 {
-    let features = optional_features(alloc, identity.features)?;
-    let fields = vec![in alloc;
-        field("name", Value::Text(RawString::from(name))),
-        field("format", Value::Word("MSF 7.00")),
-        field("guid", Value::Text(RawString::from(guid))),
-        field("age", Value::Number(identity.age() as u64)),
-        field("age_from", Value::Word(age_source(identity))),
-        field(
-            "information_age",
-            Value::Number(identity.information_age as u64)
-        ),
-        field("signature", Value::Number(identity.signature as u64)),
-        field("version", Value::Number(identity.version as u64)),
-        field("features", features),
-        field("machine", optional_machine(identity.machine())),
-        field("cpu", Value::Word(identity.cpu())),
-        field("stripped", optional_flag(identity.is_stripped())),
-        field("key", Value::Text(RawString::from(key))),
-    ]?;
-    Ok(Row { fields })
+    line.field(NAME, Value::Text(RawString::from(name)))?;
+    line.field(FORMAT, Value::Word("MSF 7.00"))?;
+    line.field(GUID, Value::Text(RawString::from(guid)))?;
+    line.field(AGE, Value::Number(identity.age() as u64))?;
+    line.field(AGE_FROM, Value::Word(age_source(identity)))?;
+    line.field(INFORMATION_AGE, Value::Number(identity.information_age as u64))?;
+    line.field(SIGNATURE, Value::Number(identity.signature as u64))?;
+    line.field(VERSION, Value::Number(identity.version as u64))?;
+    show_features(line, identity.features)?;
+    line.field(MACHINE, optional_machine(identity.machine()))?;
+    line.field(CPU, Value::Word(identity.cpu()))?;
+    line.field(STRIPPED, optional_flag(identity.is_stripped()))?;
+    line.field(KEY, Value::Text(RawString::from(key)))?;
+    Ok(())
 }
 
 /// Writes all that identifies a file as an object of JSON.
@@ -225,8 +214,10 @@ fn write_object<W: Write>(
     let mut buffer = [0u8; 36];
     let guid = identity.guid.hyphenated().encode_upper(&mut buffer);
     let key = key_text(alloc, identity)?;
-    let row = identity_row(alloc, name, identity, guid, &key)?;
-    write_row(Form::Json, &row, &mut Vec::new(alloc), out)
+    let mut line = Line::new(alloc);
+    line.begin(Form::Json);
+    let added = show_identity(&mut line, name, identity, guid, &key);
+    write_line(added, &mut line, out)
 }
 
 /// Writes the line of a file's identity in a style.

@@ -1,66 +1,76 @@
 //! The line of an item of a table.
 
-ghost use Rattle.std.specs.Prelude.{◌≡◌, ◌++◌, OnOk};
-ghost use Rattle.pdb_base.specs.Memory.{FailsOnlyForMemory};
-ghost use Rattle.pdbdump_tables.specs.Lines.{id_line, type_line};
+ghost use Rattle.pdbdump_rows.specs.Line.{Ends, Shows};
+ghost use Rattle.pdbdump_tables.specs.Lines.{id_answer_row, id_line, type_answer_row, type_line};
 ghost use Rattle.pdb_tpi.specs.Item.{bytes_of, index_of};
+ghost use Rattle.pdb_tpi.specs.Record.{id_of, kind_of, type_of};
 
-use crate::refused_record::push_refused;
+use crate::refused_record::show_refused;
 use pdb_base::{Error, IdIndex, Result, TypeIndex};
-use pdbdump_rows::{Form, id_row, push_row, type_row};
 use pdb_tpi::Item;
+use pdbdump_rows::{Form, Line, show_id, show_type};
 use std::alloc::Global;
 
-/// Appends the line of a type.
+/// Adds the fields of the type of an item, or of why it can't be parsed.
+fn show_type_item(alloc: Global, item: &Item<'_, TypeIndex>, line: &mut Line) -> Result<()>
+    ensures { Shows (type_answer_row (index_of item.now).0 (kind_of (bytes_of item.now))
+        (type_of (index_of item.now).0 (bytes_of item.now))) line.old line.new result }
+{
+    let index = item.index().0;
+    let leaf = item.raw_kind();
+    match item.parse(alloc) {
+        Ok(value) => show_type(alloc, line, index, leaf, &value),
+        Err(Error::OutOfMemory) => Err(Error::OutOfMemory),
+        Err(fault) => show_refused(alloc, line, index, leaf, &fault),
+    }
+}
+
+/// Makes the line of a type.
 ///
 /// # Errors
 /// Fails with `OutOfMemory` if an allocation fails.
 #[tactic(auto, unfolding(crate::specs::Lines::type_line))]
-pub(crate) fn push_type(
+pub(crate) fn make_type(
     alloc: Global,
     form: Form,
     item: &Item<'_, TypeIndex>,
-    line: &mut Vec<u8>,
+    line: &mut Line,
 ) -> Result<()>
-    ensures ok { OnOk result
-        (line.new.items ≡ line.old.items ++ type_line form (index_of item.now).0 (bytes_of item.now)) }
-    ensures memory { FailsOnlyForMemory result }
+    ensures { Ends (type_line form (index_of item.now).0 (bytes_of item.now)) line.new result }
+{
+    line.begin(form);
+    let added = show_type_item(alloc, item, line);
+    line.finish(added)
+}
+
+/// Adds the fields of the id of an item, or of why it can't be parsed.
+fn show_id_item(alloc: Global, item: &Item<'_, IdIndex>, line: &mut Line) -> Result<()>
+    ensures { Shows (id_answer_row (index_of item.now).0 (kind_of (bytes_of item.now))
+        (id_of (bytes_of item.now))) line.old line.new result }
 {
     let index = item.index().0;
     let leaf = item.raw_kind();
     match item.parse(alloc) {
-        Ok(value) => {
-            let row = type_row(alloc, index, leaf, &value)?;
-            push_row(form, &row, line)
-        }
+        Ok(value) => show_id(alloc, line, index, leaf, &value),
         Err(Error::OutOfMemory) => Err(Error::OutOfMemory),
-        Err(fault) => push_refused(alloc, form, index, leaf, &fault, line),
+        Err(fault) => show_refused(alloc, line, index, leaf, &fault),
     }
 }
 
-/// Appends the line of an id.
+/// Makes the line of an id.
 ///
 /// # Errors
 /// Fails with `OutOfMemory` if an allocation fails.
 #[tactic(auto, unfolding(crate::specs::Lines::id_line))]
-pub(crate) fn push_id(
+pub(crate) fn make_id(
     alloc: Global,
     form: Form,
     item: &Item<'_, IdIndex>,
-    line: &mut Vec<u8>,
+    line: &mut Line,
 ) -> Result<()>
-    ensures ok { OnOk result
-        (line.new.items ≡ line.old.items ++ id_line form (index_of item.now).0 (bytes_of item.now)) }
-    ensures memory { FailsOnlyForMemory result }
+    ensures { Ends (id_line form (index_of item.now).0 (bytes_of item.now)) line.new result }
 {
-    let index = item.index().0;
-    let leaf = item.raw_kind();
-    match item.parse(alloc) {
-        Ok(value) => {
-            let row = id_row(alloc, index, leaf, &value)?;
-            push_row(form, &row, line)
-        }
-        Err(Error::OutOfMemory) => Err(Error::OutOfMemory),
-        Err(fault) => push_refused(alloc, form, index, leaf, &fault, line),
-    }
+    line.begin(form);
+    let added = show_id_item(alloc, item, line);
+    line.finish(added)
 }

@@ -10,7 +10,7 @@ use crate::map_lines::write_made;
 use pdb_base::Result;
 use pdb_file::PDB;
 use pdb_output::Output;
-use pdbdump_rows::Form;
+use pdbdump_rows::{Form, Line};
 use pdb_space::{AddressMap, PdbInternalRva, Rva};
 use std::alloc::Global;
 use std::io::Write;
@@ -28,7 +28,7 @@ fn write_map<W: Write>(
 {
     let loaded = made_of_loaded(map, Rva(address));
     let internal = made_of_internal(map, PdbInternalRva(address));
-    write_made(alloc, &loaded, &internal, form, out)
+    write_made(&loaded, &internal, form, &mut Line::new(alloc), out)
 }
 
 /// Lists what an address map makes of a number, with a line for each conversion, even if it has no

@@ -1,89 +1,72 @@
 //! The lines of what is made of an address, one for each conversion.
 
-ghost use Rattle.std.specs.Prelude.{◌≡◌, ◌++◌, codes, IfOk};
+ghost use Rattle.std.specs.Prelude.{◌≡◌, ◌++◌, codes};
 ghost use Rattle.std.specs.Option.{option_map};
-ghost use Rattle.pdb_base.specs.Memory.{FailsOnlyForMemory};
 ghost use Rattle.pdbdump_tables.specs.Mapped.{address_shown, crossed_text, internal_text, loaded_text, place_shown};
 ghost use Rattle.pdbdump_rows.specs.Lines.{row_text};
-ghost use Rattle.pdbdump_rows.specs.Row.{row_shown, value_shown};
-ghost use Rattle.pdbdump_rows.specs.Fields.{optional_hexadecimal, optional_number};
+ghost use Rattle.pdbdump_rows.specs.Line.{Shows};
 ghost use Rattle.pdb_output.specs.Output.{Writes};
 
 use crate::conversions::{OfInternal, OfLoaded};
 use pdb_base::{Error, Result};
 use pdb_output::Output;
-use pdbdump_rows::{Form, Row, Value, field, write_row};
+use pdbdump_rows::{
+    Form, Line, Value, optional_hexadecimal, optional_number, write_line,
+};
 use pdb_space::{PdbInternalRva, PdbInternalSectionOffset, Rva, SectionOffset};
-use std::alloc::Global;
 use std::io::Write;
 
-/// Returns the value of an address or an offset that may be absent.
-fn optional_hexadecimal<'t>(number: Option<u32>) -> Value<'t>
-    ensures { value_shown result ≡ optional_hexadecimal number }
-{
-    match number {
-        Some(number) => Value::Hexadecimal(number),
-        None => Value::Absent,
-    }
-}
-
-/// Returns the value of a place's section number, which is absent if the place is.
-fn section_value<'t>(place: Option<SectionOffset>) -> Value<'t>
-    ensures { value_shown result ≡ optional_number (option_map (λ place. place.section) place) }
-{
-    match place {
-        Some(place) => Value::Number(place.section as u64),
-        None => Value::Absent,
-    }
-}
-
-/// Returns the value of a place's offset, which is absent if the place is.
-fn offset_value<'t>(place: Option<SectionOffset>) -> Value<'t>
-    ensures { value_shown result ≡ optional_hexadecimal (option_map (λ place. place.offset) place) }
-{
-    match place {
-        Some(place) => Value::Hexadecimal(place.offset),
-        None => Value::Absent,
-    }
-}
-
-/// Returns the `Row` of an address that is made of another.
-fn address_row<'t>(
-    alloc: Global,
+/// Adds the fields of an address that is made of another.
+fn show_address(
+    line: &mut Line,
     from: &'static str,
     to: &'static str,
     address: Option<u32>,
-) -> Result<Row<'t>>
-    ensures ok { IfOk result (λ row. row_shown row ≡ address_shown from.now to.now address) }
-    ensures memory { FailsOnlyForMemory result }
+) -> Result<()>
+    ensures { Shows (address_shown from.now to.now address) line.old line.new result }
 {
-    let fields = vec![in alloc;
-        field("from", Value::Word(from)),
-        field("to", Value::Word(to)),
-        field("found", Value::Flag(address.is_some())),
-        field("address", optional_hexadecimal(address)),
-    ]?;
-    Ok(Row { fields })
+    line.field("from", Value::Word(from))?;
+    line.field("to", Value::Word(to))?;
+    line.field("found", Value::Flag(address.is_some()))?;
+    line.field("address", optional_hexadecimal(address))?;
+    Ok(())
 }
 
-/// Returns the `Row` of a place in a section that is made of an address.
-fn place_row<'t>(
-    alloc: Global,
+/// Returns the number of a place's section.
+fn section_of(place: Option<SectionOffset>) -> Option<u32>
+    ensures { result ≡ option_map (λ place. place.section) place }
+{
+    match place {
+        Some(place) => Some(place.section as u32),
+        None => None,
+    }
+}
+
+/// Returns the offset of a place in its section.
+fn offset_of(place: Option<SectionOffset>) -> Option<u32>
+    ensures { result ≡ option_map (λ place. place.offset) place }
+{
+    match place {
+        Some(place) => Some(place.offset),
+        None => None,
+    }
+}
+
+/// Adds the fields of a place in a section that is made of an address.
+fn show_place(
+    line: &mut Line,
     from: &'static str,
     to: &'static str,
     place: Option<SectionOffset>,
-) -> Result<Row<'t>>
-    ensures ok { IfOk result (λ row. row_shown row ≡ place_shown from.now to.now place) }
-    ensures memory { FailsOnlyForMemory result }
+) -> Result<()>
+    ensures { Shows (place_shown from.now to.now place) line.old line.new result }
 {
-    let fields = vec![in alloc;
-        field("from", Value::Word(from)),
-        field("to", Value::Word(to)),
-        field("found", Value::Flag(place.is_some())),
-        field("section", section_value(place)),
-        field("offset", offset_value(place)),
-    ]?;
-    Ok(Row { fields })
+    line.field("from", Value::Word(from))?;
+    line.field("to", Value::Word(to))?;
+    line.field("found", Value::Flag(place.is_some()))?;
+    line.field("section", optional_number(section_of(place)))?;
+    line.field("offset", optional_hexadecimal(offset_of(place)))?;
+    Ok(())
 }
 
 /// Returns the number of an address of the original image, if there is an address.
@@ -114,46 +97,44 @@ fn numbers_of(place: Option<PdbInternalSectionOffset>) -> Option<SectionOffset>
     Some(SectionOffset::new(place.section, place.offset))
 }
 
-/// Writes the `Row` of an address that is made of another.
-#[tactic(auto)]
+/// Writes the line of an address that is made of another.
 fn write_address<W: Write>(
-    alloc: Global,
+    form: Form,
     from: &'static str,
     to: &'static str,
     address: Option<u32>,
-    form: Form,
+    line: &mut Line,
     out: &mut Output<W>,
 ) -> Result<()>
-    ensures { Writes (row_text form (address_shown from.now to.now address))
-        out.old out.new result }
+    ensures { Writes (row_text form (address_shown from.now to.now address)) out.old out.new result }
 {
-    let row = address_row(alloc, from, to, address)?;
-    write_row(form, &row, &mut Vec::new(alloc), out)
+    line.begin(form);
+    let added = show_address(line, from, to, address);
+    write_line(added, line, out)
 }
 
-/// Writes the `Row` of a place in a section that is made of an address.
-#[tactic(auto)]
+/// Writes the line of a place in a section that is made of an address.
 fn write_place<W: Write>(
-    alloc: Global,
+    form: Form,
     from: &'static str,
     to: &'static str,
     place: Option<SectionOffset>,
-    form: Form,
+    line: &mut Line,
     out: &mut Output<W>,
 ) -> Result<()>
-    ensures { Writes (row_text form (place_shown from.now to.now place))
-        out.old out.new result }
+    ensures { Writes (row_text form (place_shown from.now to.now place)) out.old out.new result }
 {
-    let row = place_row(alloc, from, to, place)?;
-    write_row(form, &row, &mut Vec::new(alloc), out)
+    line.begin(form);
+    let added = show_place(line, from, to, place);
+    write_line(added, line, out)
 }
 
 /// Writes what is made of an address of the image as it is loaded by way of the original image.
 #[tactic(auto)]
 fn write_internal_of_loaded<W: Write>(
-    alloc: Global,
     made: &OfLoaded,
     form: Form,
+    line: &mut Line,
     out: &mut Output<W>,
 ) -> Result<()>
     ensures { Writes (crossed_text form (codes "rva") (codes "internal_rva") (codes "internal_offset")
@@ -161,70 +142,70 @@ fn write_internal_of_loaded<W: Write>(
 {
     let address = number_of(made.internal_rva);
     let place = numbers_of(made.internal_offset);
-    write_address(alloc, "rva", "internal_rva", address, form, out)?;
-    write_place(alloc, "rva", "internal_offset", place, form, out)
+    write_address(form, "rva", "internal_rva", address, line, out)?;
+    write_place(form, "rva", "internal_offset", place, line, out)
 }
 
 /// Writes what is made of an address in the image as it is loaded.
 #[tactic(auto, unfolding(crate::specs::Mapped::loaded_text))]
 fn write_loaded<W: Write>(
-    alloc: Global,
     made: &OfLoaded,
     form: Form,
+    line: &mut Line,
     out: &mut Output<W>,
 ) -> Result<()>
     ensures { Writes (loaded_text form made.now) out.old out.new result }
 {
     let place = made.section_offset;
-    write_place(alloc, "rva", "section_offset", place, form, out)?;
-    write_internal_of_loaded(alloc, made, form, out)
+    write_place(form, "rva", "section_offset", place, line, out)?;
+    write_internal_of_loaded(made, form, line, out)
 }
 
 /// Writes what is made of an address of the original image by way of the image as it is loaded.
 #[tactic(auto)]
 fn write_loaded_of_internal<W: Write>(
-    alloc: Global,
     made: &OfInternal,
     form: Form,
+    line: &mut Line,
     out: &mut Output<W>,
 ) -> Result<()>
     ensures { Writes (crossed_text form (codes "internal_rva") (codes "rva") (codes "section_offset") made.now.rva
         made.now.section_offset) out.old out.new result }
 {
     let address = loaded_number_of(made.rva);
-    write_address(alloc, "internal_rva", "rva", address, form, out)?;
+    write_address(form, "internal_rva", "rva", address, line, out)?;
     let place = made.section_offset;
-    write_place(alloc, "internal_rva", "section_offset", place, form, out)
+    write_place(form, "internal_rva", "section_offset", place, line, out)
 }
 
 /// Writes what is made of an address in the original image.
 #[tactic(auto, unfolding(crate::specs::Mapped::internal_text))]
 fn write_internal<W: Write>(
-    alloc: Global,
     made: &OfInternal,
     form: Form,
+    line: &mut Line,
     out: &mut Output<W>,
 ) -> Result<()>
     ensures { Writes (internal_text form made.now) out.old out.new result }
 {
     let place = numbers_of(made.internal_offset);
-    write_place(alloc, "internal_rva", "internal_offset", place, form, out)?;
-    write_loaded_of_internal(alloc, made, form, out)
+    write_place(form, "internal_rva", "internal_offset", place, line, out)?;
+    write_loaded_of_internal(made, form, line, out)
 }
 
 /// Writes what is made of an address in the image as it is loaded, and then what is made of one in
 /// the original image.
 #[tactic(auto)]
 pub(crate) fn write_made<W: Write>(
-    alloc: Global,
     loaded: &OfLoaded,
     internal: &OfInternal,
     form: Form,
+    line: &mut Line,
     out: &mut Output<W>,
 ) -> Result<()>
     ensures { Writes (loaded_text form loaded.now ++ internal_text form internal.now)
         out.old out.new result }
 {
-    write_loaded(alloc, loaded, form, out)?;
-    write_internal(alloc, internal, form, out)
+    write_loaded(loaded, form, line, out)?;
+    write_internal(internal, form, line, out)
 }

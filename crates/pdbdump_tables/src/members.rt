@@ -1,22 +1,37 @@
 //! The members of a type: the fields of a class, a union or an enumeration, through all lists that
 //! hold them, and the methods of a list.
 
-ghost use Rattle.std.specs.Prelude.{◌≡◌, ◌++◌, OnOk};
+ghost use Rattle.std.specs.Prelude.{◌≡◌};
 ghost use Rattle.std.specs.List.{flat_map};
 ghost use Rattle.std.specs.Option.{option_map};
-ghost use Rattle.pdb_base.specs.Memory.{FailsOnlyForMemory};
 ghost use Rattle.pdbdump_tables.specs.Lines.{field_lines, list_of_fields, member_lines};
 ghost use Rattle.pdbdump_tables.specs.Listed.{Pushes};
 ghost use Rattle.pdbdump_rows.specs.EntryRows.{field_row};
+ghost use Rattle.pdbdump_rows.specs.Line.{Adds};
 ghost use Rattle.pdbdump_rows.specs.Lines.{row_text};
 ghost use Rattle.pdbdump_rows.specs.TypeRows.{listed_method_fields};
 ghost use Rattle.pdb_values.specs.TypeView.{type_value};
 
 use pdb_base::{Error, Result, TypeIndex};
-use pdbdump_rows::{Form, field_row, method_row, push_row};
+use pdbdump_rows::{Form, Line, append_line, show_entry, show_listed_method};
 use pdb_tpi::OpenTable;
 use pdb_values::{MethodListEntry, TypeData};
 use std::alloc::Global;
+
+/// Appends the line of a field.
+fn push_entry(
+    alloc: Global,
+    form: Form,
+    field: &TypeData<'_>,
+    line: &mut Line,
+    lines: &mut Vec<u8>,
+) -> Result<()>
+    ensures { Adds (row_text form (field_row (type_value field.now))) lines.old.items lines.new.items result }
+{
+    line.begin(form);
+    let added = show_entry(alloc, line, field);
+    append_line(added, line, lines)
+}
 
 /// Appends a line for each field.
 #[tactic(auto, using(pdbdump_rows::proofs::Separated::one_more))]
@@ -26,15 +41,28 @@ fn push_entries(
     fields: &[TypeData<'_>],
     lines: &mut Vec<u8>,
 ) -> Result<()>
-    ensures ok { OnOk result (lines.new.items ≡ lines.old.items ++
-        flat_map (λ field. row_text form (field_row (type_value field))) fields.now) }
-    ensures memory { FailsOnlyForMemory result }
+    ensures { Adds (flat_map (λ field. row_text form (field_row (type_value field))) fields.now)
+        lines.old.items lines.new.items result }
 {
+    let mut line = Line::new(alloc);
     for field in fields {
-        let row = field_row(alloc, field)?;
-        push_row(form, &row, lines)?;
+        push_entry(alloc, form, field, &mut line, lines)?;
     }
     Ok(())
+}
+
+/// Appends the line of a method.
+fn push_method(
+    form: Form,
+    method: MethodListEntry,
+    line: &mut Line,
+    lines: &mut Vec<u8>,
+) -> Result<()>
+    ensures { Adds (row_text form (listed_method_fields method)) lines.old.items lines.new.items result }
+{
+    line.begin(form);
+    let added = show_listed_method(line, method);
+    append_line(added, line, lines)
 }
 
 /// Appends a line for each method.
@@ -45,13 +73,12 @@ fn push_methods(
     methods: &[MethodListEntry],
     lines: &mut Vec<u8>,
 ) -> Result<()>
-    ensures ok { OnOk result (lines.new.items ≡ lines.old.items ++
-        flat_map (λ method. row_text form (listed_method_fields method)) methods.now) }
-    ensures memory { FailsOnlyForMemory result }
+    ensures { Adds (flat_map (λ method. row_text form (listed_method_fields method)) methods.now)
+        lines.old.items lines.new.items result }
 {
+    let mut line = Line::new(alloc);
     for method in methods {
-        let row = method_row(alloc, *method)?;
-        push_row(form, &row, lines)?;
+        push_method(form, *method, &mut line, lines)?;
     }
     Ok(())
 }

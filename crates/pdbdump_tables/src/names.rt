@@ -1,14 +1,15 @@
 //! The names of string tables.
 
-ghost use Rattle.std.specs.Prelude.{◌≡◌, IfOk};
-ghost use Rattle.pdb_base.specs.Memory.{FailsOnlyForMemory};
-ghost use Rattle.pdbdump_rows.specs.Row.{row_shown};
+ghost use Rattle.std.specs.Prelude.{◌≡◌};
+ghost use Rattle.pdb_output.specs.Output.{Writes};
+ghost use Rattle.pdbdump_rows.specs.Line.{Shows};
+ghost use Rattle.pdbdump_rows.specs.Lines.{row_text};
 ghost use Rattle.pdbdump_tables.specs.Listing.{IsListed, whole};
 ghost use Rattle.pdbdump_tables.specs.Tables.{all_names, name_lines, name_shown, next_place};
 
 use pdb_base::{Error, RawString, Result};
 use pdb_output::Output;
-use pdbdump_rows::{Form, Row, Value, field, write_row};
+use pdbdump_rows::{Form, Line, Value, write_line};
 use pdb_space::{StringRef, StringTable};
 use std::alloc::Global;
 use std::io::Write;
@@ -22,16 +23,28 @@ fn next_place(place: u32, size: usize) -> Option<u32>
     place.checked_add(size)?.checked_add(1)
 }
 
-/// Returns the `Row` of a name: its offset and its text.
-fn name_row<'t>(alloc: Global, place: u32, name: RawString<'t>) -> Result<Row<'t>>
-    ensures ok { IfOk result (λ row. row_shown row ≡ name_shown (place, name.entry.0.now)) }
-    ensures memory { FailsOnlyForMemory result }
+/// Adds the fields of a name: its offset and its text.
+fn show_name(line: &mut Line, place: u32, name: RawString<'_>) -> Result<()>
+    ensures { Shows (name_shown (place, name.entry.0.now)) line.old line.new result }
 {
-    let fields = vec![in alloc;
-        field("offset", Value::Hexadecimal(place)),
-        field("name", Value::Text(name)),
-    ]?;
-    Ok(Row { fields })
+    line.field("offset", Value::Hexadecimal(place))?;
+    line.field("name", Value::Text(name))?;
+    Ok(())
+}
+
+/// Writes the line of a name.
+fn write_name<W: Write>(
+    form: Form,
+    place: u32,
+    name: RawString<'_>,
+    line: &mut Line,
+    out: &mut Output<W>,
+) -> Result<()>
+    ensures { Writes (row_text form (name_shown (place, name.entry.0.now))) out.old out.new result }
+{
+    line.begin(form);
+    let added = show_name(line, place, name);
+    write_line(added, line, out)
 }
 
 /// Writes the names of a table, each with its offset.
@@ -44,14 +57,13 @@ pub(crate) fn write_table<W: Write>(
     ensures { IsListed (whole (name_lines form (all_names table.now)))
         out.old out.new result }
 {
-    let mut line = Vec::new(alloc);
+    let mut line = Line::new(alloc);
     let mut place = 0;
     for _ in 0..u32::MAX {
         let Ok(name) = table.get(StringRef(place)) else {
             return Ok(());
         };
-        let row = name_row(alloc, place, name)?;
-        write_row(form, &row, &mut line, out)?;
+        write_name(form, place, name, &mut line, out)?;
         let Some(next) = next_place(place, name.len()) else {
             return Ok(());
         };

@@ -1,32 +1,44 @@
 //! The records of OMAP tables.
 
-ghost use Rattle.std.specs.Prelude.{◌≡◌, IfOk};
-ghost use Rattle.pdb_base.specs.Memory.{FailsOnlyForMemory};
-ghost use Rattle.pdbdump_rows.specs.Row.{row_shown};
+ghost use Rattle.std.specs.Prelude.{◌≡◌};
+ghost use Rattle.pdbdump_rows.specs.Lines.{row_text};
+ghost use Rattle.pdbdump_rows.specs.TableRows.{omap_row};
 ghost use Rattle.pdb_output.specs.Output.{Writes};
 ghost use Rattle.pdbdump_tables.specs.Listing.{IsListed};
 ghost use Rattle.pdbdump_tables.specs.Tables.{omap_all, omap_lines, omap_listing, order_shown, rises};
 
 use pdb_base::{Error, Result, Stream};
 use pdb_output::Output;
-use pdbdump_rows::{Form, Row, Value, field, omap_row, write_row};
-use pdb_space::OMAPTable;
+use pdb_space::{OMAPRecord, OMAPTable};
+use pdbdump_rows::{Form, Line, Value, show_omap, write_line};
 use std::alloc::Global;
 use std::io::Write;
 
+/// Writes the line of a record.
+fn write_record<W: Write>(
+    form: Form,
+    record: OMAPRecord,
+    line: &mut Line,
+    out: &mut Output<W>,
+) -> Result<()>
+    ensures { Writes (row_text form (omap_row record)) out.old out.new result }
+{
+    line.begin(form);
+    let added = show_omap(line, record);
+    write_line(added, line, out)
+}
+
 /// Writes the records of a table.
 fn write_records<W: Write>(
-    alloc: Global,
     table: &OMAPTable,
     form: Form,
+    line: &mut Line,
     out: &mut Output<W>,
 ) -> Result<()>
     ensures { Writes (omap_lines form table.now) out.old out.new result }
 {
-    let mut line = Vec::new(alloc);
     for record in table.records() {
-        let row = omap_row(alloc, record)?;
-        write_row(form, &row, &mut line, out)?;
+        write_record(form, record, line, out)?;
     }
     Ok(())
 }
@@ -38,13 +50,19 @@ fn is_sorted(table: &OMAPTable) -> bool
     table.is_sorted()
 }
 
-/// Returns the `Row` that says whether a table is sorted.
-fn order_row<'t>(alloc: Global, is_sorted: bool) -> Result<Row<'t>>
-    ensures ok { IfOk result (λ row. row_shown row ≡ order_shown is_sorted) }
-    ensures memory { FailsOnlyForMemory result }
+/// Writes whether a table is sorted.
+#[tactic(auto)]
+fn write_order<W: Write>(
+    form: Form,
+    is_sorted: bool,
+    line: &mut Line,
+    out: &mut Output<W>,
+) -> Result<()>
+    ensures { Writes (row_text form (order_shown is_sorted)) out.old out.new result }
 {
-    let fields = vec![in alloc; field("is_sorted", Value::Flag(is_sorted))]?;
-    Ok(Row { fields })
+    line.begin(form);
+    let added = line.field("is_sorted", Value::Flag(is_sorted));
+    write_line(added, line, out)
 }
 
 /// Writes the records of a table, and then whether their sources never decrease.
@@ -57,9 +75,9 @@ fn write_table<W: Write>(
 ) -> Result<()>
     ensures { Writes (omap_all form table.now) out.old out.new result }
 {
-    write_records(alloc, table, form, out)?;
-    let row = order_row(alloc, is_sorted(table))?;
-    write_row(form, &row, &mut Vec::new(alloc), out)
+    let mut line = Line::new(alloc);
+    write_records(table, form, &mut line, out)?;
+    write_order(form, is_sorted(table), &mut line, out)
 }
 
 /// Lists the records of the OMAP table in a stream, and then whether their sources never decrease.

@@ -1,9 +1,8 @@
 //! The OMAP tables of a file, by the roles of their streams.
 
-ghost use Rattle.std.specs.Prelude.{◌≡◌, IfOk};
-ghost use Rattle.pdb_base.specs.Memory.{FailsOnlyForMemory};
+ghost use Rattle.std.specs.Prelude.{◌≡◌};
+ghost use Rattle.pdbdump_rows.specs.Line.{Shows};
 ghost use Rattle.pdbdump_rows.specs.Lines.{row_text};
-ghost use Rattle.pdbdump_rows.specs.Row.{row_shown};
 ghost use Rattle.pdb_output.specs.Output.{Writes};
 ghost use Rattle.pdbdump_tables.specs.Files.{both_omaps, file_omap, numbered_omap, role_omap, role_shown};
 ghost use Rattle.pdbdump_tables.specs.Listing.{IsListed};
@@ -13,24 +12,20 @@ use pdb_base::{Error, Result};
 use pdb_file::{DBIExtraStreams, PDB};
 use pdb_msf::Msf;
 use pdb_output::Output;
-use pdbdump_rows::{Form, Row, Value, field, write_row};
+use pdbdump_rows::{Form, Line, Value, write_line};
 use std::alloc::Global;
 use std::io::Write;
 
-/// Returns the `Row` that says the role of the table that follows, and the number of its stream.
-fn role_row<'t>(alloc: Global, role: &'static str, number: u32) -> Result<Row<'t>>
-    ensures ok { IfOk result (λ row. row_shown row ≡ role_shown role.now number) }
-    ensures memory { FailsOnlyForMemory result }
+/// Adds the fields of the role of the table that follows, and the number of its stream.
+fn show_role(line: &mut Line, role: &'static str, number: u32) -> Result<()>
+    ensures { Shows (role_shown role.now number) line.old line.new result }
 {
-    let fields = vec![in alloc;
-        field("role", Value::Word(role)),
-        field("stream", Value::Number(number as u64)),
-    ]?;
-    Ok(Row { fields })
+    line.field("role", Value::Word(role))?;
+    line.field("stream", Value::Number(number as u64))?;
+    Ok(())
 }
 
 /// Writes the role of the table that follows, and the number of its stream.
-#[tactic(auto, using(pdb_output::proofs::lemmas::Written::writing))]
 fn write_role<W: Write>(
     alloc: Global,
     role: &'static str,
@@ -40,8 +35,10 @@ fn write_role<W: Write>(
 ) -> Result<()>
     ensures { Writes (row_text form (role_shown role.now number)) out.old out.new result }
 {
-    let row = role_row(alloc, role, number)?;
-    write_row(form, &row, &mut Vec::new(alloc), out)
+    let mut line = Line::new(alloc);
+    line.begin(form);
+    let added = show_role(&mut line, role, number);
+    write_line(added, &mut line, out)
 }
 
 /// Lists the records of the OMAP table in a stream, and then whether their sources never decrease.

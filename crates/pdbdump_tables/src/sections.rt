@@ -1,18 +1,36 @@
 //! The headers of sections.
 
 ghost use Rattle.std.specs.Prelude.{◌≡◌};
+ghost use Rattle.pdb_output.specs.Output.{Writes};
+ghost use Rattle.pdbdump_rows.specs.Lines.{row_text};
+ghost use Rattle.pdbdump_rows.specs.TableRows.{section_row};
 ghost use Rattle.pdbdump_tables.specs.Listing.{IsListed};
 ghost use Rattle.pdbdump_tables.specs.Tables.{sections_listing};
 
 use pdb_base::{Error, Result, Stream};
 use pdb_output::Output;
-use pdbdump_rows::{Form, section_row, write_row};
 use pdb_space::ImageSectionHeader;
+use pdbdump_rows::{Form, Line, show_section, write_line};
 use std::alloc::Global;
 use std::io::Write;
 
 /// The size of a header in bytes.
 const HEADER_SIZE: usize = 40;
+
+/// Writes the line of a section header with this number.
+fn write_header<W: Write>(
+    form: Form,
+    number: u32,
+    header: &ImageSectionHeader,
+    line: &mut Line,
+    out: &mut Output<W>,
+) -> Result<()>
+    ensures { Writes (row_text form (section_row number header.now)) out.old out.new result }
+{
+    line.begin(form);
+    let added = show_section(line, number, header);
+    write_line(added, line, out)
+}
 
 /// Lists the section headers in a stream, forty bytes each, numbered from 1.
 ///
@@ -28,13 +46,12 @@ pub fn write_sections<W: Write>(
 ) -> Result<()>
     ensures { IsListed (sections_listing form stream.now) out.old out.new result }
 {
-    let mut line = Vec::new(alloc);
+    let mut line = Line::new(alloc);
     let mut buffer = stream.parse_buffer();
     let size = stream.as_slice().len();
     for place in 0..size / HEADER_SIZE {
         let header = ImageSectionHeader::parse(&mut buffer)?;
-        let row = section_row(alloc, place as u32 + 1, &header)?;
-        write_row(form, &row, &mut line, out)?;
+        write_header(form, place as u32 + 1, &header, &mut line, out)?;
     }
     if size % HEADER_SIZE == 0 {
         Ok(())

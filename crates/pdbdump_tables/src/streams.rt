@@ -1,13 +1,13 @@
 //! The streams of a file, one line for each.
 
-ghost use Rattle.std.specs.Prelude.{◌≡◌, map, None, IfOk};
+ghost use Rattle.std.specs.Prelude.{◌≡◌, map, None};
 ghost use Rattle.std.specs.Option.{option_map};
-ghost use Rattle.pdb_base.specs.Memory.{FailsOnlyForMemory};
 ghost use Rattle.pdb_base.specs.Answer.{Answers};
 ghost use Rattle.pdb_msf.specs.Directory.{stream_count_in};
 ghost use Rattle.pdb_msf.specs.File.{stream_of};
 ghost use Rattle.pdb_file.specs.StreamNames.{named_view};
-ghost use Rattle.pdbdump_rows.specs.Row.{row_shown, value_shown};
+ghost use Rattle.pdbdump_rows.specs.Line.{Shows};
+ghost use Rattle.pdbdump_rows.specs.Row.{value_shown};
 ghost use Rattle.pdb_output.specs.Output.{Writes};
 ghost use Rattle.pdbdump_tables.specs.Known.{known_view};
 ghost use Rattle.pdbdump_tables.specs.Streams.{nameable, pages_held, size_line, stream_line, stream_lines, stream_shown};
@@ -18,7 +18,7 @@ use pdb_base::{Error, RawString, Result, Stream};
 use pdb_file::{DBIExtraStreams, PDB, StreamName};
 use pdb_msf::{Layout, Msf};
 use pdb_output::Output;
-use pdbdump_rows::{Form, Row, Value, field, optional_text, optional_word, write_row};
+use pdbdump_rows::{Form, Line, Value, optional_text, optional_word, write_line};
 use std::alloc::Global;
 use std::io::Write;
 
@@ -56,39 +56,34 @@ fn pages_held<'t>(page_size: u32, size: u32) -> Value<'t>
     Value::Number((size as u64).div_ceil(page_size as u64))
 }
 
-/// Returns the `Row` of a stream: its number, its size in bytes, how many pages hold it, its role
-/// and its name.
-fn stream_row<'t>(
-    alloc: Global,
+/// Adds the fields of a stream: its number, its size in bytes, how many pages hold it, its role and
+/// its name.
+fn show_stream(
+    line: &mut Line,
     page_size: u32,
     number: u32,
     size: u32,
     role: Option<&'static str>,
-    name: Option<RawString<'t>>,
-) -> Result<Row<'t>>
-    ensures ok { IfOk result (λ row. row_shown row
-        ≡ stream_shown page_size number size (option_map (λ role. role.now) role.entry)
-        (option_map (λ name. name.0.now) name.entry)) }
-    ensures memory { FailsOnlyForMemory result }
+    name: Option<RawString<'_>>,
+) -> Result<()>
+    ensures { Shows (stream_shown page_size number size (option_map (λ role. role.now) role.entry)
+        (option_map (λ name. name.0.now) name.entry)) line.old line.new result }
 {
-    let fields = vec![in alloc;
-        field("stream", Value::Number(number as u64)),
-        field("bytes", Value::Number(size as u64)),
-        field("pages", pages_held(page_size, size)),
-        field("role", optional_word(role)),
-        field("name", optional_text(name)),
-    ]?;
-    Ok(Row { fields })
+    line.field("stream", Value::Number(number as u64))?;
+    line.field("bytes", Value::Number(size as u64))?;
+    line.field("pages", pages_held(page_size, size))?;
+    line.field("role", optional_word(role))?;
+    line.field("name", optional_text(name))?;
+    Ok(())
 }
 
 /// Writes the line of a stream with this number and this size in bytes.
-#[tactic(auto, using(pdb_output::proofs::lemmas::Written::writing))]
 fn write_size<W: Write>(
-    alloc: Global,
     number: u32,
     size: u32,
     known: Known<'_, '_>,
     form: Form,
+    line: &mut Line,
     out: &mut Output<W>,
 ) -> Result<()>
     ensures { Writes (size_line form (known_view known.entry) number size)
@@ -96,8 +91,9 @@ fn write_size<W: Write>(
 {
     let role = role_of(&known.roles, number);
     let name = name_of(known.names, number);
-    let row = stream_row(alloc, known.layout.page_size(), number, size, role, name)?;
-    write_row(form, &row, &mut Vec::new(alloc), out)
+    line.begin(form);
+    let added = show_stream(line, known.layout.page_size(), number, size, role, name);
+    write_line(added, line, out)
 }
 
 /// Writes the line of the stream with this number, if there is one. If its size can't be read, the
@@ -108,12 +104,13 @@ fn write_stream<W: Write>(
     number: u32,
     known: Known<'_, '_>,
     form: Form,
+    line: &mut Line,
     out: &mut Output<W>,
 ) -> Result<()>
     ensures { Writes (stream_line form (known_view known.entry) number) out.old out.new result }
 {
     match known.layout.stream_size(number) {
-        Ok(size) => write_size(alloc, number, size, known, form, out),
+        Ok(size) => write_size(number, size, known, form, line, out),
         Err(Error::StreamNotFound(_)) => Ok(()),
         Err(error) => write_refused(alloc, Part::Stream(number), &error, form, out),
     }
@@ -138,8 +135,9 @@ pub fn write_streams<W: Write>(
 ) -> Result<()>
     ensures { Writes (stream_lines form (known_view known.entry)) out.old out.new result }
 {
+    let mut line = Line::new(alloc);
     for number in 0..nameable(known.layout) {
-        write_stream(alloc, number, known, form, out)?;
+        write_stream(alloc, number, known, form, &mut line, out)?;
     }
     Ok(())
 }

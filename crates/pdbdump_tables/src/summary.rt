@@ -1,12 +1,11 @@
 //! The summary of a file.
 
 ghost use Rattle.std.specs.Prelude.{◌≡◌, [], ◌++◌, IfOk};
-ghost use Rattle.pdb_base.specs.Memory.{FailsOnlyForMemory};
 ghost use Rattle.pdb_base.specs.Answer.{Answers, Gives};
 ghost use Rattle.pdb_base.specs.Refusal.{refusal_of};
 ghost use Rattle.pdb_file.specs.File.{file_roles};
 ghost use Rattle.pdb_file.specs.StreamNames.{stream_names_of};
-ghost use Rattle.pdbdump_rows.specs.Row.{row_shown};
+ghost use Rattle.pdbdump_rows.specs.Line.{Shows};
 ghost use Rattle.pdb_output.specs.Output.{Writes, done_of};
 ghost use Rattle.pdbdump_tables.specs.Known.{known_view};
 ghost use Rattle.pdbdump_tables.specs.Refused.{refused_line};
@@ -22,7 +21,7 @@ use pdb_base::{Error, ParseBuffer, Result};
 use pdb_file::{DBIExtraStreams, ID_STREAM, PDB, PDBInformation, TYPE_STREAM};
 use pdb_msf::Layout;
 use pdb_output::Output;
-use pdbdump_rows::{Form, Row, Value, field, write_row};
+use pdbdump_rows::{Form, Line, Value, write_line};
 use std::alloc::Global;
 use std::io::Write;
 
@@ -42,22 +41,19 @@ fn pages_of(file: &[u8]) -> Result<(u32, u32)>
     Ok((page_size, pages_used))
 }
 
-/// Returns the `Row` of a file: the size of its pages in bytes, how many pages it uses, and its own
+/// Adds the fields of a file: the size of its pages in bytes, how many pages it uses, and its own
 /// size in bytes.
-fn pages_row<'t>(alloc: Global, page_size: u32, pages: u32, size: usize) -> Result<Row<'t>>
-    ensures ok { IfOk result (λ row. row_shown row ≡ pages_shown (page_size, pages) size) }
-    ensures memory { FailsOnlyForMemory result }
+fn show_pages(line: &mut Line, page_size: u32, pages: u32, size: usize) -> Result<()>
+    ensures { Shows (pages_shown (page_size, pages) size) line.old line.new result }
 {
-    let fields = vec![in alloc;
-        field("page_size", Value::Number(page_size as u64)),
-        field("pages", Value::Number(pages as u64)),
-        field("bytes", Value::Number(size as u64)),
-    ]?;
-    Ok(Row { fields })
+    line.field("page_size", Value::Number(page_size as u64))?;
+    line.field("pages", Value::Number(pages as u64))?;
+    line.field("bytes", Value::Number(size as u64))?;
+    Ok(())
 }
 
 /// Returns what is known of streams that have no names.
-fn unnamed<'k>(layout: &'k Layout, roles: DBIExtraStreams) -> Known<'k, 'static>
+fn without_names<'k>(layout: &'k Layout, roles: DBIExtraStreams) -> Known<'k, 'static>
     ensures { known_view result ≡ record { layout = layout.now; roles = roles; names = [] } }
 {
     Known {
@@ -141,7 +137,7 @@ fn write_named<W: Write>(
             write_streams(alloc, known, form, out)
         }
         Err(Error::OutOfMemory) => Err(Error::OutOfMemory),
-        Err(error) => write_unnamed(alloc, unnamed(layout, roles), &error, form, out),
+        Err(error) => write_unnamed(alloc, without_names(layout, roles), &error, form, out),
     }
 }
 
@@ -164,7 +160,7 @@ fn write_all_streams<W: Write>(
     match file.pdb_information(alloc) {
         Ok(information) => write_named(alloc, layout, roles, &information, form, out),
         Err(Error::OutOfMemory) => Err(Error::OutOfMemory),
-        Err(error) => write_unnamed(alloc, unnamed(layout, roles), &error, form, out),
+        Err(error) => write_unnamed(alloc, without_names(layout, roles), &error, form, out),
     }
 }
 
@@ -243,8 +239,10 @@ fn write_pages<W: Write>(alloc: Global, file: &[u8], form: Form, out: &mut Outpu
 {
     match pages_of(file) {
         Ok((page_size, pages)) => {
-            let row = pages_row(alloc, page_size, pages, file.len())?;
-            write_row(form, &row, &mut Vec::new(alloc), out)
+            let mut line = Line::new(alloc);
+            line.begin(form);
+            let added = show_pages(&mut line, page_size, pages, file.len());
+            write_line(added, &mut line, out)
         }
         Err(error) => write_refused(alloc, Part::Header, &error, form, out),
     }

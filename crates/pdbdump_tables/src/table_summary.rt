@@ -1,12 +1,11 @@
 //! The tables of a file, and the kinds of their records.
 
-ghost use Rattle.std.specs.Prelude.{◌≡◌, ◌++◌, IfOk};
+ghost use Rattle.std.specs.Prelude.{◌≡◌, ◌++◌};
 ghost use Rattle.std.specs.Option.{option_map};
-ghost use Rattle.pdb_base.specs.Memory.{FailsOnlyForMemory};
 ghost use Rattle.pdb_base.specs.Answer.{Answers};
 ghost use Rattle.pdb_base.specs.Refusal.{refusal_of};
+ghost use Rattle.pdbdump_rows.specs.Line.{Shows};
 ghost use Rattle.pdbdump_rows.specs.Lines.{row_text};
-ghost use Rattle.pdbdump_rows.specs.Row.{row_shown};
 ghost use Rattle.pdb_output.specs.Output.{Writes};
 ghost use Rattle.pdbdump_tables.specs.Kinds.{kind_lines, kind_shown, stop_line, table_found, table_lines, table_part, table_shown};
 
@@ -16,37 +15,27 @@ use crate::streams::stream;
 use pdb_base::{Error, Result};
 use pdb_file::PDB;
 use pdb_output::Output;
-use pdbdump_rows::{Form, Row, Value, field, write_row};
+use pdbdump_rows::{Form, Line, Value, write_line};
 use pdb_tpi::TypeInformation;
 use std::alloc::Global;
 use std::io::Write;
 
-/// Returns the `Row` of a table: the number of its stream, how many records it has and how many of
+/// Adds the fields of a table: the number of its stream, how many records it has and how many of
 /// them are lists of fields that another list continues, and the indexes that its header counts.
-fn table_row<'t>(
-    alloc: Global,
-    number: u32,
-    walked: &Walked,
-    least: u32,
-    end: u32,
-) -> Result<Row<'t>>
-    ensures ok { IfOk result (λ row. row_shown row ≡
-        table_shown number walked.now.records walked.now.continued least end) }
-    ensures memory { FailsOnlyForMemory result }
+fn show_table(line: &mut Line, number: u32, walked: &Walked, least: u32, end: u32) -> Result<()>
+    ensures { Shows (table_shown number walked.now.records walked.now.continued least end)
+        line.old line.new result }
 {
-    let fields = vec![in alloc;
-        field("table", Value::Number(number as u64)),
-        field("records", Value::Number(walked.records)),
-        field("minimum_index", Value::Hexadecimal(least)),
-        field("maximum_index", Value::Hexadecimal(end)),
-        field("continued_field_lists", Value::Number(walked.continued)),
-    ]?;
-    Ok(Row { fields })
+    line.field("table", Value::Number(number as u64))?;
+    line.field("records", Value::Number(walked.records))?;
+    line.field("minimum_index", Value::Hexadecimal(least))?;
+    line.field("maximum_index", Value::Hexadecimal(end))?;
+    line.field("continued_field_lists", Value::Number(walked.continued))?;
+    Ok(())
 }
 
 /// Writes the line of a table: how many records it has and how many of them are lists of fields
 /// that another list continues, and the indexes that its header counts.
-#[tactic(auto, using(pdb_output::proofs::lemmas::Written::writing))]
 fn write_head<W: Write>(
     alloc: Global,
     number: u32,
@@ -60,27 +49,41 @@ fn write_head<W: Write>(
         table.now.header.maximum_index)) out.old out.new result }
 {
     let header = table.header();
-    let row = table_row(
-        alloc,
+    let mut line = Line::new(alloc);
+    line.begin(form);
+    let added = show_table(
+        &mut line,
         number,
         walked,
         header.minimum_index,
         header.maximum_index,
-    )?;
-    write_row(form, &row, &mut Vec::new(alloc), out)
+    );
+    write_line(added, &mut line, out)
 }
 
-/// Returns the `Row` of a kind of a table's records, and how many there are.
-fn kind_row<'t>(alloc: Global, number: u32, kind: KindCount) -> Result<Row<'t>>
-    ensures ok { IfOk result (λ row. row_shown row ≡ kind_shown number kind) }
-    ensures memory { FailsOnlyForMemory result }
+/// Adds the fields of a kind of a table's records, and how many there are.
+fn show_kind(line: &mut Line, number: u32, kind: KindCount) -> Result<()>
+    ensures { Shows (kind_shown number kind) line.old line.new result }
 {
-    let fields = vec![in alloc;
-        field("table", Value::Number(number as u64)),
-        field("kind", Value::Kind(kind.leaf)),
-        field("count", Value::Number(kind.count)),
-    ]?;
-    Ok(Row { fields })
+    line.field("table", Value::Number(number as u64))?;
+    line.field("kind", Value::Kind(kind.leaf))?;
+    line.field("count", Value::Number(kind.count))?;
+    Ok(())
+}
+
+/// Writes the line of a kind of a table's records.
+fn write_kind<W: Write>(
+    number: u32,
+    kind: KindCount,
+    form: Form,
+    line: &mut Line,
+    out: &mut Output<W>,
+) -> Result<()>
+    ensures { Writes (row_text form (kind_shown number kind)) out.old out.new result }
+{
+    line.begin(form);
+    let added = show_kind(line, number, kind);
+    write_line(added, line, out)
 }
 
 /// Writes a line for each kind of a table's records.
@@ -93,10 +96,9 @@ fn write_kinds<W: Write>(
 ) -> Result<()>
     ensures { Writes (kind_lines form number kinds.now) out.old out.new result }
 {
-    let mut line = Vec::new(alloc);
+    let mut line = Line::new(alloc);
     for kind in kinds {
-        let row = kind_row(alloc, number, *kind)?;
-        write_row(form, &row, &mut line, out)?;
+        write_kind(number, *kind, form, &mut line, out)?;
     }
     Ok(())
 }

@@ -2,15 +2,20 @@
 
 ghost use Rattle.std.specs.Prelude.{◌≡◌, IfOk};
 ghost use Rattle.pdb_base.specs.Memory.{FailsOnlyForMemory};
+ghost use Rattle.pdb_values.specs.TypeView.{type_value};
+ghost use Rattle.pdbdump_rows.specs.TypeRows.{type_row};
+ghost use Rattle.pdbdump_rows.specs.Line.{Ends};
+ghost use Rattle.pdbdump_rows.specs.Lines.{full_text};
 ghost use Rattle.pdbdump_tables.specs.Lines.{type_at, type_line, type_shown};
-ghost use Rattle.pdbdump_tables.specs.Listed.{IsListed, IsShown, IsWalked};
+ghost use Rattle.pdbdump_tables.specs.Listed.{IsTableListed, IsShown, IsWalked};
 
-use crate::item_line::push_type;
+use crate::item_line::make_type;
 use crate::members::{list_of_fields, push_members};
 use pdb_base::{FallibleIterator, Result, Stream, TypeIndex};
 use pdb_output::Output;
-use pdbdump_rows::{Form, push_fields, type_row};
+use pdbdump_rows::{Form, Line, show_type};
 use pdb_tpi::{OpenTable, TypeInformation};
+use pdb_values::TypeData;
 use std::alloc::Global;
 use std::io::Write;
 
@@ -24,11 +29,10 @@ fn list_types<W: Write>(
     ensures { IsWalked (type_line form) table.now out.old out.new result }
 {
     let mut items = table.iter();
-    let mut line = Vec::new(alloc);
+    let mut line = Line::new(alloc);
     while let Some(item) = items.next()? {
-        line.clear();
-        push_type(alloc, form, &item, &mut line)?;
-        out.write(&line)?;
+        make_type(alloc, form, &item, &mut line)?;
+        out.write(line.as_bytes())?;
     }
     Ok(())
 }
@@ -43,7 +47,7 @@ fn list_types<W: Write>(
 /// prefix of what is meant to be written; and with `OutOfMemory` if an allocation fails, after the
 /// lines so far.
 pub fn types<W: Write>(alloc: Global, stream: Stream, form: Form, out: &mut Output<W>) -> Result<()>
-    ensures { IsListed (type_line form) stream out.old out.new result }
+    ensures { IsTableListed (type_line form) stream out.old out.new result }
 {
     let table = TypeInformation::parse(stream)?;
     list_types(alloc, &table, form, out)
@@ -64,7 +68,7 @@ fn list_at(
 }
 
 /// Opens a table for look-ups of the type of an index, and of the lists that hold its fields.
-fn opened(alloc: Global, table: TypeInformation, index: TypeIndex) -> Result<OpenTable<TypeIndex>>
+fn open_table(alloc: Global, table: TypeInformation, index: TypeIndex) -> Result<OpenTable<TypeIndex>>
     ensures table { IfOk result (λ types. types.table ≡ table) }
     ensures memory { FailsOnlyForMemory result }
 {
@@ -76,9 +80,25 @@ fn opened(alloc: Global, table: TypeInformation, index: TypeIndex) -> Result<Ope
     Ok(types)
 }
 
+/// Makes the text of a type in full.
+fn make_full(
+    alloc: Global,
+    form: Form,
+    index: u32,
+    leaf: u16,
+    value: &TypeData<'_>,
+    line: &mut Line,
+) -> Result<()>
+    ensures { Ends (full_text form (type_row index leaf (type_value value.now))) line.new result }
+{
+    line.begin_full(form);
+    let added = show_type(alloc, line, index, leaf, value);
+    line.finish(added)
+}
+
 /// Looks up the type of an index in a table and writes it in full, and then a line for each of its
 /// members.
-fn show_type<W: Write>(
+fn write_type<W: Write>(
     alloc: Global,
     types: &OpenTable<TypeIndex>,
     index: u32,
@@ -89,10 +109,9 @@ fn show_type<W: Write>(
 {
     let item = types.item(TypeIndex(index))?;
     let value = item.parse(alloc)?;
-    let row = type_row(alloc, index, item.raw_kind(), &value)?;
-    let mut text = Vec::new(alloc);
-    push_fields(form, &row, &mut text)?;
-    out.write(&text)?;
+    let mut line = Line::new(alloc);
+    make_full(alloc, form, index, item.raw_kind(), &value, &mut line)?;
+    out.write(line.as_bytes())?;
     let mut lines = Vec::new(alloc);
     push_members(alloc, form, types, TypeIndex(index), &value, &mut lines)?;
     out.write(&lines)?;
@@ -117,6 +136,6 @@ pub fn type_at<W: Write>(
     ensures { IsShown (type_at form index stream) out.old out.new result }
 {
     let table = TypeInformation::parse(stream)?;
-    let types = opened(alloc, table, TypeIndex(index))?;
-    show_type(alloc, &types, index, form, out)
+    let types = open_table(alloc, table, TypeIndex(index))?;
+    write_type(alloc, &types, index, form, out)
 }

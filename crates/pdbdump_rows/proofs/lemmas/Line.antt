@@ -4,10 +4,9 @@ use Rattle.std.specs.List.{filter, flat_map}
 use Rattle.std.proofs.lemmas.Bool.{cond-true, cond-false, cases_Bool}
 use Rattle.std.proofs.lemmas.List.{append-nil}
 use Rattle.pdb_base.specs.declared.error.Error.{Error}
-use Rattle.pdb_output.specs.Output.{OutputState, Writes}
 use Rattle.pdbdump_rows.specs.declared.form.Form.{Form}
 use Rattle.pdbdump_rows.specs.declared.form.Form.TheVariants.{Text, Json}
-use Rattle.pdbdump_rows.specs.Line.{LineState, all_shown, begun, begun_full, ended, ending, opening, shown}
+use Rattle.pdbdump_rows.specs.Line.{Ends, LineState, all_shown, begun, begun_full, ended, ending, opening, shown}
 use Rattle.pdbdump_rows.specs.Lines.{field_line, field_text, fields_text, full_text, is_shown, row_text, separated, separator}
 use Rattle.pdbdump_rows.specs.Row.{ShownField, ShownRow}
 
@@ -130,18 +129,19 @@ unfolding full_text
 full_is Text row = all_full [] true row
 full_is Json row = line_is Json row
 
--- ---- a line that is written
+-- ---- a line that has ended
 
--- what a line with these fields is written as
-pub writes_row : (form : Form) (row : ShownRow) (line : LineState) (old new : OutputState)
-    (result : Result (Unit {0}) Error) → line ≡ all_shown (begun form) row → Writes (ended line) old new result
-    → Writes (row_text form row) old new result
-writes_row form row line old new result is writes =
-    subst (λ (text : List ℕ). Writes text old new result) (ap ended is ∙ line_is form row) writes
+-- a line with these fields ends as the one line of them
+pub ends_line : (form : Form) (start : LineState) (row : ShownRow) (old new : LineState)
+    (result : Result (Unit {0}) Error) → old ≡ all_shown start row → start ≡ begun form → Ends (ended old) new result
+    → Ends (row_text form row) new result
+ends_line form start row old new result is first ends =
+    subst (λ (text : List ℕ). Ends text new result)
+    (ap ended (is ∙ ap (λ (line : LineState). all_shown line row) first) ∙ line_is form row) ends
 
--- the same in full
-pub writes_full : (form : Form) (row : ShownRow) (line : LineState) (old new : OutputState)
-    (result : Result (Unit {0}) Error) → line ≡ all_shown (begun_full form) row → Writes (ended line) old new result
-    → Writes (full_text form row) old new result
-writes_full form row line old new result is writes =
-    subst (λ (text : List ℕ). Writes text old new result) (ap ended is ∙ full_is form row) writes
+pub ends_full : (form : Form) (start : LineState) (row : ShownRow) (old new : LineState)
+    (result : Result (Unit {0}) Error) → old ≡ all_shown start row → start ≡ begun_full form → Ends (ended old) new result
+    → Ends (full_text form row) new result
+ends_full form start row old new result is first ends =
+    subst (λ (text : List ℕ). Ends text new result)
+    (ap ended (is ∙ ap (λ (line : LineState). all_shown line row) first) ∙ full_is form row) ends

@@ -26,6 +26,7 @@ fn indirection<'t>(pointer: Option<Indirection>) -> Value<'t>
 }
 
 /// Adds the fields of a type that has no record.
+#[tactic(auto, unfolding(crate::specs::TypeRows::primitive_fields))]
 pub(crate) fn show_primitive(line: &mut Line, primitive: PrimitiveType) -> Result<()>
     ensures { Shows (primitive_fields primitive) line.old line.new result }
 {

@@ -1,6 +1,6 @@
 use Rattle.std.proofs.Common.{inr}
 use Rattle.pdb_base.proofs.lemmas.Refused.{passed_on}
-use Rattle.pdb_output.proofs.lemmas.Written.{cut_more, lacks_more, written_more}
+use Rattle.pdb_output.proofs.lemmas.Written.{cut_more, written_more}
 use Rattle.pdbdump_tables.proofs.TableLemmas.{frame_next, given_first}
 use Rattle.pdbdump_tables.proofs.frames.write_frames.Goals as goal
 
@@ -8,19 +8,13 @@ pub loop-frame-preserved : goal.loop-frame-preserved
 loop-frame-preserved g c =
     let first = given_first c.loop-frame.frames c.next.new.self c.in-Ok-Some.frame
     (rw c.in-Ok-Some.field-0-is at c.in-Ok-Some.ensures.first) c.in-Ok-Some.ensures.others in
-    let next = frame_next c.args.form c.loop-frame.frames c.in-Ok-Some.frame c.next.new.self _ first
-    c.in_ok-row.ensures.ok in
-    written_more _ _ _ _ _ _ _ next c.loop-frame.invariant c.in_ok-write_row.ensures
+    let next = frame_next c.args.form c.loop-frame.frames c.in-Ok-Some.frame c.next.new.self first in
+    written_more _ _ _ _ _ _ _ next c.loop-frame.invariant c.in_ok-write_frame.ensures
 
-pub returns-in_err-row : goal.returns-in_err-row
-returns-in_err-row g c = rw (passed_on _ _ c.from_residual.ensures.1)
-    (inr (lacks_more _ _ _ _ _ c.loop-frame.invariant c.in_err-row.ensures.memory))
-
-pub returns-in_err-write_row : goal.returns-in_err-write_row
-returns-in_err-write_row g c =
+pub returns-in_err-write_frame : goal.returns-in_err-write_frame
+returns-in_err-write_frame g c =
     let first = given_first c.loop-frame.frames c.next.new.self c.in-Ok-Some.frame
     (rw c.in-Ok-Some.field-0-is at c.in-Ok-Some.ensures.first) c.in-Ok-Some.ensures.others in
-    let next = frame_next c.args.form c.loop-frame.frames c.in-Ok-Some.frame c.next.new.self _ first
-    c.in_ok-row.ensures.ok in
-    rw (passed_on _ _ c.from_residual-in_err-write_row.ensures.1)
-    (inr (cut_more _ _ _ _ _ _ _ _ next c.loop-frame.invariant c.in_err-write_row.ensures))
+    let next = frame_next c.args.form c.loop-frame.frames c.in-Ok-Some.frame c.next.new.self first in
+    rw (passed_on _ _ c.from_residual.ensures.1)
+    (inr (cut_more _ _ _ _ _ _ _ _ next c.loop-frame.invariant c.in_err-write_frame.ensures))

@@ -21,4 +21,4 @@ unfolding id_at
 returns g c =
     let same : c.in_ok-ids.ids.table ≡ c.in_ok-table.table =
     sym (ap (λ (s : WalkPosition). s.table) (ok_is _ _ c.in_ok-ids.ensures)) in
-    shows_table _ _ _ _ _ _ c.in_ok-table.ensures (rw same at c.show_id.ensures)
+    shows_table _ _ _ _ _ _ c.in_ok-table.ensures (rw same at c.write_id.ensures)

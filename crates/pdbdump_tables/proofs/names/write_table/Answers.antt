@@ -2,7 +2,7 @@ use Rattle.std.proofs.Common.{[], refl, sym, ap, inr, ◌∙◌}
 use Rattle.pdb_base.proofs.lemmas.Refused.{passed_on}
 use Rattle.pdbdump_tables.specs.Tables.{all_names, next_place}
 use Rattle.pdbdump_tables.proofs.TableLemmas.{name_first, name_step, name_end, name_none, name_most}
-use Rattle.pdb_output.proofs.lemmas.Written.{cut_more, lacks_more, written_none, written_more, written_all}
+use Rattle.pdb_output.proofs.lemmas.Written.{cut_more, written_none, written_more, written_all}
 use Rattle.pdbdump_tables.proofs.names.write_table.Goals as goal
 
 pub loop-init : goal.loop-init
@@ -19,27 +19,23 @@ returns-in_default g c = (
 pub returns-in_default-next_place : goal.returns-in_default-next_place
 returns-in_default-next_place g c =
     let more = sym c.in_default-next_place.is ∙ c.next_place.ensures ∙ ap (next_place c.loop.place) c.len.ensures in
-    let step = name_end c.args.form 0xffffffff c.loop.counter c.args.table.now c.loop.place c.in-Ok.name.0.now _
-    c.loop-test.true c.in-Ok.ensures more c.in_ok-row.ensures.ok in
-    (refl, written_all _ _ _ [] refl (written_more _ _ _ _ _ _ _ step c.loop.invariant c.in_ok-write_row.ensures))
+    let step = name_end c.args.form 0xffffffff c.loop.counter c.args.table.now c.loop.place c.in-Ok.name.0.now
+    c.loop-test.true c.in-Ok.ensures more in
+    (refl, written_all _ _ _ [] refl (written_more _ _ _ _ _ _ _ step c.loop.invariant c.in_ok-write_name.ensures))
 
 pub loop-preserved : goal.loop-preserved
 loop-preserved g c =
     let more = sym c.in-Some.is ∙ c.next_place.ensures ∙ ap (next_place c.loop.place) c.len.ensures in
     let step = name_step c.args.form 0xffffffff c.loop.counter c.args.table.now c.loop.place c.in-Ok.name.0.now
-    c.in-Some.next _ c.loop-test.true c.in-Ok.ensures more c.in_ok-row.ensures.ok in
-    written_more _ _ _ _ _ _ _ step c.loop.invariant c.in_ok-write_row.ensures
+    c.in-Some.next c.loop-test.true c.in-Ok.ensures more in
+    written_more _ _ _ _ _ _ _ step c.loop.invariant c.in_ok-write_name.ensures
 
 pub returns : goal.returns
 returns g c = (refl, written_all _ _ _ _ (name_most c.args.form _ _ _ _ c.loop-test.false) c.loop.invariant)
 
-pub returns-in_err-row : goal.returns-in_err-row
-returns-in_err-row g c = rw (passed_on _ _ c.from_residual.ensures.1)
-    (inr (lacks_more _ _ _ _ _ c.loop.invariant c.in_err-row.ensures.memory))
-
-pub returns-in_err-write_row : goal.returns-in_err-write_row
-returns-in_err-write_row g c =
-    let next = name_first c.args.form 0xffffffff c.loop.counter c.args.table.now c.loop.place c.in-Ok.name.0.now _
-    c.loop-test.true c.in-Ok.ensures c.in_ok-row.ensures.ok in
-    rw (passed_on _ _ c.from_residual-in_err-write_row.ensures.1)
-    (inr (cut_more _ _ _ _ _ _ _ _ next c.loop.invariant c.in_err-write_row.ensures))
+pub returns-in_err-write_name : goal.returns-in_err-write_name
+returns-in_err-write_name g c =
+    let next = name_first c.args.form 0xffffffff c.loop.counter c.args.table.now c.loop.place c.in-Ok.name.0.now
+    c.loop-test.true c.in-Ok.ensures in
+    rw (passed_on _ _ c.from_residual.ensures.1)
+    (inr (cut_more _ _ _ _ _ _ _ _ next c.loop.invariant c.in_err-write_name.ensures))

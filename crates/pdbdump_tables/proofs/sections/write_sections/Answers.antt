@@ -4,7 +4,7 @@ use Rattle.pdb_base.proofs.lemmas.Refused.{passed_on}
 use Rattle.pdb_file.proofs.HeaderLemmas.{header_refused}
 use Rattle.pdbdump_tables.specs.Tables.{sections_listing}
 use Rattle.pdbdump_tables.proofs.TableLemmas.{section_next, read_first, whole_end, cut_end, no_section}
-use Rattle.pdb_output.proofs.lemmas.Written.{cut_more, lacks_more, written_more, written_all}
+use Rattle.pdb_output.proofs.lemmas.Written.{cut_more, written_more, written_all}
 use Rattle.pdbdump_tables.proofs.sections.write_sections.Goals as goal
 
 pub returns-in_err-header : goal.returns-in_err-header
@@ -19,9 +19,9 @@ loop-place-preserved g c =
     omega (arith, c.loop-place.invariant.rest, c.loop-place-test.true, ap length c.as_slice-size.ensures.bytes) in
     let step = read_first (left c.loop-place.buffer) c.in_ok-header.header
     (left c.parse.new.buffer) long c.in_ok-header.ensures.read in
-    let next = section_next c.args.form _ _ c.in_ok-header.header _ _ step.0 c.in_ok-row.ensures.ok in
+    let next = section_next c.args.form _ _ c.in_ok-header.header _ step.0 in
     record {
-      written = written_more _ _ _ _ _ _ _ next c.loop-place.invariant.written c.in_ok-write_row.ensures;
+      written = written_more _ _ _ _ _ _ _ next c.loop-place.invariant.written c.in_ok-write_header.ensures;
       rest = omega (arith, step.1, c.loop-place.invariant.rest, c.loop-place-test.true);
     }
 
@@ -44,18 +44,13 @@ returns g c =
       written_all _ _ _ _ (no_section c.args.form _ _ short) c.loop-place.invariant.written,
     )
 
-pub returns-in_err-row : goal.returns-in_err-row
+pub returns-in_err-write_header : goal.returns-in_err-write_header
 unfolding sections_listing
-returns-in_err-row g c = rw (passed_on _ _ c.from_residual-in_err-row.ensures.1)
-    (inr (lacks_more _ _ _ _ _ c.loop-place.invariant.written c.in_err-row.ensures.memory))
-
-pub returns-in_err-write_row : goal.returns-in_err-write_row
-unfolding sections_listing
-returns-in_err-write_row g c =
+returns-in_err-write_header g c =
     let long : 40 ≤ length (left c.loop-place.buffer) =
     omega (arith, c.loop-place.invariant.rest, c.loop-place-test.true, ap length c.as_slice-size.ensures.bytes) in
     let step = read_first (left c.loop-place.buffer) c.in_ok-header.header
     (left c.parse.new.buffer) long c.in_ok-header.ensures.read in
-    let next = section_next c.args.form _ _ c.in_ok-header.header _ _ step.0 c.in_ok-row.ensures.ok in
-    rw (passed_on _ _ c.from_residual-in_err-write_row.ensures.1)
-    (inr (cut_more _ _ _ _ _ _ _ _ next c.loop-place.invariant.written c.in_err-write_row.ensures))
+    let next = section_next c.args.form _ _ c.in_ok-header.header _ step.0 in
+    rw (passed_on _ _ c.from_residual-in_err-write_header.ensures.1)
+    (inr (cut_more _ _ _ _ _ _ _ _ next c.loop-place.invariant.written c.in_err-write_header.ensures))

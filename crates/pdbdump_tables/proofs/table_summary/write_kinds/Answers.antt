@@ -1,5 +1,5 @@
 use Rattle.pdb_base.proofs.lemmas.Refused.{passed_on}
-use Rattle.pdb_output.proofs.lemmas.Written.{cut_more, lacks_more, written_all, written_more, written_none}
+use Rattle.pdb_output.proofs.lemmas.Written.{cut_more, written_all, written_more, written_none}
 use Rattle.pdbdump_tables.proofs.LineLemmas.{kind_next, kinds_end}
 use Rattle.pdbdump_tables.proofs.table_summary.write_kinds.Goals as goal
 
@@ -8,20 +8,14 @@ loop-kind-init g c = written_none _ _
 
 pub loop-kind-preserved : goal.loop-kind-preserved
 loop-kind-preserved g c =
-    let next = kind_next c.args.form c.args.number c.args.kinds.now c.loop-kind.kind-index _ _ c.loop-kind-test.true
-    c.in_ok-row.ensures.ok in
-    written_more _ _ _ _ _ _ _ next c.loop-kind.invariant c.in_ok-write_row.ensures
+    let next = kind_next c.args.form c.args.number c.args.kinds.now c.loop-kind.kind-index _ c.loop-kind-test.true in
+    written_more _ _ _ _ _ _ _ next c.loop-kind.invariant c.in_ok-write_kind.ensures
 
-pub returns-in_err-row : goal.returns-in_err-row
-returns-in_err-row g c = rw (passed_on _ _ c.from_residual.ensures.1)
-    (lacks_more _ _ _ _ _ c.loop-kind.invariant c.in_err-row.ensures.memory)
-
-pub returns-in_err-write_row : goal.returns-in_err-write_row
-returns-in_err-write_row g c =
-    let next = kind_next c.args.form c.args.number c.args.kinds.now c.loop-kind.kind-index _ _ c.loop-kind-test.true
-    c.in_ok-row.ensures.ok in
-    rw (passed_on _ _ c.from_residual-in_err-write_row.ensures.1)
-    (cut_more _ _ _ _ _ _ _ _ next c.loop-kind.invariant c.in_err-write_row.ensures)
+pub returns-in_err-write_kind : goal.returns-in_err-write_kind
+returns-in_err-write_kind g c =
+    let next = kind_next c.args.form c.args.number c.args.kinds.now c.loop-kind.kind-index _ c.loop-kind-test.true in
+    rw (passed_on _ _ c.from_residual.ensures.1)
+    (cut_more _ _ _ _ _ _ _ _ next c.loop-kind.invariant c.in_err-write_kind.ensures)
 
 pub returns : goal.returns
 returns g c = written_all _ _ _ _ (kinds_end c.args.form c.args.number c.args.kinds.now _ c.loop-kind-test.false)

@@ -9,24 +9,22 @@ pub returns-in_err-item : goal.returns-in_err-item
 returns-in_err-item g c = rw (passed_on _ _ c.from_residual.ensures.1)
     (ends_stopped _ _ _ _ _ _ _ _ c.loop-line.invariant c.in_err-item.ensures)
 
-pub returns-in_err-push_type : goal.returns-in_err-push_type
-returns-in_err-push_type g c =
-    rw (passed_on _ _ c.from_residual-in_err-push_type.ensures.1)
-    (ends_lacking _ _ _ _ _ _ c.loop-line.invariant c.in_err-push_type.ensures.memory)
+pub returns-in_err-make_type : goal.returns-in_err-make_type
+returns-in_err-make_type g c =
+    rw (passed_on _ _ c.from_residual-in_err-make_type.ensures.1)
+    (ends_lacking _ _ _ _ _ _ c.loop-line.invariant c.in_err-make_type.ensures)
 
 pub returns-in_err-write : goal.returns-in_err-write
 returns-in_err-write g c =
     rw (passed_on _ _ c.from_residual-in_err-write.ensures.1)
     (ends_cut _ _ _ _ _ c.in-Some.item _ _ _ _ c.loop-line.invariant
     (rw c.in-Some.is at c.in_ok-item.ensures) c.in_err-write.ensures.failed
-    (line_written _ _ _ _ _ _ (Err _) c.clear.ensures.items c.in_ok-push_type.ensures.ok c.deref.ensures.value
-    c.in_err-write.ensures.bytes))
+    (line_written _ _ _ _ _ (Err _) c.in_ok-make_type.ensures c.as_bytes.ensures c.in_err-write.ensures.bytes))
 
 pub loop-line-preserved : goal.loop-line-preserved
 loop-line-preserved g c =
     so_far_more _ _ _ _ _ c.in-Some.item _ _ _ c.loop-line.invariant (rw c.in-Some.is at c.in_ok-item.ensures)
-    (line_written _ _ _ _ _ _ (Ok tt) c.clear.ensures.items c.in_ok-push_type.ensures.ok c.deref.ensures.value
-    c.in_ok-write.ensures.bytes)
+    (line_written _ _ _ _ _ (Ok tt) c.in_ok-make_type.ensures c.as_bytes.ensures c.in_ok-write.ensures.bytes)
 
 pub returns : goal.returns
 returns g c = ends_whole _ _ _ _ _ _ _ c.loop-line.invariant (rw c.in_default.is at c.in_ok-item.ensures)

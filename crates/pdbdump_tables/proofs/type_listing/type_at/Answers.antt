@@ -16,4 +16,4 @@ returns-in_err-types g c =
 pub returns : goal.returns
 unfolding type_at
 returns g c =
-    shows_table _ _ _ _ _ _ c.in_ok-table.ensures (rw c.in_ok-types.ensures.table at c.show_type.ensures)
+    shows_table _ _ _ _ _ _ c.in_ok-table.ensures (rw c.in_ok-types.ensures.table at c.write_type.ensures)

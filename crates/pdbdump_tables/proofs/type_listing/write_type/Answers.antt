@@ -3,11 +3,11 @@ use Rattle.std.proofs.Common.{Ok, Err, inl, ap}
 use Rattle.pdb_base.proofs.lemmas.Refused.{passed_on}
 use Rattle.pdb_base.specs.declared.index.TypeIndex.{TypeIndex}
 use Rattle.pdbdump_tables.proofs.ListingLemmas.{line_written}
-use Rattle.pdbdump_tables.proofs.ShownLemmas.{cut_members, cut_record, full_written, lacks_early, refuses_early}
+use Rattle.pdbdump_tables.proofs.ShownLemmas.{behind_none, cut_members, cut_record, full_written, lacks_early, refuses_early}
 use Rattle.pdbdump_tables.proofs.ShownLemmas.{refuses_late, shows_whole, type_meant, type_unfound, type_unparsed}
 use Rattle.pdbdump_rows.specs.TypeRows.{type_row}
 use Rattle.pdb_values.specs.TypeView.{type_value}
-use Rattle.pdbdump_tables.proofs.type_listing.show_type.Goals as goal
+use Rattle.pdbdump_tables.proofs.type_listing.write_type.Goals as goal
 
 pub returns-in_err-item : goal.returns-in_err-item
 returns-in_err-item g c = rw (passed_on _ _ c.from_residual.ensures.1)
@@ -19,13 +19,9 @@ returns-in_err-value g c =
     (refuses_early _ _ _ (type_unparsed _ _ _ _ _ _ c.in_ok-item.ensures.item
     (ap (λ (index : TypeIndex). index.0) c.in_ok-item.ensures.index) c.in_err-value.ensures.read))
 
-pub returns-in_err-row : goal.returns-in_err-row
-returns-in_err-row g c = rw (passed_on _ _ c.from_residual-in_err-row.ensures.1)
-    (lacks_early _ _ _ c.in_err-row.ensures.memory)
-
-pub returns-in_err-push_fields : goal.returns-in_err-push_fields
-returns-in_err-push_fields g c = rw (passed_on _ _ c.from_residual-in_err-push_fields.ensures.1)
-    (lacks_early _ _ _ c.in_err-push_fields.ensures.memory)
+pub returns-in_err-make_full : goal.returns-in_err-make_full
+returns-in_err-make_full g c = rw (passed_on _ _ c.from_residual-in_err-make_full.ensures.1)
+    (lacks_early _ _ _ c.in_err-make_full.ensures)
 
 pub returns-in_err-write : goal.returns-in_err-write
 returns-in_err-write g c =
@@ -34,9 +30,8 @@ returns-in_err-write g c =
     (type_meant _ _ _ _ _ _ c.in_ok-item.ensures.item
     (ap (λ (index : TypeIndex). index.0) c.in_ok-item.ensures.index) c.in_ok-value.ensures.read)
     c.in_err-write.ensures.failed
-    (full_written c.args.form (λ leaf. type_row c.args.index leaf (type_value c.in_ok-value.value)) _ _ _ _ _ _ _ _
-    (Err _) c.in_ok-row.ensures.ok c.raw_kind.ensures c.new-text.ensures.items c.in_ok-push_fields.ensures.ok
-    c.deref.ensures.value c.in_err-write.ensures.bytes))
+    (full_written c.args.form (λ leaf. type_row c.args.index leaf (type_value c.in_ok-value.value)) _ _ _ _ _ _ (Err _)
+    c.raw_kind.ensures c.in_ok-make_full.ensures c.as_bytes.ensures c.in_err-write.ensures.bytes))
 
 pub returns-in_err-push_members : goal.returns-in_err-push_members
 returns-in_err-push_members g c =
@@ -44,9 +39,8 @@ returns-in_err-push_members g c =
     (refuses_late _ _ _ _ _ _
     (type_meant _ _ _ _ _ _ c.in_ok-item.ensures.item
     (ap (λ (index : TypeIndex). index.0) c.in_ok-item.ensures.index) c.in_ok-value.ensures.read)
-    (full_written c.args.form (λ leaf. type_row c.args.index leaf (type_value c.in_ok-value.value)) _ _ _ _ _ _ _ _
-    (Ok tt) c.in_ok-row.ensures.ok c.raw_kind.ensures c.new-text.ensures.items c.in_ok-push_fields.ensures.ok
-    c.deref.ensures.value c.in_ok-write.ensures.bytes)
+    (full_written c.args.form (λ leaf. type_row c.args.index leaf (type_value c.in_ok-value.value)) _ _ _ _ _ _ (Ok tt)
+    c.raw_kind.ensures c.in_ok-make_full.ensures c.as_bytes.ensures c.in_ok-write.ensures.bytes)
     c.in_err-push_members.ensures)
 
 pub returns-in_err-write-2 : goal.returns-in_err-write-2
@@ -56,11 +50,10 @@ returns-in_err-write-2 g c =
     (type_meant _ _ _ _ _ _ c.in_ok-item.ensures.item
     (ap (λ (index : TypeIndex). index.0) c.in_ok-item.ensures.index) c.in_ok-value.ensures.read)
     c.in_ok-push_members.ensures.1
-    (full_written c.args.form (λ leaf. type_row c.args.index leaf (type_value c.in_ok-value.value)) _ _ _ _ _ _ _ _
-    (Ok tt) c.in_ok-row.ensures.ok c.raw_kind.ensures c.new-text.ensures.items c.in_ok-push_fields.ensures.ok
-    c.deref.ensures.value c.in_ok-write.ensures.bytes)
-    c.in_err-write-2.ensures.failed (line_written _ _ _ _ _ _
-    (Err _) c.new-lines.ensures.items c.in_ok-push_members.ensures.2 c.deref-2.ensures.value
+    (full_written c.args.form (λ leaf. type_row c.args.index leaf (type_value c.in_ok-value.value)) _ _ _ _ _ _ (Ok tt)
+    c.raw_kind.ensures c.in_ok-make_full.ensures c.as_bytes.ensures c.in_ok-write.ensures.bytes)
+    c.in_err-write-2.ensures.failed (line_written _ _ _ _ _ (Err _)
+    (behind_none _ _ _ c.new-lines.ensures.items c.in_ok-push_members.ensures.2) c.deref.ensures.value
     c.in_err-write-2.ensures.bytes))
 
 pub returns : goal.returns
@@ -69,8 +62,8 @@ returns g c =
     (type_meant _ _ _ _ _ _ c.in_ok-item.ensures.item
     (ap (λ (index : TypeIndex). index.0) c.in_ok-item.ensures.index) c.in_ok-value.ensures.read)
     c.in_ok-push_members.ensures.1
-    (full_written c.args.form (λ leaf. type_row c.args.index leaf (type_value c.in_ok-value.value)) _ _ _ _ _ _ _ _
-    (Ok tt) c.in_ok-row.ensures.ok c.raw_kind.ensures c.new-text.ensures.items c.in_ok-push_fields.ensures.ok
-    c.deref.ensures.value c.in_ok-write.ensures.bytes)
-    (line_written _ _ _ _ _ _ (Ok tt) c.new-lines.ensures.items c.in_ok-push_members.ensures.2 c.deref-2.ensures.value
+    (full_written c.args.form (λ leaf. type_row c.args.index leaf (type_value c.in_ok-value.value)) _ _ _ _ _ _ (Ok tt)
+    c.raw_kind.ensures c.in_ok-make_full.ensures c.as_bytes.ensures c.in_ok-write.ensures.bytes)
+    (line_written _ _ _ _ _ (Ok tt)
+    (behind_none _ _ _ c.new-lines.ensures.items c.in_ok-push_members.ensures.2) c.deref.ensures.value
     c.in_ok-write-2.ensures.bytes)
