@@ -1,7 +1,7 @@
 -- The fields that are shown of a type, behind its index and leaf. They have the names of the type's own
 -- fields. A word of flags is shown as the names of the flags that are set, and the numbers in it have
 -- fields of their own.
-use Rattle.std.specs.Prelude.{ℕ, List, [], ◌∷◌, length, map, codes, Option, Some}
+use Rattle.std.specs.Prelude.{ℕ, List, [], ◌∷◌, length, map, Option, Some}
 use Rattle.std.specs.Option.{option_map}
 use Rattle.pdb_base.specs.declared.index.TypeIndex.{TypeIndex}
 use Rattle.pdb_base.specs.declared.variant.Variant.{Variant}
@@ -28,15 +28,18 @@ use Rattle.pdb_values.specs.declared.method.MethodListEntry.{MethodListEntry}
 use Rattle.pdb_values.specs.declared.modifier.ModifierType.{ModifierType}
 use Rattle.pdb_values.specs.declared.pointer.PointerType.{PointerType}
 use Rattle.pdb_values.specs.declared.primitive.PrimitiveType.{PrimitiveType}
-use Rattle.pdbdump_rows.specs.declared.names.TheConstants.{ACCESS, ARGUMENT_LIST, ARGUMENTS, ATTRIBUTES, BASE_CLASS}
-use Rattle.pdbdump_rows.specs.declared.names.TheConstants.{BASE_POINTER, CLASS_TYPE, CONTAINING_CLASS, CONTINUATION}
-use Rattle.pdbdump_rows.specs.declared.names.TheConstants.{COUNT, DERIVED_FROM, DESCRIPTORS, DIMENSIONS, DIRECT}
-use Rattle.pdbdump_rows.specs.declared.names.TheConstants.{ELEMENT_TYPE, FIELD_TYPE, FIELDS, HFA, INDEXING_TYPE}
-use Rattle.pdbdump_rows.specs.declared.names.TheConstants.{INDIRECTION, LENGTH, METHOD_LIST, METHOD_TYPE, METHODS}
-use Rattle.pdbdump_rows.specs.declared.names.TheConstants.{MOCOM, MODIFIERS, NAME, NESTED_TYPE, OFFSET, POINTER_KIND}
-use Rattle.pdbdump_rows.specs.declared.names.TheConstants.{POINTER_MODE, POSITION, PROPERTIES, RETURN_TYPE, SIZE}
-use Rattle.pdbdump_rows.specs.declared.names.TheConstants.{STRIDE, TABLE, UNDERLYING_TYPE, UNIQUE_NAME, VALUE}
-use Rattle.pdbdump_rows.specs.declared.names.TheConstants.{VTABLE_OFFSET, VTABLE_SHAPE}
+use Rattle.pdbdump_rows.specs.declared.names.TheConstants.{ACCESS, ARGUMENTS, ARGUMENT_LIST, ATTRIBUTES, BASE_CLASS}
+use Rattle.pdbdump_rows.specs.declared.names.TheConstants.{BASE_POINTER, BASE_POINTER_OFFSET, CALLING_CONVENTION}
+use Rattle.pdbdump_rows.specs.declared.names.TheConstants.{CLASS_TYPE, CONTAINING_CLASS, CONTINUATION, COUNT}
+use Rattle.pdbdump_rows.specs.declared.names.TheConstants.{DERIVED_FROM, DESCRIPTORS, DIMENSIONS, DIRECT}
+use Rattle.pdbdump_rows.specs.declared.names.TheConstants.{ELEMENT_TYPE, FIELDS, FIELD_TYPE, HFA, INDEXING_TYPE}
+use Rattle.pdbdump_rows.specs.declared.names.TheConstants.{INDIRECTION, LENGTH, METHODS, METHOD_LIST, METHOD_TYPE}
+use Rattle.pdbdump_rows.specs.declared.names.TheConstants.{MOCOM, MODIFIERS, NAME, NESTED_TYPE, OFFSET}
+use Rattle.pdbdump_rows.specs.declared.names.TheConstants.{PARAMETER_COUNT, POINTER_KIND, POINTER_MODE, POSITION}
+use Rattle.pdbdump_rows.specs.declared.names.TheConstants.{PRIMITIVE_KIND, PROPERTIES, RETURN_TYPE, SIZE, STRIDE}
+use Rattle.pdbdump_rows.specs.declared.names.TheConstants.{TABLE, THIS_ADJUSTMENT, THIS_POINTER_TYPE, UNDERLYING_TYPE}
+use Rattle.pdbdump_rows.specs.declared.names.TheConstants.{UNIQUE_NAME, VALUE, VIRTUAL_BASE_OFFSET, VTABLE_OFFSET}
+use Rattle.pdbdump_rows.specs.declared.names.TheConstants.{VTABLE_SHAPE}
 use Rattle.pdbdump_rows.specs.Fields.{type_index, optional_type, optional_number, optional_text, nonzero, headed}
 use Rattle.pdbdump_rows.specs.Row.{ShownValue, ShownRow, number, signed, flag, text, words, numbers, indexes}
 use Rattle.pdbdump_rows.specs.Words.{access_word, field_words, function_words, indirection_word, kind_word, mode_word}
@@ -45,7 +48,7 @@ use Rattle.pdbdump_rows.specs.Words.{modifier_words, pointer_words, primitive_wo
 -- a type without a record
 unfoldable pub primitive_fields : PrimitiveType → ShownRow
 primitive_fields type =
-    (codes "primitive_kind", text (primitive_word type.kind))
+    (PRIMITIVE_KIND.now, text (primitive_word type.kind))
     ∷ (INDIRECTION.now, optional_text (option_map indirection_word type.indirection))
     ∷ []
 
@@ -182,8 +185,8 @@ virtual_base_fields base =
     ∷ (ATTRIBUTES.now, words (field_words base.attributes))
     ∷ (BASE_CLASS.now, type_index base.base_class)
     ∷ (BASE_POINTER.now, type_index base.base_pointer)
-    ∷ (codes "base_pointer_offset", number base.base_pointer_offset)
-    ∷ (codes "virtual_base_offset", number base.virtual_base_offset)
+    ∷ (BASE_POINTER_OFFSET.now, number base.base_pointer_offset)
+    ∷ (VIRTUAL_BASE_OFFSET.now, number base.virtual_base_offset)
     ∷ []
 
 -- the pointer to a table of virtual functions
@@ -194,9 +197,9 @@ table_pointer_fields pointer = (TABLE.now, type_index pointer.table) ∷ []
 unfoldable pub procedure_fields : ProcedureType → ShownRow
 procedure_fields type =
     (RETURN_TYPE.now, optional_type type.return_type)
-    ∷ (codes "calling_convention", number (calling_convention type.attributes))
+    ∷ (CALLING_CONVENTION.now, number (calling_convention type.attributes))
     ∷ (ATTRIBUTES.now, words (function_words type.attributes))
-    ∷ (codes "parameter_count", number type.parameter_count)
+    ∷ (PARAMETER_COUNT.now, number type.parameter_count)
     ∷ (ARGUMENT_LIST.now, type_index type.argument_list)
     ∷ []
 
@@ -205,12 +208,12 @@ unfoldable pub member_function_fields : MemberFunctionType → ShownRow
 member_function_fields type =
     (RETURN_TYPE.now, type_index type.return_type)
     ∷ (CLASS_TYPE.now, type_index type.class_type)
-    ∷ (codes "this_pointer_type", optional_type type.this_pointer_type)
-    ∷ (codes "calling_convention", number (calling_convention type.attributes))
+    ∷ (THIS_POINTER_TYPE.now, optional_type type.this_pointer_type)
+    ∷ (CALLING_CONVENTION.now, number (calling_convention type.attributes))
     ∷ (ATTRIBUTES.now, words (function_words type.attributes))
-    ∷ (codes "parameter_count", number type.parameter_count)
+    ∷ (PARAMETER_COUNT.now, number type.parameter_count)
     ∷ (ARGUMENT_LIST.now, type_index type.argument_list)
-    ∷ (codes "this_adjustment", number type.this_adjustment)
+    ∷ (THIS_ADJUSTMENT.now, number type.this_adjustment)
     ∷ []
 
 -- a pointer

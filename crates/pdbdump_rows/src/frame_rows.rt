@@ -9,7 +9,7 @@ ghost use Rattle.pdbdump_rows.specs.TableRows.{frame_row, program_place};
 use crate::line::Line;
 use crate::names::{
     CODE_SIZE, CODE_START, HAS_CPP_EH, HAS_STRUCTURED_EH, IS_FUNCTION_START, LOCALS_SIZE,
-    MAX_STACK_SIZE, PARAMS_SIZE, PROGRAM, PROLOG_SIZE, TY, USES_BASE_POINTER,
+    MAX_STACK_SIZE, PARAMS_SIZE, PROGRAM, PROLOG_SIZE, SAVED_REGS_SIZE, TY, USES_BASE_POINTER,
 };
 use crate::value::{Value, optional_number};
 use pdb_base::{Error, Result};
@@ -54,10 +54,7 @@ pub fn show_frame(line: &mut Line, frame: &FrameData) -> Result<()>
     line.field(LOCALS_SIZE, Value::Number(frame.locals_size as u64))?;
     line.field(PARAMS_SIZE, Value::Number(frame.params_size as u64))?;
     line.field(PROLOG_SIZE, Value::Number(frame.prolog_size as u64))?;
-    line.field(
-        "saved_regs_size",
-        Value::Number(frame.saved_regs_size as u64),
-    )?;
+    line.field(SAVED_REGS_SIZE, Value::Number(frame.saved_regs_size as u64))?;
     line.field(MAX_STACK_SIZE, optional_number(frame.max_stack_size))?;
     line.field(TY, Value::Word(frame_word(frame.ty)))?;
     line.field(HAS_STRUCTURED_EH, Value::Flag(frame.has_structured_eh))?;

@@ -4,6 +4,7 @@ ghost use Rattle.pdbdump_rows.specs.Line.{Shows};
 ghost use Rattle.pdbdump_rows.specs.TableRows.{omap_row};
 
 use crate::line::Line;
+use crate::names::{SOURCE_ADDRESS, TARGET_ADDRESS};
 use crate::value::Value;
 use pdb_base::{Error, Result};
 use pdb_space::OMAPRecord;
@@ -16,13 +17,7 @@ use pdb_space::OMAPRecord;
 pub fn show_omap(line: &mut Line, mapping: OMAPRecord) -> Result<()>
     ensures { Shows (omap_row mapping) line.old line.new result }
 {
-    line.field(
-        "source_address",
-        Value::Hexadecimal(mapping.source_address()),
-    )?;
-    line.field(
-        "target_address",
-        Value::Hexadecimal(mapping.target_address()),
-    )?;
+    line.field(SOURCE_ADDRESS, Value::Hexadecimal(mapping.source_address()))?;
+    line.field(TARGET_ADDRESS, Value::Hexadecimal(mapping.target_address()))?;
     Ok(())
 }

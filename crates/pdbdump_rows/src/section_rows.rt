@@ -8,7 +8,11 @@ ghost use Rattle.pdbdump_rows.specs.Row.{value_shown};
 ghost use Rattle.pdbdump_rows.specs.TableRows.{section_row};
 
 use crate::line::Line;
-use crate::names::{ALIGNMENT, CHARACTERISTICS, NAME, NUMBER, VIRTUAL_SIZE};
+use crate::names::{
+    ALIGNMENT, CHARACTERISTICS, NAME, NUMBER, NUMBER_OF_LINE_NUMBERS, NUMBER_OF_RELOCATIONS,
+    POINTER_TO_LINE_NUMBERS, POINTER_TO_RAW_DATA, POINTER_TO_RELOCATIONS, SIZE_OF_RAW_DATA,
+    VIRTUAL_ADDRESS, VIRTUAL_SIZE,
+};
 use crate::value::Value;
 use crate::words::section_flags;
 use pdb_base::{Error, RawString, Result};
@@ -46,33 +50,30 @@ pub fn show_section(line: &mut Line, number: u32, header: &ImageSectionHeader) -
     let characteristics = section_flags(header.characteristics);
     line.field(NUMBER, Value::Number(number as u64))?;
     line.field(NAME, Value::Text(name))?;
-    line.field(
-        "virtual_address",
-        Value::Hexadecimal(header.virtual_address),
-    )?;
+    line.field(VIRTUAL_ADDRESS, Value::Hexadecimal(header.virtual_address))?;
     line.field(VIRTUAL_SIZE, Value::Number(header.virtual_size as u64))?;
     line.field(
-        "pointer_to_raw_data",
+        POINTER_TO_RAW_DATA,
         Value::Hexadecimal(header.pointer_to_raw_data),
     )?;
     line.field(
-        "size_of_raw_data",
+        SIZE_OF_RAW_DATA,
         Value::Number(header.size_of_raw_data as u64),
     )?;
     line.field(
-        "pointer_to_relocations",
+        POINTER_TO_RELOCATIONS,
         Value::Hexadecimal(header.pointer_to_relocations),
     )?;
     line.field(
-        "number_of_relocations",
+        NUMBER_OF_RELOCATIONS,
         Value::Number(header.number_of_relocations as u64),
     )?;
     line.field(
-        "pointer_to_line_numbers",
+        POINTER_TO_LINE_NUMBERS,
         Value::Hexadecimal(header.pointer_to_line_numbers),
     )?;
     line.field(
-        "number_of_line_numbers",
+        NUMBER_OF_LINE_NUMBERS,
         Value::Number(header.number_of_line_numbers as u64),
     )?;
     line.field(CHARACTERISTICS, Value::Words(&characteristics))?;

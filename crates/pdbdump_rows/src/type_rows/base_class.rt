@@ -4,7 +4,10 @@ ghost use Rattle.pdbdump_rows.specs.Line.{Shows};
 ghost use Rattle.pdbdump_rows.specs.TypeRows.{base_class_fields, table_pointer_fields, virtual_base_fields};
 
 use crate::line::Line;
-use crate::names::{ACCESS, ATTRIBUTES, BASE_CLASS, BASE_POINTER, DIRECT, OFFSET, TABLE};
+use crate::names::{
+    ACCESS, ATTRIBUTES, BASE_CLASS, BASE_POINTER, BASE_POINTER_OFFSET, DIRECT, OFFSET, TABLE,
+    VIRTUAL_BASE_OFFSET,
+};
 use crate::value::{Value, optional_word, type_index};
 use crate::words::{access_word, field_flags};
 use pdb_base::{Error, Result};
@@ -35,11 +38,11 @@ pub(crate) fn show_virtual_base(line: &mut Line, base: VirtualBaseClassType) -> 
     line.field(BASE_CLASS, type_index(base.base_class))?;
     line.field(BASE_POINTER, type_index(base.base_pointer))?;
     line.field(
-        "base_pointer_offset",
+        BASE_POINTER_OFFSET,
         Value::Number(base.base_pointer_offset as u64),
     )?;
     line.field(
-        "virtual_base_offset",
+        VIRTUAL_BASE_OFFSET,
         Value::Number(base.virtual_base_offset as u64),
     )?;
     Ok(())

@@ -4,7 +4,10 @@ ghost use Rattle.pdbdump_rows.specs.Line.{Shows};
 ghost use Rattle.pdbdump_rows.specs.TypeRows.{member_function_fields, procedure_fields};
 
 use crate::line::Line;
-use crate::names::{ARGUMENT_LIST, ATTRIBUTES, CLASS_TYPE, RETURN_TYPE};
+use crate::names::{
+    ARGUMENT_LIST, ATTRIBUTES, CALLING_CONVENTION, CLASS_TYPE, PARAMETER_COUNT, RETURN_TYPE,
+    THIS_ADJUSTMENT, THIS_POINTER_TYPE,
+};
 use crate::value::{Value, optional_type, type_index};
 use crate::words::function_flags;
 use pdb_base::{Error, Result};
@@ -18,12 +21,12 @@ pub(crate) fn show_procedure(line: &mut Line, procedure: ProcedureType) -> Resul
     let attributes = function_flags(procedure.attributes);
     line.field(RETURN_TYPE, optional_type(procedure.return_type))?;
     line.field(
-        "calling_convention",
+        CALLING_CONVENTION,
         Value::Number(procedure.attributes.calling_convention() as u64),
     )?;
     line.field(ATTRIBUTES, Value::Words(&attributes))?;
     line.field(
-        "parameter_count",
+        PARAMETER_COUNT,
         Value::Number(procedure.parameter_count as u64),
     )?;
     line.field(ARGUMENT_LIST, type_index(procedure.argument_list))?;
@@ -38,22 +41,19 @@ pub(crate) fn show_member_function(line: &mut Line, function: MemberFunctionType
     let attributes = function_flags(function.attributes);
     line.field(RETURN_TYPE, type_index(function.return_type))?;
     line.field(CLASS_TYPE, type_index(function.class_type))?;
+    line.field(THIS_POINTER_TYPE, optional_type(function.this_pointer_type))?;
     line.field(
-        "this_pointer_type",
-        optional_type(function.this_pointer_type),
-    )?;
-    line.field(
-        "calling_convention",
+        CALLING_CONVENTION,
         Value::Number(function.attributes.calling_convention() as u64),
     )?;
     line.field(ATTRIBUTES, Value::Words(&attributes))?;
     line.field(
-        "parameter_count",
+        PARAMETER_COUNT,
         Value::Number(function.parameter_count as u64),
     )?;
     line.field(ARGUMENT_LIST, type_index(function.argument_list))?;
     line.field(
-        "this_adjustment",
+        THIS_ADJUSTMENT,
         Value::Number(function.this_adjustment as u64),
     )?;
     Ok(())

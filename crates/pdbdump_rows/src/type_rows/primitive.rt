@@ -9,7 +9,7 @@ ghost use Rattle.pdbdump_rows.specs.TypeRows.{primitive_fields};
 ghost use Rattle.pdbdump_rows.specs.Words.{indirection_word};
 
 use crate::line::Line;
-use crate::names::INDIRECTION;
+use crate::names::{INDIRECTION, PRIMITIVE_KIND};
 use crate::value::Value;
 use crate::words::{indirection_word, primitive_word};
 use pdb_base::{Error, Result};
@@ -30,10 +30,7 @@ fn indirection<'t>(pointer: Option<Indirection>) -> Value<'t>
 pub(crate) fn show_primitive(line: &mut Line, primitive: PrimitiveType) -> Result<()>
     ensures { Shows (primitive_fields primitive) line.old line.new result }
 {
-    line.field(
-        "primitive_kind",
-        Value::Word(primitive_word(primitive.kind)),
-    )?;
+    line.field(PRIMITIVE_KIND, Value::Word(primitive_word(primitive.kind)))?;
     line.field(INDIRECTION, indirection(primitive.indirection))?;
     Ok(())
 }
