@@ -101,8 +101,8 @@ pub(crate) fn member_text<'t>(
         Form::Json => {
             let mut line = Line::new(alloc);
             line.begin(Form::Json);
-            show_field(&mut line, 0, found.offset, &found.field, &type_text, path)?;
-            line.end()?;
+            let added = show_field(&mut line, 0, found.offset, &found.field, &type_text, path);
+            line.finish(added)?;
             Ok(Vec::from_slice(alloc, line.as_bytes())?)
         }
     }

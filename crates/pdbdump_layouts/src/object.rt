@@ -10,8 +10,10 @@ ghost use Rattle.pdbdump_layouts.specs.Object.{extent_fields, field_object, gap_
 ghost use Rattle.pdbdump_layouts.specs.Object.{role_name, role_word, virtual_base_fields};
 
 use crate::gap_place::gap_place;
+use crate::names::{BIT, BITS, DECLARATION, DEPTH, TYPE, TYPE_INDEX, VIRTUAL_BASE};
 use pdb_base::{Error, RawString, Result};
 use pdb_types::{Extent, FieldKind, Gap, GapKind, LayoutField};
+use pdbdump_rows::names::{DIRECT, KIND, NAME, OFFSET, POSITION, SIZE};
 use pdbdump_rows::{Line, Value, optional_text};
 
 /// Returns the word for what a field is.
@@ -42,10 +44,10 @@ fn show_extent(line: &mut Line, extent: &Extent) -> Result<()>
     ensures { Shows (extent_fields extent.now) line.old line.new result }
 {
     match extent {
-        Extent::Bytes(size) => line.field("size", Value::Number(*size)),
+        Extent::Bytes(size) => line.field(SIZE, Value::Number(*size)),
         Extent::Bits(bits) => {
-            line.field("bit", Value::Number(bits.position as u64))?;
-            line.field("bits", Value::Number(bits.length as u64))
+            line.field(BIT, Value::Number(bits.position as u64))?;
+            line.field(BITS, Value::Number(bits.length as u64))
         }
         Extent::Unknown => Ok(()),
     }
@@ -58,9 +60,10 @@ fn show_virtual_base(line: &mut Line, kind: &FieldKind<'_>) -> Result<()>
 {
     match kind {
         FieldKind::VirtualBasePointer(base) => {
-            line.field("virtual_base", Value::Hexadecimal(base.base_class.0))?;
-            line.field("direct", Value::Flag(base.direct))?;
-            line.field("position", Value::Number(base.position as u64))
+            line.field(VIRTUAL_BASE, Value::Hexadecimal(base.base_class.0))?;
+            line.field(DIRECT, Value::Flag(base.direct))?;
+            line.field(POSITION, Value::Number(base.position as u64))?;
+            Ok(())
         }
         _ => Ok(()),
     }
@@ -84,15 +87,16 @@ pub(crate) fn show_field(
         line.old line.new result }
 {
     let kind = &part.place.kind;
-    line.field("kind", Value::Word(role_word(kind)))?;
-    line.field("depth", Value::Number(depth as u64))?;
-    line.field("name", optional_text(role_name(kind)))?;
-    line.field("type_index", Value::Hexadecimal(part.place.field_type.0))?;
-    line.field("type", Value::Text(RawString::from(type_text)))?;
-    line.field("declaration", Value::Text(RawString::from(declaration)))?;
-    line.field("offset", Value::Number(offset))?;
+    line.field(KIND, Value::Word(role_word(kind)))?;
+    line.field(DEPTH, Value::Number(depth as u64))?;
+    line.field(NAME, optional_text(role_name(kind)))?;
+    line.field(TYPE_INDEX, Value::Hexadecimal(part.place.field_type.0))?;
+    line.field(TYPE, Value::Text(RawString::from(type_text)))?;
+    line.field(DECLARATION, Value::Text(RawString::from(declaration)))?;
+    line.field(OFFSET, Value::Number(offset))?;
     show_extent(line, &part.extent)?;
-    show_virtual_base(line, kind)
+    show_virtual_base(line, kind)?;
+    Ok(())
 }
 
 /// Returns the word for why no field takes bits.
@@ -116,14 +120,14 @@ pub(crate) fn show_gap(line: &mut Line, depth: u32, start: u64, gap: &Gap) -> Re
     ensures { Shows (gap_object depth start gap.now) line.old line.new result }
 {
     let place = gap_place(start, gap);
-    line.field("kind", Value::Word(gap_word(gap.kind)))?;
-    line.field("depth", Value::Number(depth as u64))?;
-    line.field("offset", Value::Number(place.offset))?;
+    line.field(KIND, Value::Word(gap_word(gap.kind)))?;
+    line.field(DEPTH, Value::Number(depth as u64))?;
+    line.field(OFFSET, Value::Number(place.offset))?;
     match gap.kind {
-        GapKind::Hole | GapKind::VirtualBases => line.field("size", Value::Number(place.bytes)),
+        GapKind::Hole | GapKind::VirtualBases => line.field(SIZE, Value::Number(place.bytes)),
         GapKind::UnusedBits => {
-            line.field("bit", Value::Number(place.bit))?;
-            line.field("bits", Value::Number(place.bits))
+            line.field(BIT, Value::Number(place.bit))?;
+            line.field(BITS, Value::Number(place.bits))
         }
     }
 }

@@ -8,7 +8,7 @@ use pdb_space::{
     ImageSectionHeader, OMAPRecord, PdbInternalRva, SectionCharacteristics, StringRef,
 };
 use pdb_values::{ClassKind, ClassType, TypeData, leaf_name};
-use pdbdump_rows::{Form, Line, show_frame, show_omap, show_section, show_type};
+use pdbdump_rows::{Form, Line, append_line, show_frame, show_omap, show_section, show_type};
 use std::alloc::Global;
 use std::test::Fail;
 
@@ -100,15 +100,13 @@ enum Shown {
 
 /// Appends the lines of a record.
 fn push_lines(alloc: Global, record: Shown, line: &mut Line, out: &mut Vec<u8>) -> Result<()> {
-    match record {
-        Shown::Section => show_section(line, 1, &HEADER)?,
-        Shown::Mapping => show_omap(line, OMAPRecord::new(0x1000, 0x2000))?,
-        Shown::Frame => show_frame(line, &CODE)?,
-        Shown::Structure => show_type(alloc, line, 0x1000, 0x1505, &structure())?,
-    }
-    line.end()?;
-    out.extend_from_slice(line.as_bytes())?;
-    Ok(())
+    let added = match record {
+        Shown::Section => show_section(line, 1, &HEADER),
+        Shown::Mapping => show_omap(line, OMAPRecord::new(0x1000, 0x2000)),
+        Shown::Frame => show_frame(line, &CODE),
+        Shown::Structure => show_type(alloc, line, 0x1000, 0x1505, &structure()),
+    };
+    append_line(added, line, out)
 }
 
 /// Returns the lines of text and of JSON of a record, and then those in full with `is_full`.
