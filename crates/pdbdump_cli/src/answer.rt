@@ -1,11 +1,12 @@
 //! Answers as lines.
-#![tactic(auto, using(pdb_output::proofs::lemmas::Written::writing, pdbdump_rows::proofs::lemmas::Line::line_is))]
+#![tactic(auto, using(pdb_output::proofs::lemmas::Written::writing, pdbdump_rows::proofs::lemmas::Line::showing))]
 
 ghost use Rattle.std.specs.Prelude.{◌≡◌, ◌∷◌, ◌&&◌, [], codes};
 ghost use Rattle.std.specs.List.{flat_map};
 ghost use Rattle.std.specs.Option.{option_copied, option_map};
 ghost use Rattle.pdb_base.specs.Refusal.{refusal_of};
 ghost use Rattle.pdb_output.specs.Output.{Writes};
+ghost use Rattle.pdbdump_rows.specs.Line.{Shows};
 ghost use Rattle.pdbdump_rows.specs.Lines.{row_text};
 ghost use Rattle.pdbdump_rows.specs.Refused.{refusal_shown};
 ghost use Rattle.pdbdump_rows.specs.Row.{text as shown_text};
@@ -34,11 +35,20 @@ fn write_text<W: Write>(
     ensures { Writes (row_text form ((name.now, shown_text text.now) ∷ [])) out.old out.new result }
 {
     line.begin(form);
-    line.field(name, Value::Text(RawString::from(text)))?;
-    write_line(line, out)
+    let added = line.field(name, Value::Text(RawString::from(text)));
+    write_line(added, line, out)
 }
 
-/// Writes a record as a line: its index, its kind and its name, if it has one.
+/// Adds the index of a record, its kind and its name, if it has one.
+fn show_record(line: &mut Line, index: u32, leaf: u16, name: Option<&[u8]>) -> Result<()>
+    ensures { Shows (record_shown index leaf (option_map (λ name. name.now) name.entry)) line.old line.new result }
+{
+    line.field("index", Value::Hexadecimal(index))?;
+    line.field("kind", Value::Kind(leaf))?;
+    line.field("name", optional_text(name.map(RawString::from)))
+}
+
+/// Writes a record as a line.
 fn write_record<W: Write>(
     form: Form,
     index: u32,
@@ -51,10 +61,8 @@ fn write_record<W: Write>(
         out.old out.new result }
 {
     line.begin(form);
-    line.field("index", Value::Hexadecimal(index))?;
-    line.field("kind", Value::Kind(leaf))?;
-    line.field("name", optional_text(name.map(RawString::from)))?;
-    write_line(line, out)
+    let added = show_record(line, index, leaf, name);
+    write_line(added, line, out)
 }
 
 /// Writes why there is no answer.
@@ -69,11 +77,19 @@ fn write_refused<W: Write>(
         out.old out.new result }
 {
     line.begin(form);
-    show_error(alloc, line, error)?;
-    write_line(line, out)
+    let added = show_error(alloc, line, error);
+    write_line(added, line, out)
 }
 
-/// Writes the bytes of a stream as a line, in hexadecimal digits.
+/// Adds the bytes of a stream, in hexadecimal digits.
+fn show_bytes(alloc: Global, line: &mut Line, stream: &[u8]) -> Result<()>
+    ensures { Shows (bytes_shown stream.now) line.old line.new result }
+{
+    let digits = hex::encode(alloc, stream)?;
+    line.field("bytes", Value::Text(RawString::from(digits.as_bytes())))
+}
+
+/// Writes the bytes of a stream as a line.
 fn write_stream<W: Write>(
     alloc: Global,
     form: Form,
@@ -83,8 +99,9 @@ fn write_stream<W: Write>(
 ) -> Result<()>
     ensures { Writes (row_text form (bytes_shown stream.now)) out.old out.new result }
 {
-    let digits = hex::encode(alloc, stream)?;
-    write_text(form, "bytes", digits.as_bytes(), line, out)
+    line.begin(form);
+    let added = show_bytes(alloc, line, stream);
+    write_line(added, line, out)
 }
 
 /// Writes the name of a field as a line.
@@ -98,8 +115,8 @@ fn write_name<W: Write>(
         out.old out.new result }
 {
     line.begin(form);
-    line.field("field", optional_text(name.map(RawString::from)))?;
-    write_line(line, out)
+    let added = line.field("field", optional_text(name.map(RawString::from)));
+    write_line(added, line, out)
 }
 
 /// Writes the names of fields, each as a line.
@@ -119,7 +136,15 @@ fn write_names<W: Write>(
     Ok(())
 }
 
-/// Writes a range as a line: its start and its end.
+/// Adds the start of a range and its end.
+fn show_range(line: &mut Line, range: &Range<u32>) -> Result<()>
+    ensures { Shows (range_shown range.now) line.old line.new result }
+{
+    line.field("start", Value::Hexadecimal(range.start))?;
+    line.field("end", Value::Hexadecimal(range.end))
+}
+
+/// Writes a range as a line.
 fn write_range<W: Write>(
     form: Form,
     range: &Range<u32>,
@@ -129,9 +154,8 @@ fn write_range<W: Write>(
     ensures { Writes (row_text form (range_shown range.now)) out.old out.new result }
 {
     line.begin(form);
-    line.field("start", Value::Hexadecimal(range.start))?;
-    line.field("end", Value::Hexadecimal(range.end))?;
-    write_line(line, out)
+    let added = show_range(line, range);
+    write_line(added, line, out)
 }
 
 /// Writes ranges, each as a line.

@@ -4,18 +4,22 @@ ghost use Rattle.std.specs.Prelude.{◌≡◌, ◌≤◌, ◌++◌, length, map,
 ghost use Rattle.std.specs.List.{flat_map};
 ghost use Rattle.pdb_base.specs.Memory.{FailsOnlyForMemory};
 ghost use Rattle.pdbdump_rows.specs.Fields.{optional_number};
-ghost use Rattle.pdbdump_rows.specs.Line.{Shows};
+ghost use Rattle.pdbdump_rows.specs.Line.{Adds, Shows};
 ghost use Rattle.pdbdump_rows.specs.Row.{value_shown};
 ghost use Rattle.pdb_validation.specs.Finding.{fault_code, finding_view, warning_count};
 ghost use Rattle.pdb_validation.specs.Problem.{is_tolerated, problem_view};
 ghost use Rattle.pdbdump_cli.specs.FindingLines.{counted, counts_if_any, counts_of, counts_text, fault_in, fault_line};
-ghost use Rattle.pdbdump_cli.specs.FindingLines.{fault_shown, fault_text, file_in, file_line};
+ghost use Rattle.pdbdump_cli.specs.FindingLines.{fault_shown, fault_text, file_in, file_line, file_shown};
 ghost use Rattle.pdbdump_cli.specs.FindingLines.{label_and_number, labelled, lines_unless, place_in, place_text};
 ghost use Rattle.pdbdump_cli.specs.FindingLines.{problem_words, severity, tally_view, validate_lines, whole_text};
 
-use pdb_base::{RawString, Result};
+use crate::names::{
+    BYTE, CODE, ERRORS, FILE, FILE_BYTE, PART, PROBLEM, SEVERITY, STREAM, WARNINGS, WHOLE,
+};
+use pdb_base::{Error, RawString, Result};
 use pdb_validation::{Finding, Problem};
-use pdbdump_rows::{Form, Line, Value, error_text, optional_number};
+use pdbdump_rows::names::INDEX;
+use pdbdump_rows::{Form, Line, Value, append_line, error_text, optional_number};
 use std::alloc::Global;
 
 /// Appends a label and a number behind it in hexadecimal digits.
@@ -115,8 +119,7 @@ fn push_words(severity: &str, code: &str, words: &[u8], out: &mut Vec<u8>) -> Re
 /// Appends the line of a finding as text.
 #[tactic(auto, unfolding(crate::specs::FindingLines::fault_line))]
 fn push_text(alloc: Global, path: &str, finding: &Finding, out: &mut Vec<u8>) -> Result<()>
-    ensures ok { OnOk result (out.new.items ≡ out.old.items ++ fault_line path.now (finding_view finding.now)) }
-    ensures memory { FailsOnlyForMemory result }
+    ensures { Adds (fault_line path.now (finding_view finding.now)) out.old.items out.new.items result }
 {
     let words = problem_text(alloc, &finding.problem)?;
     let code = code_text(alloc, finding)?;
@@ -138,25 +141,26 @@ fn number_value<'t>(number: Option<u64>) -> Value<'t>
 }
 
 /// Adds what is told of a finding in the file at a path.
+#[tactic(auto, unfolding(crate::specs::FindingLines::fault_shown))]
 fn show_finding(alloc: Global, line: &mut Line, path: &str, finding: &Finding) -> Result<()>
     ensures { Shows (fault_shown path.now (finding_view finding.now)) line.old line.new result }
 {
     let words = problem_text(alloc, &finding.problem)?;
     let code = code_text(alloc, finding)?;
-    line.field("file", Value::Text(RawString::from(path)))?;
-    line.field("severity", Value::Word(severity(&finding.problem)))?;
-    line.field("code", Value::Text(RawString::from(code.as_str())))?;
-    line.field("part", Value::Word(finding.part.code()))?;
-    line.field("stream", optional_number(finding.stream))?;
-    line.field("index", number_value(finding.index))?;
-    line.field("byte", number_value(finding.byte))?;
-    line.field("file_byte", number_value(finding.file_byte))?;
-    line.field("problem", Value::Text(RawString::from(words.as_slice())))?;
+    line.field(FILE, Value::Text(RawString::from(path)))?;
+    line.field(SEVERITY, Value::Word(severity(&finding.problem)))?;
+    line.field(CODE, Value::Text(RawString::from(code.as_str())))?;
+    line.field(PART, Value::Word(finding.part.code()))?;
+    line.field(STREAM, optional_number(finding.stream))?;
+    line.field(INDEX, number_value(finding.index))?;
+    line.field(BYTE, number_value(finding.byte))?;
+    line.field(FILE_BYTE, number_value(finding.file_byte))?;
+    line.field(PROBLEM, Value::Text(RawString::from(words.as_slice())))?;
     Ok(())
 }
 
 /// Appends the line of a finding, which is an object in JSON.
-#[tactic(auto, using(pdbdump_rows::proofs::lemmas::Line::line_is))]
+#[tactic(auto, using(pdbdump_rows::proofs::lemmas::Line::showing))]
 fn push_finding(
     alloc: Global,
     form: Form,
@@ -164,18 +168,15 @@ fn push_finding(
     finding: &Finding,
     out: &mut Vec<u8>,
 ) -> Result<()>
-    ensures ok { OnOk result (out.new.items ≡ out.old.items ++ fault_in form path.now (finding_view finding.now)) }
-    ensures memory { FailsOnlyForMemory result }
+    ensures { Adds (fault_in form path.now (finding_view finding.now)) out.old.items out.new.items result }
 {
     match form {
         Form::Text => push_text(alloc, path, finding, out),
         Form::Json => {
             let mut line = Line::new(alloc);
             line.begin(Form::Json);
-            show_finding(alloc, &mut line, path, finding)?;
-            line.end()?;
-            out.extend_from_slice(line.as_bytes())?;
-            Ok(())
+            let added = show_finding(alloc, &mut line, path, finding);
+            append_line(added, &mut line, out)
         }
     }
 }
@@ -189,9 +190,8 @@ fn push_findings(
     findings: &[Finding],
     out: &mut Vec<u8>,
 ) -> Result<()>
-    ensures ok { OnOk result (out.new.items
-        ≡ out.old.items ++ flat_map (fault_in form path.now) (map finding_view findings.now)) }
-    ensures memory { FailsOnlyForMemory result }
+    ensures { Adds (flat_map (fault_in form path.now) (map finding_view findings.now))
+        out.old.items out.new.items result }
 {
     for finding in findings {
         push_finding(alloc, form, path, finding, out)?;
@@ -280,8 +280,7 @@ fn whole_text(tally: Tally) -> &'static str
 /// Appends the line of a file in which so much was found, as text.
 #[tactic(auto, unfolding(crate::specs::FindingLines::file_line))]
 fn push_file_line(alloc: Global, path: &str, tally: Tally, out: &mut Vec<u8>) -> Result<()>
-    ensures ok { OnOk result (out.new.items ≡ out.old.items ++ file_line path.now (tally_view tally)) }
-    ensures memory { FailsOnlyForMemory result }
+    ensures { Adds (file_line path.now (tally_view tally)) out.old.items out.new.items result }
 {
     out.extend_from_slice(path.as_bytes())?;
     out.extend_from_slice(b": ")?;
@@ -291,24 +290,30 @@ fn push_file_line(alloc: Global, path: &str, tally: Tally, out: &mut Vec<u8>) ->
     Ok(())
 }
 
+/// Adds what is told of a file in which so much was found.
+#[tactic(auto, unfolding(crate::specs::FindingLines::file_shown))]
+fn show_file(line: &mut Line, path: &str, tally: Tally) -> Result<()>
+    ensures { Shows (file_shown path.now (tally_view tally)) line.old line.new result }
+{
+    line.field(FILE, Value::Text(RawString::from(path)))?;
+    line.field(WHOLE, Value::Flag(tally.errors == 0))?;
+    line.field(ERRORS, Value::Number(tally.errors as u64))?;
+    line.field(WARNINGS, Value::Number(tally.warnings as u64))?;
+    Ok(())
+}
+
 /// Appends the line of a file in which so much was found, which is an object in JSON.
-#[tactic(auto, using(pdbdump_rows::proofs::lemmas::Line::line_is))]
+#[tactic(auto, using(pdbdump_rows::proofs::lemmas::Line::showing))]
 fn push_file(alloc: Global, form: Form, path: &str, tally: Tally, out: &mut Vec<u8>) -> Result<()>
-    ensures ok { OnOk result (out.new.items ≡ out.old.items ++ file_in form path.now (tally_view tally)) }
-    ensures memory { FailsOnlyForMemory result }
+    ensures { Adds (file_in form path.now (tally_view tally)) out.old.items out.new.items result }
 {
     match form {
         Form::Text => push_file_line(alloc, path, tally, out),
         Form::Json => {
             let mut line = Line::new(alloc);
             line.begin(Form::Json);
-            line.field("file", Value::Text(RawString::from(path)))?;
-            line.field("whole", Value::Flag(tally.errors == 0))?;
-            line.field("errors", Value::Number(tally.errors as u64))?;
-            line.field("warnings", Value::Number(tally.warnings as u64))?;
-            line.end()?;
-            out.extend_from_slice(line.as_bytes())?;
-            Ok(())
+            let added = show_file(&mut line, path, tally);
+            append_line(added, &mut line, out)
         }
     }
 }
@@ -322,12 +327,11 @@ fn push_lines(
     findings: &[Finding],
     out: &mut Vec<u8>,
 ) -> Result<()>
-    ensures ok { OnOk result (out.new.items
-        ≡ out.old.items ++ validate_lines form path.now (map finding_view findings.now)) }
-    ensures memory { FailsOnlyForMemory result }
+    ensures { Adds (validate_lines form path.now (map finding_view findings.now)) out.old.items out.new.items result }
 {
     push_findings(alloc, form, path, findings, out)?;
-    push_file(alloc, form, path, counts_of(findings), out)
+    push_file(alloc, form, path, counts_of(findings), out)?;
+    Ok(())
 }
 
 /// Returns what is written of a file and of what was found in it: a line for each finding and one
