@@ -4,12 +4,16 @@ use Rattle.std.specs.Prelude.{Option, Some, None}
 use Rattle.std.specs.Fmt.{decimal}
 use Rattle.std.specs.List.{flat_map}
 use Rattle.pdb_base.specs.ErrorText.{hexadecimal}
+use Rattle.pdbdump_rows.specs.declared.names.TheConstants.{INDEX}
 use Rattle.pdbdump_rows.specs.declared.form.Form.{Form}
 use Rattle.pdbdump_rows.specs.declared.form.Form.TheVariants as forms
+use Rattle.pdbdump_rows.specs.Fields.{optional_number}
 use Rattle.pdbdump_rows.specs.Lines.{line_feed, row_text}
 use Rattle.pdbdump_rows.specs.Refused.{refusal_text}
-use Rattle.pdbdump_rows.specs.Row.{ShownRow, ShownValue, absent, flag, number, text}
+use Rattle.pdbdump_rows.specs.Row.{ShownRow, flag, number, text}
 use Rattle.pdbdump_cli.specs.declared.finding_lines.Tally.{Tally}
+use Rattle.pdbdump_cli.specs.declared.names.TheConstants.{BYTE, CODE, ERRORS, FILE, FILE_BYTE, PART, PROBLEM, SEVERITY}
+use Rattle.pdbdump_cli.specs.declared.names.TheConstants.{STREAM, WARNINGS, WHOLE}
 use Rattle.pdb_validation.specs.Finding.{Fault, error_count, fault_code, part_code, warning_count}
 use Rattle.pdb_validation.specs.Problem.{ProblemValue, failure, inconsistent, inconsistency_text, is_tolerated}
 
@@ -96,23 +100,19 @@ file_line path counts =
 
 -- ---- JSON
 
-abbrev pub optional_number : Option ℕ → ShownValue
-optional_number (Some n) = number n
-optional_number None = absent
-
 -- a fault of the file with a path as a row
-abbrev pub fault_shown : List ℕ → Fault → ShownRow
+unfoldable pub fault_shown : List ℕ → Fault → ShownRow
 fault_shown path fault =
-    (codes "file", text path) ∷ (codes "severity", text (severity_of fault)) ∷ (codes "code", text (fault_code fault))
-    ∷ (codes "part", text (part_code fault.part)) ∷ (codes "stream", optional_number fault.stream)
-    ∷ (codes "index", optional_number fault.index) ∷ (codes "byte", optional_number fault.byte)
-    ∷ (codes "file_byte", optional_number fault.file_byte) ∷ (codes "problem", text (problem_words fault.problem)) ∷ []
+    (FILE.now, text path) ∷ (SEVERITY.now, text (severity_of fault)) ∷ (CODE.now, text (fault_code fault))
+    ∷ (PART.now, text (part_code fault.part)) ∷ (STREAM.now, optional_number fault.stream)
+    ∷ (INDEX.now, optional_number fault.index) ∷ (BYTE.now, optional_number fault.byte)
+    ∷ (FILE_BYTE.now, optional_number fault.file_byte) ∷ (PROBLEM.now, text (problem_words fault.problem)) ∷ []
 
 -- a file as a row: its path, whether it is whole, and how many errors and warnings it has
-abbrev pub file_shown : List ℕ → Counts → ShownRow
+unfoldable pub file_shown : List ℕ → Counts → ShownRow
 file_shown path counts =
-    (codes "file", text path) ∷ (codes "whole", flag (counts.errors == 0)) ∷ (codes "errors", number counts.errors)
-    ∷ (codes "warnings", number counts.warnings) ∷ []
+    (FILE.now, text path) ∷ (WHOLE.now, flag (counts.errors == 0)) ∷ (ERRORS.now, number counts.errors)
+    ∷ (WARNINGS.now, number counts.warnings) ∷ []
 
 -- ---- both
 

@@ -12,7 +12,7 @@ use crate::answer::{is_answered_too, write_answered};
 use crate::question::{Question, questions_in};
 use pdb_container::{Error, Query, Reply, Result, run};
 use pdb_output::Output;
-use pdbdump_rows::Form;
+use pdbdump_rows::{Form, Line};
 use std::alloc::Global;
 use std::io::Write;
 
@@ -55,7 +55,7 @@ fn write_answers<W: Write>(
         out.old out.new (done_of result) }
     ensures all { IfOk result (λ all. all ≡ are_answers (map asked questions.now) replies.now) }
 {
-    let mut line = Vec::new(alloc);
+    let mut line = Line::new(alloc);
     let mut replies = replies;
     let mut all = true;
     for question in questions {

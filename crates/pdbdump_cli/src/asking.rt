@@ -4,8 +4,8 @@ ghost use Rattle.std.specs.Prelude.{◌≡◌, IfOk, IfErr, IfSome};
 ghost use Rattle.pdb_cli.specs.Channels.{IsUnread};
 ghost use Rattle.pdbdump_cli.specs.Asking.{AreServed};
 
-use crate::served::end;
 use crate::ask;
+use crate::served::end;
 use pdb_cli::{read_all, tell};
 use pdb_container::Result;
 use pdb_output::Output;

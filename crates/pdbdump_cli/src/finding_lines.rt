@@ -3,18 +3,23 @@
 ghost use Rattle.std.specs.Prelude.{◌≡◌, ◌≤◌, ◌++◌, length, map, string_bytes, IfOk, OnOk};
 ghost use Rattle.std.specs.List.{flat_map};
 ghost use Rattle.pdb_base.specs.Memory.{FailsOnlyForMemory};
-ghost use Rattle.pdbdump_rows.specs.Row.{row_shown, value_shown};
+ghost use Rattle.pdbdump_rows.specs.Fields.{optional_number};
+ghost use Rattle.pdbdump_rows.specs.Line.{Adds, Shows};
+ghost use Rattle.pdbdump_rows.specs.Row.{value_shown};
 ghost use Rattle.pdb_validation.specs.Finding.{fault_code, finding_view, warning_count};
 ghost use Rattle.pdb_validation.specs.Problem.{is_tolerated, problem_view};
 ghost use Rattle.pdbdump_cli.specs.FindingLines.{counted, counts_if_any, counts_of, counts_text, fault_in, fault_line};
 ghost use Rattle.pdbdump_cli.specs.FindingLines.{fault_shown, fault_text, file_in, file_line, file_shown};
-ghost use Rattle.pdbdump_cli.specs.FindingLines.{label_and_number, labelled, lines_unless, optional_number, place_in};
-ghost use Rattle.pdbdump_cli.specs.FindingLines.{place_text, problem_words, severity, tally_view, validate_lines};
-ghost use Rattle.pdbdump_cli.specs.FindingLines.{whole_text};
+ghost use Rattle.pdbdump_cli.specs.FindingLines.{label_and_number, labelled, lines_unless, place_in, place_text};
+ghost use Rattle.pdbdump_cli.specs.FindingLines.{problem_words, severity, tally_view, validate_lines, whole_text};
 
-use pdb_base::{RawString, Result};
-use pdbdump_rows::{Form, Row, Value, error_text, field, push_row};
+use crate::names::{
+    BYTE, CODE, ERRORS, FILE, FILE_BYTE, PART, PROBLEM, SEVERITY, STREAM, WARNINGS, WHOLE,
+};
+use pdb_base::{Error, RawString, Result};
 use pdb_validation::{Finding, Problem};
+use pdbdump_rows::names::INDEX;
+use pdbdump_rows::{Form, Line, Value, append_line, error_text, optional_number};
 use std::alloc::Global;
 
 /// Appends a label and a number behind it in hexadecimal digits.
@@ -114,8 +119,7 @@ fn push_words(severity: &str, code: &str, words: &[u8], out: &mut Vec<u8>) -> Re
 /// Appends the line of a finding as text.
 #[tactic(auto, unfolding(crate::specs::FindingLines::fault_line))]
 fn push_text(alloc: Global, path: &str, finding: &Finding, out: &mut Vec<u8>) -> Result<()>
-    ensures ok { OnOk result (out.new.items ≡ out.old.items ++ fault_line path.now (finding_view finding.now)) }
-    ensures memory { FailsOnlyForMemory result }
+    ensures { Adds (fault_line path.now (finding_view finding.now)) out.old.items out.new.items result }
 {
     let words = problem_text(alloc, &finding.problem)?;
     let code = code_text(alloc, finding)?;
@@ -124,16 +128,6 @@ fn push_text(alloc: Global, path: &str, finding: &Finding, out: &mut Vec<u8>) ->
     push_place(alloc, finding, out)?;
     out.push(b'\n')?;
     Ok(())
-}
-
-/// Returns the value of the number of a stream, or `Absent` if there is none.
-fn stream_value<'t>(stream: Option<u32>) -> Value<'t>
-    ensures { value_shown result ≡ optional_number stream }
-{
-    match stream {
-        Some(stream) => Value::Number(stream as u64),
-        None => Value::Absent,
-    }
 }
 
 /// Returns the value of the index or the byte of a record, or `Absent` if there is none.
@@ -146,34 +140,27 @@ fn number_value<'t>(number: Option<u64>) -> Value<'t>
     }
 }
 
-/// Returns the fields of the line of a finding, with its code and the words of its problem.
-fn finding_row<'t>(
-    alloc: Global,
-    path: &'t str,
-    finding: &Finding,
-    code: &'t str,
-    words: &'t [u8],
-) -> Result<Row<'t>>
-    requires code { code.now ≡ fault_code (finding_view finding.now) }
-    requires words { words.now ≡ problem_words (problem_view finding.now.problem) }
-    ensures ok { IfOk result (λ row. row_shown row ≡ fault_shown path.now (finding_view finding.now)) }
-    ensures memory { FailsOnlyForMemory result }
+/// Adds what is told of a finding in the file at a path.
+#[tactic(auto, unfolding(crate::specs::FindingLines::fault_shown))]
+fn show_finding(alloc: Global, line: &mut Line, path: &str, finding: &Finding) -> Result<()>
+    ensures { Shows (fault_shown path.now (finding_view finding.now)) line.old line.new result }
 {
-    let fields = vec![in alloc;
-        field("file", Value::Text(RawString::from(path))),
-        field("severity", Value::Word(severity(&finding.problem))),
-        field("code", Value::Text(RawString::from(code))),
-        field("part", Value::Word(finding.part.code())),
-        field("stream", stream_value(finding.stream)),
-        field("index", number_value(finding.index)),
-        field("byte", number_value(finding.byte)),
-        field("file_byte", number_value(finding.file_byte)),
-        field("problem", Value::Text(RawString::from(words))),
-    ]?;
-    Ok(Row { fields })
+    let words = problem_text(alloc, &finding.problem)?;
+    let code = code_text(alloc, finding)?;
+    line.field(FILE, Value::Text(RawString::from(path)))?;
+    line.field(SEVERITY, Value::Word(severity(&finding.problem)))?;
+    line.field(CODE, Value::Text(RawString::from(code.as_str())))?;
+    line.field(PART, Value::Word(finding.part.code()))?;
+    line.field(STREAM, optional_number(finding.stream))?;
+    line.field(INDEX, number_value(finding.index))?;
+    line.field(BYTE, number_value(finding.byte))?;
+    line.field(FILE_BYTE, number_value(finding.file_byte))?;
+    line.field(PROBLEM, Value::Text(RawString::from(words.as_slice())))?;
+    Ok(())
 }
 
 /// Appends the line of a finding, which is an object in JSON.
+#[tactic(auto, using(pdbdump_rows::proofs::lemmas::Line::showing))]
 fn push_finding(
     alloc: Global,
     form: Form,
@@ -181,16 +168,15 @@ fn push_finding(
     finding: &Finding,
     out: &mut Vec<u8>,
 ) -> Result<()>
-    ensures ok { OnOk result (out.new.items ≡ out.old.items ++ fault_in form path.now (finding_view finding.now)) }
-    ensures memory { FailsOnlyForMemory result }
+    ensures { Adds (fault_in form path.now (finding_view finding.now)) out.old.items out.new.items result }
 {
     match form {
         Form::Text => push_text(alloc, path, finding, out),
         Form::Json => {
-            let words = problem_text(alloc, &finding.problem)?;
-            let code = code_text(alloc, finding)?;
-            let row = finding_row(alloc, path, finding, &code, &words)?;
-            push_row(Form::Json, &row, out)
+            let mut line = Line::new(alloc);
+            line.begin(Form::Json);
+            let added = show_finding(alloc, &mut line, path, finding);
+            append_line(added, &mut line, out)
         }
     }
 }
@@ -204,9 +190,8 @@ fn push_findings(
     findings: &[Finding],
     out: &mut Vec<u8>,
 ) -> Result<()>
-    ensures ok { OnOk result (out.new.items
-        ≡ out.old.items ++ flat_map (fault_in form path.now) (map finding_view findings.now)) }
-    ensures memory { FailsOnlyForMemory result }
+    ensures { Adds (flat_map (fault_in form path.now) (map finding_view findings.now))
+        out.old.items out.new.items result }
 {
     for finding in findings {
         push_finding(alloc, form, path, finding, out)?;
@@ -295,8 +280,7 @@ fn whole_text(tally: Tally) -> &'static str
 /// Appends the line of a file in which so much was found, as text.
 #[tactic(auto, unfolding(crate::specs::FindingLines::file_line))]
 fn push_file_line(alloc: Global, path: &str, tally: Tally, out: &mut Vec<u8>) -> Result<()>
-    ensures ok { OnOk result (out.new.items ≡ out.old.items ++ file_line path.now (tally_view tally)) }
-    ensures memory { FailsOnlyForMemory result }
+    ensures { Adds (file_line path.now (tally_view tally)) out.old.items out.new.items result }
 {
     out.extend_from_slice(path.as_bytes())?;
     out.extend_from_slice(b": ")?;
@@ -306,30 +290,30 @@ fn push_file_line(alloc: Global, path: &str, tally: Tally, out: &mut Vec<u8>) ->
     Ok(())
 }
 
-/// Returns the fields of the line of a file, with the number of findings in it.
-fn file_row<'t>(alloc: Global, path: &'t str, tally: Tally) -> Result<Row<'t>>
-    ensures ok { IfOk result (λ row. row_shown row ≡ file_shown path.now (tally_view tally)) }
-    ensures memory { FailsOnlyForMemory result }
+/// Adds what is told of a file in which so much was found.
+#[tactic(auto, unfolding(crate::specs::FindingLines::file_shown))]
+fn show_file(line: &mut Line, path: &str, tally: Tally) -> Result<()>
+    ensures { Shows (file_shown path.now (tally_view tally)) line.old line.new result }
 {
-    let fields = vec![in alloc;
-        field("file", Value::Text(RawString::from(path))),
-        field("whole", Value::Flag(tally.errors == 0)),
-        field("errors", Value::Number(tally.errors as u64)),
-        field("warnings", Value::Number(tally.warnings as u64)),
-    ]?;
-    Ok(Row { fields })
+    line.field(FILE, Value::Text(RawString::from(path)))?;
+    line.field(WHOLE, Value::Flag(tally.errors == 0))?;
+    line.field(ERRORS, Value::Number(tally.errors as u64))?;
+    line.field(WARNINGS, Value::Number(tally.warnings as u64))?;
+    Ok(())
 }
 
 /// Appends the line of a file in which so much was found, which is an object in JSON.
+#[tactic(auto, using(pdbdump_rows::proofs::lemmas::Line::showing))]
 fn push_file(alloc: Global, form: Form, path: &str, tally: Tally, out: &mut Vec<u8>) -> Result<()>
-    ensures ok { OnOk result (out.new.items ≡ out.old.items ++ file_in form path.now (tally_view tally)) }
-    ensures memory { FailsOnlyForMemory result }
+    ensures { Adds (file_in form path.now (tally_view tally)) out.old.items out.new.items result }
 {
     match form {
         Form::Text => push_file_line(alloc, path, tally, out),
         Form::Json => {
-            let row = file_row(alloc, path, tally)?;
-            push_row(Form::Json, &row, out)
+            let mut line = Line::new(alloc);
+            line.begin(Form::Json);
+            let added = show_file(&mut line, path, tally);
+            append_line(added, &mut line, out)
         }
     }
 }
@@ -343,12 +327,11 @@ fn push_lines(
     findings: &[Finding],
     out: &mut Vec<u8>,
 ) -> Result<()>
-    ensures ok { OnOk result (out.new.items
-        ≡ out.old.items ++ validate_lines form path.now (map finding_view findings.now)) }
-    ensures memory { FailsOnlyForMemory result }
+    ensures { Adds (validate_lines form path.now (map finding_view findings.now)) out.old.items out.new.items result }
 {
     push_findings(alloc, form, path, findings, out)?;
-    push_file(alloc, form, path, counts_of(findings), out)
+    push_file(alloc, form, path, counts_of(findings), out)?;
+    Ok(())
 }
 
 /// Returns what is written of a file and of what was found in it: a line for each finding and one

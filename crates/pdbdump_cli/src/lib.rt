@@ -14,6 +14,7 @@ mod identified;
 mod laid_out;
 mod layout_words;
 mod listed;
+mod names;
 mod process;
 mod question;
 mod served;

@@ -5,9 +5,12 @@ ghost use Rattle.pdbdump_cli.specs.Listed.{AreIds, AreTypes, Does, DoesIn, IsLis
 
 use crate::command::Command;
 use pdb_container::{PDB, Result};
-use pdbdump_tables::{id_at, ids, list_frames, list_frames_in, list_map, list_names, list_omap, list_sections, list_summary, type_at, types};
 use pdb_output::Output;
 use pdbdump_rows::Form;
+use pdbdump_tables::{
+    id_at, ids, list_frames, list_frames_in, list_map, list_names, list_omap, list_sections,
+    list_summary, type_at, types,
+};
 use std::alloc::Global;
 use std::io::Write;
 

@@ -14,8 +14,8 @@ use crate::served::end;
 use pdb_cli::{read_all, tell};
 use pdb_container::{Error, Result};
 use pdb_output::Output;
-use pdbdump_rows::Form;
 use pdb_validation::{Finding, validate};
+use pdbdump_rows::Form;
 use std::alloc::Global;
 use std::io::{Read, Write};
 

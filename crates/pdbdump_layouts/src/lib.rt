@@ -14,6 +14,7 @@ mod json;
 mod layout_row;
 mod member_path;
 mod named;
+mod names;
 mod object;
 mod options;
 mod pattern;

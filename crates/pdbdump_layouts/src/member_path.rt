@@ -2,11 +2,11 @@
 
 use crate::classes::class_layout;
 use crate::cut::cut_at;
-use crate::object::field_object;
+use crate::object::show_field;
 use crate::text::shown;
 use pdb_base::{Result, TypeIndex};
-use pdbdump_rows::{Form, push_row};
 use pdb_types::{Definitions, Extent, FieldKind, Layout, LayoutField};
+use pdbdump_rows::{Form, Line};
 use std::alloc::Global;
 
 /// A member that a path leads to.
@@ -99,10 +99,11 @@ pub(crate) fn member_text<'t>(
     match form {
         Form::Text => text_line(alloc, path, &type_text, found),
         Form::Json => {
-            let row = field_object(alloc, 0, found.offset, &found.field, &type_text, path)?;
-            let mut line = Vec::new(alloc);
-            push_row(Form::Json, &row, &mut line)?;
-            Ok(line)
+            let mut line = Line::new(alloc);
+            line.begin(Form::Json);
+            let added = show_field(&mut line, 0, found.offset, &found.field, &type_text, path);
+            line.finish(added)?;
+            Ok(Vec::from_slice(alloc, line.as_bytes())?)
         }
     }
 }

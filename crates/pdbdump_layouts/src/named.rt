@@ -8,8 +8,8 @@ use crate::classes::classes_in;
 use crate::member_path::{FoundMember, member_at, member_text};
 use crate::pattern::is_pattern;
 use pdb_base::{Result, TypeIndex};
-use pdbdump_rows::Form;
 use pdb_types::Definitions;
+use pdbdump_rows::Form;
 use std::alloc::Global;
 
 /// Returns the index that a name spells in hexadecimal digits behind `0x`, if it spells one.

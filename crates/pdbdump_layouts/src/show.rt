@@ -22,9 +22,9 @@ use crate::text::shown;
 use crate::totals::totals_of;
 use pdb_base::{Error, Result, Stream, TypeIndex};
 use pdb_output::Output;
-use pdbdump_rows::{Form, error_text};
 use pdb_tpi::{OpenTable, TypeInformation};
 use pdb_types::{Definitions, Layout};
+use pdbdump_rows::{Form, error_text};
 use std::alloc::Global;
 use std::io::Write;
 

@@ -3,7 +3,7 @@
 ghost use Rattle.pdb_base.specs.Memory.{FailsOnlyForMemory};
 
 use pdb_base::{RawString, Result};
-use pdbdump_rows::{Form, Row, Value, field, push_row};
+use pdbdump_rows::{Line, Value};
 use std::alloc::Global;
 
 /// Where the comment of a line begins.
@@ -16,12 +16,9 @@ const NAME: usize = 17;
 pub(crate) fn shown(alloc: Global, text: &[u8]) -> Result<Vec<u8>>
     ensures { FailsOnlyForMemory result }
 {
-    let mut line = Vec::new(alloc);
-    let fields = vec![in alloc; field("name", Value::Text(RawString::from(text)))]?;
-    push_row(Form::Text, &Row { fields }, &mut line)?;
-    // The line feed behind it.
-    line.pop();
-    Ok(line)
+    let mut line = Line::new(alloc);
+    line.field("name", Value::Text(RawString::from(text)))?;
+    Ok(Vec::from_slice(alloc, line.as_bytes())?)
 }
 
 /// Appends spaces up to a column, counted from the start of the line, and at least one.

@@ -2,9 +2,10 @@
 use Rattle.std.specs.Prelude.{◌≡◌, ℕ, if◌then◌else◌, Bool, true, false, List, [], ◌∷◌, ◌++◌, codes, Result, Ok, Err}
 use Rattle.pdb_base.specs.declared.error.Error.{Error}
 use Rattle.pdb_base.specs.declared.error.Error.TheVariants.{OutOfMemory}
+use Rattle.pdb_output.specs.Output.{OutputState, Writes}
 use Rattle.pdbdump_rows.specs.declared.form.Form.{Form}
 use Rattle.pdbdump_rows.specs.declared.form.Form.TheVariants.{Text, Json}
-use Rattle.pdbdump_rows.specs.Lines.{field_line, field_text, is_shown, line_feed, separator}
+use Rattle.pdbdump_rows.specs.Lines.{field_line, field_text, full_text, is_shown, line_feed, row_text, separator}
 use Rattle.pdbdump_rows.specs.Row.{ShownField, ShownRow}
 
 -- A line so far: its form, whether each field has a line of its own, the bytes, and whether it shows no field yet.
@@ -73,3 +74,23 @@ Ends text new (Err e) = e ≡ OutOfMemory
 abbrev pub Adds : List ℕ → List ℕ → List ℕ → Result (Unit {0}) Error → Type 0
 Adds text old new (Ok done) = new ≡ old ++ text
 Adds text old new (Err e) = e ≡ OutOfMemory
+
+-- The line of the fields that were added has ended, as one line or in full, whichever they are; or memory was refused.
+pub record IsLineEnded (old : LineState) (added : Result (Unit {0}) Error) (new : LineState)
+    (result : Result (Unit {0}) Error) : Type 0 where
+  pub row : (form : Form) (start : LineState) (row : ShownRow) → Shows row start old added → start ≡ begun form
+      → Ends (row_text form row) new result
+  pub full : (form : Form) (start : LineState) (row : ShownRow) → Shows row start old added → start ≡ begun_full form
+      → Ends (full_text form row) new result
+
+-- The line of the fields that were added was written, whichever they are; or it was cut short.
+pub record IsLineWritten (line : LineState) (added : Result (Unit {0}) Error) (old new : OutputState)
+    (result : Result (Unit {0}) Error) : Type 0 where
+  pub row : (form : Form) (start : LineState) (row : ShownRow) → Shows row start line added → start ≡ begun form
+      → Writes (row_text form row) old new result
+
+-- The line of the fields that were added was appended to a text, whichever they are; or memory was refused.
+pub record IsLineAppended (line : LineState) (added : Result (Unit {0}) Error) (old new : List ℕ)
+    (result : Result (Unit {0}) Error) : Type 0 where
+  pub row : (form : Form) (start : LineState) (row : ShownRow) → Shows row start line added → start ≡ begun form
+      → Adds (row_text form row) old new result

@@ -1,11 +1,8 @@
 //! A line that is written field by field.
 
-ghost use Rattle.std.specs.Prelude.{◌≡◌, [], ◌∷◌};
-ghost use Rattle.pdb_output.specs.Output.{Writes};
-ghost use Rattle.pdbdump_rows.specs.declared.form.Form.{Form};
-ghost use Rattle.pdbdump_rows.specs.Line.{Adds, Ends, LineState, Shows, begun, begun_full, ended};
-ghost use Rattle.pdbdump_rows.specs.Lines.{full_text, row_text};
-ghost use Rattle.pdbdump_rows.specs.Row.{ShownRow, value_shown};
+ghost use Rattle.std.specs.Prelude.{◌≡◌, ◌∷◌, []};
+ghost use Rattle.pdbdump_rows.specs.Line.{Ends, IsLineAppended, IsLineEnded, IsLineWritten, Shows, begun, begun_full, ended};
+ghost use Rattle.pdbdump_rows.specs.Row.{value_shown};
 
 use crate::form::Form;
 use crate::push::{is_shown, push_end, push_line, push_next};
@@ -111,10 +108,7 @@ impl Line {
     /// Fails as adding the fields did, and with `OutOfMemory` if an allocation fails.
     #[tactic(auto, using(crate::proofs::lemmas::Line::ends_line, crate::proofs::lemmas::Line::ends_full))]
     pub fn finish(&mut self, added: Result<()>) -> Result<()>
-        ensures line { (form : Form) (start : LineState) (row : ShownRow) → Shows row start self.old added
-            → start ≡ begun form → Ends (row_text form row) self.new result }
-        ensures full { (form : Form) (start : LineState) (row : ShownRow) → Shows row start self.old added
-            → start ≡ begun_full form → Ends (full_text form row) self.new result }
+        ensures { IsLineEnded self.old added self.new result }
     {
         match added {
             Ok(()) => self.end(),
@@ -136,8 +130,7 @@ impl Line {
 /// Fails as adding the fields did, with `OutOfMemory` if an allocation fails, and with `IoError` if
 /// the output fails, which may then have got a prefix of the line.
 pub fn write_line<W: Write>(added: Result<()>, line: &mut Line, out: &mut Output<W>) -> Result<()>
-    ensures { (form : Form) (start : LineState) (row : ShownRow) → Shows row start line.old added
-        → start ≡ begun form → Writes (row_text form row) out.old out.new result }
+    ensures { IsLineWritten line.old added out.old out.new result }
 {
     match line.finish(added) {
         Ok(()) => out.write(line.as_bytes()),
@@ -150,8 +143,7 @@ pub fn write_line<W: Write>(added: Result<()>, line: &mut Line, out: &mut Output
 /// # Errors
 /// Fails as adding the fields did, and with `OutOfMemory` if an allocation fails.
 pub fn append_line(added: Result<()>, line: &mut Line, text: &mut Vec<u8>) -> Result<()>
-    ensures { (form : Form) (start : LineState) (row : ShownRow) → Shows row start line.old added
-        → start ≡ begun form → Adds (row_text form row) text.old.items text.new.items result }
+    ensures { IsLineAppended line.old added text.old.items text.new.items result }
 {
     match line.finish(added) {
         Ok(()) => {

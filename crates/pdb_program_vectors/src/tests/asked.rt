@@ -1,10 +1,10 @@
 //! What S1 answers to questions, case by case.
 
-use pdbdump_cli::ask;
 use pdb_container::Result;
 use pdb_output::Output;
-use pdbdump_rows::Form;
 use pdb_vectors::{s1, s1_with};
+use pdbdump_cli::ask;
+use pdbdump_rows::Form;
 use std::alloc::Global;
 use std::test::Fail;
 

@@ -1,10 +1,10 @@
 //! What is listed of small files, case by case: S1 with other bytes as its stream 3.
 
 use pdb_container::Result;
-use pdbdump_cli::{Call, Command, Task, any_is, call_of, list, plain_words};
 use pdb_output::Output;
-use pdbdump_rows::Form;
 use pdb_vectors::s1_with;
+use pdbdump_cli::{Call, Command, Task, any_is, call_of, list, plain_words};
+use pdbdump_rows::Form;
 use std::alloc::Global;
 use std::io::Cursor;
 use std::test::Fail;

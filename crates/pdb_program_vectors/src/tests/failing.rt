@@ -1,10 +1,10 @@
 //! Outputs and inputs that fail at each of their calls in turn.
 
 use pdb_base::Result;
-use pdbdump_cli::{Command, serve, serve_questions};
 use pdb_output::Output;
-use pdbdump_rows::Form;
 use pdb_vectors::s1_with;
+use pdbdump_cli::{Command, serve, serve_questions};
+use pdbdump_rows::Form;
 use std::alloc::Global;
 use std::io;
 use std::io::{ErrorKind, Read, Write};

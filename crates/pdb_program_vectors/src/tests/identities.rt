@@ -1,8 +1,8 @@
 //! What `id` and `extract` write of small files that are made by hand.
 
 use pdb_container::Result;
-use pdbdump_cli::{extract_of, identify_of, serve_extract, serve_id};
 use pdb_output::Output;
+use pdbdump_cli::{extract_of, identify_of, serve_extract, serve_id};
 use pdbdump_rows::Form;
 use std::alloc::Global;
 use std::io::Cursor;

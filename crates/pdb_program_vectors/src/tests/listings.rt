@@ -1,10 +1,10 @@
 //! Tables as lines, and records in full. Each expected text is written from the definitions.
 
 use pdb_base::{Error, Result, Stream};
-use pdbdump_tables::{id_at, ids, type_at, types};
 use pdb_output::Output;
-use pdbdump_rows::Form;
 use pdb_vectors::item_table;
+use pdbdump_rows::Form;
+use pdbdump_tables::{id_at, ids, type_at, types};
 use std::alloc::Global;
 use std::test::Fail;
 

@@ -1,14 +1,14 @@
-//! `Row`s of section headers, of records of OMAP tables, of frames and of a class. Each expected
-//! text is written from the definitions.
+//! The lines of a section header, of a record of an OMAP table, of a frame and of a class. Each
+//! expected text is written from the definitions.
 
 use pdb_base::{RawString, Result, TypeIndex};
 use pdb_flags::TypeProperties;
 use pdb_frames::{FrameData, FrameType};
-use pdbdump_rows::{Form, Row, frame_row, omap_row, push_fields, push_row, section_row, type_row};
 use pdb_space::{
     ImageSectionHeader, OMAPRecord, PdbInternalRva, SectionCharacteristics, StringRef,
 };
 use pdb_values::{ClassKind, ClassType, TypeData, leaf_name};
+use pdbdump_rows::{Form, Line, append_line, show_frame, show_omap, show_section, show_type};
 use std::alloc::Global;
 use std::test::Fail;
 
@@ -89,35 +89,51 @@ fn structure() -> TypeData<'static> {
     })
 }
 
-/// Whether a `Row` has these lines of text and of JSON, and then these in full with `is_full`.
-fn has_lines(alloc: Global, row: &Row<'_>, is_full: bool, wanted: &str) -> Result<bool> {
+/// A record of a kind whose lines are looked at.
+#[derive(Clone, Copy)]
+enum Shown {
+    Section,
+    Mapping,
+    Frame,
+    Structure,
+}
+
+/// Appends the lines of a record.
+fn push_lines(alloc: Global, record: Shown, line: &mut Line, out: &mut Vec<u8>) -> Result<()> {
+    let added = match record {
+        Shown::Section => show_section(line, 1, &HEADER),
+        Shown::Mapping => show_omap(line, OMAPRecord::new(0x1000, 0x2000)),
+        Shown::Frame => show_frame(line, &CODE),
+        Shown::Structure => show_type(alloc, line, 0x1000, 0x1505, &structure()),
+    };
+    append_line(added, line, out)
+}
+
+/// Returns the lines of text and of JSON of a record, and then those in full with `is_full`.
+fn lines(alloc: Global, record: Shown, is_full: bool) -> Result<Vec<u8>> {
+    let mut line = Line::new(alloc);
     let mut out = Vec::new(alloc);
-    push_row(Form::Text, row, &mut out)?;
-    push_row(Form::Json, row, &mut out)?;
+    push_lines(alloc, record, &mut line, &mut out)?;
+    line.begin(Form::Json);
+    push_lines(alloc, record, &mut line, &mut out)?;
     if is_full {
-        push_fields(Form::Text, row, &mut out)?;
+        line.begin_full(Form::Text);
+        push_lines(alloc, record, &mut line, &mut out)?;
     }
-    Ok(out.as_slice() == wanted.as_bytes())
+    Ok(out)
 }
 
-/// Whether a `Row` is made, and has these lines.
-fn is_shown(alloc: Global, row: Result<Row<'_>>, is_full: bool, wanted: &str) -> bool {
-    matches!(&row, Ok(row) if matches!(has_lines(alloc, row, is_full, wanted), Ok(true)))
-}
-
-/// Whether the `Row` of that structure has its lines.
-fn is_structure_shown(alloc: Global) -> bool {
-    let row = type_row(alloc, 0x1000, 0x1505, &structure());
-    is_shown(alloc, row, true, STRUCTURE)
+/// Returns whether a record has these lines.
+fn is_shown(alloc: Global, record: Shown, is_full: bool, wanted: &str) -> bool {
+    matches!(lines(alloc, record, is_full), Ok(lines) if lines.as_slice() == wanted.as_bytes())
 }
 
 #[test]
 fn rows(rt: HostRuntime) {
     let alloc = rt.alloc();
-    let omap = OMAPRecord::new(0x1000, 0x2000);
-    assert!(rt; is_shown(alloc, section_row(alloc, 1, &HEADER), false, SECTION));
-    assert!(rt; is_shown(alloc, omap_row(alloc, omap), false, OMAP));
-    assert!(rt; is_shown(alloc, frame_row(alloc, &CODE), false, FRAME));
-    assert!(rt; is_structure_shown(alloc));
+    assert!(rt; is_shown(alloc, Shown::Section, false, SECTION));
+    assert!(rt; is_shown(alloc, Shown::Mapping, false, OMAP));
+    assert!(rt; is_shown(alloc, Shown::Frame, false, FRAME));
+    assert!(rt; is_shown(alloc, Shown::Structure, true, STRUCTURE));
     assert!(rt; leaf_name(0x151d).is_some() && leaf_name(0x0017).is_none());
 }

@@ -4,9 +4,11 @@ use Rattle.std.specs.List.{filter, flat_map}
 use Rattle.std.proofs.lemmas.Bool.{cond-true, cond-false, cases_Bool}
 use Rattle.std.proofs.lemmas.List.{append-nil}
 use Rattle.pdb_base.specs.declared.error.Error.{Error}
+use Rattle.pdb_output.specs.Output.{OutputState, Writes}
 use Rattle.pdbdump_rows.specs.declared.form.Form.{Form}
 use Rattle.pdbdump_rows.specs.declared.form.Form.TheVariants.{Text, Json}
-use Rattle.pdbdump_rows.specs.Line.{Ends, LineState, all_shown, begun, begun_full, ended, ending, opening, shown}
+use Rattle.pdbdump_rows.specs.Line.{Adds, Ends, IsLineAppended, IsLineEnded, IsLineWritten, LineState, Shows, all_shown, begun}
+use Rattle.pdbdump_rows.specs.Line.{begun_full, ended, ending, opening, shown}
 use Rattle.pdbdump_rows.specs.Lines.{field_line, field_text, fields_text, full_text, is_shown, row_text, separated, separator}
 use Rattle.pdbdump_rows.specs.Row.{ShownField, ShownRow}
 
@@ -145,3 +147,27 @@ pub ends_full : (form : Form) (start : LineState) (row : ShownRow) (old new : Li
 ends_full form start row old new result is first ends =
     subst (λ (text : List ℕ). Ends text new result)
     (ap ended (is ∙ ap (λ (line : LineState). all_shown line row) first) ∙ full_is form row) ends
+
+-- ---- what a function that ends a line is proved of
+
+pub row_ended : (form : Form) (row : ShownRow) (start old new : LineState) (added result : Result (Unit {0}) Error)
+    → IsLineEnded old added new result → Shows row start old added → start ≡ begun form
+    → Ends (row_text form row) new result
+row_ended form row start old new added result is shows first = is.row form start row shows first
+
+pub full_ended : (form : Form) (row : ShownRow) (start old new : LineState) (added result : Result (Unit {0}) Error)
+    → IsLineEnded old added new result → Shows row start old added → start ≡ begun_full form
+    → Ends (full_text form row) new result
+full_ended form row start old new added result is shows first = is.full form start row shows first
+
+pub row_written : (form : Form) (row : ShownRow) (start line : LineState) (old new : OutputState)
+    (added result : Result (Unit {0}) Error) → IsLineWritten line added old new result → Shows row start line added
+    → start ≡ begun form → Writes (row_text form row) old new result
+row_written form row start line old new added result is shows first = is.row form start row shows first
+
+pub row_appended : (form : Form) (row : ShownRow) (start line : LineState) (old new : List ℕ)
+    (added result : Result (Unit {0}) Error) → IsLineAppended line added old new result → Shows row start line added
+    → start ≡ begun form → Adds (row_text form row) old new result
+row_appended form row start line old new added result is shows first = is.row form start row shows first
+
+pub ruleset showing = (row_ended, full_ended, row_written, row_appended)

@@ -2,9 +2,8 @@ use Rattle.std.proofs.Common.{ℕ, List, [], ◌∷◌, codes, Option, ap, sym, 
 use Rattle.std.specs.Global.{Vec}
 use Rattle.std.specs.Option.{option_map}
 use Rattle.pdb_base.proofs.lemmas.Refused.{passed_on}
-use Rattle.pdb_output.proofs.lemmas.Written.{cut_more, lacks_more, written_more}
+use Rattle.pdb_output.proofs.lemmas.Written.{cut_more, written_more}
 use Rattle.pdbdump_rows.specs.Lines.{row_text}
-use Rattle.pdbdump_rows.specs.Row.{ShownField}
 use Rattle.pdbdump_cli.specs.Answers.{name_field}
 use Rattle.pdbdump_cli.proofs.AnsweredLemmas.{flat_next}
 use Rattle.pdbdump_cli.proofs.answer.write_names.Goals as goal
@@ -13,23 +12,15 @@ pub loop-name-preserved : goal.loop-name-preserved
 loop-name-preserved g c =
     let same = c.as_deref.ensures.value ∙ ap (λ (name : Option (Vec ℕ)). option_map
     (λ copy. copy.items) name) c.name-item.is in
-    let shown = c.in_ok-row.ensures.ok ∙ ap (λ (field : ShownField). field ∷ [])
-    (c.name_field.ensures ∙ ap (name_field (codes "field")) same) in
     let next = flat_next _ c.args.names.now c.loop-name.name-index c.name-item.result _ c.loop-name-test.true
-    (ap (row_text c.args.form) (sym shown)) in
-    written_more _ _ _ _ _ _ _ next c.loop-name.invariant c.in_ok-write_row.ensures
+    (ap (λ (name : Option (List ℕ)). row_text c.args.form (name_field (codes "field") name ∷ [])) (sym same)) in
+    written_more _ _ _ _ _ _ _ next c.loop-name.invariant c.in_ok-write_name.ensures
 
-pub returns-in_err-write_row : goal.returns-in_err-write_row
-returns-in_err-write_row g c =
+pub returns-in_err-write_name : goal.returns-in_err-write_name
+returns-in_err-write_name g c =
     let same = c.as_deref.ensures.value ∙ ap (λ (name : Option (Vec ℕ)). option_map
     (λ copy. copy.items) name) c.name-item.is in
-    let shown = c.in_ok-row.ensures.ok ∙ ap (λ (field : ShownField). field ∷ [])
-    (c.name_field.ensures ∙ ap (name_field (codes "field")) same) in
     let next = flat_next _ c.args.names.now c.loop-name.name-index c.name-item.result _ c.loop-name-test.true
-    (ap (row_text c.args.form) (sym shown)) in
-    rw (passed_on _ _ c.from_residual-in_err-write_row.ensures.1)
-    (cut_more _ _ _ _ _ _ _ _ next c.loop-name.invariant c.in_err-write_row.ensures)
-
-pub returns-in_err-row : goal.returns-in_err-row
-returns-in_err-row g c = rw (passed_on _ _ c.from_residual.ensures.1)
-    (lacks_more _ _ _ _ _ c.loop-name.invariant c.in_err-row.ensures.memory)
+    (ap (λ (name : Option (List ℕ)). row_text c.args.form (name_field (codes "field") name ∷ [])) (sym same)) in
+    rw (passed_on _ _ c.from_residual.ensures.1)
+    (cut_more _ _ _ _ _ _ _ _ next c.loop-name.invariant c.in_err-write_name.ensures)

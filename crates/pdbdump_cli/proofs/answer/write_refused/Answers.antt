@@ -1,6 +1,0 @@
-use Rattle.pdb_base.proofs.lemmas.Refused.{passed_on}
-use Rattle.pdb_output.proofs.lemmas.Written.{lacks_all}
-use Rattle.pdbdump_cli.proofs.answer.write_refused.Goals as goal
-
-pub returns-in_err-text : goal.returns-in_err-text
-returns-in_err-text g c = rw (passed_on _ _ c.from_residual.ensures.1) (lacks_all _ _ _ c.in_err-text.ensures.memory)
