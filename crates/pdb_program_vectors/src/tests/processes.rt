@@ -143,7 +143,7 @@ impl Read for Opened<'_> {
 
 impl Write for Opened<'_> {
     fn write(&mut self, _bytes: &[u8]) -> io::Result<usize> {
-        missing()
+        Err(io::Error::from(ErrorKind::Unsupported))
     }
 
     fn flush(&mut self) -> io::Result<()> {
@@ -419,5 +419,8 @@ fn commands(rt: HostRuntime) -> Result<(), Fail> {
             }
         }
     }
+    let several = ["pdbdump", "id", "missing.pdb", "a.pdb"];
+    let (status, ..) = end_of(rt.alloc(), &several, &file, false);
+    assert!(rt; status == 1, "the first of two files is missing");
     Ok(())
 }
