@@ -115,6 +115,14 @@ const VIEWED: &[(Roles, Call, u64)] = &[
     (Roles::Frames([9, 10]), Call::Frames, 6),
 ];
 
+/// Whether a file isn't opened where the first view fails, with the error of the source.
+fn is_unopened(alloc: Global) -> Result<bool, Fail> {
+    let mut notes = Vec::new(alloc);
+    let bytes = bytes_of(alloc, &Roles::Frames([NONE, NONE]))?;
+    let opened = PDB::open(alloc, Watched::new(bytes, 1, &mut notes));
+    Ok(matches!(opened, Err(error) if is_gone(alloc, &error)))
+}
+
 /// Whether a call for a file fails with the error of the source.
 fn is_failed<S: Source>(alloc: Global, file: &mut PDB<S>, call: &Call) -> bool {
     matches!(error_of(alloc, file, call), Some(error) if is_gone(alloc, &error))
@@ -145,6 +153,7 @@ fn refused(rt: HostRuntime) -> Result<(), Fail> {
     for (place, row) in ROWS.iter().enumerate() {
         assert!(rt; is_row(rt.alloc(), row)?, "row {place}");
     }
+    assert!(rt; is_unopened(rt.alloc())?);
     for (place, row) in VIEWED.iter().enumerate() {
         assert!(rt; fails_at_each_view(rt.alloc(), row)?, "source {place}");
     }
