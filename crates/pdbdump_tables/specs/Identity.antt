@@ -13,6 +13,9 @@ use Rattle.pdbdump_rows.specs.declared.form.Form.TheVariants as forms
 use Rattle.pdbdump_rows.specs.Lines.{line_feed, row_text}
 use Rattle.pdbdump_rows.specs.Row.{ShownRow, ShownValue, absent, flag, number, text, words}
 use Rattle.pdbdump_rows.specs.Words.{chosen}
+use Rattle.pdbdump_tables.specs.declared.identity.TheConstants.{AGE, AGE_FROM, CPU, FEATURES, FORMAT, GUID}
+use Rattle.pdbdump_tables.specs.declared.identity.TheConstants.{INFORMATION_AGE, KEY, MACHINE, NAME, SIGNATURE}
+use Rattle.pdbdump_tables.specs.declared.identity.TheConstants.{STRIPPED, VERSION}
 use Rattle.pdbdump_tables.specs.declared.identity.KeyStyle.{KeyStyle}
 use Rattle.pdbdump_tables.specs.declared.identity.KeyStyle.TheVariants as styles
 
@@ -79,19 +82,19 @@ optional_features None = absent
 -- all that identifies a file, as a row
 abbrev pub identity_shown : List ℕ → Identity → ShownRow
 identity_shown name identity =
-    (codes "name", text name)
-    ∷ (codes "format", text (codes "MSF 7.00"))
-    ∷ (codes "guid", text (hyphenated_text upper identity.guid))
-    ∷ (codes "age", number (age_of identity))
-    ∷ (codes "age_from", text (age_source identity.debug_header))
-    ∷ (codes "information_age", number identity.information_age)
-    ∷ (codes "signature", number identity.signature)
-    ∷ (codes "version", number identity.version)
-    ∷ (codes "features", optional_features identity.features)
-    ∷ (codes "machine", optional_machine (machine_of identity))
-    ∷ (codes "cpu", text (cpu_of identity))
-    ∷ (codes "stripped", optional_flag (stripped_of identity))
-    ∷ (codes "key", text (upper_key_of identity))
+    (NAME.now, text name)
+    ∷ (FORMAT.now, text (codes "MSF 7.00"))
+    ∷ (GUID.now, text (hyphenated_text upper identity.guid))
+    ∷ (AGE.now, number (age_of identity))
+    ∷ (AGE_FROM.now, text (age_source identity.debug_header))
+    ∷ (INFORMATION_AGE.now, number identity.information_age)
+    ∷ (SIGNATURE.now, number identity.signature)
+    ∷ (VERSION.now, number identity.version)
+    ∷ (FEATURES.now, optional_features identity.features)
+    ∷ (MACHINE.now, optional_machine (machine_of identity))
+    ∷ (CPU.now, text (cpu_of identity))
+    ∷ (STRIPPED.now, optional_flag (stripped_of identity))
+    ∷ (KEY.now, text (upper_key_of identity))
     ∷ []
 
 -- ---- both

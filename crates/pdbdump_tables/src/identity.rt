@@ -1,6 +1,6 @@
 //! The identity of a file, as a line.
 
-ghost use Rattle.std.specs.Prelude.{◌≡◌, ◌↔◌, [], ◌∷◌, codes, map, string_bytes, IsTrue, IfOk};
+ghost use Rattle.std.specs.Prelude.{◌≡◌, ◌↔◌, [], ◌∷◌, map, string_bytes, IsTrue, IfOk};
 ghost use Rattle.std.specs.Char.{to_ascii_lowercase};
 ghost use Rattle.uuid.specs.Text.{hyphenated_text, upper};
 ghost use Rattle.pdb_base.specs.Memory.{FailsOnlyForMemory};
@@ -18,6 +18,34 @@ use pdb_output::Output;
 use pdbdump_rows::{Flag, Form, Line, Value, write_line};
 use std::alloc::Global;
 use std::io::Write;
+
+// The names of the fields.
+
+const FEATURES: &str = "features";
+
+const NAME: &str = "name";
+
+const FORMAT: &str = "format";
+
+const GUID: &str = "guid";
+
+const AGE: &str = "age";
+
+const AGE_FROM: &str = "age_from";
+
+const INFORMATION_AGE: &str = "information_age";
+
+const SIGNATURE: &str = "signature";
+
+const VERSION: &str = "version";
+
+const MACHINE: &str = "machine";
+
+const CPU: &str = "cpu";
+
+const STRIPPED: &str = "stripped";
+
+const KEY: &str = "key";
 
 /// How the identity of a file is written as text.
 #[derive(Clone, Copy, Debug, PartialEq, Eq)]
@@ -164,11 +192,11 @@ fn feature_flags(features: Features) -> [Flag; 4]
 
 /// Adds the features, if there are any to be found.
 fn show_features(line: &mut Line, features: Option<Features>) -> Result<()>
-    ensures { Shows ((codes "features", optional_features features) ∷ []) line.old line.new result }
+    ensures { Shows ((FEATURES.now, optional_features features) ∷ []) line.old line.new result }
 {
     match features {
-        Some(features) => line.field("features", Value::Words(&feature_flags(features))),
-        None => line.field("features", Value::Absent),
+        Some(features) => line.field(FEATURES, Value::Words(&feature_flags(features))),
+        None => line.field(FEATURES, Value::Absent),
     }
 }
 
@@ -184,22 +212,22 @@ fn show_identity(
     requires key { key.now ≡ upper_key_of identity.now }
     ensures { Shows (identity_shown name.now identity.now) line.old line.new result }
 {
-    line.field("name", Value::Text(RawString::from(name)))?;
-    line.field("format", Value::Word("MSF 7.00"))?;
-    line.field("guid", Value::Text(RawString::from(guid)))?;
-    line.field("age", Value::Number(identity.age() as u64))?;
-    line.field("age_from", Value::Word(age_source(identity)))?;
+    line.field(NAME, Value::Text(RawString::from(name)))?;
+    line.field(FORMAT, Value::Word("MSF 7.00"))?;
+    line.field(GUID, Value::Text(RawString::from(guid)))?;
+    line.field(AGE, Value::Number(identity.age() as u64))?;
+    line.field(AGE_FROM, Value::Word(age_source(identity)))?;
     line.field(
-        "information_age",
+        INFORMATION_AGE,
         Value::Number(identity.information_age as u64),
     )?;
-    line.field("signature", Value::Number(identity.signature as u64))?;
-    line.field("version", Value::Number(identity.version as u64))?;
+    line.field(SIGNATURE, Value::Number(identity.signature as u64))?;
+    line.field(VERSION, Value::Number(identity.version as u64))?;
     show_features(line, identity.features)?;
-    line.field("machine", optional_machine(identity.machine()))?;
-    line.field("cpu", Value::Word(identity.cpu()))?;
-    line.field("stripped", optional_flag(identity.is_stripped()))?;
-    line.field("key", Value::Text(RawString::from(key)))?;
+    line.field(MACHINE, optional_machine(identity.machine()))?;
+    line.field(CPU, Value::Word(identity.cpu()))?;
+    line.field(STRIPPED, optional_flag(identity.is_stripped()))?;
+    line.field(KEY, Value::Text(RawString::from(key)))?;
     Ok(())
 }
 

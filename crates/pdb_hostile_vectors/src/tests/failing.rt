@@ -1,18 +1,50 @@
-//! Sources of which one view fails: the call that makes this view returns the source's error, and
-//! the same call then succeeds.
+//! Sources of which one view fails: the call that makes this view returns the source's error, with
+//! its kind and its text, and the same call then succeeds.
+
+ghost use Rattle.pdb_vectors.specs.Failing.{state_of};
 
 use super::rows::{ROWS, Row, edited, is_front};
 use pdb_base::{Error, Result, Stream};
 use pdb_container::{Query, Reply, run};
-use pdb_msf::{BigMSF, Msf, open_msf};
+use pdb_msf::{BigMSF, Msf, ReadView, Source, SourceSlice, open_msf};
 use pdb_vectors::{Failing, s1_with};
 use std::alloc::Global;
+use std::io;
 use std::io::ErrorKind;
 use std::test::Fail;
+
+/// The text of each error of a source.
+const GONE: &str = "the disk is gone";
+
+/// A source whose errors have a text of their own.
+#[derive(Drop)]
+struct Gone(Failing);
+
+impl Source for Gone {
+    ghost state = { λ gone. state_of gone.0 };
+
+    fn view(&mut self, alloc: Global, slices: &[SourceSlice]) -> io::Result<ReadView> {
+        match self.0.view(alloc, slices) {
+            Ok(view) => Ok(view),
+            Err(error) => Err(io::Error::new(error.kind(), GONE)),
+        }
+    }
+}
 
 /// Whether an error is that of the source.
 fn is_fault(error: &Error) -> bool {
     matches!(error, Error::IoError(error) if error.kind() == ErrorKind::Other)
+}
+
+/// Whether an error is that of the source, of this kind and with its text.
+fn is_gone(alloc: Global, error: &Error, kind: ErrorKind) -> bool {
+    match error {
+        Error::IoError(fault) => {
+            fault.kind() == kind
+                && matches!(fault.to_string(alloc), Ok(text) if text.as_str() == GONE)
+        }
+        _ => false,
+    }
 }
 
 /// Whether a case's stream has the expected result, or None if the call returns the error of the
@@ -84,10 +116,10 @@ enum Says {
 }
 
 impl Says {
-    /// Whether a reply says so.
-    fn fits(&self, reply: &Reply) -> bool {
+    /// Whether a reply says so, where the source fails with this kind.
+    fn fits(&self, alloc: Global, reply: &Reply, kind: ErrorKind) -> bool {
         match (self, reply) {
-            (Says::Fault, Reply::Refused(error)) => is_fault(error),
+            (Says::Fault, Reply::Refused(error)) => is_gone(alloc, error, kind),
             (Says::Stream, Reply::Bytes(bytes)) => is_front(bytes, 600),
             (Says::List(wanted), Reply::Record { index, kind, name }) => {
                 *index == *wanted && *kind == 0x1201 && name.is_none()
@@ -159,33 +191,40 @@ const RUNS: &[Replied] = &[
 ];
 
 /// Whether each reply says what it should.
-fn are_said(replies: &[Reply], wanted: &[Says]) -> bool {
-    replies.len() == wanted.len()
-        && replies
-            .iter()
-            .zip(wanted)
-            .all(|(reply, says)| says.fits(reply))
-}
-
-/// Whether a run replies so, or fails with the error of the source where no reply is wanted.
-fn is_replied(replies: Result<Vec<Reply>>, wanted: &[Says]) -> bool {
-    match &replies {
-        Ok(replies) => !wanted.is_empty() && are_said(replies, wanted),
-        Err(error) => wanted.is_empty() && is_fault(error),
+fn are_said(alloc: Global, replies: &[Reply], wanted: &[Says], kind: ErrorKind) -> bool {
+    for (reply, says) in replies.iter().zip(wanted) {
+        if !says.fits(alloc, reply, kind) {
+            return false;
+        }
     }
+    replies.len() == wanted.len()
 }
 
-/// Whether a run over a case's file replies so, if its view of that number fails.
-fn is_run(alloc: Global, row: &Replied) -> Result<bool> {
+/// A source whose view of this number fails with this kind.
+fn failing(bytes: Vec<u8>, n: u64, kind: ErrorKind) -> Gone {
+    Gone(match kind {
+        ErrorKind::PermissionDenied => Failing::denied(bytes, n),
+        _ => Failing::new(bytes, n),
+    })
+}
+
+/// Whether a run over a case's file replies so, if its view of that number fails with this kind, or
+/// fails with the error of the source where no reply is wanted.
+fn is_run(alloc: Global, row: &Replied, kind: ErrorKind) -> Result<bool> {
     let (stream, n, queries, wanted) = row;
-    let file = Failing::new(s1_with(alloc, stream)?, *n);
-    Ok(is_replied(run(alloc, file, queries), wanted))
+    let file = failing(s1_with(alloc, stream)?, *n, kind);
+    Ok(match &run(alloc, file, queries) {
+        Ok(replies) => !wanted.is_empty() && are_said(alloc, replies, wanted, kind),
+        Err(error) => wanted.is_empty() && is_gone(alloc, error, kind),
+    })
 }
 
 #[test]
 fn runs(rt: HostRuntime) -> std::result::Result<(), Fail> {
     for row in RUNS {
-        assert!(rt; is_run(rt.alloc(), row)?, "view {}", row.1);
+        for kind in [ErrorKind::Other, ErrorKind::PermissionDenied] {
+            assert!(rt; is_run(rt.alloc(), row, kind)?, "view {}", row.1);
+        }
     }
     Ok(())
 }

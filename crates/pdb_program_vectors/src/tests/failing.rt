@@ -1,9 +1,13 @@
 //! Outputs and inputs that fail at each of their calls in turn.
 
+use super::uses::file::built;
 use pdb_base::Result;
 use pdb_output::Output;
 use pdb_vectors::s1_with;
-use pdbdump_cli::{Command, serve, serve_questions};
+use pdbdump_cli::{
+    Command, extract_of, identify_of, layouts_of, serve, serve_extract, serve_id, serve_layout,
+    serve_questions, serve_validate, validate_of,
+};
 use pdbdump_rows::Form;
 use std::alloc::Global;
 use std::io;
@@ -73,7 +77,18 @@ enum Served {
     Records(Form),
     /// The answers of `pdbdump ask` to two questions.
     Answers(Form),
+    /// The key that `pdbdump id` writes.
+    Key(Form),
+    /// The stream that `pdbdump extract` writes.
+    Stream,
+    /// What `pdbdump validate` finds.
+    Findings(Form),
+    /// The layout of a class that `pdbdump layout` shows.
+    Layout(Form),
 }
+
+/// The status of no program, for words that it doesn't take.
+const MISUSED: u8 = 9;
 
 /// Runs a program, and returns its status.
 fn run(
@@ -93,18 +108,47 @@ fn run(
             Ok(pdb_cli::serve(alloc, Ok(words.into_iter()), input, out, err))
         }
         Served::Records(form) => {
-            let command = Command::Omap { stream: Some(3) };
+            let command = Command::Omap { stream: Some(7) };
             Ok(serve(alloc, command, form, input, out, err))
         }
         Served::Answers(form) => {
             let mut questions = b"stream 3\nstream 1 2\n".as_slice();
             Ok(serve_questions(alloc, form, input, &mut questions, out, err))
         }
+        served => run_parsed(alloc, served, input, out, err),
     }
 }
 
-/// Two OMAP records, which are stream 3 of the file.
-const OMAP: &[u8] = b"\0\x20\0\0\0\x10\0\0\0\x10\0\0\0\0\0\0";
+/// Runs a command of `pdbdump` whose words are parsed apart, and returns its status.
+fn run_parsed(
+    alloc: Global,
+    served: Served,
+    input: &mut Failing,
+    out: &mut Output<Failing>,
+    err: &mut Output<Failing>,
+) -> Result<u8> {
+    match served {
+        Served::Key(form) => match identify_of(&["a.pdb"]) {
+            Some(asked) => Ok(serve_id(alloc, &asked, form, input, out, err)),
+            None => Ok(MISUSED),
+        },
+        Served::Stream => match extract_of(&["a.pdb", "1"]) {
+            Some(asked) => Ok(serve_extract(alloc, &asked, input, out, err)),
+            None => Ok(MISUSED),
+        },
+        Served::Findings(form) => match validate_of(alloc, &["a.pdb"])? {
+            Some(asked) => {
+                Ok(serve_validate(alloc, asked.options, form, "a.pdb", input, out, err))
+            }
+            None => Ok(MISUSED),
+        },
+        Served::Layout(form) => match layouts_of(&["a.pdb", "S"]) {
+            Some(asked) => Ok(serve_layout(alloc, &asked, form, input, out, err)),
+            None => Ok(MISUSED),
+        },
+        _ => Ok(MISUSED),
+    }
+}
 
 const IO_ERROR: &[u8] = b"IO error while reading PDB: ";
 
@@ -128,7 +172,7 @@ type Calls = (usize, usize, usize, ErrorKind);
 /// Runs a program with these calls.
 fn end_of(alloc: Global, served: Served, calls: Calls) -> Result<Ended> {
     let (reads, writes, messages, kind) = calls;
-    let mut input = Failing::new(s1_with(alloc, OMAP)?, reads, ErrorKind::BrokenPipe);
+    let mut input = Failing::new(built(alloc)?, reads, ErrorKind::BrokenPipe);
     let mut out = Output::new(Failing::new(Vec::new(alloc), writes, kind));
     let mut err = Output::new(Failing::new(Vec::new(alloc), messages, ErrorKind::StorageFull));
     let status = run(alloc, served, &mut input, &mut out, &mut err)?;
@@ -153,13 +197,13 @@ fn is_silent(served: Served, kind: ErrorKind) -> bool {
 }
 
 /// Whether a run whose output failed wrote a prefix of the whole output, and ended as it must.
-fn is_cut(served: Served, kind: ErrorKind, whole: &[u8], ended: &Ended) -> bool {
+fn is_cut(served: Served, kind: ErrorKind, whole: &Ended, ended: &Ended) -> bool {
     let is_ended = if is_silent(served, kind) {
-        ended.status == 0 && ended.err.is_empty()
+        ended.status == whole.status && ended.err.is_empty()
     } else {
         is_told(ended)
     };
-    is_ended && whole.starts_with(&ended.out)
+    is_ended && whole.out.starts_with(&ended.out)
 }
 
 /// Whether a program whose output fails at each call in turn ends as it must, and how many calls it
@@ -169,10 +213,14 @@ fn fails_at_each_write(alloc: Global, served: Served, kind: ErrorKind) -> Result
     for call in 0..NEVER {
         let run = end_of(alloc, served, (NEVER, call, NEVER, kind))?;
         if !run.out_failed {
-            let is_whole = run.status == 0 && run.out == whole.out && run.err.is_empty();
-            return Ok(if is_whole { Some(call) } else { None });
+            let is_whole = run.status == whole.status && run.out == whole.out;
+            return Ok(if is_whole && run.err.is_empty() {
+                Some(call)
+            } else {
+                None
+            });
         }
-        if !is_cut(served, kind, &whole.out, &run) {
+        if !is_cut(served, kind, &whole, &run) {
             return Ok(None);
         }
     }
@@ -184,8 +232,8 @@ fn fails_at_each_write(alloc: Global, served: Served, kind: ErrorKind) -> Result
 fn fails_at_each_read(alloc: Global, served: Served) -> Result<bool> {
     for call in 0..NEVER {
         let run = end_of(alloc, served, (call, NEVER, NEVER, ErrorKind::StorageFull))?;
-        if run.status == 0 {
-            return Ok(call > 4);
+        if !run.out.is_empty() {
+            return Ok(call > 4 && run.err.is_empty());
         }
         let silent = end_of(alloc, served, (call, NEVER, 0, ErrorKind::StorageFull))?;
         let is_alone = silent.status == 1 && silent.err_failed && silent.err.is_empty();
@@ -199,10 +247,17 @@ fn fails_at_each_read(alloc: Global, served: Served) -> Result<bool> {
 /// The programs, and how many calls of its output each makes.
 const SERVED: &[(Served, usize)] = &[
     (Served::Query, 2),
-    (Served::Records(Form::Text), 4),
-    (Served::Records(Form::Json), 4),
+    (Served::Records(Form::Text), 3),
+    (Served::Records(Form::Json), 3),
     (Served::Answers(Form::Text), 5),
     (Served::Answers(Form::Json), 5),
+    (Served::Key(Form::Text), 2),
+    (Served::Key(Form::Json), 2),
+    (Served::Stream, 2),
+    (Served::Findings(Form::Text), 2),
+    (Served::Findings(Form::Json), 2),
+    (Served::Layout(Form::Text), 2),
+    (Served::Layout(Form::Json), 2),
 ];
 
 #[test]

@@ -1,23 +1,26 @@
 //! The programs on the channels of a process in memory.
 
 use super::printed::{ABSENT_2, USAGE};
+use super::uses::file::built;
 use pdb_vectors::s1_with;
-use std::alloc::{Allocator, Global};
+use std::alloc::{AllocError, Allocator, Global};
 use std::cell::RefCell;
 use std::env::FillError;
 use std::fmt::Display;
-use std::fs::{File, Metadata, OpenOptions};
+use std::fs::{Metadata, OpenFile, OpenOptions};
 use std::io;
-use std::io::{BufRead, ErrorKind, Lines};
+use std::io::{BufRead, ErrorKind, Lines, Read, Seek, SeekFrom, Write};
 use std::rt::{Env, Files};
 use std::test::Fail;
 
-/// A process: its words, its input, what it has written, and whether its standard error fails.
+/// A process: its words, its input, the file `a.pdb`, what it has written, and whether its standard
+/// error fails.
 #[derive(Drop)]
 struct Process<'a> {
     alloc: Global,
     words: &'a [&'a str],
     input: &'a [u8],
+    file: Option<&'a [u8]>,
     out: RefCell<Vec<u8>>,
     err: RefCell<Vec<u8>>,
     err_fails: bool,
@@ -29,6 +32,7 @@ impl<'a> Process<'a> {
             alloc,
             words,
             input,
+            file: None,
             out: RefCell::new(Vec::new(alloc)),
             err: RefCell::new(Vec::new(alloc)),
             err_fails,
@@ -127,13 +131,60 @@ fn missing<T>() -> io::Result<T> {
     Err(io::Error::from(ErrorKind::NotFound))
 }
 
-impl Files for Process<'_> {
-    type File = File;
+/// A file that is open, whose bytes are read and no more.
+#[derive(Drop)]
+struct Opened<'a>(&'a [u8]);
+
+impl Read for Opened<'_> {
+    fn read(&mut self, room: &mut [u8]) -> io::Result<usize> {
+        self.0.read(room)
+    }
+}
+
+impl Write for Opened<'_> {
+    fn write(&mut self, _bytes: &[u8]) -> io::Result<usize> {
+        Err(io::Error::from(ErrorKind::Unsupported))
+    }
+
+    fn flush(&mut self) -> io::Result<()> {
+        missing()
+    }
+}
+
+impl Seek for Opened<'_> {
+    fn seek(&mut self, _to: SeekFrom) -> io::Result<u64> {
+        missing()
+    }
+}
+
+impl OpenFile for Opened<'_> {
+    fn metadata(&self) -> io::Result<Metadata> {
+        missing()
+    }
+
+    fn set_len(&self, _size: u64) -> io::Result<()> {
+        missing()
+    }
+
+    fn sync_all(&self) -> io::Result<()> {
+        missing()
+    }
+
+    fn sync_data(&self) -> io::Result<()> {
+        missing()
+    }
+}
+
+impl<'a> Files for Process<'a> {
+    type File = Opened<'a>;
 
     type Dir = &'static [u8];
 
-    fn open_file(&self, _how: &OpenOptions, _path: &str) -> io::Result<File> {
-        missing()
+    fn open_file(&self, _how: &OpenOptions, path: &str) -> io::Result<Opened<'a>> {
+        match self.file {
+            Some(bytes) if path == "a.pdb" => Ok(Opened(bytes)),
+            _ => missing(),
+        }
     }
 
     fn open_dir(&self, _path: &str) -> io::Result<&'static [u8]> {
@@ -228,6 +279,16 @@ const CALLS: &[(&[&str], bool, u8, &str, &str)] = &[
         "pdbdump: no command",
     ),
     (&["pdbdump", "list", "-"], true, 2, "", ""),
+    (
+        &["pdbdump", "extract", "-", "3"],
+        false,
+        0,
+        "\0\x20\0\0\0\x10\0\0",
+        "",
+    ),
+    (&["pdbdump", "extract", "-", "2"], false, 1, "", ABSENT_2),
+    (&["pdbdump", "extract", "-", "2"], true, 1, "", ""),
+    (&["pdbdump", "extract", "-", "3", "--json"], true, 2, "", ""),
     (&["pdbdump", "omap", "-", "x"], true, 2, "", ""),
     (&["pdbdump"], true, 2, "", ""),
 ];
@@ -265,5 +326,101 @@ fn calls(rt: HostRuntime) -> Result<(), Fail> {
         assert!(rt; holds(&process.out, out.as_bytes()), "output of {words:?}");
         assert!(rt; begins(&process.err, err), "errors of {words:?}");
     }
+    Ok(())
+}
+
+/// Commands, with the path of a file among their words, and the status of each for the file that is
+/// built.
+const COMMANDS: &[(&[&str], u8)] = &[
+    (&["pdbdump", "a.pdb"], 0),
+    (&["pdbdump", "summary", "a.pdb"], 0),
+    (&["pdbdump", "types", "a.pdb"], 0),
+    (&["pdbdump", "ids", "--stream", "2", "a.pdb"], 0),
+    (&["pdbdump", "names", "a.pdb"], 0),
+    (&["pdbdump", "sections", "a.pdb"], 0),
+    (&["pdbdump", "omap", "a.pdb"], 0),
+    (&["pdbdump", "frames", "a.pdb"], 0),
+    (&["pdbdump", "map", "a.pdb", "0x5010"], 0),
+    (&["pdbdump", "ask", "a.pdb"], 0),
+    (&["pdbdump", "id", "a.pdb"], 0),
+    (&["pdbdump", "validate", "a.pdb"], 1),
+    (&["pdbdump", "layout", "a.pdb", "S"], 0),
+];
+
+/// Returns the words of a command, of which the path is `-` for standard input, and `--json` is the
+/// last, if wanted.
+fn words_with<'w>(
+    alloc: Global,
+    words: &[&'w str],
+    is_piped: bool,
+    is_json: bool,
+) -> io::Result<Vec<&'w str>> {
+    let mut call = Vec::new(alloc);
+    for word in words {
+        let path = if is_piped && *word == "a.pdb" {
+            "-"
+        } else {
+            *word
+        };
+        call.push(path).map_err(AllocError::from)?;
+    }
+    if is_json {
+        call.push("--json").map_err(AllocError::from)?;
+    }
+    Ok(call)
+}
+
+/// The status of a process, the first byte of its output, and whether it wrote to standard error.
+type Ended = (u8, Option<u8>, bool);
+
+/// Returns how a process ends for a file, which is also its standard input or else has one question
+/// there.
+fn end_of(alloc: Global, words: &[&str], file: &[u8], is_piped: bool) -> Ended {
+    let input = if is_piped { file } else { b"stream 3" };
+    let mut process = Process::new(alloc, words, input, false);
+    process.file = Some(file);
+    let status = run(&process);
+    let first = match process.out.try_borrow() {
+        Ok(out) => out.first().copied(),
+        Err(_) => None,
+    };
+    (status, first, !holds(&process.err, b""))
+}
+
+/// Whether a command ends with its status for a file, without a word on standard error, and writes
+/// JSON or text; and fails for a file that is cut within its header, and says so.
+fn is_shown(
+    alloc: Global,
+    row: &(&[&str], u8),
+    file: &[u8],
+    is_piped: bool,
+    is_json: bool,
+) -> io::Result<bool> {
+    let (words, wanted) = *row;
+    let words = words_with(alloc, words, is_piped, is_json)?;
+    let (status, first, is_told) = end_of(alloc, &words, file, is_piped);
+    let is_form = first.is_some() && (first == Some(b'{')) == is_json;
+    let (cut, written, told) = end_of(alloc, &words, &file[..file.len().min(100)], is_piped);
+    Ok(status == wanted && is_form && !is_told && cut == 1 && (told || written.is_some()))
+}
+
+#[test]
+fn commands(rt: HostRuntime) -> Result<(), Fail> {
+    let file = built(rt.alloc())?;
+    for row in COMMANDS {
+        for is_json in [false, true] {
+            for is_piped in [false, true] {
+                let is_asked = is_piped && row.0.contains(&"ask");
+                assert!(rt;
+                    is_asked || is_shown(rt.alloc(), row, &file, is_piped, is_json)?,
+                    "{:?}, JSON: {is_json}, standard input: {is_piped}",
+                    row.0
+                );
+            }
+        }
+    }
+    let several = ["pdbdump", "id", "missing.pdb", "a.pdb"];
+    let (status, ..) = end_of(rt.alloc(), &several, &file, false);
+    assert!(rt; status == 1, "the first of two files is missing");
     Ok(())
 }

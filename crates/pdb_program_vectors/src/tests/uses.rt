@@ -1,6 +1,6 @@
 //! Each use, over one file of eleven streams, of which one is absent.
 
-mod file;
+pub(crate) mod file;
 
 use file::built;
 use pdb_container::{

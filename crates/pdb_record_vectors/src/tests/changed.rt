@@ -1,4 +1,5 @@
-//! Records that differ in one byte: their values differ in the field to which the byte belongs.
+//! Records that differ in one byte: their values differ in the field to which the byte belongs, and
+//! each is equal to its clone.
 
 use super::read::is_value_copied;
 use pdb_records::parse_type_data;
@@ -49,6 +50,36 @@ fn are_equal<'t>(left: &TypeData<'t>, right: &TypeData<'t>) -> bool {
     left == right
 }
 
+/// Whether a clone of a value is equal to it.
+fn is_cloned<T: Clone + Eq + Drop>(value: &T) -> bool {
+    matches!(value.clone(), Ok(copy) if copy == *value)
+}
+
+/// Whether a clone of the value of a named type, or of a part of one, is equal to it.
+fn is_named_cloned(value: &TypeData<'_>) -> bool {
+    match value {
+        TypeData::Class(class) => is_cloned(class),
+        TypeData::Union(union_type) => is_cloned(union_type),
+        TypeData::Enumeration(enumeration) => is_cloned(enumeration),
+        TypeData::Enumerate(value) => is_cloned(value),
+        TypeData::Member(member) => is_cloned(member),
+        TypeData::StaticMember(member) => is_cloned(member),
+        TypeData::Nested(nested) => is_cloned(nested),
+        TypeData::Method(method) => is_cloned(method),
+        _ => false,
+    }
+}
+
+/// Whether that holds of what a record says: a type, or a list of one part.
+fn is_each_cloned(value: &TypeData<'_>) -> bool {
+    match value {
+        TypeData::FieldList(list) => {
+            matches!(list.fields.as_slice(), [field] if is_named_cloned(field))
+        }
+        value => is_named_cloned(value),
+    }
+}
+
 /// Whether two records are read as values that aren't equal, though each is equal to its clone.
 fn are_apart<'t>(alloc: Global, record: &'t [u8], other: &'t [u8]) -> Result<bool, Fail> {
     let value = parse_type_data(alloc, record)?;
@@ -58,7 +89,9 @@ fn are_apart<'t>(alloc: Global, record: &'t [u8], other: &'t [u8]) -> Result<boo
         are_equal(&value, &again)
             && !are_equal(&value, &changed)
             && is_value_copied(alloc, &value)?
-            && is_value_copied(alloc, &changed)?,
+            && is_value_copied(alloc, &changed)?
+            && is_each_cloned(&value)
+            && is_each_cloned(&changed),
     )
 }
 

@@ -19,7 +19,7 @@ use std::test::Fail;
 
 /// Whether each value is equal to the one at its place among the others, which are made anew, and
 /// to no other one.
-fn are_told_apart<T: PartialEq>(values: &[T], others: &[T]) -> bool {
+fn are_told_apart<T: Eq>(values: &[T], others: &[T]) -> bool {
     for (place, value) in values.iter().enumerate() {
         for (other_place, other) in others.iter().enumerate() {
             let is_same = place == other_place;
@@ -32,7 +32,7 @@ fn are_told_apart<T: PartialEq>(values: &[T], others: &[T]) -> bool {
 }
 
 /// Whether a clone of each value is equal to it.
-fn are_cloned<T: Clone + PartialEq + Drop>(values: &[T]) -> bool {
+fn are_cloned<T: Clone + Eq + Drop>(values: &[T]) -> bool {
     for value in values {
         if !matches!(value.clone(), Ok(copy) if copy == *value) {
             return false;
@@ -42,7 +42,7 @@ fn are_cloned<T: Clone + PartialEq + Drop>(values: &[T]) -> bool {
 }
 
 /// Whether each of these values is unequal to the others, and equal to its clone.
-fn are_values<T: Clone + PartialEq + Drop>(values: &[T], others: &[T]) -> bool {
+fn are_values<T: Clone + Eq + Drop>(values: &[T], others: &[T]) -> bool {
     are_told_apart(values, others) && are_cloned(values)
 }
 

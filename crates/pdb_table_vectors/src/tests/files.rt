@@ -4,7 +4,7 @@ mod openings;
 mod pages;
 mod sources;
 mod streams;
-mod watched;
+pub(crate) mod watched;
 
 use super::is_error;
 use pdb_base::{Error, Stream};

@@ -263,7 +263,9 @@ fn failing_views(rt: HostRuntime) -> Result<(), Fail> {
             "view {n}, {kind:?}"
         );
     }
-    let refused = failing(alloc, 1, ErrorKind::Other)?;
-    assert!(rt; is_fault(open_msf(alloc, refused), ErrorKind::Other));
+    for kind in [ErrorKind::Other, ErrorKind::PermissionDenied] {
+        let refused = failing(alloc, 1, kind)?;
+        assert!(rt; is_fault(open_msf(alloc, refused), kind), "{kind:?}");
+    }
     Ok(())
 }

@@ -9,20 +9,29 @@ use pdb_msf::{BigMSF, Msf, ReadView, Source, SourceSlice, open_msf};
 use pdb_vectors::Failing;
 use std::alloc::{AllocError, Global};
 use std::io;
+use std::io::ErrorKind;
 use std::test::Fail;
 
 /// The text of each error of a source.
 const GONE: &str = "the disk is gone";
 
 /// A view: the requested slices.
-type Note = Vec<SourceSlice>;
+pub(crate) type Note = Vec<SourceSlice>;
 
 /// A source of which one view fails, and which notes each view, the failed one too. Its errors have
 /// a text of their own.
 #[derive(Drop)]
-struct Watched<'n> {
+pub(crate) struct Watched<'n> {
     source: Failing,
     notes: &'n mut Vec<Note>,
+}
+
+impl<'n> Watched<'n> {
+    /// The source of these bytes whose view of this number fails, or none if the number is 0.
+    pub(crate) fn new(bytes: Vec<u8>, n: u64, notes: &'n mut Vec<Note>) -> Self {
+        let source = Failing::denied(bytes, n);
+        Watched { source, notes }
+    }
 }
 
 impl<'n> Source for Watched<'n> {
@@ -167,11 +176,12 @@ const ROWS: &[Row] = &[
     ),
 ];
 
-/// Whether an error is that of the source, with its text unchanged.
-fn is_gone(alloc: Global, error: &Error) -> bool {
+/// Whether an error is that of the source, with its kind and its text unchanged.
+pub(crate) fn is_gone(alloc: Global, error: &Error) -> bool {
     match error {
         Error::IoError(fault) => {
-            matches!(fault.to_string(alloc), Ok(text) if text.as_str() == GONE)
+            fault.kind() == ErrorKind::PermissionDenied
+                && matches!(fault.to_string(alloc), Ok(text) if text.as_str() == GONE)
         }
         _ => false,
     }
@@ -221,11 +231,7 @@ fn are_views(notes: &[Note], want: &[&[(u64, usize)]]) -> bool {
 /// error of the first view is that of opening.
 fn asked(alloc: Global, row: &Row, notes: &mut Vec<Note>) -> pdb_base::Result<Option<u64>> {
     let (n, calls, _) = row;
-    let source = Watched {
-        source: Failing::new(file(alloc)?, *n),
-        notes,
-    };
-    match open_msf(alloc, source) {
+    match open_msf(alloc, Watched::new(file(alloc)?, *n, notes)) {
         Ok(mut file) => Ok(if answers_each(alloc, &mut file, calls) {
             Some(file.asked())
         } else {
@@ -267,11 +273,7 @@ const CONSUMED: &[(u64, &[&[(u64, usize)]])] = &[
 
 /// Whether a file is consumed for stream 2, or the error is that of the source.
 fn is_consumed(alloc: Global, n: u64, notes: &mut Vec<Note>) -> pdb_base::Result<bool> {
-    let source = Watched {
-        source: Failing::new(file(alloc)?, n),
-        notes,
-    };
-    let file = open_msf(alloc, source)?;
+    let file = open_msf(alloc, Watched::new(file(alloc)?, n, notes))?;
     let want = if n == 0 { Some(2600) } else { None };
     Ok(answers(alloc, file.into_stream(alloc, 2, None), want))
 }
