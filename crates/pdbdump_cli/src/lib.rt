@@ -3,7 +3,7 @@
 #![tactic(auto)]
 
 mod answer;
-mod ask;
+mod answers;
 mod asking;
 mod command;
 mod extracted;
@@ -22,7 +22,7 @@ mod validate_words;
 mod validated;
 mod words;
 
-pub use ask::ask;
+pub use answers::ask;
 pub use asking::serve_questions;
 pub use command::{
     Call, Command, Extract, Identify, Layouts, Misuse, Task, Validate, ValidateOptions, Verb,

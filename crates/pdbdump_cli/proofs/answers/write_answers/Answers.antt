@@ -2,7 +2,7 @@ use Rattle.std.proofs.Common.{◌∙◌, refl, sym}
 use Rattle.pdb_base.proofs.lemmas.Refused.{passed_on}
 use Rattle.pdb_output.proofs.lemmas.Written.{cut_more, written_all, written_more}
 use Rattle.pdbdump_cli.proofs.AnsweredLemmas.{all_end, all_next, answers_end, answers_next}
-use Rattle.pdbdump_cli.proofs.ask.write_answers.Goals as goal
+use Rattle.pdbdump_cli.proofs.answers.write_answers.Goals as goal
 
 pub returns-in_err-write_answered-clause-lines : goal.returns-in_err-write_answered-clause-lines
 returns-in_err-write_answered-clause-lines g c =

@@ -4,7 +4,7 @@ use Rattle.std.proofs.lemmas.Iterator.{YieldsList-from_slice, items_from_collect
 use Rattle.std.proofs.lemmas.Iterator.Consumers.{YieldsList-from_filter_map}
 use Rattle.pdbdump_cli.specs.declared.question.Question.{Question}
 use Rattle.pdbdump_cli.proofs.AnsweredLemmas.{queries_of}
-use Rattle.pdbdump_cli.proofs.ask.queries_in.Goals as goal
+use Rattle.pdbdump_cli.proofs.answers.queries_in.Goals as goal
 
 pub returns-clause-queries : goal.returns-clause-queries
 returns-clause-queries c =

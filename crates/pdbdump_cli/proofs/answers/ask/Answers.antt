@@ -4,7 +4,7 @@ use Rattle.pdb_container.specs.declared.query.Query.{Query}
 use Rattle.pdbdump_cli.specs.Answers.{answers_text, are_answers}
 use Rattle.pdbdump_cli.specs.Questions.{asked, queries_in, questions_in}
 use Rattle.pdbdump_cli.proofs.AnsweredLemmas.{Never, answers_of, asked_by}
-use Rattle.pdbdump_cli.proofs.ask.ask.Goals as goal
+use Rattle.pdbdump_cli.proofs.answers.ask.Goals as goal
 
 pub returns : goal.returns
 returns g c =

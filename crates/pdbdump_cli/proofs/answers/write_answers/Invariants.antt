@@ -3,7 +3,7 @@ use Rattle.std.proofs.Common.{◌≡◌, ◌&&◌, drop, map}
 use Rattle.pdb_output.specs.Output.{IsWritten}
 use Rattle.pdbdump_cli.specs.Answers.{answers_text, are_answers}
 use Rattle.pdbdump_cli.specs.Questions.{asked}
-use Rattle.pdbdump_cli.proofs.ask.write_answers.Given as goal
+use Rattle.pdbdump_cli.proofs.answers.write_answers.Given as goal
 
 abbrev pub invariant-loop-question : goal.invariant-loop-question
 invariant-loop-question g l = record {
