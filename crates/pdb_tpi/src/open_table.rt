@@ -102,6 +102,19 @@ impl<I: ItemIndex> OpenTable<I> {
     pub fn learn(&mut self, index: I)
         ensures { self.new ≡ self.old }
     {
+        let number: u32 = index.into();
+        let known = self.positions.len() as u64 * BLOCK_LEN as u64;
+        if number as u64 >= self.items.header().minimum_index as u64 + known {
+            self.learn_blocks(index);
+        }
+    }
+
+    /// Learns where the blocks begin that are not known yet, up to that of an index, as far as there
+    /// are any.
+    #[inline(never)]
+    fn learn_blocks(&mut self, index: I)
+        ensures { self.new ≡ self.old }
+    {
         let header = self.items.header();
         let number: u32 = index.into();
         if number < header.minimum_index || number >= header.maximum_index {
