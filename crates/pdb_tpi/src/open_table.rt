@@ -146,6 +146,24 @@ impl<I: ItemIndex> OpenTable<I> {
     {
         let header = self.items.header();
         let number: u32 = index.into();
+        if number >= header.minimum_index && number < header.maximum_index {
+            let place = number - header.minimum_index;
+            let mut count = Count::new();
+            if let Ok((item, end)) = self.items.walk_to(&self.positions, place, &mut count) {
+                return Ok(Some(record_before(end, item.len())));
+            }
+        }
+        self.find_or_fail(index)
+    }
+
+    /// Does what `find` does, out of line, also where that fails.
+    #[inline(never)]
+    #[tactic(auto, unfolding(crate::specs::Finder::item_of))]
+    fn find_or_fail(&self, index: I) -> Result<Option<RecordPlace>>
+        ensures { Gives (λ place. place) result (located self.now.table (I.number index)) }
+    {
+        let header = self.items.header();
+        let number: u32 = index.into();
         if number < header.minimum_index {
             return Ok(None);
         }
