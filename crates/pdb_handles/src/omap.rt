@@ -33,8 +33,7 @@ pub fn table_in(alloc: Global, stream: &[u8]) -> Result<Content>
     requires { length stream.now < 0xffffffff }
     ensures { Answers (λ content. content) result (held_as Omap (omap_table_of stream.now)) }
 {
-    let table = OMAPTable::parse(Stream::new(stream.to_vec(alloc)?))?;
-    Ok(Content::Omap(table))
+    Ok(Content::Omap(OMAPTable::parse(Stream::new(stream.to_vec(alloc)?))?))
 }
 
 /// Converts a record for the caller.

@@ -5,7 +5,7 @@ ghost use Rattle.std.specs.Option.{option_map};
 ghost use Rattle.pdb_base.specs.Answer.{Answer, Answers};
 ghost use Rattle.pdb_values.specs.Text.{text_bytes};
 ghost use Rattle.pdb_values.specs.TypeValue.{TypeValue, name_of};
-ghost use Rattle.pdb_values.specs.TypeView.{primitive_of, type_value};
+ghost use Rattle.pdb_values.specs.TypeView.{type_value};
 ghost use Rattle.pdb_tpi.specs.Record.{type_of};
 ghost use Rattle.pdb_handles.specs.Records.{arguments_in, of_type};
 ghost use Rattle.pdb_handles.specs.Roles.{IsAnswered};
@@ -48,12 +48,12 @@ fn write_row(parsed: &Result<TypeData<'_>>, row: &mut Row) -> Fault
     }
 }
 
-/// Writes the numbers of a primitive type, or returns the fault of its error.
+/// Does what `write_type_row` does, out of line, also for a primitive type.
 #[inline(never)]
-fn write_primitive_row(index: u32, row: &mut Row) -> Fault
-    ensures { IsAnswered (λ value. row_of value) (primitive_of index) row.old result row.new }
+fn write_any_row(alloc: Global, bytes: &[u8], index: u32, row: &mut Row) -> Fault
+    ensures { IsAnswered (λ value. row_of value) (type_of index bytes.now) row.old result row.new }
 {
-    write_row(&type_data_for_primitive(TypeIndex(index)), row)
+    write_row(&type_in(alloc, bytes, index), row)
 }
 
 /// Writes the numbers in the record of a type, or returns the fault of its error. An index below
@@ -64,7 +64,7 @@ pub fn write_type_row(alloc: Global, bytes: &[u8], index: u32, row: &mut Row) ->
     ensures { IsAnswered (λ value. row_of value) (type_of index bytes.now) row.old result row.new }
 {
     if index < FIRST_RECORD {
-        return write_primitive_row(index, row);
+        return write_any_row(alloc, bytes, index, row);
     }
     write_row(&parse_type_data(alloc, bytes), row)
 }

@@ -163,7 +163,9 @@ pub fn translate(
     ensures { Translates map.now form (record { section = section; offset = offset }) translation.old
         (record { fault = result; value = translation.new }) }
 {
-    let forms = forms_of(map, form, section, offset);
-    let translated = forms.map(|forms| Translation::of(&forms));
+    let translated = match forms_of(map, form, section, offset) {
+        Some(forms) => Some(Translation::of(&forms)),
+        None => None,
+    };
     tell_found(translated, Fault::status(NONE), translation)
 }

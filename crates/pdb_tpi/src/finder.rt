@@ -102,7 +102,13 @@ impl<I: ItemIndex> ItemInformation<I> {
         ensures counted { let block = min (place / 8) (length positions.now - 1) in
             calls_of count.new ≡ after_calls (reads_between self.now (8 * block) place) (calls_of count.old) }
     {
-        self.walk_to(positions, place, count)
+        let header = self.header();
+        let block = ((place / BLOCK_LEN) as usize).min(positions.len() - 1);
+        let first = header.minimum_index as u64 + block as u64 * BLOCK_LEN as u64;
+        let mut items = ItemIter::at(self, first, positions[block] as usize);
+        let item = items.nth(place - block as u32 * BLOCK_LEN, count)?;
+        let (_, end) = items.place();
+        Ok((item, end))
     }
 
     /// Does what `item_at` does, in the caller: one that needs no error keeps none.
@@ -125,10 +131,10 @@ impl<I: ItemIndex> ItemInformation<I> {
     {
         let header = self.header();
         let block = ((place / BLOCK_LEN) as usize).min(positions.len() - 1);
-        let first = header.minimum_index as u64 + block as u64 * BLOCK_LEN as u64;
-        let mut items = ItemIter::at(self, first, positions[block] as usize);
-        let item = items.nth(place - block as u32 * BLOCK_LEN, count)?;
-        let (_, end) = items.place();
+        let begin = header.minimum_index as u64 + block as u64 * BLOCK_LEN as u64;
+        let mut walk = ItemIter::at(self, begin, positions[block] as usize);
+        let item = walk.nth(place - block as u32 * BLOCK_LEN, count)?;
+        let (_, end) = walk.place();
         Ok((item, end))
     }
 }
