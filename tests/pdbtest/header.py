@@ -185,6 +185,8 @@ def check_statuses(tally, text):
 def check_header(tally):
     """That the header, and what Rust and Python have of it, is what the crates export."""
     text = HEADER.read_text()
+    for line in text.splitlines():
+        tally.check(len(line) <= 100, f"a line of {len(line)} columns: {line}")
     exports, names = exported(), declared(text)
     for name in sorted({*exports, *names}):
         ours, theirs = exports.get(name), names.get(name)

@@ -54,11 +54,10 @@ impl Handle {
         ensures taken { option_map (λ content. content.value) result ≡ self.old.held.content }
         ensures closed { self.new.held.content ≡ None }
     {
-        let Handle { held, kind } = replace(self, Handle::closed(alloc));
-        if kind == 0 {
-            held.end();
+        if self.kind == 0 {
             return None;
         }
+        let Handle { held, kind: _ } = replace(self, Handle::closed(alloc));
         Some(held.into_content())
     }
 

@@ -55,8 +55,7 @@ fn row_of_id(value: &IdData<'_>) -> Row
 pub fn id_row_in(alloc: Global, bytes: &[u8]) -> Result<Row>
     ensures { Answers (λ row. row) result (of_id id_row bytes.now) }
 {
-    let value = id_at(alloc, bytes)?;
-    Ok(row_of_id(&value))
+    Ok(row_of_id(&id_at(alloc, bytes)?))
 }
 
 /// Parses the record of an id and returns the name of a function, a method or a text. No other id

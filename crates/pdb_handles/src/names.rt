@@ -33,9 +33,7 @@ pub fn names_in(alloc: Global, stream: &[u8]) -> Result<Content>
     requires { length stream.now < 0xffffffff }
     ensures { Answers (λ content. content) result (held_as Names (names_of stream.now)) }
 {
-    let bytes = stream.to_vec(alloc)?;
-    let names = StringTable::parse(Stream::new(bytes))?;
-    Ok(Content::Names(names))
+    Ok(Content::Names(StringTable::parse(Stream::new(stream.to_vec(alloc)?))?))
 }
 
 /// Returns where the name at an offset of a table is in the stream of the table.

@@ -33,9 +33,7 @@ pub fn table_in(alloc: Global, stream: &[u8]) -> Result<Content>
     requires { length stream.now < 0xffffffff }
     ensures { Answers (λ content. content) result (held_as Omap (omap_table_of stream.now)) }
 {
-    let bytes = stream.to_vec(alloc)?;
-    let table = OMAPTable::parse(Stream::new(bytes))?;
-    Ok(Content::Omap(table))
+    Ok(Content::Omap(OMAPTable::parse(Stream::new(stream.to_vec(alloc)?))?))
 }
 
 /// Converts a record for the caller.
@@ -55,8 +53,7 @@ fn omap_row(moved: OMAPRecord) -> OmapRow
 pub fn records_in(alloc: Global, table: &OMAPTable) -> Result<Vec<OmapRow>>
     ensures { Answers (λ rows. rows.items) result (Ok (map omap_row table.now)) }
 {
-    let rows = table.records().map(omap_row).collect(alloc)?;
-    Ok(rows)
+    Ok(table.records().map(omap_row).collect(alloc)?)
 }
 
 /// Writes 1 if no record of a table has a source below that of the record before it, and 0 if one

@@ -2,9 +2,9 @@
 
 ghost use Rattle.std.specs.Prelude.{map, Ok};
 ghost use Rattle.std.specs.Option.{option_map};
-ghost use Rattle.pdb_base.specs.Answer.{Answers};
+ghost use Rattle.pdb_base.specs.Answer.{Answer, Answers};
 ghost use Rattle.pdb_values.specs.Text.{text_bytes};
-ghost use Rattle.pdb_values.specs.TypeValue.{name_of};
+ghost use Rattle.pdb_values.specs.TypeValue.{TypeValue, name_of};
 ghost use Rattle.pdb_values.specs.TypeView.{type_value};
 ghost use Rattle.pdb_tpi.specs.Record.{type_of};
 ghost use Rattle.pdb_handles.specs.Records.{arguments_in, of_type};
@@ -33,20 +33,40 @@ pub fn type_in<'t>(alloc: Global, bytes: &'t [u8], index: u32) -> Result<TypeDat
     parse_type_data(alloc, bytes)
 }
 
-/// Writes the numbers in the record of a type, or returns the fault of its error. An index below
-/// 0x1000 is that of a primitive type, which needs no record.
+/// Writes the numbers in a record that was parsed, or returns the fault of its error.
 #[inline(always)]
-pub fn write_type_row(alloc: Global, bytes: &[u8], index: u32, row: &mut Row) -> Fault
-    ensures { IsAnswered (λ value. row_of value) (type_of index bytes.now) row.old result row.new }
+fn write_row(parsed: &Result<TypeData<'_>>, row: &mut Row) -> Fault
+    ensures { (meant : Answer TypeValue) → Answers type_value parsed.now meant
+        → IsAnswered (λ value. row_of value) meant row.old result row.new }
 {
-    let parsed = type_in(alloc, bytes, index);
-    match &parsed {
+    match parsed {
         Ok(value) => {
             row.set_type(value);
             Fault::status(FINE)
         }
         Err(error) => Fault::of(error),
     }
+}
+
+/// Does what `write_type_row` does, out of line, also for a primitive type.
+#[inline(never)]
+fn write_any_row(alloc: Global, bytes: &[u8], index: u32, row: &mut Row) -> Fault
+    ensures { IsAnswered (λ value. row_of value) (type_of index bytes.now) row.old result row.new }
+{
+    write_row(&type_in(alloc, bytes, index), row)
+}
+
+/// Writes the numbers in the record of a type, or returns the fault of its error. An index below
+/// 0x1000 is that of a primitive type, which needs no record.
+#[inline(always)]
+#[tactic(auto, unfolding(pdb_tpi::specs::Record::type_of))]
+pub fn write_type_row(alloc: Global, bytes: &[u8], index: u32, row: &mut Row) -> Fault
+    ensures { IsAnswered (λ value. row_of value) (type_of index bytes.now) row.old result row.new }
+{
+    if index < FIRST_RECORD {
+        return write_any_row(alloc, bytes, index, row);
+    }
+    write_row(&parse_type_data(alloc, bytes), row)
 }
 
 /// Parses a record and returns the name of its type, if it has one.
@@ -67,8 +87,7 @@ pub fn type_name_in<'t>(alloc: Global, bytes: &'t [u8], index: u32) -> Result<Op
 pub fn numbers_of(alloc: Global, indexes: &[TypeIndex]) -> Result<Vec<u32>>
     ensures { Answers (λ numbers. numbers.items) result (Ok (map (λ index. index.0) indexes.now)) }
 {
-    let numbers = indexes.iter().map(|index| index.0).collect(alloc)?;
-    Ok(numbers)
+    Ok(indexes.iter().map(|index| index.0).collect(alloc)?)
 }
 
 /// Parses a record and returns the types of the arguments that it lists, or None if it isn't a list

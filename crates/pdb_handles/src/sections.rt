@@ -61,8 +61,7 @@ pub fn sections_in(alloc: Global, stream: &[u8]) -> Result<Vec<Section>>
     requires { length stream.now < 0xffffffff }
     ensures { Answers (λ sections. sections.items) result (sections_in stream.now) }
 {
-    let bytes = stream.to_vec(alloc)?;
-    let read = section_headers(alloc, &Stream::new(bytes))?;
+    let read = section_headers(alloc, &Stream::new(stream.to_vec(alloc)?))?;
     let headers = read.as_slice();
     let mut sections = Vec::with_capacity(alloc, headers.len())?;
     for header in headers {

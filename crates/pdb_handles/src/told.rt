@@ -10,8 +10,7 @@ use crate::copied::{copy_nothing, copy_out};
 use crate::fault::{Fault, NO_TEXT};
 use pdb_base::Error;
 use std::alloc::Global;
-use std::io;
-use std::io::ErrorKind;
+use std::io::{self, ErrorKind};
 
 /// Returns the text with a number, if there is one.
 fn text_numbered(number: u32) -> Option<&'static str>

@@ -100,6 +100,7 @@ impl<'t, I: ItemIndex> ItemIter<'t, I> {
 
     /// Returns the item that is `steps` items behind the next one, or the fault at which the walk
     /// stops before it. The iterator continues after that item.
+    #[inline(always)]
     pub(crate) fn nth(&mut self, steps: u32, count: &mut Count) -> Result<Item<'t, I>>
         ensures item { Gives bytes_of result (nth_item self.old.table (steps_taken self.old + steps)) }
         ensures index { IfOk result (λ item. I.number (index_of item) ≡ self.old.index + steps) }

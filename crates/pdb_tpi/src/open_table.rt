@@ -102,6 +102,19 @@ impl<I: ItemIndex> OpenTable<I> {
     pub fn learn(&mut self, index: I)
         ensures { self.new ≡ self.old }
     {
+        let number: u32 = index.into();
+        let known = self.positions.len() as u64 * BLOCK_LEN as u64;
+        if number as u64 >= self.items.header().minimum_index as u64 + known {
+            self.learn_blocks(index);
+        }
+    }
+
+    /// Learns where the blocks begin that are not known yet, up to that of an index, as far as there
+    /// are any.
+    #[inline(never)]
+    fn learn_blocks(&mut self, index: I)
+        ensures { self.new ≡ self.old }
+    {
         let header = self.items.header();
         let number: u32 = index.into();
         if number < header.minimum_index || number >= header.maximum_index {
@@ -129,6 +142,24 @@ impl<I: ItemIndex> OpenTable<I> {
     /// the item.
     #[tactic(auto, unfolding(crate::specs::Finder::item_of))]
     pub fn find(&self, index: I) -> Result<Option<RecordPlace>>
+        ensures { Gives (λ place. place) result (located self.now.table (I.number index)) }
+    {
+        let header = self.items.header();
+        let number: u32 = index.into();
+        if number >= header.minimum_index && number < header.maximum_index {
+            let place = number - header.minimum_index;
+            let mut count = Count::new();
+            if let Ok((item, end)) = self.items.walk_to(&self.positions, place, &mut count) {
+                return Ok(Some(record_before(end, item.len())));
+            }
+        }
+        self.find_or_fail(index)
+    }
+
+    /// Does what `find` does, out of line, also where that fails.
+    #[inline(never)]
+    #[tactic(auto, unfolding(crate::specs::Finder::item_of))]
+    fn find_or_fail(&self, index: I) -> Result<Option<RecordPlace>>
         ensures { Gives (λ place. place) result (located self.now.table (I.number index)) }
     {
         let header = self.items.header();

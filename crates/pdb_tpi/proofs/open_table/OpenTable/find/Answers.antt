@@ -7,20 +7,20 @@ use Rattle.pdb_tpi.proofs.open_table.OpenTable.find.Goals as goal
 
 pub record_before-requires-clause-before : goal.record_before-requires-clause-before
 record_before-requires-clause-before g c =
-    let there = record_placed _ _ _ c.in_ok-item.end (bytes_of c.in_ok-item.item) c.in_ok-item.ensures.end refl
-    c.in_ok-item.ensures.item in
-    let before : length (bytes_of c.in_ok-item.item) ≤ c.in_ok-item.end = there.before in
+    let there = record_placed _ _ _ c.in-Ok.end (bytes_of c.in-Ok.item) c.in-Ok.ensures.end refl
+    c.in-Ok.ensures.item in
+    let before : length (bytes_of c.in-Ok.item) ≤ c.in-Ok.end = there.before in
     omega (arith, before, c.len.ensures)
 
-pub returns : goal.returns
-returns g c =
+pub returns-in-Ok : goal.returns-in-Ok
+returns-in-Ok g c =
     let s = c.self.inside in
     let i = c.into-number.result in
     let is = g.met.I.ItemIndex.turns_into c.args.index i c.into-number.ensures in
     let least = ap (λ (h : Header). h.minimum_index) c.header-header.ensures.header in
     let most = ap (λ (h : Header). h.maximum_index) c.header-header.ensures.header in
-    let at : ℕ → RecordPlace = λ n. record { offset = c.in_ok-item.end - n; length = n } in
+    let at : ℕ → RecordPlace = λ n. record { offset = c.in-Ok.end - n; length = n } in
     rw (← c.self.view_is, ← is)
-    (record_found s.items i (i - c.header-header.result.minimum_index) c.in_ok-item.end (bytes_of c.in_ok-item.item) _
-    (omega arith) (omega arith) c.in_ok-item.ensures.item c.in_ok-item.ensures.end
+    (record_found s.items i (i - c.header-header.result.minimum_index) c.in-Ok.end (bytes_of c.in-Ok.item) _
+    (omega arith) (omega arith) c.in-Ok.ensures.item c.in-Ok.ensures.end
     (c.record_before.ensures ∙ ap at c.len.ensures))

@@ -2,7 +2,7 @@ use Rattle.std.proofs.Common.{◌<◌, length, vec_capacity, arith}
 use Rattle.std.proofs.lemmas.List.{length_push}
 use Rattle.pdb_tpi.specs.Finder.{first_of}
 use Rattle.pdb_tpi.proofs.FinderLemmas.{block_learned}
-use Rattle.pdb_tpi.proofs.open_table.OpenTable.learn.Goals as goal
+use Rattle.pdb_tpi.proofs.open_table.OpenTable.learn_blocks.Goals as goal
 
 pub push_reserved-requires : goal.push_reserved-requires
 push_reserved-requires g c =

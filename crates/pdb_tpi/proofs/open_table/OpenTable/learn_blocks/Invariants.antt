@@ -1,7 +1,7 @@
 use Rattle.std.proofs.Common.{◌≡◌, ◌<◌, length, vec_capacity}
 use Rattle.pdb_tpi.specs.Finder.{first_of}
 use Rattle.pdb_tpi.specs.OpenTable.{IsOpen}
-use Rattle.pdb_tpi.proofs.open_table.OpenTable.learn.Given as goal
+use Rattle.pdb_tpi.proofs.open_table.OpenTable.learn_blocks.Given as goal
 
 abbrev pub invariant-loop-block : goal.invariant-loop-block
 invariant-loop-block g l =
