@@ -241,8 +241,8 @@ typedef struct pdb_identity {
     uint16_t flags;            /* values of enum pdb_identity_flag, added up */
     uint8_t guid[16];          /* the bytes as they stand in the file, and in the image's debug
                                   directory */
-    uint32_t has_features;     /* whether all stream names are in stream 1, before the features, 0 or
-                                  1; if not, the next number is 0 */
+    uint32_t has_features;     /* whether all stream names are in stream 1, before the features, 0
+                                  or 1; if not, the next number is 0 */
     uint32_t features;         /* values of enum pdb_feature, added up */
 } pdb_identity;
 
@@ -1179,8 +1179,8 @@ uint32_t pdb_id_list(const uint8_t *record, size_t record_length, uint32_t *room
 /* ---- definitions of types, their sizes and layouts
  *
  * A definition is a class, a union or an enumeration that is not only declared. The definition of a
- * type that is only declared (PDB_PROPERTY_FORWARD_REFERENCE) is the first one in the table of its unique
- * name, or of its name if it has no unique name. */
+ * type that is only declared (PDB_PROPERTY_FORWARD_REFERENCE) is the first one in the table of its
+ * unique name, or of its name if it has no unique name. */
 
 /* Opens the table of types in a stream, which is copied, and finds its definitions in one walk. The
  * table has to end where the stream does; a record that can't be read defines nothing. */
@@ -1190,9 +1190,9 @@ uint32_t pdb_definitions_open(const uint8_t *stream, size_t stream_length,
 
 /* Copies the indexes of all definitions of a name, in increasing order. There may be none, and then
  * the length is 0. */
-uint32_t pdb_definitions_named(pdb_definitions *definitions, const uint8_t *name, size_t name_length,
-                               uint32_t *room, size_t room_length, size_t *length,
-                               pdb_fault *fault);
+uint32_t pdb_definitions_named(pdb_definitions *definitions, const uint8_t *name,
+                               size_t name_length, uint32_t *room, size_t room_length,
+                               size_t *length, pdb_fault *fault);
 
 /* Writes the index of the definition of a type, which is its own index if it is a definition. The
  * status is PDB_NONE if the table doesn't define it, and for any other type. */
@@ -1201,7 +1201,8 @@ uint32_t pdb_definition_of(pdb_definitions *definitions, uint32_t index, uint32_
 
 /* Writes the size of a type in bytes. A type that is only declared is as large as its definition.
  * The status is PDB_NONE if nothing says the size, as of void, of a function or of a list. */
-uint32_t pdb_type_size(pdb_definitions *definitions, uint32_t index, uint64_t *size, pdb_fault *fault);
+uint32_t pdb_type_size(pdb_definitions *definitions, uint32_t index, uint64_t *size,
+                       pdb_fault *fault);
 
 /* Copies the declaration of a name that has a type, in C++, such as "int (*compare)(char)", or the
  * text of the type alone if the name is empty. What the text says is tested, and not proved. */
