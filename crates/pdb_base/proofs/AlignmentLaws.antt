@@ -5,7 +5,7 @@ use Rattle.std.proofs.lemmas.Bool.{cases_lt}
 use Rattle.std.proofs.lemmas.Grind.{div_ceil_times}
 use Rattle.std.proofs.lemmas.Bool.Decides.{nat_tests}
 use Rattle.std.specs.Int.{div_ceil}
-use Rattle.pdb_base.specs.Place.{Place, aligned}
+use Rattle.pdb_base.specs.Place.{Place, align_to}
 use Rattle.pdb_base.specs.Laws.{IsNextMultiple, AlignsToNext}
 
 -- of two multiples one that is less is less by the number
@@ -37,7 +37,7 @@ next_is number place some =
     }
 
 pub aligns_to_next : (alignment : ℕ) (place : Place) → alignment ≢ 0 → AlignsToNext alignment place
-unfolding aligned
+unfolding align_to
 aligns_to_next alignment place some = record {
   next = div_ceil place.pos alignment * alignment;
   is_next = next_is alignment place.pos some;

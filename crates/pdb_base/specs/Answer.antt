@@ -17,14 +17,14 @@ abbrev pub ◌>>=◌ : {A B : Type 0} → Answer A → (A → Answer B) → Answ
 (Err e) >>= f = Err e
 
 -- the values of all answers in order, or the first refusal among them
-abbrev pub collected : {A : Type 0} → List (Answer A) → Answer (List A)
-collected [] = Ok []
-collected (answer ∷ answers) = answer >>= λ x. collected answers >>= λ xs. Ok (x ∷ xs)
+abbrev pub values_of_all : {A : Type 0} → List (Answer A) → Answer (List A)
+values_of_all [] = Ok []
+values_of_all (answer ∷ answers) = answer >>= λ x. values_of_all answers >>= λ xs. Ok (x ∷ xs)
 
 -- `Ok` if the test holds, and otherwise that refusal
-abbrev pub required : Bool → Refusal → Answer (Unit {0})
-required true e = Ok tt
-required false e = Err e
+abbrev pub ok_if : Bool → Refusal → Answer (Unit {0})
+ok_if true e = Ok tt
+ok_if false e = Err e
 
 -- The result of a call that requests no memory: the value that is meant, as `view` sees
 -- it, or the refusal that is meant.

@@ -3,10 +3,10 @@ use Rattle.std.specs.Prelude.{◌≡◌, ℕ, ◌%◌, ◌+◌, ◌*◌, ◌/◌
 use Rattle.std.specs.Prelude.{Some, None, Ok, Err}
 use Rattle.byteorder.specs.Endian.{little_bytes}
 use Rattle.pdb_base.specs.Refusal.{Refusal, unexpected_eof, unexpected_numeric_prefix}
-use Rattle.pdb_base.specs.Answer.{Answer, collected}
-use Rattle.pdb_base.specs.Place.{Place, aligned}
+use Rattle.pdb_base.specs.Answer.{Answer, values_of_all}
+use Rattle.pdb_base.specs.Place.{Place, align_to}
 use Rattle.pdb_base.specs.Reading.{number_at, front_at, read_as}
-use Rattle.pdb_base.specs.Records.{spelled}
+use Rattle.pdb_base.specs.Records.{values_of_size}
 use Rattle.pdb_base.specs.Numeric.{NumberKind, least_leaf, kind_behind}
 use Rattle.pdb_base.specs.Spelling.{SpellsNumber, Begins}
 
@@ -14,17 +14,17 @@ use Rattle.pdb_base.specs.Spelling.{SpellsNumber, Begins}
 -- then it gives just these values.
 abbrev pub CollectsAll : {A : Type 0} → List (Answer A) → Type 0
 CollectsAll {A} answers =
-    ((xs : List A) → collected answers ≡ Ok xs → answers ≡ map (λ x. Ok x) xs)
-    × ((xs : List A) → answers ≡ map (λ x. Ok x) xs → collected answers ≡ Ok xs)
+    ((xs : List A) → values_of_all answers ≡ Ok xs → answers ≡ map (λ x. Ok x) xs)
+    × ((xs : List A) → answers ≡ map (λ x. Ok x) xs → values_of_all answers ≡ Ok xs)
 
 -- Collecting answers gives a refusal if and only if one of them is a refusal,
 -- and then it gives the first one.
 abbrev pub RefusesAsFirst : {A : Type 0} → List (Answer A) → Type 0
 RefusesAsFirst {A} answers =
-    ((e : Refusal) → collected answers ≡ Err e → (before : List A) × (behind : List (Answer A))
+    ((e : Refusal) → values_of_all answers ≡ Err e → (before : List A) × (behind : List (Answer A))
     × (answers ≡ map (λ x. Ok x) before ++ Err e ∷ behind))
     × ((e : Refusal) (before : List A) (behind : List (Answer A)) → answers ≡ map (λ x. Ok x) before ++ Err e ∷ behind
-    → collected answers ≡ Err e)
+    → values_of_all answers ≡ Err e)
 
 -- If bytes begin with the little-endian spelling of a number, that number is read, with the rest. If there
 -- are too few bytes, reading fails with `unexpected_eof`.
@@ -62,8 +62,8 @@ pub record IsNextMultiple (number place next : ℕ) : Type 0 where
 pub record AlignsToNext (alignment : ℕ) (place : Place) : Type 0 where
   pub next : ℕ
   pub is_next : IsNextMultiple alignment place.pos next
-  pub within : next ≤ length place.slice → aligned alignment place ≡ Ok (record place { pos = next })
-  pub past : length place.slice < next → aligned alignment place ≡ Err unexpected_eof
+  pub within : next ≤ length place.slice → align_to alignment place ≡ Ok (record place { pos = next })
+  pub past : length place.slice < next → align_to alignment place ≡ Err unexpected_eof
 
 -- The number fits in this many bits, and in no fewer.
 pub record IsLeastToHold (number bits : ℕ) : Type 0 where
@@ -72,6 +72,6 @@ pub record IsLeastToHold (number bits : ℕ) : Type 0 where
 
 -- The bytes spell as many values as fit, and each is read where the one before it ends.
 pub record AreReadInTurn {A : Type 0} (size : ℕ) (value : List ℕ → A) (bytes : List ℕ) : Type 0 where
-  pub count : length (spelled size value bytes) ≡ length bytes / size
-  pub each : (k : ℕ) (x : A) → slice_get (spelled size value bytes) k ≡ Some x
+  pub count : length (values_of_size size value bytes) ≡ length bytes / size
+  pub each : (k : ℕ) (x : A) → slice_get (values_of_size size value bytes) k ≡ Some x
       → read_as value (front_at size (drop (size * k) bytes)) ≡ Ok (x, drop (size * (k + 1)) bytes)

@@ -48,14 +48,14 @@ abbrev pub kind_behind : List (ℕ × NumberKind) → ℕ → Option NumberKind
 kind_behind leaves prefix = lookup (λ leaf. leaf == prefix) leaves
 
 -- how many bytes a number of this kind has
-abbrev pub bytes_of : NumberKind → ℕ
-bytes_of u8 = 1
-bytes_of u16 = 2
-bytes_of u32 = 4
-bytes_of u64 = 8
-bytes_of i16 = 2
-bytes_of i32 = 4
-bytes_of i64 = 8
+abbrev pub number_width : NumberKind → ℕ
+number_width u8 = 1
+number_width u16 = 2
+number_width u32 = 4
+number_width u64 = 8
+number_width i16 = 2
+number_width i32 = 4
+number_width i64 = 8
 
 -- a number as its bytes hold it: its kind, and its bits as an unsigned number
 pub record Numeral : Type 0 where
@@ -79,7 +79,7 @@ variant_of numeral = variant_of_kind numeral.kind numeral.number
 -- the number of that kind at the front of bytes; a prefix that says no kind is refused
 abbrev pub number_of_kind : ℕ → Option NumberKind → List ℕ → Answer (Numeral × List ℕ)
 number_of_kind prefix None bytes = Err (unexpected_numeric_prefix prefix)
-number_of_kind prefix (Some kind) bytes = number_at (bytes_of kind) bytes
+number_of_kind prefix (Some kind) bytes = number_at (number_width kind) bytes
     >>= λ number. Ok (record { kind = kind; number = number.0 }, number.1)
 
 -- the number whose first two bytes are `prefix`: `prefix` itself if it is below 0x8000, and

@@ -19,13 +19,13 @@ pub record StaysWithin (old new : Place) : Type 0 where
   pub pos : new.pos ≤ length new.slice
 
 -- the first position from here on that is a multiple of the alignment, if the slice reaches it
-unfoldable pub aligned : ℕ → Place → Answer Place
-aligned alignment place =
+unfoldable pub align_to : ℕ → Place → Answer Place
+align_to alignment place =
     let next = div_ceil place.pos alignment * alignment in
     if nat_le next (length place.slice) then Ok (record place { pos = next }) else Err unexpected_eof
 
 -- the first `len` bytes of the slice, if it has them; a position after them moves to their end
-unfoldable pub cut : ℕ → Place → Answer Place
-cut len place =
+unfoldable pub truncate_at : ℕ → Place → Answer Place
+truncate_at len place =
     if nat_le len (length place.slice) then Ok
     (record { slice = take len place.slice; pos = min place.pos len }) else Err unexpected_eof

@@ -31,13 +31,17 @@ signed_at width bytes_wide bytes = do
   number ← number_at bytes_wide bytes
   Ok (cast_signed width number.0, number.1)
 
+-- the little-endian number in `width` bytes at an offset
+abbrev pub number_in : ℕ → ℕ → List ℕ → ℕ
+number_in width offset bytes = little_number width (take width (drop offset bytes))
+
 -- the little-endian u32 at an offset
 abbrev pub word_at : ℕ → List ℕ → ℕ
 word_at offset bytes = little_number 4 (take 4 (drop offset bytes))
 
 -- the number at the front of bytes, without the bytes that follow it
-unfoldable pub peeked : ℕ → List ℕ → Answer ℕ
-peeked width bytes = do
+unfoldable pub peek_number : ℕ → List ℕ → Answer ℕ
+peek_number width bytes = do
   number ← number_at width bytes
   Ok number.0
 

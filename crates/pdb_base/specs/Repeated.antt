@@ -9,6 +9,6 @@ SpellsEach {A} Spells (x ∷ xs) front = (head : List ℕ) × (tail : List ℕ) 
     × (head ++ tail ≡ front)
 
 -- `count` values, each read after the one before
-abbrev pub repeated : {A : Type 0} → (List ℕ → Answer (A × List ℕ)) → ℕ → List ℕ → Answer (List A × List ℕ)
-repeated read zero bytes = Ok ([], bytes)
-repeated read (suc count) bytes = read bytes >>= λ x. repeated read count x.1 >>= λ xs. Ok (x.0 ∷ xs.0, xs.1)
+abbrev pub read_times : {A : Type 0} → (List ℕ → Answer (A × List ℕ)) → ℕ → List ℕ → Answer (List A × List ℕ)
+read_times read zero bytes = Ok ([], bytes)
+read_times read (suc count) bytes = read bytes >>= λ x. read_times read count x.1 >>= λ xs. Ok (x.0 ∷ xs.0, xs.1)

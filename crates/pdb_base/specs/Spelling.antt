@@ -6,7 +6,7 @@ use Rattle.byteorder.specs.Endian.{little_number}
 use Rattle.pdb_base.specs.declared.variant.Variant.{Variant}
 use Rattle.pdb_base.specs.Answer.{Answer}
 use Rattle.pdb_base.specs.Numeric.{NumberKind, u16, Numeral, least_leaf, numeric_leaves, unsigned_leaves, kind_behind}
-use Rattle.pdb_base.specs.Numeric.{bytes_of, variant_of}
+use Rattle.pdb_base.specs.Numeric.{number_width, variant_of}
 
 -- `front` spells a number in `width` bytes, little-endian.
 pub record SpellsNumber (width number : ℕ) (front : List ℕ) : Type 0 where
@@ -41,7 +41,7 @@ pub record SpellsPrefixed (leaves : List (ℕ × NumberKind)) (numeral : Numeral
   pub head : List ℕ
   pub head_spelled : SpellsNumber 2 prefix head
   pub tail : List ℕ
-  pub tail_spelled : SpellsNumber (bytes_of numeral.kind) numeral.number tail
+  pub tail_spelled : SpellsNumber (number_width numeral.kind) numeral.number tail
   pub is : head ++ tail ≡ front
 
 -- The bytes spell a number of variable width, with these leaves as its prefixes.

@@ -7,7 +7,7 @@ ghost use Rattle.pdb_base.specs.Bits.{is_bit_set};
 
 /// Returns a word without the bits below `place`, shifted to the right by `place` bits.
 #[tactic(auto, using(crate::proofs::lemmas::Shifts::shifted_out))]
-fn shifted(word: u32, place: u32) -> u32
+fn bits_from(word: u32, place: u32) -> u32
     ensures { result ≡ word / 2 ^ place }
 {
     if place < 32 { word >> place } else { 0 }
@@ -19,7 +19,7 @@ pub fn bit_field(word: u32, place: u32, count: u32) -> u32
     ensures field { result ≡ bits word place count }
     ensures below { result < 2 ^ count }
 {
-    let shifted = shifted(word, place);
+    let shifted = bits_from(word, place);
     if count < 32 {
         shifted & ((1 << count) - 1)
     } else {

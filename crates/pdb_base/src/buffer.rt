@@ -3,8 +3,8 @@
 ghost use Rattle.std.specs.Prelude.{◌≡◌, ◌≢◌, ◌+◌, ◌↔◌, [], length, min, IsTrue, OnErr};
 ghost use Rattle.std.specs.Int.{w16, w32, w64};
 ghost use Rattle.pdb_base.specs.Answer.{Gives};
-ghost use Rattle.pdb_base.specs.Place.{left, StaysWithin, aligned, cut};
-ghost use Rattle.pdb_base.specs.Reading.{front_at, lowest_first, number_at, signed_at, peeked, text_at, pascal_text_at};
+ghost use Rattle.pdb_base.specs.Place.{left, StaysWithin, align_to, truncate_at};
+ghost use Rattle.pdb_base.specs.Reading.{front_at, lowest_first, number_at, signed_at, peek_number, text_at, pascal_text_at};
 
 use crate::error::{Error, Result};
 use crate::nul::first_nul;
@@ -119,10 +119,10 @@ impl<'b> ParseBuffer<'b> {
     ///
     /// # Errors
     /// Returns `UnexpectedEof` if that position is past the end of the slice.
-    #[tactic(auto, unfolding(crate::specs::Place::aligned), using(crate::proofs::MultipleLemmas::next_multiple))]
+    #[tactic(auto, unfolding(crate::specs::Place::align_to), using(crate::proofs::MultipleLemmas::next_multiple))]
     pub fn align(&mut self, alignment: usize) -> Result<()>
         requires { alignment ≢ 0 }
-        ensures place { Gives (λ _. self.new) result (aligned alignment self.old) }
+        ensures place { Gives (λ _. self.new) result (align_to alignment self.old) }
         ensures err { OnErr result (self.new ≡ self.old) }
     {
         let step = (alignment - self.pos % alignment) % alignment;
@@ -137,9 +137,9 @@ impl<'b> ParseBuffer<'b> {
     ///
     /// # Errors
     /// Returns `UnexpectedEof` if the slice has fewer than `len` bytes.
-    #[tactic(auto, unfolding(crate::specs::Place::cut))]
+    #[tactic(auto, unfolding(crate::specs::Place::truncate_at))]
     pub fn truncate(&mut self, len: usize) -> Result<()>
-        ensures place { Gives (λ _. self.new) result (cut len self.old) }
+        ensures place { Gives (λ _. self.new) result (truncate_at len self.old) }
         ensures err { OnErr result (self.new ≡ self.old) }
     {
         if self.slice.len() < len {
@@ -278,9 +278,9 @@ impl<'b> ParseBuffer<'b> {
     ///
     /// # Errors
     /// Returns `UnexpectedEof` if no byte is left.
-    #[tactic(auto, unfolding(crate::specs::Reading::peeked))]
+    #[tactic(auto, unfolding(crate::specs::Reading::peek_number))]
     pub fn peek_u8(&self) -> Result<u8>
-        ensures { Gives (λ number. number) result (peeked 1 (left self.now)) }
+        ensures { Gives (λ number. number) result (peek_number 1 (left self.now)) }
     {
         ParseBuffer::from(self.rest()).parse_u8()
     }
@@ -289,9 +289,9 @@ impl<'b> ParseBuffer<'b> {
     ///
     /// # Errors
     /// Returns `UnexpectedEof` if fewer than two bytes are left.
-    #[tactic(auto, unfolding(crate::specs::Reading::peeked))]
+    #[tactic(auto, unfolding(crate::specs::Reading::peek_number))]
     pub fn peek_u16(&self) -> Result<u16>
-        ensures { Gives (λ number. number) result (peeked 2 (left self.now)) }
+        ensures { Gives (λ number. number) result (peek_number 2 (left self.now)) }
     {
         ParseBuffer::from(self.rest()).parse_u16()
     }

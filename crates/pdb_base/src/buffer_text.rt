@@ -2,7 +2,7 @@
 
 ghost use Rattle.std.specs.Prelude.{Some, flat_map};
 ghost use Rattle.std.specs.Fmt.{DisplaysOnOk};
-ghost use Rattle.pdb_base.specs.BufferText.{escaped, buffer_text};
+ghost use Rattle.pdb_base.specs.BufferText.{escape_of, buffer_text};
 
 use crate::buffer::ParseBuffer;
 use std::fmt;
@@ -12,7 +12,7 @@ use std::fmt;
 struct EscapedByte(u8);
 
 impl fmt::Display for EscapedByte {
-    ghost output = { λ byte. Some (escaped byte.0) };
+    ghost output = { λ byte. Some (escape_of byte.0) };
 
     #[tactic(auto, using(crate::proofs::lemmas::Padding::padded_to_two))]
     fn fmt<W: fmt::Write>(&self, f: &mut fmt::Formatter<W>) -> fmt::Result {
@@ -26,7 +26,7 @@ impl fmt::Display for EscapedByte {
 struct EscapedBytes<'b>(&'b [u8]);
 
 impl fmt::Display for EscapedBytes<'_> {
-    ghost output = { λ bytes. Some (flat_map escaped bytes.0.now) };
+    ghost output = { λ bytes. Some (flat_map escape_of bytes.0.now) };
 
     fn fmt<W: fmt::Write>(&self, f: &mut fmt::Formatter<W>) -> fmt::Result {
         for byte in self.0 {

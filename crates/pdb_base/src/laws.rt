@@ -10,7 +10,7 @@ ghost use Rattle.pdb_base.specs.Halving.{binary_digits};
 ghost use Rattle.pdb_base.specs.Laws.{CollectsAll, RefusesAsFirst, ReadsSpelling, RefusesPrefixFirst, AlignsToNext, IsLeastToHold, AreReadInTurn};
 ghost use Rattle.pdb_base.specs.Place.{Place};
 ghost use Rattle.pdb_base.specs.Reading.{front_at, number_at, signed_at, text_at, pascal_text_at};
-ghost use Rattle.pdb_base.specs.Repeated.{repeated};
+ghost use Rattle.pdb_base.specs.Repeated.{read_times};
 ghost use Rattle.pdb_base.specs.Numeric.{unsigned_leaves, numeric_leaves, num_at, variant_at};
 ghost use Rattle.pdb_base.specs.Spelling.{ReadsWhatIsSpelled, SpellsNumber, SpellsSigned, SpellsText, SpellsPascalText, SpellsNum, SpellsVariant};
 
@@ -20,7 +20,7 @@ pub mod derived;
 
 /// Answers in order are collected as the list of all their values, or as the first error among
 /// them.
-pub fn collected<A>()
+pub fn values_of_all<A>()
     ensures all { (answers : List (Answer A)) → CollectsAll answers }
     ensures first { (answers : List (Answer A)) → RefusesAsFirst answers }
 {}
@@ -48,7 +48,7 @@ pub fn spellings()
 /// A list of numbers of one byte is spelled by the bytes themselves, as many as there are numbers.
 #[tactic(auto, using(crate::proofs::lemmas::Front::front_is_bytes))]
 pub fn fronts()
-    ensures { (count : ℕ) (bytes : List ℕ) → front_at count bytes ≡ repeated (number_at 1) count bytes }
+    ensures { (count : ℕ) (bytes : List ℕ) → front_at count bytes ≡ read_times (number_at 1) count bytes }
 {}
 
 /// A number of variable width has the error of its prefix if the prefix is whole and announces no

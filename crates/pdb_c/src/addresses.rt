@@ -1,10 +1,10 @@
 //! Address maps, and the sections of which they are made.
 
 ghost use Rattle.std.specs.Prelude.{◌≡◌, ◌<◌, ◌≤◌, length};
-ghost use Rattle.pdb_handles.specs.Copied.{CopiesOrLacks, copied, untouched};
+ghost use Rattle.pdb_handles.specs.Copied.{CopiesOrLacks, answer_copied, nothing_copied};
 ghost use Rattle.pdb_handles.specs.Fault.{not_open, too_long};
 ghost use Rattle.pdb_handles.specs.File.{addresses_said};
-ghost use Rattle.pdb_handles.specs.Found.{Asks, not_held};
+ghost use Rattle.pdb_handles.specs.Found.{AsksContent, not_held};
 ghost use Rattle.pdb_handles.specs.Handle.{Opens, addresses_held};
 ghost use Rattle.pdb_handles.specs.Ranges.{WritesMoved};
 ghost use Rattle.pdb_handles.specs.Sections.{sections_in};
@@ -30,9 +30,9 @@ pub extern "C" fn pdb_sections(
 ) -> u32
     ensures answer { length stream.now < 0xffffffff
         → CopiesOrLacks (record { fault = fault.new; length = count.new; room = room.new }) room.old
-        (copied room.old (sections_in stream.now)) }
+        (answer_copied room.old (sections_in stream.now)) }
     ensures long { 0xffffffff ≤ length stream.now
-        → record { fault = fault.new; length = count.new; room = room.new } ≡ untouched too_long room.old }
+        → record { fault = fault.new; length = count.new; room = room.new } ≡ nothing_copied too_long room.old }
     ensures status { result ≡ fault.new.status }
 {
     if stream.len() >= 0xffff_ffff {
@@ -67,7 +67,7 @@ pub extern "C" fn pdb_translate(
     translation: &mut Translation,
     fault: &mut Fault,
 ) -> u32
-    ensures answer { Asks (λ map. Translates map form (record { section = section; offset = offset }) translation.old)
+    ensures answer { AsksContent (λ map. Translates map form (record { section = section; offset = offset }) translation.old)
         (not_held translation.old) (addresses_held addresses.old.held.content)
         (record { fault = fault.new; value = translation.new }) }
     ensures kept { addresses.new.held.content ≡ addresses.old.held.content }
@@ -89,9 +89,9 @@ pub extern "C" fn pdb_rva_ranges(
     length: &mut usize,
     fault: &mut Fault,
 ) -> u32
-    ensures answer { Asks
+    ensures answer { AsksContent
         (λ map. WritesMoved map.original_to_transformed (record { start = start; end = end }) room.old)
-        (untouched not_open room.old) (addresses_held addresses.old.held.content)
+        (nothing_copied not_open room.old) (addresses_held addresses.old.held.content)
         (record { fault = fault.new; length = length.new; room = room.new }) }
     ensures kept { addresses.new.held.content ≡ addresses.old.held.content }
     ensures status { result ≡ fault.new.status }
@@ -113,9 +113,9 @@ pub extern "C" fn pdb_internal_rva_ranges(
     length: &mut usize,
     fault: &mut Fault,
 ) -> u32
-    ensures answer { Asks
+    ensures answer { AsksContent
         (λ map. WritesMoved map.transformed_to_original (record { start = start; end = end }) room.old)
-        (untouched not_open room.old) (addresses_held addresses.old.held.content)
+        (nothing_copied not_open room.old) (addresses_held addresses.old.held.content)
         (record { fault = fault.new; length = length.new; room = room.new }) }
     ensures kept { addresses.new.held.content ≡ addresses.old.held.content }
     ensures status { result ≡ fault.new.status }

@@ -3,7 +3,7 @@
 ghost use Rattle.std.specs.Prelude.{◌≡◌, Some};
 ghost use Rattle.pdb_msf.specs.Directory.{stream_count_in};
 ghost use Rattle.pdb_msf.specs.Layout.{size_by, stream_by};
-ghost use Rattle.pdb_handles.specs.Copied.{CopiesOrLacks, copied, copied_of};
+ghost use Rattle.pdb_handles.specs.Copied.{CopiesOrLacks, answer_copied, copied_of};
 ghost use Rattle.pdb_handles.specs.File.{layout_said, named_stream_said};
 ghost use Rattle.pdb_handles.specs.Found.{answered_of, found_of};
 ghost use Rattle.pdb_handles.specs.Handle.{Opens, file_held};
@@ -120,7 +120,7 @@ pub extern "C" fn pdb_bytes_named_stream(
     fault: &mut Fault,
 ) -> u32
     ensures answer { CopiesOrLacks (record { fault = fault.new; length = length.new; room = room.new }) room.old
-        (copied room.old (named_stream_said name.now bytes.now)) }
+        (answer_copied room.old (named_stream_said name.now bytes.now)) }
     ensures status { result ≡ fault.new.status }
 {
     copy_stream(named_stream_in(alloc, bytes, name), room, length).tell(fault)

@@ -3,9 +3,9 @@
 ghost use Rattle.std.specs.Prelude.{◌≡◌, IfSome, map, Ok};
 ghost use Rattle.pdb_frames.specs.Merge.{by_heads, merge};
 ghost use Rattle.pdb_frames.specs.Table.{StartsIncrease};
-ghost use Rattle.pdb_handles.specs.Copied.{CopiesOrLacks, copied_of, written};
+ghost use Rattle.pdb_handles.specs.Copied.{CopiesOrLacks, copied_of, items_copied};
 ghost use Rattle.pdb_handles.specs.File.{frames_said};
-ghost use Rattle.pdb_handles.specs.Found.{Asks, not_held};
+ghost use Rattle.pdb_handles.specs.Found.{AsksContent, not_held};
 ghost use Rattle.pdb_handles.specs.Frame.{TellsFirst, frame_of};
 ghost use Rattle.pdb_handles.specs.Handle.{Opens, frames_held};
 
@@ -39,7 +39,7 @@ pub extern "C" fn pdb_frames_at(
     frame: &mut Frame,
     fault: &mut Fault,
 ) -> u32
-    ensures answer { Asks (λ table. TellsFirst table address frame.old) (not_held frame.old)
+    ensures answer { AsksContent (λ table. TellsFirst table address frame.old) (not_held frame.old)
         (frames_held frames.old.held.content) (record { fault = fault.new; value = frame.new }) }
     ensures kept { frames.new.held.content ≡ frames.old.held.content }
     ensures status { result ≡ fault.new.status }
@@ -58,7 +58,7 @@ pub extern "C" fn pdb_frames_list(
 ) -> u32
     ensures merged { IfSome (frames_held frames.old.held.content) (λ table. StartsIncrease table
         → CopiesOrLacks (record { fault = fault.new; length = length.new; room = room.new }) room.old
-        (written room.old (map frame_of (merge table.old table.new)))) }
+        (items_copied room.old (map frame_of (merge table.old table.new)))) }
     ensures heads { CopiesOrLacks (record { fault = fault.new; length = length.new; room = room.new }) room.old
         (copied_of room.old (λ table. Ok (map frame_of (by_heads table.old table.new)))
         (frames_held frames.old.held.content)) }

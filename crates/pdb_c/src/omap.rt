@@ -3,9 +3,9 @@
 ghost use Rattle.std.specs.Prelude.{◌≡◌, map, Ok, Some};
 ghost use Rattle.pdb_space.specs.Omap.{omap_table_of};
 ghost use Rattle.pdb_handles.specs.declared.content.Content.TheVariants.{Omap};
-ghost use Rattle.pdb_handles.specs.Copied.{CopiesOrLacks, copied_of, untouched};
+ghost use Rattle.pdb_handles.specs.Copied.{CopiesOrLacks, copied_of, nothing_copied};
 ghost use Rattle.pdb_handles.specs.Fault.{not_open};
-ghost use Rattle.pdb_handles.specs.Found.{Asks, not_held};
+ghost use Rattle.pdb_handles.specs.Found.{AsksContent, not_held};
 ghost use Rattle.pdb_handles.specs.Handle.{OpensStream, held_as, omap_held};
 ghost use Rattle.pdb_handles.specs.Omap.{TellsMoved, TellsOrder, omap_row};
 ghost use Rattle.pdb_handles.specs.Ranges.{WritesMoved};
@@ -59,7 +59,7 @@ pub extern "C" fn pdb_omap_is_sorted(
     is_sorted: &mut u32,
     fault: &mut Fault,
 ) -> u32
-    ensures answer { Asks TellsOrder (not_held is_sorted.old) (omap_held omap.old.held.content)
+    ensures answer { AsksContent TellsOrder (not_held is_sorted.old) (omap_held omap.old.held.content)
         (record { fault = fault.new; value = is_sorted.new }) }
     ensures kept { omap.new.held.content ≡ omap.old.held.content }
     ensures status { result ≡ fault.new.status }
@@ -76,7 +76,7 @@ pub extern "C" fn pdb_omap_lookup(
     target: &mut u32,
     fault: &mut Fault,
 ) -> u32
-    ensures answer { Asks (λ table told. TellsMoved table address target.old told) (not_held target.old)
+    ensures answer { AsksContent (λ table told. TellsMoved table address target.old told) (not_held target.old)
         (omap_held omap.old.held.content) (record { fault = fault.new; value = target.new }) }
     ensures kept { omap.new.held.content ≡ omap.old.held.content }
     ensures status { result ≡ fault.new.status }
@@ -99,8 +99,8 @@ pub extern "C" fn pdb_omap_ranges(
     length: &mut usize,
     fault: &mut Fault,
 ) -> u32
-    ensures answer { Asks (λ table. WritesMoved (Some table) (record { start = start; end = end }) room.old)
-        (untouched not_open room.old) (omap_held omap.old.held.content)
+    ensures answer { AsksContent (λ table. WritesMoved (Some table) (record { start = start; end = end }) room.old)
+        (nothing_copied not_open room.old) (omap_held omap.old.held.content)
         (record { fault = fault.new; length = length.new; room = room.new }) }
     ensures kept { omap.new.held.content ≡ omap.old.held.content }
     ensures status { result ≡ fault.new.status }

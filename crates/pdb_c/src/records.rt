@@ -3,7 +3,7 @@
 ghost use Rattle.std.specs.Prelude.{◌≡◌};
 ghost use Rattle.pdb_tpi.specs.Record.{type_of};
 ghost use Rattle.pdb_values.specs.IdValue.{id_name};
-ghost use Rattle.pdb_values.specs.TypeValue.{name_of};
+ghost use Rattle.pdb_values.specs.TypeValue.{name_of_type};
 ghost use Rattle.pdb_handles.specs.Copied.{CopiesOrLacks};
 ghost use Rattle.pdb_handles.specs.Ids.{id_row, list_in, of_id};
 ghost use Rattle.pdb_handles.specs.Lists.{dimensions_in, methods_in, unique_name_in};
@@ -47,7 +47,7 @@ pub extern "C" fn pdb_type_name(
     fault: &mut Fault,
 ) -> u32
     ensures answer { CopiesOrLacks (record { fault = fault.new; length = length.new; room = room.new }) room.old
-        (if_copied room.old (of_type name_of index bytes.now)) }
+        (if_copied room.old (of_type name_of_type index bytes.now)) }
     ensures status { result ≡ fault.new.status }
 {
     copy_name(type_name_in(alloc, bytes, index), room, length).tell(fault)

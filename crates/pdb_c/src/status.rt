@@ -4,7 +4,7 @@ ghost use Rattle.std.specs.Prelude.{◌≡◌, None};
 ghost use Rattle.pdb_handles.specs.Copied.{CopiesOrLacks, text_copied};
 ghost use Rattle.pdb_handles.specs.Told.{fault_text};
 
-use pdb_handles::told::{copy_text_of, told};
+use pdb_handles::told::{copy_text_of, error_of_fault};
 use pdb_handles::{Fault, Handle};
 use std::alloc::Global;
 
@@ -21,7 +21,7 @@ pub extern "C" fn pdb_error_text(
         (text_copied room.old (fault_text about.now)) }
     ensures status { result ≡ fault.new.status }
 {
-    copy_text_of(alloc, told(about), room, length).tell(fault)
+    copy_text_of(alloc, error_of_fault(about), room, length).tell(fault)
 }
 
 /// Returns the version of the library: 10,000 times the major number, plus 100 times the minor one,

@@ -1,18 +1,18 @@
 //! Tables of types and of ids behind a handle.
 
 ghost use Rattle.std.specs.Prelude.{◌≡◌};
-ghost use Rattle.pdb_tpi.specs.Table.{count_of};
+ghost use Rattle.pdb_tpi.specs.Table.{count_in_header};
 ghost use Rattle.pdb_handles.specs.declared.content.Content.TheVariants.{Table};
 ghost use Rattle.pdb_handles.specs.Found.{found_of};
 ghost use Rattle.pdb_handles.specs.Handle.{OpensStream, held_as, table_held};
 ghost use Rattle.pdb_handles.specs.Records.{FieldsOrLacks};
-ghost use Rattle.pdb_handles.specs.Tables.{fields_asked, located_in, rewound, step_told, table_opened};
+ghost use Rattle.pdb_handles.specs.Tables.{fields_asked, located_in, rewind_outcome, step_told, table_opened};
 ghost use Rattle.pdb_handles.specs.Walked.{WritesNextOf};
 
 use pdb_handles::fields::FieldRow;
 use pdb_handles::found::tell_value;
 use pdb_handles::listing::write_listing;
-use pdb_handles::open_table::{counted, find_record, listed_fields, next_record, table_in};
+use pdb_handles::open_table::{find_record, index_count, listed_fields, next_record, table_in};
 use pdb_handles::walked::{TypeRow, write_next};
 use pdb_handles::{FINE, Fault, Handle, Located};
 use std::alloc::Global;
@@ -59,11 +59,11 @@ pub extern "C" fn pdb_types_count(
     fault: &mut Fault,
 ) -> u32
     ensures answer { record { fault = fault.new; value = count.new }
-        ≡ found_of count.old (λ table. count_of table.table) (table_held table.old.held.content) }
+        ≡ found_of count.old (λ table. count_in_header table.table) (table_held table.old.held.content) }
     ensures kept { table.new.held.content ≡ table.old.held.content }
     ensures status { result ≡ fault.new.status }
 {
-    ask!(table, alloc, fault, Table(open) => tell_value(counted(open), count))
+    ask!(table, alloc, fault, Table(open) => tell_value(index_count(open), count))
 }
 
 /// Writes where the record of an index is in the stream of a table. The first calls walk along the
@@ -103,7 +103,7 @@ pub extern "C" fn pdb_types_next(
 /// Restarts the walk along a table before its first item.
 #[unsafe(no_mangle)]
 pub extern "C" fn pdb_types_rewind(alloc: Global, table: &mut Handle, fault: &mut Fault) -> u32
-    ensures answer { record { fault = fault.new; value = table.new.held.content } ≡ rewound table.old.held.content }
+    ensures answer { record { fault = fault.new; value = table.new.held.content } ≡ rewind_outcome table.old.held.content }
     ensures status { result ≡ fault.new.status }
 {
     ask!(table, alloc, fault, Table(open) => {

@@ -1,7 +1,7 @@
 //! Whether a file is whole.
 
 ghost use Rattle.std.specs.Prelude.{◌≡◌};
-ghost use Rattle.pdb_handles.specs.Copied.{CopiesOrLacks, copied};
+ghost use Rattle.pdb_handles.specs.Copied.{CopiesOrLacks, answer_copied};
 ghost use Rattle.pdb_reports.specs.Findings.{findings_said};
 
 use pdb_handles::Fault;
@@ -21,7 +21,7 @@ pub extern "C" fn pdb_validate(
     fault: &mut Fault,
 ) -> u32
     ensures answer { CopiesOrLacks (record { fault = fault.new; length = length.new; room = room.new }) room.old
-        (copied room.old (findings_said every file.now)) }
+        (answer_copied room.old (findings_said every file.now)) }
     ensures status { result ≡ fault.new.status }
 {
     copy_list(findings_in(alloc, file, every), room, length).tell(fault)

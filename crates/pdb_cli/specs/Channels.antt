@@ -12,7 +12,7 @@ use Rattle.pdb_base.specs.declared.error.Error.TheVariants.{IoError, OutOfMemory
 use Rattle.pdb_container.specs.Refusal.{refusal_of}
 use Rattle.pdb_output.specs.Output.{OutputState, Gets, GetsUnlessFailed, IsFailed, IsPrefix}
 use Rattle.pdb_cli.specs.declared.outcome.Outcome.{Outcome}
-use Rattle.pdb_cli.specs.Printed.{IsLineOf, IsUsage, Shows, asked}
+use Rattle.pdb_cli.specs.Printed.{IsLineOf, IsUsage, Shows, question_of}
 
 -- why an input isn't read: a read failed for a reason other than an interruption, or the input did not
 -- end, or memory was refused
@@ -40,7 +40,7 @@ words_behind arguments = map string_bytes (drop 1 (into_iter_items arguments))
 pub record IsShownOf (words : List (List ℕ)) (had : Option (List ℕ)) (outcome : Outcome) : Type 0 where
   pub file : List ℕ
   pub whole : IfSome had (λ bytes. file ≡ bytes)
-  pub shows : Shows (asked words file) outcome
+  pub shows : Shows (question_of words file) outcome
 
 -- What is shown for the arguments that the system gives: what they ask, or the usage if the system gives
 -- none because one of them isn't UTF-8.

@@ -25,7 +25,7 @@ IsPrinted (bytes stream) out = out ≡ hex_lines stream
 IsPrinted (item_record index kind text) out = out ≡ record_line index kind text
 IsPrinted (fields names) out = out ≡ name_lines names
 IsPrinted (name text) out = out ≡ line (lossy text)
-IsPrinted (moved table asked) out = (ranges : List (Range ℕ)) × AreMoved table asked ranges × (out ≡ range_lines ranges)
+IsPrinted (moved table question_of) out = (ranges : List (Range ℕ)) × AreMoved table question_of ranges × (out ≡ range_lines ranges)
 
 -- status 0: the reply on standard output, and nothing on standard error
 pub record IsAnswered (said : ReplyValue) (outcome : Outcome) : Type 0 where
@@ -79,9 +79,9 @@ IsOutcomeOf (Err refusal) outcome = IsRefused refusal outcome
 
 -- the query that the words form, and the file that it asks; without words, these are stream 1 and the
 -- file S1
-abbrev pub asked : List (List ℕ) → List ℕ → Option (Query × List ℕ)
-asked [] file = Some (queries.Stream 1 None, s1_bytes)
-asked words file = option_map (λ query. (query, file)) (query_of words)
+abbrev pub question_of : List (List ℕ) → List ℕ → Option (Query × List ℕ)
+question_of [] file = Some (queries.Stream 1 None, s1_bytes)
+question_of words file = option_map (λ query. (query, file)) (query_of words)
 
 -- what the program shows: the answer to what was asked, or that memory was refused, or else the usage
 abbrev pub Shows : Option (Query × List ℕ) → Outcome → Type 0

@@ -14,8 +14,8 @@ abbrev pub are_digits : ℕ → List ℕ → Bool
 are_digits base digits = list_all (λ digit. nat_lt (digit_value digit) base) digits
 
 -- the number of one to `most` digits, if it fits 32 bits
-unfoldable pub spelled : ℕ → ℕ → List ℕ → Option ℕ
-spelled base most digits =
+unfoldable pub number_in_digits : ℕ → ℕ → List ℕ → Option ℕ
+number_in_digits base most digits =
     if (nat_lt 0 (length digits) && nat_le (length digits) most)
     && (are_digits base digits && nat_le (digits_value base digits) 0xffffffff)
     then Some (digits_value base digits) else None
@@ -23,7 +23,7 @@ spelled base most digits =
 -- the number that a word of 1 to 10 decimal digits, or of `0x` and 1 to 8 hexadecimal digits of either
 -- case, stands for
 unfoldable pub number_of : List ℕ → Option ℕ
-number_of word = if starts_with nat_eq word (codes "0x") then spelled 16 8 (drop 2 word) else spelled 10 10 word
+number_of word = if starts_with nat_eq word (codes "0x") then number_in_digits 16 8 (drop 2 word) else number_in_digits 10 10 word
 
 -- the two numbers that two words stand for
 unfoldable pub two_numbers : List (List ℕ) → Option (ℕ × ℕ)

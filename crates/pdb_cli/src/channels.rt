@@ -19,7 +19,7 @@ const NO_MEMORY: &[u8] = b"OutOfMemory\n";
 
 /// Returns the outcome of the query that the words after the program's name spell, for the file in
 /// an input. Without words nothing is read.
-fn acted<I: Read>(alloc: Global, words: &[String], input: &mut I) -> Result<Outcome>
+fn act_on<I: Read>(alloc: Global, words: &[String], input: &mut I) -> Result<Outcome>
     ensures shown { IfOk result (IsShownOf (map string_bytes words.now) (I.remaining input.old)) }
     ensures unread { words.now ≡ [] → input.new ≡ input.old }
     ensures refused { IfErr result IsFault }
@@ -45,7 +45,7 @@ fn attempt<I: Read>(alloc: Global, arguments: io::Result<Args>, input: &mut I) -
     match arguments {
         Ok(arguments) => {
             let words = words_of(alloc, arguments)?;
-            acted(alloc, &words, input)
+            act_on(alloc, &words, input)
         }
         Err(error) if error.kind() == ErrorKind::InvalidData => {
             read_all(alloc, input)?;

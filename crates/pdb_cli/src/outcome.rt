@@ -4,7 +4,7 @@ ghost use Rattle.std.specs.Prelude.{◌≡◌, ◌⊎◌, map, IfOk};
 ghost use Rattle.pdb_base.specs.Memory.{FailsOnlyForMemory};
 ghost use Rattle.pdb_container.specs.Refusal.{refusal_of, out_of_memory};
 ghost use Rattle.pdb_container.specs.Reply.{IsReply, answer_of};
-ghost use Rattle.pdb_cli.specs.Printed.{IsAnsweredBy, IsRefused, IsUsage, IsOutcomeOf, ShowsReply, asked, Shows};
+ghost use Rattle.pdb_cli.specs.Printed.{IsAnsweredBy, IsRefused, IsUsage, IsOutcomeOf, ShowsReply, question_of, Shows};
 
 use crate::lines::reply_lines;
 use crate::refusal::error_line;
@@ -25,7 +25,7 @@ pub struct Outcome {
 }
 
 /// Returns the outcome of an answer: status 0, and its lines on standard output.
-fn answered(alloc: Global, out: Vec<u8>) -> Outcome
+fn answer_outcome(alloc: Global, out: Vec<u8>) -> Outcome
     ensures { IsAnsweredBy out.items result }
 {
     Outcome {
@@ -36,7 +36,7 @@ fn answered(alloc: Global, out: Vec<u8>) -> Outcome
 }
 
 /// Returns the outcome of an error: status 1, and its text on a line of standard error.
-fn refused(alloc: Global, error: &Error) -> Result<Outcome>
+fn error_outcome(alloc: Global, error: &Error) -> Result<Outcome>
     ensures ok { IfOk result (IsRefused (refusal_of error.now)) }
     ensures memory { FailsOnlyForMemory result }
 {
@@ -67,13 +67,13 @@ pub fn usage(alloc: Global) -> Result<Outcome>
 
 /// Returns the outcome of a reply: status 0 with its lines on standard output, or status 1 for an
 /// error.
-fn shown(alloc: Global, reply: &Reply) -> Result<Outcome>
+fn reply_outcome(alloc: Global, reply: &Reply) -> Result<Outcome>
     ensures ok { IfOk result (ShowsReply reply.now) }
     ensures memory { FailsOnlyForMemory result }
 {
     match reply {
-        Reply::Refused(error) => refused(alloc, error),
-        reply => Ok(answered(alloc, reply_lines(alloc, reply)?)),
+        Reply::Refused(error) => error_outcome(alloc, error),
+        reply => Ok(answer_outcome(alloc, reply_lines(alloc, reply)?)),
     }
 }
 
@@ -96,7 +96,7 @@ fn answer(alloc: Global, file: Vec<u8>, query: Query) -> Result<Outcome>
     ensures ok { IfOk result (λ o. IsOutcomeOf (answer_of file.items query) o ⊎ IsRefused out_of_memory o) }
     ensures memory { FailsOnlyForMemory result }
 {
-    shown(alloc, &reply_to(alloc, file, query))
+    reply_outcome(alloc, &reply_to(alloc, file, query))
 }
 
 /// Does what the program does, apart from input and output: parses the words as a query, answers it
@@ -106,7 +106,7 @@ fn answer(alloc: Global, file: Vec<u8>, query: Query) -> Result<Outcome>
 /// # Errors
 /// Fails with `OutOfMemory` if an allocation fails.
 pub fn act(alloc: Global, words: &[&str], file: Vec<u8>) -> Result<Outcome>
-    ensures ok { IfOk result (Shows (asked (map (λ word. word.now) words.now) file.items)) }
+    ensures ok { IfOk result (Shows (question_of (map (λ word. word.now) words.now) file.items)) }
     ensures memory { FailsOnlyForMemory result }
 {
     if words.is_empty() {

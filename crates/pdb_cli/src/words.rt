@@ -4,16 +4,16 @@
 //! command.
 
 ghost use Rattle.std.specs.Prelude.{◌≡◌, ◌≤◌, map};
-ghost use Rattle.pdb_cli.specs.Words.{spelled, number_of, two_numbers, stream_asked, ranges_asked, pair_of, query_of};
+ghost use Rattle.pdb_cli.specs.Words.{number_in_digits, number_of, two_numbers, stream_asked, ranges_asked, pair_of, query_of};
 
 use pdb_container::Query;
 
 /// Parses a number of one to `most` digits in a base, if it fits 32 bits.
-#[tactic(auto, unfolding(crate::specs::Words::spelled))]
-fn spelled(digits: &[u8], base: u32, most: usize) -> Option<u32>
+#[tactic(auto, unfolding(crate::specs::Words::number_in_digits))]
+fn number_in_digits(digits: &[u8], base: u32, most: usize) -> Option<u32>
     requires low { 2 ≤ base }
     requires high { base ≤ 36 }
-    ensures { result ≡ spelled base most digits.now }
+    ensures { result ≡ number_in_digits base most digits.now }
 {
     if digits.is_empty() || digits.len() > most {
         return None;
@@ -34,9 +34,9 @@ pub fn number(word: &str) -> Option<u32>
 {
     let bytes = word.as_bytes();
     if bytes.starts_with(b"0x") {
-        spelled(&bytes[2..], 16, 8)
+        number_in_digits(&bytes[2..], 16, 8)
     } else {
-        spelled(bytes, 10, 10)
+        number_in_digits(bytes, 10, 10)
     }
 }
 

@@ -2,7 +2,7 @@
 use Rattle.std.proofs.Common.{◌≡◌, ℕ, ◌/◌, ◌≤◌, List, [], length, ap, ◌∙◌, arith, Option, Ok}
 use Rattle.std.specs.Option.{option_to_list}
 use Rattle.pdb_tpi.specs.declared.header.Header.{Header}
-use Rattle.pdb_tpi.specs.Table.{Table, count_of}
+use Rattle.pdb_tpi.specs.Table.{Table, count_in_header}
 use Rattle.pdb_consistency.specs.Hashes.{count_mismatch_of, hashes_mismatches, offsets_mismatches, part_in}
 use Rattle.pdb_consistency.specs.Hashes.{value_mismatch}
 use Rattle.pdb_consistency.specs.Hashes.{values_mismatches}
@@ -15,7 +15,7 @@ use Rattle.pdb_consistency.proofs.MismatchLemmas.{asked_in_two, further_two, tol
 -- the mismatch of the number of hash values was added, and those of all of them
 pub values_told : (extent : Extent) (number : ℕ) (table : Table) (values : List ℕ) (count place : ℕ)
     (given : Option Mismatch) (old one both : List Mismatch)
-    → count ≡ count_of table → given ≡ count_mismatch_of number count (length values)
+    → count ≡ count_in_header table → given ≡ count_mismatch_of number count (length values)
     → told (with_further extent old (option_to_list given)) ≡ Ok one
     → place ≤ length values / 4 → length values / 4 ≤ place
     → both ≡ with_further extent one (mismatches_at (value_mismatch number table.header values) place)
@@ -24,7 +24,7 @@ unfolding values_mismatches
 values_told extent number table values count place given old one both counted is added below above all =
     let end : place ≡ length values / 4 = omega arith in
     let first = is ∙ ap (λ (n : ℕ). count_mismatch_of number n (length values)) counted in
-    further_two extent old (option_to_list (count_mismatch_of number (count_of table) (length values)))
+    further_two extent old (option_to_list (count_mismatch_of number (count_in_header table) (length values)))
     (mismatches_at (value_mismatch number table.header values) (length values / 4)) one both
     (rw first at added)
     (all ∙ ap (λ (n : ℕ). with_further extent one (mismatches_at (value_mismatch number table.header values) n)) end)

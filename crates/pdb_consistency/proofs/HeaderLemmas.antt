@@ -2,17 +2,17 @@
 use Rattle.std.proofs.Common.{◌≡◌, ℕ, ◌<◌, ◌≤◌, Bool, true, false, ◌&&◌, nat_le, List, length, refl, arith, inl, inr}
 use Rattle.std.proofs.Common.{Ok}
 use Rattle.std.proofs.lemmas.Bool.{cases_lt, leb-true, lt-ltb}
-use Rattle.pdb_base.specs.Answer.{required}
+use Rattle.pdb_base.specs.Answer.{ok_if}
 use Rattle.pdb_base.specs.Refusal.{Refusal}
 use Rattle.pdb_base.proofs.lemmas.Collected.{bind_ok, ok_is}
 use Rattle.pdb_msf.specs.Directory.{directory_of}
-use Rattle.pdb_msf.specs.Header.{Head, fields_of, geometry_of, head_of, is_page_size, location_pages, magic_of, opened}
+use Rattle.pdb_msf.specs.Header.{Head, fields_of_header, geometry_of, head_of, is_page_size, location_pages, magic_of, file_head}
 use Rattle.pdb_msf.specs.Header.{opening}
 use Rattle.pdb_msf.specs.Layout.{LayoutValue, layout_of}
 use Rattle.pdb_msf.specs.Pages.{page_numbers, words}
 use Rattle.pdb_msf.specs.declared.header.Geometry.{Geometry}
 
-holds : (test : Bool) (refusal : Refusal) (done : Unit {0}) → required test refusal ≡ Ok done → test ≡ true
+holds : (test : Bool) (refusal : Refusal) (done : Unit {0}) → ok_if test refusal ≡ Ok done → test ≡ true
 holds true refusal done is = refl
 holds false refusal done is = absurd cc
 
@@ -26,8 +26,8 @@ geometry_sized : (view : List ℕ) (fields : Geometry × List ℕ) → geometry_
 unfolding geometry_of
 geometry_sized view fields is =
     let magic = bind_ok (magic_of view) _ fields is in
-    let read = bind_ok (fields_of view) _ fields magic.2 in
-    let sized = bind_ok (required (is_page_size read.0.0.page_size) _) _ fields read.2 in
+    let read = bind_ok (fields_of_header view) _ fields magic.2 in
+    let sized = bind_ok (ok_if (is_page_size read.0.0.page_size) _) _ fields read.2 in
     let same = ok_is read.0 fields sized.2 in
     rw (← same) (holds _ _ sized.0 sized.1)
 
@@ -46,9 +46,9 @@ opening_long file view is = elim (cases_lt (length file) 4096) [
   | inr over ↦ over
 ]
 
-opened_parts : (file : List ℕ) (head : Head) → opened file ≡ Ok head
+opened_parts : (file : List ℕ) (head : Head) → file_head file ≡ Ok head
     → (4096 ≤ length file) × (is_page_size head.geometry.page_size ≡ true)
-unfolding opened
+unfolding file_head
 opened_parts file head is =
     let view = bind_ok (opening 4096 file) head_of head is in
     (opening_long file view.0 view.1, head_sized view.0 head view.2)
@@ -57,7 +57,7 @@ layout_parts : (file : List ℕ) (layout : LayoutValue) → layout_of file ≡ O
     → (4096 ≤ length file) × (is_page_size layout.head.geometry.page_size ≡ true)
 unfolding layout_of
 layout_parts file layout is =
-    let head = bind_ok (opened file) _ layout is in
+    let head = bind_ok (file_head file) _ layout is in
     let directory = bind_ok (directory_of file head.0) _ layout head.2 in
     rw (← ok_is _ layout directory.2) (opened_parts file head.0 head.1)
 

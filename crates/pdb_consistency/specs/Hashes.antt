@@ -9,8 +9,8 @@ use Rattle.pdb_base.specs.Answer.{Answer}
 use Rattle.pdb_base.specs.Reading.{word_at}
 use Rattle.pdb_tpi.specs.declared.header.Header.{Header}
 use Rattle.pdb_tpi.specs.declared.open_table.RecordPlace.{RecordPlace}
-use Rattle.pdb_tpi.specs.OpenTable.{located}
-use Rattle.pdb_tpi.specs.Table.{Table, count_of}
+use Rattle.pdb_tpi.specs.OpenTable.{place_of_record}
+use Rattle.pdb_tpi.specs.Table.{Table, count_in_header}
 use Rattle.pdb_consistency.specs.Words.{mismatches_at}
 use Rattle.pdb_consistency.specs.declared.inconsistency.Inconsistency.{Inconsistency}
 use Rattle.pdb_consistency.specs.declared.inconsistency.Inconsistency.TheVariants.{HashCount, HashTooLarge, IndexOffset}
@@ -56,7 +56,7 @@ is_record_at header_size offset answer = false
 abbrev pub offset_mismatch : ℕ → Table → List ℕ → ℕ → Option Mismatch
 offset_mismatch number table offsets place =
     then_some (not (is_record_at table.header.header_size (word_at (8 * place + 4) offsets)
-    (located table (word_at (8 * place) offsets))))
+    (place_of_record table (word_at (8 * place) offsets))))
     (in_hashes number (word_at (8 * place) offsets) (part_start table.header.ti_off.offset + 8 * place)
     (IndexOffset (word_at (8 * place) offsets)))
 
@@ -65,7 +65,7 @@ offset_mismatch number table offsets place =
 -- the mismatches of the hash values
 unfoldable pub values_mismatches : ℕ → Table → List ℕ → List Mismatch
 values_mismatches number table values =
-    option_to_list (count_mismatch_of number (count_of table) (length values))
+    option_to_list (count_mismatch_of number (count_in_header table) (length values))
     ++ mismatches_at (value_mismatch number table.header values) (length values / 4)
 
 -- the mismatches of the places of records

@@ -7,7 +7,7 @@ use Rattle.pdb_base.specs.Answer.{Answer}
 use Rattle.pdb_base.specs.Refusal.{Refusal, unimplemented_type_kind}
 use Rattle.pdb_records.specs.Fields.{field_list_leaf}
 use Rattle.pdb_records.specs.Shape.{pointer_leaf}
-use Rattle.pdb_tpi.specs.OpenTable.{position_of}
+use Rattle.pdb_tpi.specs.OpenTable.{item_position}
 use Rattle.pdb_tpi.specs.Record.{id_of, kind_of, type_of}
 use Rattle.pdb_tpi.specs.Steps.{walk}
 use Rattle.pdb_tpi.specs.Table.{Table}
@@ -48,7 +48,7 @@ size_inconsistency item = then_some (not ((2 + length item) % 4 == 0)) RecordUna
 
 -- the byte of its stream at which the record of an index begins, behind the header and the records before it
 abbrev pub record_byte : Table → ℕ → ℕ
-record_byte table index = position_of table (index - table.header.minimum_index)
+record_byte table index = item_position table (index - table.header.minimum_index)
 
 -- a mismatch at a record of a stream, which begins at a byte
 abbrev pub at_byte : ℕ → ℕ → ℕ → Inconsistency → Mismatch

@@ -2,7 +2,7 @@
 
 ghost use Rattle.std.specs.Prelude.{◌≡◌, ◌≤◌, ◌<◌, ◌+◌, ◌*◌, ◌^◌, length, Ok};
 ghost use Rattle.pdb_base.specs.Answer.{Answers};
-ghost use Rattle.pdb_tpi.specs.OpenTable.{located};
+ghost use Rattle.pdb_tpi.specs.OpenTable.{place_of_record};
 ghost use Rattle.pdb_consistency.specs.Hashes.{count_mismatch_of, in_hashes, is_record_at, offset_mismatch, part_in};
 ghost use Rattle.pdb_consistency.specs.Hashes.{hashes_mismatches, offsets_mismatches, part_start, value_mismatch, values_mismatches};
 ghost use Rattle.pdb_consistency.specs.Mismatch.{asked_of, with_further};
@@ -109,7 +109,7 @@ fn add_values<I: ItemIndex>(
 
 /// Returns whether the record of an index begins at an offset behind the header of its table.
 fn is_record_at<I: ItemIndex>(table: &OpenTable<I>, index: u32, offset: u32) -> bool
-    ensures { result ≡ is_record_at table.now.table.header.header_size offset (located table.now.table index) }
+    ensures { result ≡ is_record_at table.now.table.header.header_size offset (place_of_record table.now.table index) }
 {
     let header_size = table.items().header().header_size;
     match table.find(I::from(index)) {

@@ -4,7 +4,7 @@ ghost use Rattle.std.specs.Prelude.{◌≡◌, Ok};
 ghost use Rattle.std.specs.Option.{option_map, option_to_list};
 ghost use Rattle.pdb_base.specs.Answer.{Answers};
 ghost use Rattle.pdb_base.specs.Refusal.{refusal_of};
-ghost use Rattle.pdb_tpi.specs.Item.{bytes_of, index_of};
+ghost use Rattle.pdb_tpi.specs.Item.{item_bytes, index_of};
 ghost use Rattle.pdb_consistency.specs.Mismatch.{asked_of, with_further};
 ghost use Rattle.pdb_consistency.specs.Records.{id_inconsistency, ids_mismatches, is_not_read, size_inconsistency};
 ghost use Rattle.pdb_consistency.specs.Records.{at_byte, both_mismatches, type_inconsistency, types_mismatches};
@@ -45,7 +45,7 @@ fn not_below(index: Option<u32>) -> Option<Inconsistency>
 #[tactic(auto, unfolding(crate::specs::Records::type_inconsistency))]
 fn type_inconsistency(alloc: Global, item: &Item<'_, TypeIndex>) -> Result<Option<Inconsistency>>
     ensures { Answers (λ what. what) result
-        (Ok (type_inconsistency (index_of item.now).0 (bytes_of item.now))) }
+        (Ok (type_inconsistency (index_of item.now).0 (item_bytes item.now))) }
 {
     let kind = item.raw_kind();
     // The value is borrowed where it is, since it is large to move.
@@ -64,7 +64,7 @@ fn id_inconsistency(
     types: u32,
 ) -> Result<Option<Inconsistency>>
     ensures { Answers (λ what. what) result
-        (Ok (id_inconsistency types (index_of item.now).0 (bytes_of item.now))) }
+        (Ok (id_inconsistency types (index_of item.now).0 (item_bytes item.now))) }
 {
     let kind = item.raw_kind();
     match &item.parse(alloc) {

@@ -7,7 +7,7 @@ use Rattle.pdb_base.specs.declared.error.Error.{Error}
 use Rattle.pdb_base.specs.declared.error.Error.TheVariants as errors
 use Rattle.pdb_base.specs.Refusal.{refusal_of}
 use Rattle.pdb_base.specs.Answer.{Answer, ◌>>=◌, RefusesUnless}
-use Rattle.pdb_msf.specs.Header.{Head, opened}
+use Rattle.pdb_msf.specs.Header.{Head, file_head}
 use Rattle.pdb_msf.specs.File.{stream_of}
 use Rattle.pdb_space.specs.StringTable.{names_of, name_of}
 use Rattle.pdb_space.specs.Omap.{OmapValue, IsSortedBySource, shift}
@@ -111,7 +111,7 @@ reply_of file head query = reply_by (stream_of file head) query
 
 -- the answer of a file to a query; the first fault is that of its header
 unfoldable pub answer_of : List ℕ → Query → Answer ReplyValue
-answer_of file query = opened file >>= λ head. reply_of file head query
+answer_of file query = file_head file >>= λ head. reply_of file head query
 
 -- ---- the replies
 
@@ -158,6 +158,6 @@ AreReplies failed file head _ _ = ⊥
 
 -- A run returns the replies of the file, or fails as opening the file does.
 abbrev pub IsRun : Type 0 → List ℕ → List Query → Result (Vec Reply) Error → Type 0
-IsRun failed file queries (Ok replies) = (head : Head) × (opened file ≡ Ok head)
+IsRun failed file queries (Ok replies) = (head : Head) × (file_head file ≡ Ok head)
     × AreReplies failed file head queries replies.items
-IsRun failed file queries (Err e) = RefusesUnless failed e (opened file)
+IsRun failed file queries (Err e) = RefusesUnless failed e (file_head file)

@@ -59,7 +59,7 @@ pub struct Numbered<T> {
 }
 
 /// Returns the table in a stream: the open one if it is that stream's, or else one that is read.
-fn opened<T: Table, F: ReadStreams>(
+fn table_of_stream<T: Table, F: ReadStreams>(
     alloc: Global,
     file: &mut F,
     number: u32,
@@ -121,33 +121,33 @@ impl OpenTables {
                 Ok(Reply::Bytes(stream.into_bytes()))
             }
             Query::TypeRecord { stream, index } => {
-                let mut types = opened(alloc, file, stream, self.types.take())?;
+                let mut types = table_of_stream(alloc, file, stream, self.types.take())?;
                 learn_for_later::<F, TypeIndex>(&mut types.table, TypeIndex(index));
                 let reply = type_reply(alloc, &types.table, index);
                 self.types = Some(types);
                 reply
             }
             Query::Fields { stream, index } => {
-                let mut types = opened(alloc, file, stream, self.types.take())?;
+                let mut types = table_of_stream(alloc, file, stream, self.types.take())?;
                 let reply = fields_reply(alloc, &mut types.table, index);
                 self.types = Some(types);
                 reply
             }
             Query::IdRecord { stream, index } => {
-                let mut ids = opened(alloc, file, stream, self.ids.take())?;
+                let mut ids = table_of_stream(alloc, file, stream, self.ids.take())?;
                 learn_for_later::<F, IdIndex>(&mut ids.table, IdIndex(index));
                 let reply = id_reply(alloc, &ids.table, index);
                 self.ids = Some(ids);
                 reply
             }
             Query::Name { stream, offset } => {
-                let names = opened(alloc, file, stream, self.names.take())?;
+                let names = table_of_stream(alloc, file, stream, self.names.take())?;
                 let reply = name_reply(alloc, &names.table, offset);
                 self.names = Some(names);
                 reply
             }
             Query::Ranges { omap, start, end } => {
-                let table = opened(alloc, file, omap, self.omap.take())?;
+                let table = table_of_stream(alloc, file, omap, self.omap.take())?;
                 let reply = ranges_reply(alloc, &table.table, start..end);
                 self.omap = Some(table);
                 reply

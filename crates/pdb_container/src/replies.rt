@@ -5,7 +5,7 @@ ghost use Rattle.std.specs.Option.{option_map};
 ghost use Rattle.pdb_base.specs.Memory.{FailsOnlyForMemory};
 ghost use Rattle.pdb_values.specs.IdValue.{id_name, id_value};
 ghost use Rattle.pdb_values.specs.Text.{text_bytes};
-ghost use Rattle.pdb_values.specs.TypeValue.{name_of};
+ghost use Rattle.pdb_values.specs.TypeValue.{name_of_type};
 ghost use Rattle.pdb_values.specs.TypeView.{type_value};
 ghost use Rattle.pdb_container.specs.Reply.{Replies, fields_in, id_in, moved, name_in, type_in};
 
@@ -18,7 +18,7 @@ use std::alloc::Global;
 use std::ops::Range;
 
 /// Copies a name, if there is one.
-fn copied(alloc: Global, name: Option<RawString<'_>>) -> Result<Option<Vec<u8>>>
+fn owned_name(alloc: Global, name: Option<RawString<'_>>) -> Result<Option<Vec<u8>>>
     ensures ok { IfOk result (λ copy. option_map (λ bytes. bytes.items) copy ≡ option_map text_bytes name.entry) }
     ensures memory { FailsOnlyForMemory result }
 {
@@ -39,7 +39,7 @@ pub fn type_reply(alloc: Global, types: &OpenTable<TypeIndex>, index: u32) -> Re
     Ok(Reply::Record {
         index,
         kind: item.raw_kind(),
-        name: copied(alloc, value.name())?,
+        name: owned_name(alloc, value.name())?,
     })
 }
 
@@ -66,7 +66,7 @@ pub fn id_reply(alloc: Global, ids: &OpenTable<IdIndex>, index: u32) -> Result<R
     Ok(Reply::Record {
         index,
         kind: item.raw_kind(),
-        name: copied(alloc, name_of_id(&value))?,
+        name: owned_name(alloc, name_of_id(&value))?,
     })
 }
 
@@ -74,12 +74,12 @@ pub fn id_reply(alloc: Global, ids: &OpenTable<IdIndex>, index: u32) -> Result<R
 fn names_of(alloc: Global, fields: &[TypeData<'_>]) -> Result<Vec<Option<Vec<u8>>>>
     ensures ok { IfOk result (λ names.
         map (λ name. option_map (λ copy. copy.items) name) names.items ≡
-        map name_of (map type_value fields.now)) }
+        map name_of_type (map type_value fields.now)) }
     ensures memory { FailsOnlyForMemory result }
 {
     let mut names = Vec::with_capacity(alloc, fields.len())?;
     for field in fields {
-        names.push(copied(alloc, field.name())?)?;
+        names.push(owned_name(alloc, field.name())?)?;
     }
     Ok(names)
 }

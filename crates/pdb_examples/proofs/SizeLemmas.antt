@@ -8,17 +8,17 @@ use Rattle.pdb_container.specs.Answer.{RefusesUnless}
 use Rattle.pdb_base.specs.declared.error.Error.TheVariants.{StreamNotFound}
 use Rattle.pdb_container.specs.Header.{Head}
 use Rattle.pdb_container.specs.File.{stream_of}
-use Rattle.pdb_examples.specs.Uses.{sized, sizes_of}
+use Rattle.pdb_examples.specs.Uses.{size_if_there, sizes_of}
 
 pub none_yet : (file : List ℕ) (head : Head) → [] ≡ sizes_of 0 file head
 unfolding sizes_of
 none_yet file head = refl
 
 pub sizes_more : (n : ℕ) (file : List ℕ) (head : Head) → sizes_of (n + 1) file head ≡ sizes_of n file head
-    ++ filter_map (λ number. sized number (stream_of file head number None)) (n ∷ [])
+    ++ filter_map (λ number. size_if_there number (stream_of file head number None)) (n ∷ [])
 unfolding sizes_of
 sizes_more n file head =
-    let h = λ (number : ℕ). sized number (stream_of file head number None) in
+    let h = λ (number : ℕ). size_if_there number (stream_of file head number None) in
     ap (filter_map h) (sym (map-id (range_with_len 0 (n + 1)))
     ∙ map-range_with_len_more (λ (k : ℕ). k) 0 n n (omega arith)
     ∙ ap (λ (l : List ℕ). l ++ n ∷ []) (map-id (range_with_len 0 n)))

@@ -33,13 +33,13 @@ stream_in file number = do
   stream_of file head number None
 
 -- a stream's number and size, if it is there
-abbrev pub sized : ℕ → Answer (List ℕ) → Option (ℕ × ℕ)
-sized number (Ok stream) = Some (number, length stream)
-sized number (Err refusal) = None
+abbrev pub size_if_there : ℕ → Answer (List ℕ) → Option (ℕ × ℕ)
+size_if_there number (Ok stream) = Some (number, length stream)
+size_if_there number (Err refusal) = None
 
 -- the streams among the first so many numbers, each with its size
 unfoldable pub sizes_of : ℕ → List ℕ → Head → List (ℕ × ℕ)
-sizes_of count file head = filter_map (λ number. sized number (stream_of file head number None))
+sizes_of count file head = filter_map (λ number. size_if_there number (stream_of file head number None))
     (range_with_len 0 count)
 
 -- ---- types

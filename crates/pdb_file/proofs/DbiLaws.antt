@@ -4,7 +4,7 @@ use Rattle.std.proofs.Common.{take, drop, sum, refl, sym, ap, ◌∙◌, arith, 
 use Rattle.std.proofs.lemmas.Bool.{cases_lt, ne_eqb}
 use Rattle.std.proofs.lemmas.Bool.Decides.{nat_tests}
 use Rattle.pdb_base.specs.Refusal.{Refusal, unexpected_eof, unimplemented_feature}
-use Rattle.pdb_base.specs.Answer.{◌>>=◌, required}
+use Rattle.pdb_base.specs.Answer.{◌>>=◌, ok_if}
 use Rattle.pdb_base.specs.Reading.{front_at}
 use Rattle.pdb_base.proofs.lemmas.Collected.{ok, ok_is, ok_is_no_err, bind_ok}
 use Rattle.pdb_base.proofs.lemmas.Reading.{front_cut, number_whole, number_cut}
@@ -20,12 +20,12 @@ ancient = unimplemented_feature (codes "ancient DBI header")
 
 -- a stream of four bytes at least, by its first field
 by_first : (stream : List ℕ) → 4 ≤ length stream →
-    dbi_header_of stream ≡ (required (u32_in 0 stream == signature) ancient
-    >>= λ signed. required (nat_le header_size (length stream)) unexpected_eof >>= λ whole. Ok (dbi_header stream))
+    dbi_header_of stream ≡ (ok_if (u32_in 0 stream == signature) ancient
+    >>= λ signed. ok_if (nat_le header_size (length stream)) unexpected_eof >>= λ whole. Ok (dbi_header stream))
 unfolding dbi_header_of
 by_first stream long = rw (number_whole 4 stream long) refl
 
-required_holds : (test : Bool) (e : Refusal) (x : Unit {0}) → required test e ≡ Ok x → test ≡ true
+required_holds : (test : Bool) (e : Refusal) (x : Unit {0}) → ok_if test e ≡ Ok x → test ≡ true
 required_holds true e x h = refl
 required_holds false e x h = absurd (ok_is_no_err x e (sym h))
 
@@ -42,9 +42,9 @@ header_found : (stream : List ℕ) (header : DBIHeader) → dbi_header_of stream
 header_found stream header e = elim (cases_lt (length stream) 4) [
   | inl short ↦ absurd (ok_is_no_err header unexpected_eof (sym e ∙ header_short stream short))
   | inr long ↦
-      let signed = bind_ok (required (u32_in 0 stream == signature) ancient) _ header
+      let signed = bind_ok (ok_if (u32_in 0 stream == signature) ancient) _ header
       (sym (by_first stream long) ∙ e) in
-      let whole = bind_ok (required (nat_le header_size (length stream)) unexpected_eof) _ header signed.2 in
+      let whole = bind_ok (ok_if (nat_le header_size (length stream)) unexpected_eof) _ header signed.2 in
       let is = ok_is (dbi_header stream) header whole.2 in
       let test = required_holds (u32_in 0 stream == signature) ancient signed.0 signed.1 in
       let fits = required_holds (nat_le header_size (length stream)) unexpected_eof whole.0 whole.1 in

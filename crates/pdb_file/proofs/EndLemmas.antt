@@ -3,7 +3,7 @@ use Rattle.std.proofs.Common.{◌≡◌, ℕ, Bool, true, false, ◌*◌, ◌/�
 use Rattle.std.proofs.Common.{ap, ◌∙◌, inl, inr, Ok, Err, Result}
 use Rattle.std.proofs.lemmas.Bool.{cases_lt}
 use Rattle.std.specs.List.{range_with_len}
-use Rattle.pdb_base.specs.Answer.{Answer, ◌>>=◌, collected, required}
+use Rattle.pdb_base.specs.Answer.{Answer, ◌>>=◌, values_of_all, ok_if}
 use Rattle.pdb_base.specs.Endian.{little_number}
 use Rattle.pdb_base.specs.Reading.{front_at, number_at}
 use Rattle.pdb_base.specs.Refusal.{refusal_of, unexpected_eof}
@@ -39,7 +39,7 @@ number_ends width bytes e h = elim (cases_lt (length bytes) width) [
       (sym (number_whole width bytes long) ∙ h))
 ]
 
-pub required_ends : (test : Bool) → EndsTooSoon (required test unexpected_eof)
+pub required_ends : (test : Bool) → EndsTooSoon (ok_if test unexpected_eof)
 required_ends true e h = absurd (ok_is_no_err tt e h)
 required_ends false e h = sym (err_is {A = Unit {0}} unexpected_eof e h)
 
@@ -48,11 +48,11 @@ name_ends names offset e h = ((finds_name names offset).missing e h).0
 
 -- answers none of which is refused otherwise
 collected_ends : {A : Type 0} (f : ℕ → Answer A) (places : List ℕ) → ((place : ℕ) → EndsTooSoon (f place))
-    → EndsTooSoon (collected (map f places))
+    → EndsTooSoon (values_of_all (map f places))
 collected_ends f [] each e h = absurd cc
 collected_ends f (place ∷ places) each e h =
-    then_ends (f place) (λ x. collected (map f places) >>= λ xs. Ok (x ∷ xs)) (each place)
-    (λ x. then_ends (collected (map f places)) (λ xs. Ok (x ∷ xs)) (collected_ends f places each)
+    then_ends (f place) (λ x. values_of_all (map f places) >>= λ xs. Ok (x ∷ xs)) (each place)
+    (λ x. then_ends (values_of_all (map f places)) (λ xs. Ok (x ∷ xs)) (collected_ends f places each)
     (λ xs. ok_ends (x ∷ xs))) e h
 
 -- ---- stream 1
@@ -95,7 +95,7 @@ names_end information = then_ends (map_of information) named_in (map_ends inform
 
 pub information_ends : (stream : List ℕ) → EndsTooSoon (information_of stream)
 unfolding information_of
-information_ends stream = then_ends (required _ unexpected_eof) _ (required_ends _) (λ whole. ok_ends _)
+information_ends stream = then_ends (ok_if _ unexpected_eof) _ (required_ends _) (λ whole. ok_ends _)
 
 -- no want of memory comes before the names are there
 pub no_want_before : (information : PDBInformation) (e : Error) → e ≡ OutOfMemory

@@ -2,7 +2,7 @@
 use Rattle.std.proofs.Common.{◌≡◌, ℕ, ◌-◌, ◌<◌, ◌≤◌, ◌%◌, ◌==◌, true, eq-eqb, List, [], ◌∷◌, ◌++◌, length, take, drop}
 use Rattle.std.proofs.Common.{refl, sym, ap, ◌∙◌, arith, Ok, Err}
 use Rattle.std.proofs.lemmas.List.{append_assoc, append-nil, length-drop}
-use Rattle.pdb_base.specs.Records.{spelled}
+use Rattle.pdb_base.specs.Records.{values_of_size}
 use Rattle.pdb_base.proofs.lemmas.Collected.{ok, ok_is, ok_is_no_err}
 use Rattle.pdb_base.proofs.lemmas.Reading.{front_whole}
 use Rattle.pdb_base.proofs.lemmas.Records.{spelled_first, spelled_none}
@@ -24,7 +24,7 @@ header_refused bytes e long refused = ok_is_no_err (section_header (take 40 byte
 -- one header more of those that are left
 pub header_step : (before : List ImageSectionHeader) (bytes : List ℕ) (header : ImageSectionHeader) (rest : List ℕ)
     → 40 ≤ length bytes → section_header_at bytes ≡ Ok (header, rest)
-    → (before ++ spelled 40 section_header bytes ≡ (before ++ header ∷ []) ++ spelled 40 section_header rest)
+    → (before ++ values_of_size 40 section_header bytes ≡ (before ++ header ∷ []) ++ values_of_size 40 section_header rest)
     × (length rest ≡ length bytes - 40)
 header_step before bytes header rest long read =
     let both = ok_is (header, rest) (section_header (take 40 bytes), drop 40 bytes)
@@ -32,15 +32,15 @@ header_step before bytes header rest long read =
     let behind : rest ≡ drop 40 bytes = ap (λ (p : ImageSectionHeader × List ℕ). p.1) both in
     let head : header ≡ section_header (take 40 bytes) = ap (λ (p : ImageSectionHeader × List ℕ). p.0) both in (
       ap (λ (more : List ImageSectionHeader). before ++ more) (spelled_first 40 section_header bytes (omega arith) long)
-          ∙ ap (λ (h : ImageSectionHeader). before ++ (h ∷ spelled 40 section_header (drop 40 bytes))) (sym head)
-          ∙ ap (λ (r : List ℕ). before ++ (header ∷ spelled 40 section_header r)) (sym behind)
-          ∙ sym (append_assoc before (header ∷ []) (spelled 40 section_header rest)),
+          ∙ ap (λ (h : ImageSectionHeader). before ++ (h ∷ values_of_size 40 section_header (drop 40 bytes))) (sym head)
+          ∙ ap (λ (r : List ℕ). before ++ (header ∷ values_of_size 40 section_header r)) (sym behind)
+          ∙ sym (append_assoc before (header ∷ []) (values_of_size 40 section_header rest)),
       ap length behind ∙ length-drop 40 bytes,
     )
 
 -- all headers, where none is left
 pub all_headers : (stream : List ℕ) (headers : List ImageSectionHeader) (rest : List ℕ) → length stream % 40 ≡ 0
-    → spelled 40 section_header stream ≡ headers ++ spelled 40 section_header rest → length rest < 40
+    → values_of_size 40 section_header stream ≡ headers ++ values_of_size 40 section_header rest → length rest < 40
     → section_headers_of stream ≡ Ok headers
 unfolding section_headers_of
 all_headers stream headers rest whole all none =

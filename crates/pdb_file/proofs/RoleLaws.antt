@@ -6,14 +6,14 @@ use Rattle.std.proofs.lemmas.Bool.Decides.{nat_tests}
 use Rattle.std.proofs.lemmas.List.{length-drop, length-append}
 use Rattle.pdb_base.specs.Index.{no_stream}
 use Rattle.pdb_base.specs.Refusal.{unexpected_eof}
-use Rattle.pdb_base.specs.Answer.{◌>>=◌, required}
+use Rattle.pdb_base.specs.Answer.{◌>>=◌, ok_if}
 use Rattle.pdb_base.specs.Spelling.{SpellsNumber, Begins}
 use Rattle.pdb_base.proofs.lemmas.Collected.{ok, ok_is, ok_is_no_err, err_is}
 use Rattle.pdb_base.proofs.lemmas.Reading.{number_whole}
 use Rattle.pdb_base.proofs.lemmas.Spelling.{numbers}
 use Rattle.pdb_base.specs.declared.index.StreamIndex.{StreamIndex}
 use Rattle.pdb_file.specs.Fields.{u16_in}
-use Rattle.pdb_file.specs.DebugHeader.{listed, roles_in, is_whole, extra_streams}
+use Rattle.pdb_file.specs.DebugHeader.{stream_listed_at, roles_in, is_whole, extra_streams}
 use Rattle.pdb_file.specs.declared.debug_header.DBIExtraStreams.{DBIExtraStreams}
 use Rattle.pdb_file.specs.Laws.{IsListed, AreListed, FindsRoles}
 
@@ -21,19 +21,19 @@ use Rattle.pdb_file.specs.Laws.{IsListed, AreListed, FindsRoles}
 
 -- the number that stands there, if it is whole
 there : (list : List ℕ) (place : ℕ) → 2 * place + 2 ≤ length list
-    → listed place list ≡ record { 0 = u16_in (2 * place) list }
+    → stream_listed_at place list ≡ record { 0 = u16_in (2 * place) list }
 there list place long =
     let test : nat_le (2 * place + 2) (length list) ≡ true = grind (arith, nat_tests) in
     rw test refl
 
-past : (list : List ℕ) (place : ℕ) → length list < 2 * place + 2 → listed place list ≡ record { 0 = no_stream }
+past : (list : List ℕ) (place : ℕ) → length list < 2 * place + 2 → stream_listed_at place list ≡ record { 0 = no_stream }
 past list place short =
     let test : nat_le (2 * place + 2) (length list) ≡ false = grind (arith, nat_tests) in
     rw test refl
 
 -- of a list without half a number
 place_found : (list : List ℕ) (place : ℕ) → (22 ≤ length list) ⊎ (length list % 2 ≡ 0) → place < 11
-    → IsListed list place (listed place list)
+    → IsListed list place (stream_listed_at place list)
 place_found list place whole within = elim (cases_lt (length list) (2 * place + 2)) [
   | inr long ↦
       let behind = numbers 2 in
@@ -64,7 +64,7 @@ begins_long list place index rest begins short =
       length-drop (2 * place) list,
     )
 
-place_only : (list : List ℕ) (place : ℕ) (index : StreamIndex) → IsListed list place index → listed place list ≡ index
+place_only : (list : List ℕ) (place : ℕ) (index : StreamIndex) → IsListed list place index → stream_listed_at place list ≡ index
 place_only list place index (inl begins) =
     let read = (numbers 2).only (drop (2 * place) list) index.0 begins.0 begins.1 in
     elim (cases_lt (length list) (2 * place + 2)) [
@@ -149,7 +149,7 @@ whole_or_not true = inl refl
 whole_or_not false = inr refl
 
 by_test : (list : List ℕ) (test : Bool) → is_whole list ≡ test
-    → extra_streams list ≡ (required test unexpected_eof >>= λ whole. Ok (roles_in list))
+    → extra_streams list ≡ (ok_if test unexpected_eof >>= λ whole. Ok (roles_in list))
 unfolding extra_streams
 by_test list test is = rw is refl
 

@@ -1,7 +1,7 @@
 -- The header of stream 3, which holds the debug information (DBI): `NewDBIHdr` in Microsoft's dbi.h.
 use Rattle.std.specs.Prelude.{ℕ, ◌==◌, nat_le, List, length, Ok, codes}
 use Rattle.pdb_base.specs.Refusal.{unexpected_eof, unimplemented_feature}
-use Rattle.pdb_base.specs.Answer.{Answer, ◌>>=◌, required}
+use Rattle.pdb_base.specs.Answer.{Answer, ◌>>=◌, ok_if}
 use Rattle.pdb_base.specs.Reading.{number_at}
 use Rattle.pdb_file.specs.Fields.{u16_in, u32_in}
 use Rattle.pdb_file.specs.declared.dbi_header.DBIHeader.{DBIHeader}
@@ -43,6 +43,6 @@ dbi_header bytes = record {
 unfoldable pub dbi_header_of : List ℕ → Answer DBIHeader
 dbi_header_of stream = do
   first ← number_at 4 stream
-  signed ← required (first.0 == signature) (unimplemented_feature (codes "ancient DBI header"))
-  whole ← required (nat_le header_size (length stream)) unexpected_eof
+  signed ← ok_if (first.0 == signature) (unimplemented_feature (codes "ancient DBI header"))
+  whole ← ok_if (nat_le header_size (length stream)) unexpected_eof
   Ok (dbi_header stream)

@@ -2,7 +2,7 @@
 -- have a role (`DBGTYPE` in Microsoft's dbi.h).
 use Rattle.std.specs.Prelude.{ℕ, ◌+◌, ◌*◌, ◌%◌, ◌==◌, ◌||◌, Bool, nat_le, if◌then◌else◌, List, [], ◌∷◌, length, sum, Ok}
 use Rattle.pdb_base.specs.Refusal.{unexpected_eof}
-use Rattle.pdb_base.specs.Answer.{Answer, ◌>>=◌, required}
+use Rattle.pdb_base.specs.Answer.{Answer, ◌>>=◌, ok_if}
 use Rattle.pdb_base.specs.Index.{no_stream}
 use Rattle.pdb_base.specs.Reading.{front_at}
 use Rattle.pdb_base.specs.declared.index.StreamIndex.{StreamIndex}
@@ -32,23 +32,23 @@ debug_header_of [] = Ok []
 debug_header_of (byte ∷ bytes) = debug_header_behind (byte ∷ bytes)
 
 -- the stream at an index of the list, or no stream if the list ends before that number does
-abbrev pub listed : ℕ → List ℕ → StreamIndex
-listed place list = record { 0 = if nat_le (2 * place + 2) (length list) then u16_in (2 * place) list else no_stream }
+abbrev pub stream_listed_at : ℕ → List ℕ → StreamIndex
+stream_listed_at place list = record { 0 = if nat_le (2 * place + 2) (length list) then u16_in (2 * place) list else no_stream }
 
 -- the streams of the eleven roles, each read at its index in the list
 unfoldable pub roles_in : List ℕ → DBIExtraStreams
 roles_in list = record {
-  fpo = listed 0 list;
-  exception = listed 1 list;
-  fixup = listed 2 list;
-  omap_to_src = listed 3 list;
-  omap_from_src = listed 4 list;
-  section_headers = listed 5 list;
-  token_rid_map = listed 6 list;
-  xdata = listed 7 list;
-  pdata = listed 8 list;
-  framedata = listed 9 list;
-  original_section_headers = listed 10 list;
+  fpo = stream_listed_at 0 list;
+  exception = stream_listed_at 1 list;
+  fixup = stream_listed_at 2 list;
+  omap_to_src = stream_listed_at 3 list;
+  omap_from_src = stream_listed_at 4 list;
+  section_headers = stream_listed_at 5 list;
+  token_rid_map = stream_listed_at 6 list;
+  xdata = stream_listed_at 7 list;
+  pdata = stream_listed_at 8 list;
+  framedata = stream_listed_at 9 list;
+  original_section_headers = stream_listed_at 10 list;
 }
 
 -- whether none of the first eleven numbers is cut in half
@@ -58,7 +58,7 @@ is_whole list = nat_le 22 (length list) || length list % 2 == 0
 -- the streams of the roles in a list
 unfoldable pub extra_streams : List ℕ → Answer DBIExtraStreams
 extra_streams list = do
-  whole ← required (is_whole list) unexpected_eof
+  whole ← ok_if (is_whole list) unexpected_eof
   Ok (roles_in list)
 
 -- the streams of the roles in stream 3

@@ -4,7 +4,7 @@ use Rattle.std.specs.Prelude.{ℕ, ◌==◌, ◌||◌, if◌then◌else◌, Bool
 use Rattle.std.specs.List.{list_any}
 use Rattle.pdb_base.specs.Answer.{Answer, ◌>>=◌}
 use Rattle.pdb_base.specs.Endian.{little_number}
-use Rattle.pdb_base.specs.Records.{spelled}
+use Rattle.pdb_base.specs.Records.{values_of_size}
 use Rattle.pdb_file.specs.StreamNames.{map_of}
 use Rattle.pdb_file.specs.declared.features.Features.{Features}
 use Rattle.pdb_file.specs.declared.information.PDBInformation.{PDBInformation}
@@ -29,7 +29,7 @@ minimal_number = 0x494e494d
 
 -- the u32 numbers in bytes, one after another; the bytes of an incomplete last number are none
 abbrev pub numbers_in : List ℕ → List ℕ
-numbers_in bytes = spelled 4 (little_number 4) bytes
+numbers_in bytes = values_of_size 4 (little_number 4) bytes
 
 -- the numbers up to and with the first that is the last of its list, or all if none is
 abbrev pub up_to : ℕ → List ℕ → List ℕ

@@ -78,9 +78,9 @@ omap_numbered file head number = stream_numbered file head number >>= answer_if_
 
 -- An image with the sections `sections`, which was made from one with the sections `original`: OMAP from
 -- source leads from the original image to this one, and OMAP to source leads back.
-unfoldable pub rearranged : List ℕ → Head → DBIExtraStreams → List ImageSectionHeader → List ImageSectionHeader
+unfoldable pub rearranged_map : List ℕ → Head → DBIExtraStreams → List ImageSectionHeader → List ImageSectionHeader
     → Answer AddressMapValue
-rearranged file head roles sections original = do
+rearranged_map file head roles sections original = do
   to_source ← omap_numbered file head (stream_number roles.omap_to_src.0)
   from_source ← omap_numbered file head (stream_number roles.omap_from_src.0)
   Ok (record {
@@ -92,10 +92,10 @@ rearranged file head roles sections original = do
   })
 
 -- an image with these sections, which was rearranged if there are original sections
-abbrev pub arranged : List ℕ → Head → DBIExtraStreams → List ImageSectionHeader → Option (List ImageSectionHeader)
+abbrev pub map_of_image : List ℕ → Head → DBIExtraStreams → List ImageSectionHeader → Option (List ImageSectionHeader)
     → Answer AddressMapValue
-arranged file head roles sections (Some original) = rearranged file head roles sections original
-arranged file head roles sections None =
+map_of_image file head roles sections (Some original) = rearranged_map file head roles sections original
+map_of_image file head roles sections None =
     Ok (record {
       original_sections = sections;
       transformed_sections = None;
@@ -110,7 +110,7 @@ file_address_map file head = do
   roles ← file_roles file head
   sections ← sections_numbered file head (stream_number roles.section_headers.0)
   original ← sections_numbered file head (stream_number roles.original_section_headers.0)
-  arranged file head roles (unwrap_or sections []) original
+  map_of_image file head roles (unwrap_or sections []) original
 
 -- the frame table of a file, made from its FPO stream and its frame data
 unfoldable pub file_frame_table : List ℕ → Head → Answer Frames

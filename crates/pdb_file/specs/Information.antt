@@ -2,7 +2,7 @@
 -- of a GUID, and a u32 size of the names after it.
 use Rattle.std.specs.Prelude.{ℕ, nat_le, List, length, take, drop, Ok}
 use Rattle.pdb_base.specs.Refusal.{unexpected_eof}
-use Rattle.pdb_base.specs.Answer.{Answer, ◌>>=◌, required}
+use Rattle.pdb_base.specs.Answer.{Answer, ◌>>=◌, ok_if}
 use Rattle.pdb_file.specs.Fields.{u32_in}
 use Rattle.pdb_file.specs.declared.information.PDBInformation.{PDBInformation}
 
@@ -20,5 +20,5 @@ information stream = record {
 
 unfoldable pub information_of : List ℕ → Answer PDBInformation
 information_of stream = do
-  whole ← required (nat_le 32 (length stream)) unexpected_eof
+  whole ← ok_if (nat_le 32 (length stream)) unexpected_eof
   Ok (information stream)

@@ -6,7 +6,7 @@ use Rattle.std.specs.Prelude.{Ok, Err}
 use Rattle.std.specs.List.{range_with_len}
 use Rattle.std.specs.Str.{bytes_eq}
 use Rattle.pdb_base.specs.Refusal.{stream_name_not_found}
-use Rattle.pdb_base.specs.Answer.{Answer, ◌>>=◌, collected}
+use Rattle.pdb_base.specs.Answer.{Answer, ◌>>=◌, values_of_all}
 use Rattle.pdb_base.specs.Index.{no_stream}
 use Rattle.pdb_base.specs.Reading.{front_at, number_at}
 use Rattle.pdb_space.specs.StringTable.{name_of}
@@ -64,7 +64,7 @@ named_at table place = do
 
 -- all named streams of a table, in the order of their entries
 unfoldable pub named_in : Map → Answer (List Named)
-named_in table = collected (map (named_at table) (range_with_len 0 (length table.entries / 8)))
+named_in table = values_of_all (map (named_at table) (range_with_len 0 (length table.entries / 8)))
 
 unfoldable pub stream_names_of : PDBInformation → Answer (List Named)
 stream_names_of information = map_of information >>= named_in

@@ -2,7 +2,7 @@
 
 ghost use Rattle.std.specs.Prelude.{◌≡◌, ◌+◌, ◌^◌, ◌<◌, sum};
 ghost use Rattle.pdb_base.specs.Answer.{Gives};
-ghost use Rattle.pdb_file.specs.DebugHeader.{debug_header_of, extra_streams, extra_streams_of, listed, roles_in, sizes_before};
+ghost use Rattle.pdb_file.specs.DebugHeader.{debug_header_of, extra_streams, extra_streams_of, stream_listed_at, roles_in, sizes_before};
 
 use crate::dbi_header::{DBIHeader, HEADER_SIZE};
 use crate::fields::u16_in;
@@ -51,9 +51,9 @@ pub struct DBIExtraStreams {
 
 /// Returns the stream at index `place` of a list of stream numbers, or an index that names no
 /// stream if the list ends before that number does.
-fn listed(list: &[u8], place: usize) -> StreamIndex
+fn stream_listed_at(list: &[u8], place: usize) -> StreamIndex
     requires { place < 11 }
-    ensures { result ≡ listed place list.now }
+    ensures { result ≡ stream_listed_at place list.now }
 {
     if 2 * place + 2 <= list.len() {
         StreamIndex(u16_in(list, 2 * place))
@@ -130,17 +130,17 @@ impl DBIExtraStreams {
         ensures { result ≡ roles_in list.now }
     {
         DBIExtraStreams {
-            fpo: listed(list, 0),
-            exception: listed(list, 1),
-            fixup: listed(list, 2),
-            omap_to_src: listed(list, 3),
-            omap_from_src: listed(list, 4),
-            section_headers: listed(list, 5),
-            token_rid_map: listed(list, 6),
-            xdata: listed(list, 7),
-            pdata: listed(list, 8),
-            framedata: listed(list, 9),
-            original_section_headers: listed(list, 10),
+            fpo: stream_listed_at(list, 0),
+            exception: stream_listed_at(list, 1),
+            fixup: stream_listed_at(list, 2),
+            omap_to_src: stream_listed_at(list, 3),
+            omap_from_src: stream_listed_at(list, 4),
+            section_headers: stream_listed_at(list, 5),
+            token_rid_map: stream_listed_at(list, 6),
+            xdata: stream_listed_at(list, 7),
+            pdata: stream_listed_at(list, 8),
+            framedata: stream_listed_at(list, 9),
+            original_section_headers: stream_listed_at(list, 10),
         }
     }
 }

@@ -57,7 +57,7 @@ impl Features {
 
     /// Returns the features whose numbers are in some bytes.
     #[tactic(auto, unfolding(crate::specs::Features::features_in))]
-    fn told_in(bytes: &[u8]) -> Features
+    fn features_in(bytes: &[u8]) -> Features
         ensures { result ≡ features_in bytes.now }
     {
         let mut told = Features {
@@ -92,6 +92,6 @@ impl PDBInformation {
         ensures { Gives (λ features. features) result (features_of self.now) }
     {
         let map = self.name_map()?;
-        Ok(Features::told_in(map.behind))
+        Ok(Features::features_in(map.behind))
     }
 }

@@ -4,13 +4,13 @@ ghost use Rattle.std.specs.Prelude.{◌≡◌, unwrap_or, map, IfOk, IsTrue};
 ghost use Rattle.std.specs.Option.{option_map};
 ghost use Rattle.pdb_base.specs.Answer.{Answers, AnswersUnless, Gives};
 ghost use Rattle.pdb_msf.specs.Source.{IsKept};
-ghost use Rattle.pdb_msf.specs.Header.{opened};
+ghost use Rattle.pdb_msf.specs.Header.{file_head};
 ghost use Rattle.pdb_msf.specs.File.{IsFresh, Opened, ReadsFile};
 ghost use Rattle.pdb_space.specs.Omap.{omap_table_of};
 ghost use Rattle.pdb_file.specs.SectionHeaders.{section_headers_of};
 ghost use Rattle.pdb_file.specs.File.{answer_if_present, file_address_map, file_frame_table, file_ids, file_information};
 ghost use Rattle.pdb_file.specs.File.{file_named_stream, file_number, file_roles, file_string_table, file_types};
-ghost use Rattle.pdb_file.specs.File.{omap_numbered, rearranged, sections_numbered, stream_at, stream_numbered};
+ghost use Rattle.pdb_file.specs.File.{omap_numbered, rearranged_map, sections_numbered, stream_at, stream_numbered};
 
 use crate::debug_header::DBIExtraStreams;
 use crate::information::PDBInformation;
@@ -75,7 +75,7 @@ impl<S: Source + Drop> PDB<S> {
     /// Fails as `open_msf` does.
     pub fn open(alloc: Global, source: S) -> Result<PDB<S>>
         ensures head { AnswersUnless (¬ IsTrue (S.state source).is_sound)
-            (λ pdb. pdb.head) result (opened (S.state source).bytes) }
+            (λ pdb. pdb.head) result (file_head (S.state source).bytes) }
         ensures kept { IfOk result (λ pdb. IsKept (S.state source) (S.state pdb.source)) }
         ensures fresh { IfOk result (λ pdb. IsFresh pdb) }
     {
@@ -202,8 +202,8 @@ impl<S: Source> PDB<S> {
 
     /// Reads the OMAP tables, and returns the map of an image with the sections `sections`, which a
     /// tool made from one with the sections `original`.
-    #[tactic(auto, unfolding(crate::specs::File::rearranged))]
-    fn rearranged(
+    #[tactic(auto, unfolding(crate::specs::File::rearranged_map))]
+    fn rearranged_map(
         &mut self,
         alloc: Global,
         roles: &DBIExtraStreams,
@@ -211,7 +211,7 @@ impl<S: Source> PDB<S> {
         original: Vec<ImageSectionHeader>,
     ) -> Result<AddressMap>
         ensures { ReadsFile S.state self.old self.new (λ map. map) result
-            (λ file head. rearranged file head roles.now sections.items original.items) }
+            (λ file head. rearranged_map file head roles.now sections.items original.items) }
     {
         let to_original = self.numbered_omap(alloc, roles.omap_to_src.msf_number())?;
         let to_transformed = self.numbered_omap(alloc, roles.omap_from_src.msf_number())?;

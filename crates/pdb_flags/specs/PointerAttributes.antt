@@ -6,7 +6,7 @@ use Rattle.pdb_base.specs.Bits.{is_bit_set}
 use Rattle.pdb_flags.specs.declared.pointer_kind.PointerKind.TheVariants.{Near32, Far32, Ptr64}
 use Rattle.pdb_flags.specs.declared.pointer_mode.PointerMode.TheVariants.{LValueReference, Member, MemberFunction}
 use Rattle.pdb_flags.specs.declared.pointer_mode.PointerMode.TheVariants.{RValueReference}
-use Rattle.pdb_flags.specs.PointerNumbers.{kind_number, mode_number}
+use Rattle.pdb_flags.specs.PointerNumbers.{pointer_kind_number, mode_number}
 
 -- the number of the pointer's kind, 5 bits
 abbrev pub kind_in : ℕ → ℕ
@@ -62,7 +62,7 @@ pointer_word word = if is_pointer_word word then Some word else None
 
 -- the size in bytes of a pointer of this kind if its word states none
 abbrev pub usual_size : ℕ → ℕ
-usual_size kind = if kind == kind_number Near32 || kind == kind_number Far32 then 4 else if kind == kind_number
+usual_size kind = if kind == pointer_kind_number Near32 || kind == pointer_kind_number Far32 then 4 else if kind == pointer_kind_number
     Ptr64 then 8 else 0
 
 -- the size of the pointer in bytes

@@ -9,20 +9,20 @@ use Rattle.pdb_flags.specs.declared.pointer_mode.PointerMode.TheVariants.{Pointe
 use Rattle.pdb_flags.specs.declared.pointer_mode.PointerMode.TheVariants.{MemberFunction, RValueReference}
 
 -- the number of a kind of pointer, as in `CV_ptrtype_e` of Microsoft's cvinfo.h
-abbrev pub kind_number : PointerKind → ℕ
-kind_number Near16 = 0
-kind_number Far16 = 1
-kind_number Huge16 = 2
-kind_number BaseSeg = 3
-kind_number BaseVal = 4
-kind_number BaseSegVal = 5
-kind_number BaseAddr = 6
-kind_number BaseSegAddr = 7
-kind_number BaseType = 8
-kind_number BaseSelf = 9
-kind_number Near32 = 10
-kind_number Far32 = 11
-kind_number Ptr64 = 12
+abbrev pub pointer_kind_number : PointerKind → ℕ
+pointer_kind_number Near16 = 0
+pointer_kind_number Far16 = 1
+pointer_kind_number Huge16 = 2
+pointer_kind_number BaseSeg = 3
+pointer_kind_number BaseVal = 4
+pointer_kind_number BaseSegVal = 5
+pointer_kind_number BaseAddr = 6
+pointer_kind_number BaseSegAddr = 7
+pointer_kind_number BaseType = 8
+pointer_kind_number BaseSelf = 9
+pointer_kind_number Near32 = 10
+pointer_kind_number Far32 = 11
+pointer_kind_number Ptr64 = 12
 
 -- the number of a mode of pointer, as in `CV_ptrmode_e` of Microsoft's cvinfo.h
 abbrev pub mode_number : PointerMode → ℕ

@@ -3,12 +3,12 @@
 //! `pdb_base::laws`.
 
 ghost use Rattle.pdb_flags.specs.Laws.{AreToldApart};
-ghost use Rattle.pdb_flags.specs.PointerNumbers.{kind_number, mode_number};
+ghost use Rattle.pdb_flags.specs.PointerNumbers.{pointer_kind_number, mode_number};
 
 pub mod derived;
 
 /// Kinds and modes of pointers are told apart by their numbers.
 pub fn numbers()
-    ensures kinds { AreToldApart kind_number }
+    ensures kinds { AreToldApart pointer_kind_number }
     ensures modes { AreToldApart mode_number }
 {}

@@ -2,7 +2,7 @@
 
 ghost use Rattle.std.specs.Prelude.{◌≡◌, IsTrue};
 ghost use Rattle.pdb_flags.specs.PointerAttributes.{kind_in, mode_in, is_pointer_word, pointer_word, is_flat_32, is_volatile, is_const, is_unaligned, is_restrict, pointer_size, is_mocom, pointer_to_member, is_reference};
-ghost use Rattle.pdb_flags.specs.PointerNumbers.{kind_number, mode_number};
+ghost use Rattle.pdb_flags.specs.PointerNumbers.{pointer_kind_number, mode_number};
 
 use crate::pointer_kind::PointerKind;
 use crate::pointer_mode::PointerMode;
@@ -53,7 +53,7 @@ impl PointerAttributes {
 
     /// Returns the kind of the pointer (bits 0 to 4).
     pub fn pointer_kind(self) -> PointerKind
-        ensures { kind_number result ≡ kind_in self }
+        ensures { pointer_kind_number result ≡ kind_in self }
     {
         match PointerKind::from_number(bit_field(self.0, 0, 5)) {
             Some(kind) => kind,

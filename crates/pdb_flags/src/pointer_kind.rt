@@ -46,11 +46,11 @@ pub enum PointerKind {
 }
 
 impl PointerKind {
-    ghost use Rattle.pdb_flags.specs.PointerNumbers.{kind_number};
+    ghost use Rattle.pdb_flags.specs.PointerNumbers.{pointer_kind_number};
 
     /// Returns the kind of this number, or None if the number is above 12.
     pub(crate) fn from_number(number: u32) -> Option<Self>
-        ensures { MatchOption result (12 < number) (λ kind. kind_number kind ≡ number) }
+        ensures { MatchOption result (12 < number) (λ kind. pointer_kind_number kind ≡ number) }
     {
         match number {
             0 => Some(PointerKind::Near16),

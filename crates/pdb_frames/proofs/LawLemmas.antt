@@ -5,8 +5,8 @@ use Rattle.std.proofs.lemmas.Bool.Decides.{nat_tests}
 use Rattle.pdb_frames.specs.Span.{Span}
 use Rattle.pdb_frames.specs.Frames.{of_old, of_new}
 use Rattle.pdb_frames.specs.Merge.{with_old, by_heads}
-use Rattle.pdb_frames.specs.Table.{Frames, StartsIncrease, IsStep}
-use Rattle.pdb_frames.specs.Laws.{CoversToItsEnd, IsMerged, IsWoven, end, takes_new, takes_old, drops_old, EndsForGood}
+use Rattle.pdb_frames.specs.Table.{Frames, StartsIncrease, IsFrameStep}
+use Rattle.pdb_frames.specs.Laws.{CoversToItsEnd, IsMerged, IsWoven, end, takes_new, takes_old, drops_old, FramesEndForGood}
 use Rattle.pdb_frames.proofs.Rising.{rising, increasing}
 use Rattle.pdb_frames.proofs.MergeLemmas.{old_starts, new_starts, frame_starts, rising-by_heads}
 use Rattle.pdb_frames.proofs.TableLemmas.{all_merged}
@@ -69,17 +69,17 @@ none_is_some : {A E : Type 0} {x : A} → ok_of {E = E} None ≡ Ok (Some x) →
 none_is_some e = cc
 
 step_ends : {E : Type 0} (left others : List FrameData) (result : Result (Option FrameData) E)
-    → IsStep left result others → result ≡ Ok None → (left ≡ []) × (others ≡ [])
+    → IsFrameStep left result others → result ≡ Ok None → (left ≡ []) × (others ≡ [])
 step_ends [] others result step none = (refl, step.others)
 step_ends (frame ∷ left) others result step none = absurd (some_is_none (sym step.first ∙ none))
 
 step_shorter : {E : Type 0} (left others : List FrameData) (result : Result (Option FrameData) E)
-    → IsStep left result others → (frame : FrameData) → result ≡ Ok (Some frame) → length others < length left
+    → IsFrameStep left result others → (frame : FrameData) → result ≡ Ok (Some frame) → length others < length left
 step_shorter [] others result step frame some = absurd (none_is_some (sym step.first ∙ some))
 step_shorter (first ∷ left) others result step frame some = rw step.others (omega arith)
 
 pub ends_for_good : {E : Type 0} (left others : List FrameData) (result : Result (Option FrameData) E)
-    → IsStep left result others → EndsForGood left result others
+    → IsFrameStep left result others → FramesEndForGood left result others
 ends_for_good left others result step = record
     { ends = step_ends left others result step; shorter = step_shorter left others result step }
 

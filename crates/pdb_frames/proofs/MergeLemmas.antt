@@ -3,7 +3,7 @@ use Rattle.std.proofs.Common.{◌≡◌, ℕ, ◌<◌, inl, inr, Bool, true, fal
 use Rattle.std.proofs.Common.{map, filter, refl, sym, ap, subst, ◌∙◌, arith}
 use Rattle.std.proofs.lemmas.Bool.{cases_order, le-ltb, lt-ltb, le-leb, lt-leb, eq-eqb, ne_eqb}
 use Rattle.pdb_frames.specs.Frames.{of_old, of_new}
-use Rattle.pdb_frames.specs.Merge.{put, by_start, some_starts_at, gathered, merge, with_old, by_heads}
+use Rattle.pdb_frames.specs.Merge.{insert_by_start, by_start, some_starts_at, frames_of_both, merge, with_old, by_heads}
 use Rattle.pdb_frames.specs.declared.frame_data.FrameData.{FrameData}
 use Rattle.pdb_frames.specs.declared.old_frame_data.OldFrameData.{OldFrameData}
 use Rattle.pdb_frames.specs.declared.new_frame_data.NewFrameData.{NewFrameData}
@@ -59,30 +59,30 @@ over-old bound test (frame ∷ old) up =
       | false ↦ later
     ]
 
-over-gathered : (bound : ℕ) (old : List OldFrameData) (new : List NewFrameData) → Above bound (old_starts old)
-    → Above bound (new_starts new) → AllOver bound (gathered old new)
-over-gathered bound old new up also =
+over-frames_of_both : (bound : ℕ) (old : List OldFrameData) (new : List NewFrameData) → Above bound (old_starts old)
+    → Above bound (new_starts new) → AllOver bound (frames_of_both old new)
+over-frames_of_both bound old new up also =
     over-append bound (map of_new new) (map of_old (filter (λ frame. not (some_starts_at new frame.code_start)) old))
     (over-new bound new also) (over-old bound (λ frame. not (some_starts_at new frame.code_start)) old up)
 
-over-put : (bound : ℕ) (frame : FrameData) (frames : List FrameData) → bound < frame.code_start → AllOver bound frames
-    → AllOver bound (put frame frames)
-over-put bound frame [] here over = (here, tt)
-over-put bound frame (first ∷ others) here over =
+over-insert_by_start : (bound : ℕ) (frame : FrameData) (frames : List FrameData) → bound < frame.code_start → AllOver bound frames
+    → AllOver bound (insert_by_start frame frames)
+over-insert_by_start bound frame [] here over = (here, tt)
+over-insert_by_start bound frame (first ∷ others) here over =
     elim (leb frame.code_start first.code_start) as
-    (λ b. AllOver bound (cond b (frame ∷ first ∷ others) (first ∷ put frame others))) [
+    (λ b. AllOver bound (cond b (frame ∷ first ∷ others) (first ∷ insert_by_start frame others))) [
       | true ↦ (here, over)
-      | false ↦ (over.0, over-put bound frame others here over.1)
+      | false ↦ (over.0, over-insert_by_start bound frame others here over.1)
     ]
 
 over-by_start : (bound : ℕ) (frames : List FrameData) → AllOver bound frames → AllOver bound (by_start frames)
 over-by_start bound [] over = tt
 over-by_start bound (frame ∷ frames) over =
-    over-put bound frame (by_start frames) over.0 (over-by_start bound frames over.1)
+    over-insert_by_start bound frame (by_start frames) over.0 (over-by_start bound frames over.1)
 
 -- ---- the lowest comes first
 
-put_first : (frame : FrameData) (frames : List FrameData) → AllOver frame.code_start frames → put frame frames ≡ frame
+put_first : (frame : FrameData) (frames : List FrameData) → AllOver frame.code_start frames → insert_by_start frame frames ≡ frame
     ∷ frames
 put_first frame [] over = refl
 put_first frame (first ∷ others) over =
@@ -91,7 +91,7 @@ put_first frame (first ∷ others) over =
     rw test refl
 
 put_behind : (low frame : FrameData) (frames : List FrameData) → low.code_start < frame.code_start
-    → put frame (low ∷ frames) ≡ low ∷ put frame frames
+    → insert_by_start frame (low ∷ frames) ≡ low ∷ insert_by_start frame frames
 put_behind low frame frames lower =
     let test : leb frame.code_start low.code_start ≡ false = lt-leb frame.code_start low.code_start lower in
     rw test refl
@@ -101,7 +101,7 @@ lowest_first : (low : FrameData) (xs ys : List FrameData) → AllOver low.code_s
     → by_start (xs ++ low ∷ ys) ≡ low ∷ by_start (xs ++ ys)
 lowest_first low [] ys over also = put_first low (by_start ys) (over-by_start low.code_start ys also)
 lowest_first low (x ∷ xs) ys over also =
-    ap (λ (frames : List FrameData). put x frames) (lowest_first low xs ys over.1 also)
+    ap (λ (frames : List FrameData). insert_by_start x frames) (lowest_first low xs ys over.1 also)
     ∙ put_behind low x (by_start (xs ++ ys)) over.0
 
 -- ---- which old records are dropped
@@ -130,30 +130,30 @@ not_dropped bound (frame ∷ new) up =
     rw (other, later) refl
 
 new_before_all : (first : NewFrameData) (new : List NewFrameData) (old : List OldFrameData)
-    → Above first.code_start (old_starts old) → gathered old (first ∷ new) ≡ of_new first ∷ gathered old new
+    → Above first.code_start (old_starts old) → frames_of_both old (first ∷ new) ≡ of_new first ∷ frames_of_both old new
 new_before_all first new old up = ap (λ (kept : List OldFrameData). of_new first ∷ (map of_new new ++ map of_old kept))
     (none_dropped first new old up)
 
 new_in_place : (frame : OldFrameData) (first : NewFrameData) (new : List NewFrameData) (old : List OldFrameData)
     → first.code_start ≡ frame.code_start → Above first.code_start (old_starts old)
-    → gathered (frame ∷ old) (first ∷ new) ≡ of_new first ∷ gathered old new
+    → frames_of_both (frame ∷ old) (first ∷ new) ≡ of_new first ∷ frames_of_both old new
 new_in_place frame first new old same up =
     let test : eqb first.code_start frame.code_start ≡ true = eq-eqb first.code_start frame.code_start same in
     rw test (new_before_all first new old up)
 
 old_kept : (frame : OldFrameData) (new : List NewFrameData) (old : List OldFrameData)
-    → Above frame.code_start (new_starts new) → gathered (frame ∷ old) new ≡ map of_new new ++ of_old frame
+    → Above frame.code_start (new_starts new) → frames_of_both (frame ∷ old) new ≡ map of_new new ++ of_old frame
     ∷ map of_old (filter (λ (other : OldFrameData). not (some_starts_at new other.code_start)) old)
 old_kept frame new old up = rw (not_dropped frame.code_start new up) refl
 
 -- ---- both are one
 
-all_new : (new : List NewFrameData) → Rising (new_starts new) → by_start (gathered [] new) ≡ map of_new new
+all_new : (new : List NewFrameData) → Rising (new_starts new) → by_start (frames_of_both [] new) ≡ map of_new new
 all_new [] up = refl
 all_new (frame ∷ new) up =
-    let over = over-same frame.code_start (of_new frame).code_start (gathered [] new) (sym (start_of_new frame))
-    (over-gathered frame.code_start [] new tt up) in
-    lowest_first (of_new frame) [] (gathered [] new) tt over
+    let over = over-same frame.code_start (of_new frame).code_start (frames_of_both [] new) (sym (start_of_new frame))
+    (over-frames_of_both frame.code_start [] new tt up) in
+    lowest_first (of_new frame) [] (frames_of_both [] new) tt over
     ∙ ap (λ (frames : List FrameData). of_new frame ∷ frames)
     (all_new new (rising-tail frame.code_start (new_starts new) up))
 
@@ -186,30 +186,30 @@ old_lower frame others first new lower =
 
 -- an old record before others of which this is known
 merged_old : (frame : OldFrameData) (old : List OldFrameData) → Above frame.code_start (old_starts old)
-    → ((new : List NewFrameData) → Rising (new_starts new) → by_start (gathered old new) ≡ by_heads old new)
+    → ((new : List NewFrameData) → Rising (new_starts new) → by_start (frames_of_both old new) ≡ by_heads old new)
     → (new : List NewFrameData) → Rising (new_starts new)
-    → by_start (gathered (frame ∷ old) new) ≡ with_old frame (by_heads old) new
+    → by_start (frames_of_both (frame ∷ old) new) ≡ with_old frame (by_heads old) new
 merged_old frame old up others [] also =
-    let over = over-same frame.code_start (of_old frame).code_start (gathered old []) (sym (start_of_old frame))
-    (over-gathered frame.code_start old [] up tt) in
-    lowest_first (of_old frame) [] (gathered old []) tt over
+    let over = over-same frame.code_start (of_old frame).code_start (frames_of_both old []) (sym (start_of_old frame))
+    (over-frames_of_both frame.code_start old [] up tt) in
+    lowest_first (of_old frame) [] (frames_of_both old []) tt over
     ∙ ap (λ (frames : List FrameData). of_old frame ∷ frames) (others [] tt)
 merged_old frame old up others (first ∷ new) also =
     let later = rising-tail first.code_start (new_starts new) also in
     elim (cases_order first.code_start frame.code_start) [
       | inl same ↦
           let above = above-lower first.code_start frame.code_start (old_starts old) (omega (arith, same)) up in
-          let over = over-same first.code_start (of_new first).code_start (gathered old new) (sym (start_of_new first))
-          (over-gathered first.code_start old new above also) in
+          let over = over-same first.code_start (of_new first).code_start (frames_of_both old new) (sym (start_of_new first))
+          (over-frames_of_both first.code_start old new above also) in
           ap by_start (new_in_place frame first new old same above)
-          ∙ lowest_first (of_new first) [] (gathered old new) tt over
+          ∙ lowest_first (of_new first) [] (frames_of_both old new) tt over
           ∙ ap (λ (frames : List FrameData). of_new first ∷ frames) (others new later)
           ∙ sym (both_same frame (by_heads old) first new same)
       | inr (inl lower) ↦
-          let over = over-same first.code_start (of_new first).code_start (gathered (frame ∷ old) new)
-          (sym (start_of_new first)) (over-gathered first.code_start (frame ∷ old) new (lower, up) also) in
+          let over = over-same first.code_start (of_new first).code_start (frames_of_both (frame ∷ old) new)
+          (sym (start_of_new first)) (over-frames_of_both first.code_start (frame ∷ old) new (lower, up) also) in
           ap by_start (new_before_all first new (frame ∷ old) (lower, up))
-          ∙ lowest_first (of_new first) [] (gathered (frame ∷ old) new) tt over
+          ∙ lowest_first (of_new first) [] (frames_of_both (frame ∷ old) new) tt over
           ∙ ap (λ (frames : List FrameData). of_new first ∷ frames) (merged_old frame old up others new later)
           ∙ sym (new_lower frame (by_heads old) first new lower)
       | inr (inr higher) ↦
@@ -227,7 +227,7 @@ merged_old frame old up others (first ∷ new) also =
     ]
 
 merged : (old : List OldFrameData) (new : List NewFrameData) → Rising (old_starts old) → Rising (new_starts new)
-    → by_start (gathered old new) ≡ by_heads old new
+    → by_start (frames_of_both old new) ≡ by_heads old new
 merged [] new up also = all_new new also
 merged (frame ∷ old) new up also = merged_old frame old up
     (λ more rises. merged old more (rising-tail frame.code_start (old_starts old) up) rises) new also

@@ -7,7 +7,7 @@ use Rattle.std.proofs.lemmas.Bool.{cases_lt, le-ltb, lt-ltb, ne_eqb, cases_Bool}
 use Rattle.std.proofs.lemmas.List.{get_or-map, length-map}
 use Rattle.std.specs.List.Sorted.{IsStrictlyIncreasing}
 use Rattle.pdb_base.specs.Halving.{Rises, IsFound}
-use Rattle.pdb_base.specs.Records.{spelled}
+use Rattle.pdb_base.specs.Records.{values_of_size}
 use Rattle.pdb_base.proofs.lemmas.Records.{spelled_length, spelled_at}
 use Rattle.pdb_frames.specs.Span.{Span, covers, begins, start_at, from_first, from_last, if_first, from_address}
 use Rattle.pdb_frames.proofs.Rising.{Above, Rising, rising, above-lower}
@@ -204,18 +204,18 @@ found_last span address xs place last d found some up =
 -- ---- what stands in bytes
 
 pub start_there : {A : Type 0} (span : A → Span) (size : ℕ) (value : List ℕ → A) (bytes : List ℕ) (k : ℕ)
-    → k < length bytes / size → start_at span (spelled size value bytes) k
+    → k < length bytes / size → start_at span (values_of_size size value bytes) k
     ≡ (span (value (take size (drop (size * k) bytes)))).start
 start_there {A} span size value bytes k within =
-    get_or-map (λ (x : A). (span x).start) (spelled size value bytes) k (value []) 0
+    get_or-map (λ (x : A). (span x).start) (values_of_size size value bytes) k (value []) 0
     (omega (arith, within, spelled_length size value bytes))
     ∙ ap (λ (x : A). (span x).start) (spelled_at size value bytes k (value []) within)
 
 pub found_in : {A : Type 0} (span : A → Span) (size : ℕ) (value : List ℕ → A) (bytes : List ℕ) (address place last : ℕ)
-    → IsFound (start_at span (spelled size value bytes)) (length bytes / size) address place last
-    → IsFound (start_at span (spelled size value bytes)) (length (spelled size value bytes)) address place last
+    → IsFound (start_at span (values_of_size size value bytes)) (length bytes / size) address place last
+    → IsFound (start_at span (values_of_size size value bytes)) (length (values_of_size size value bytes)) address place last
 found_in span size value bytes address place last found =
-    subst (λ (n : ℕ). IsFound (start_at span (spelled size value bytes)) n address place last)
+    subst (λ (n : ℕ). IsFound (start_at span (values_of_size size value bytes)) n address place last)
     (sym (spelled_length size value bytes)) found
 
 abbrev span_with : ℕ → ℕ → Span
@@ -228,14 +228,14 @@ span_is there start size same also = ap (λ (n : ℕ). span_with n there.size) s
 
 -- the record before the place found, of which its start and its size are known
 found_there : {A : Type 0} (span : A → Span) (size : ℕ) (value : List ℕ → A) (bytes : List ℕ)
-    (address place start code : ℕ) → IsFound (start_at span (spelled size value bytes))
+    (address place start code : ℕ) → IsFound (start_at span (values_of_size size value bytes))
     (length bytes / size) address place start → 0 < place
     → code ≡ (span (value (take size (drop (size * (place - 1)) bytes)))).size
-    → IsStrictlyIncreasing (starts span (spelled size value bytes))
-    → cond (begins (record { start = start; size = code }) address) (drop (place - 1) (spelled size value bytes))
-    (drop place (spelled size value bytes)) ≡ from_address span address (spelled size value bytes)
+    → IsStrictlyIncreasing (starts span (values_of_size size value bytes))
+    → cond (begins (record { start = start; size = code }) address) (drop (place - 1) (values_of_size size value bytes))
+    (drop place (values_of_size size value bytes)) ≡ from_address span address (values_of_size size value bytes)
 found_there {A} span size value bytes address place start code found some is up =
-    let records = spelled size value bytes in
+    let records = values_of_size size value bytes in
     let within : place - 1 < length bytes / size = omega (arith, some, found.within) in
     let here = spelled_at size value bytes (place - 1) (value []) within in
     let starts_here : (span (get_or records (place - 1) (value []))).start ≡ start = ap (λ (x : A). (span x).start) here
@@ -248,23 +248,23 @@ found_there {A} span size value bytes address place start code found some is up 
     (found_in span size value bytes address place start found) some up
 
 pub found_begins : {A : Type 0} (span : A → Span) (size : ℕ) (value : List ℕ → A) (bytes : List ℕ)
-    (address place start code : ℕ) → IsFound (start_at span (spelled size value bytes))
+    (address place start code : ℕ) → IsFound (start_at span (values_of_size size value bytes))
     (length bytes / size) address place start → 0 < place
     → code ≡ (span (value (take size (drop (size * (place - 1)) bytes)))).size
     → begins (record { start = start; size = code }) address ≡ true
-    → IsStrictlyIncreasing (starts span (spelled size value bytes))
-    → drop (place - 1) (spelled size value bytes) ≡ from_address span address (spelled size value bytes)
+    → IsStrictlyIncreasing (starts span (values_of_size size value bytes))
+    → drop (place - 1) (values_of_size size value bytes) ≡ from_address span address (values_of_size size value bytes)
 found_begins {A} span size value bytes address place start code found some is test up =
-    ap (λ (b : Bool). cond b (drop (place - 1) (spelled size value bytes)) (drop place (spelled size value bytes)))
+    ap (λ (b : Bool). cond b (drop (place - 1) (values_of_size size value bytes)) (drop place (values_of_size size value bytes)))
     (sym test) ∙ found_there span size value bytes address place start code found some is up
 
 pub found_passes : {A : Type 0} (span : A → Span) (size : ℕ) (value : List ℕ → A) (bytes : List ℕ)
-    (address place start code : ℕ) → IsFound (start_at span (spelled size value bytes))
+    (address place start code : ℕ) → IsFound (start_at span (values_of_size size value bytes))
     (length bytes / size) address place start → 0 < place
     → code ≡ (span (value (take size (drop (size * (place - 1)) bytes)))).size
     → begins (record { start = start; size = code }) address ≡ false
-    → IsStrictlyIncreasing (starts span (spelled size value bytes))
-    → drop place (spelled size value bytes) ≡ from_address span address (spelled size value bytes)
+    → IsStrictlyIncreasing (starts span (values_of_size size value bytes))
+    → drop place (values_of_size size value bytes) ≡ from_address span address (values_of_size size value bytes)
 found_passes {A} span size value bytes address place start code found some is test up =
-    ap (λ (b : Bool). cond b (drop (place - 1) (spelled size value bytes)) (drop place (spelled size value bytes)))
+    ap (λ (b : Bool). cond b (drop (place - 1) (values_of_size size value bytes)) (drop place (values_of_size size value bytes)))
     (sym test) ∙ found_there span size value bytes address place start code found some is up

@@ -3,7 +3,7 @@ use Rattle.std.proofs.Common.{◌≡◌, ℕ, zero, suc, ◌+◌, ◌<◌, ◌�
 use Rattle.std.proofs.Common.{length, count_by, get_or, refl, sym, ap, ◌∙◌, arith}
 use Rattle.std.proofs.lemmas.Bool.{cases_lt, le-leb, lt-leb}
 use Rattle.std.proofs.lemmas.List.Sums.{sum_by-cons}
-use Rattle.pdb_frames.specs.Merge.{put, by_start}
+use Rattle.pdb_frames.specs.Merge.{insert_by_start, by_start}
 use Rattle.pdb_frames.specs.Laws.{IsSortedByStart}
 use Rattle.pdb_frames.specs.declared.frame_data.FrameData.{FrameData}
 
@@ -21,24 +21,24 @@ from-lower : (low high : ℕ) (frames : List FrameData) → low ≤ high → All
 from-lower low high [] lower all = tt
 from-lower low high (frame ∷ frames) lower all = (omega (arith, lower, all.0), from-lower low high frames lower all.1)
 
-from-put : (low : ℕ) (frame : FrameData) (frames : List FrameData) → low ≤ frame.code_start → AllFrom low frames
-    → AllFrom low (put frame frames)
-from-put low frame [] here all = (here, tt)
-from-put low frame (first ∷ others) here all =
+from-insert_by_start : (low : ℕ) (frame : FrameData) (frames : List FrameData) → low ≤ frame.code_start → AllFrom low frames
+    → AllFrom low (insert_by_start frame frames)
+from-insert_by_start low frame [] here all = (here, tt)
+from-insert_by_start low frame (first ∷ others) here all =
     elim (leb frame.code_start first.code_start) as
-    (λ b. AllFrom low (cond b (frame ∷ first ∷ others) (first ∷ put frame others))) [
+    (λ b. AllFrom low (cond b (frame ∷ first ∷ others) (first ∷ insert_by_start frame others))) [
       | true ↦ (here, all)
-      | false ↦ (all.0, from-put low frame others here all.1)
+      | false ↦ (all.0, from-insert_by_start low frame others here all.1)
     ]
 
-ordered-put : (frame : FrameData) (frames : List FrameData) → IsOrdered frames → IsOrdered (put frame frames)
-ordered-put frame [] in_order = (tt, tt)
-ordered-put frame (first ∷ others) in_order = elim (cases_lt first.code_start frame.code_start) [
+ordered-insert_by_start : (frame : FrameData) (frames : List FrameData) → IsOrdered frames → IsOrdered (insert_by_start frame frames)
+ordered-insert_by_start frame [] in_order = (tt, tt)
+ordered-insert_by_start frame (first ∷ others) in_order = elim (cases_lt first.code_start frame.code_start) [
   | inl lower ↦
       let test : leb frame.code_start first.code_start ≡ false = lt-leb frame.code_start first.code_start lower in
       rw test (
-        from-put first.code_start frame others (omega (arith, lower)) in_order.0,
-        ordered-put frame others in_order.1,
+        from-insert_by_start first.code_start frame others (omega (arith, lower)) in_order.0,
+        ordered-insert_by_start frame others in_order.1,
       )
   | inr higher ↦
       let test : leb frame.code_start first.code_start ≡ true = le-leb frame.code_start first.code_start higher in
@@ -47,7 +47,7 @@ ordered-put frame (first ∷ others) in_order = elim (cases_lt first.code_start 
 
 ordered-by_start : (frames : List FrameData) → IsOrdered (by_start frames)
 ordered-by_start [] = tt
-ordered-by_start (frame ∷ frames) = ordered-put frame (by_start frames) (ordered-by_start frames)
+ordered-by_start (frame ∷ frames) = ordered-insert_by_start frame (by_start frames) (ordered-by_start frames)
 
 from-get : (low : ℕ) (frames : List FrameData) (k : ℕ) (d : FrameData) → AllFrom low frames → k < length frames
     → low ≤ (get_or frames k d).code_start
@@ -88,20 +88,20 @@ count-swap test frame other frames =
     ∙ ap (λ n. cond (test frame) 1 0 + n) (count-cons test other frames) in
     left ∙ swap-sum (cond (test other) 1 0) (cond (test frame) 1 0) (count_by test frames) ∙ sym right
 
-count-put : (test : FrameData → Bool) (frame : FrameData) (frames : List FrameData)
-    → count_by test (put frame frames) ≡ count_by test (frame ∷ frames)
-count-put test frame [] = refl
-count-put test frame (first ∷ others) =
-    let moved = count-later test first (put frame others) (frame ∷ others) (count-put test frame others)
+count-insert_by_start : (test : FrameData → Bool) (frame : FrameData) (frames : List FrameData)
+    → count_by test (insert_by_start frame frames) ≡ count_by test (frame ∷ frames)
+count-insert_by_start test frame [] = refl
+count-insert_by_start test frame (first ∷ others) =
+    let moved = count-later test first (insert_by_start frame others) (frame ∷ others) (count-insert_by_start test frame others)
     ∙ count-swap test frame first others in
     elim (leb frame.code_start first.code_start) as
-    (λ b. count_by test (cond b (frame ∷ first ∷ others) (first ∷ put frame others))
+    (λ b. count_by test (cond b (frame ∷ first ∷ others) (first ∷ insert_by_start frame others))
     ≡ count_by test (frame ∷ first ∷ others)) [ true ↦ refl | false ↦ moved ]
 
 count-by_start : (test : FrameData → Bool) (frames : List FrameData)
     → count_by test (by_start frames) ≡ count_by test frames
 count-by_start test [] = refl
-count-by_start test (frame ∷ frames) = count-put test frame (by_start frames)
+count-by_start test (frame ∷ frames) = count-insert_by_start test frame (by_start frames)
     ∙ count-later test frame (by_start frames) frames (count-by_start test frames)
 
 pub sorted_by_start : (frames : List FrameData) → IsSortedByStart frames

@@ -4,13 +4,13 @@ use Rattle.pdb_frames.specs.declared.frame_type.FrameType.{FrameType}
 use Rattle.pdb_frames.specs.declared.frame_type.FrameType.TheVariants.{FPO, Trap, TSS, Standard, FrameData, Unknown}
 
 -- the number of a kind
-abbrev pub kind_number : FrameType → ℕ
-kind_number FPO = 0
-kind_number Trap = 1
-kind_number TSS = 2
-kind_number Standard = 3
-kind_number FrameData = 4
-kind_number Unknown = 0xff
+abbrev pub frame_type_number : FrameType → ℕ
+frame_type_number FPO = 0
+frame_type_number Trap = 1
+frame_type_number TSS = 2
+frame_type_number Standard = 3
+frame_type_number FrameData = 4
+frame_type_number Unknown = 0xff
 
 -- the kind for a number of two bits
 abbrev pub frame_type_of : ℕ → FrameType

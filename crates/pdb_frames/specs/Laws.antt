@@ -5,7 +5,7 @@ use Rattle.std.specs.declared.cmp.Ordering.{Ordering}
 use Rattle.std.specs.Ordering.{nat_cmp}
 use Rattle.std.specs.List.Sorted.{IsNonDecreasingBy, IsStrictlyIncreasing}
 use Rattle.pdb_frames.specs.Span.{Span, covers}
-use Rattle.pdb_frames.specs.FrameNumbers.{kind_number}
+use Rattle.pdb_frames.specs.FrameNumbers.{frame_type_number}
 use Rattle.pdb_frames.specs.Frames.{of_old, of_new}
 use Rattle.pdb_frames.specs.Merge.{by_start, by_heads, merge}
 use Rattle.pdb_frames.specs.Table.{Frames}
@@ -44,7 +44,7 @@ pub data IsWoven : List OldFrameData → List NewFrameData → List FrameData �
 
 -- None is yielded only if nothing is left, and then nothing is left after it either. A step
 -- that yields a frame leaves fewer.
-pub record EndsForGood {E : Type 0} (left : List FrameData) (result : Result (Option FrameData) E)
+pub record FramesEndForGood {E : Type 0} (left : List FrameData) (result : Result (Option FrameData) E)
     (others : List FrameData) : Type 0 where
   pub ends : result ≡ Ok None → (left ≡ []) × (others ≡ [])
   pub shorter : (frame : FrameData) → result ≡ Ok (Some frame) → length others < length left
@@ -53,4 +53,4 @@ pub record EndsForGood {E : Type 0} (left : List FrameData) (result : Result (Op
 pub record ComparesByNumber (eq : FrameType → FrameType → Bool)
     (compared : FrameType → FrameType → Ordering) : Type 0 where
   pub equal : (a b : FrameType) → IsTrue (eq a b) ↔ (a ≡ b)
-  pub order : (a b : FrameType) → compared a b ≡ nat_cmp (kind_number a) (kind_number b)
+  pub order : (a b : FrameType) → compared a b ≡ nat_cmp (frame_type_number a) (frame_type_number b)

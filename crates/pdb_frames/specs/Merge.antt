@@ -7,27 +7,27 @@ use Rattle.pdb_frames.specs.declared.old_frame_data.OldFrameData.{OldFrameData}
 use Rattle.pdb_frames.specs.declared.new_frame_data.NewFrameData.{NewFrameData}
 
 -- the frames with one more, which is put before the first frame that doesn't start below it
-abbrev pub put : FrameData → List FrameData → List FrameData
-put frame [] = frame ∷ []
-put frame (first ∷ others) = if nat_le frame.code_start first.code_start then frame ∷ first ∷ others else first
-    ∷ put frame others
+abbrev pub insert_by_start : FrameData → List FrameData → List FrameData
+insert_by_start frame [] = frame ∷ []
+insert_by_start frame (first ∷ others) = if nat_le frame.code_start first.code_start then frame ∷ first ∷ others else first
+    ∷ insert_by_start frame others
 
 -- the frames ordered by their starts
 abbrev pub by_start : List FrameData → List FrameData
 by_start [] = []
-by_start (frame ∷ frames) = put frame (by_start frames)
+by_start (frame ∷ frames) = insert_by_start frame (by_start frames)
 
 -- whether some new record starts at an address
 abbrev pub some_starts_at : List NewFrameData → ℕ → Bool
 some_starts_at new address = list_any (λ frame. frame.code_start == address) new
 
 -- the frames of all new records, and of the old records whose start no new record has
-abbrev pub gathered : List OldFrameData → List NewFrameData → List FrameData
-gathered old new = map of_new new ++ map of_old (filter (λ frame. not (some_starts_at new frame.code_start)) old)
+abbrev pub frames_of_both : List OldFrameData → List NewFrameData → List FrameData
+frames_of_both old new = map of_new new ++ map of_old (filter (λ frame. not (some_starts_at new frame.code_start)) old)
 
 -- these frames ordered by their starts
 unfoldable pub merge : List OldFrameData → List NewFrameData → List FrameData
-merge old new = by_start (gathered old new)
+merge old new = by_start (frames_of_both old new)
 
 -- The merge of an old record, of new ones and of the frames that `others` makes of the new ones
 -- that are left: the new records that start below the old one come first, and one that starts at

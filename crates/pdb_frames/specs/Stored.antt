@@ -1,7 +1,7 @@
 -- Records of frames as they are stored. Each number is little-endian.
 use Rattle.std.specs.Prelude.{ℕ, List, drop}
 use Rattle.pdb_base.specs.Endian.{little_number}
-use Rattle.pdb_base.specs.Records.{spelled}
+use Rattle.pdb_base.specs.Records.{values_of_size}
 use Rattle.pdb_frames.specs.Span.{Span}
 use Rattle.pdb_frames.specs.declared.old_frame_data.OldFrameData.{OldFrameData}
 use Rattle.pdb_frames.specs.declared.new_frame_data.NewFrameData.{NewFrameData}
@@ -42,8 +42,8 @@ new_span frame = record { start = frame.code_start; size = frame.code_size }
 
 -- the old records in bytes, one after another
 abbrev pub old_frames : List ℕ → List OldFrameData
-old_frames bytes = spelled OLD_SIZE old_frame bytes
+old_frames bytes = values_of_size OLD_SIZE old_frame bytes
 
 -- the new records in bytes, one after another
 abbrev pub new_frames : List ℕ → List NewFrameData
-new_frames bytes = spelled NEW_SIZE new_frame bytes
+new_frames bytes = values_of_size NEW_SIZE new_frame bytes

@@ -3,7 +3,7 @@ use Rattle.std.specs.Prelude.{◌≡◌, ℕ, ◌%◌, ◌==◌, List, [], lengt
 use Rattle.std.specs.Prelude.{slice_get}
 use Rattle.std.specs.List.Sorted.{IsStrictlyIncreasing}
 use Rattle.pdb_base.specs.Refusal.{invalid_stream_length}
-use Rattle.pdb_base.specs.Answer.{Answer, ◌>>=◌, required}
+use Rattle.pdb_base.specs.Answer.{Answer, ◌>>=◌, ok_if}
 use Rattle.pdb_frames.specs.Span.{from_address}
 use Rattle.pdb_frames.specs.Stored.{old_frames, new_frames, old_span, new_span}
 use Rattle.pdb_frames.specs.Merge.{merge, by_heads}
@@ -22,8 +22,8 @@ pub record Frames : Type 0 where
 -- that is absent holds no records.
 unfoldable pub frame_table_of : Option (List ℕ) → Option (List ℕ) → Answer Frames
 frame_table_of old new = do
-  whole_old ← required (length (unwrap_or old []) % OLD_SIZE == 0) (invalid_stream_length (codes "FPO"))
-  whole_new ← required (length (unwrap_or new []) % NEW_SIZE == 0) (invalid_stream_length (codes "FrameData"))
+  whole_old ← ok_if (length (unwrap_or old []) % OLD_SIZE == 0) (invalid_stream_length (codes "FPO"))
+  whole_new ← ok_if (length (unwrap_or new []) % NEW_SIZE == 0) (invalid_stream_length (codes "FrameData"))
   Ok (record { old = old_frames (unwrap_or old []); new = new_frames (unwrap_or new []) })
 
 -- In each stream, every record starts above the one before it.
@@ -42,6 +42,6 @@ BeginsSomewhere frames result = (passed_old passed_new : ℕ)
 
 -- A step never fails. It yields the first of the items that are left, or None at
 -- the end, and leaves the others.
-pub record IsStep {A E : Type 0} (old : List A) (result : Result (Option A) E) (new : List A) : Type 0 where
+pub record IsFrameStep {A E : Type 0} (old : List A) (result : Result (Option A) E) (new : List A) : Type 0 where
   pub first : result ≡ Ok (slice_get old 0)
   pub others : new ≡ drop 1 old

@@ -1,7 +1,7 @@
 //! Records that follow one another in a stream.
 
 ghost use Rattle.std.specs.Prelude.{◌≡◌, ◌≤◌, ◌<◌, ◌*◌, ◌/◌, ℕ, List, [], ◌∷◌, length, take, drop, IfSome, IfNone};
-ghost use Rattle.pdb_base.specs.Records.{spelled};
+ghost use Rattle.pdb_base.specs.Records.{values_of_size};
 
 use crate::addr_range::AddrRange;
 
@@ -29,9 +29,9 @@ pub(crate) trait FrameRecord: AddrRange + Copy {
 /// a record has.
 #[tactic(auto, using(pdb_base::proofs::lemmas::Records::spelled_none, pdb_base::proofs::lemmas::Records::spelled_first))]
 pub(crate) fn first<R: FrameRecord>(bytes: &[u8]) -> Option<(R, &[u8])>
-    ensures none { IfNone result (spelled R.SIZE R.value bytes.now ≡ []) }
+    ensures none { IfNone result (values_of_size R.SIZE R.value bytes.now ≡ []) }
     ensures some { IfSome result
-        (λ first. spelled R.SIZE R.value bytes.now ≡ first.0 ∷ spelled R.SIZE R.value first.1.now) }
+        (λ first. values_of_size R.SIZE R.value bytes.now ≡ first.0 ∷ values_of_size R.SIZE R.value first.1.now) }
     ensures shorter { IfSome result (λ first. length first.1.now < length bytes.now) }
 {
     if bytes.len() < R::SIZE {
@@ -53,7 +53,7 @@ pub(crate) fn record_at<R: FrameRecord>(bytes: &[u8], place: usize) -> R
 /// Returns the bytes of the records from index `place` on.
 pub(crate) fn from_place<R: FrameRecord>(bytes: &[u8], place: usize) -> &[u8]
     requires { place ≤ length bytes.now / R.SIZE }
-    ensures { spelled R.SIZE R.value result.now ≡ drop place (spelled R.SIZE R.value bytes.now) }
+    ensures { values_of_size R.SIZE R.value result.now ≡ drop place (values_of_size R.SIZE R.value bytes.now) }
 {
     &bytes[place * R::SIZE..]
 }

@@ -4,7 +4,7 @@ ghost use Rattle.std.specs.Prelude.{◌≡◌, ◌↔◌, [], IsTrue, unwrap_or}
 ghost use Rattle.pdb_base.specs.Answer.{Gives};
 ghost use Rattle.pdb_frames.specs.Stored.{old_frames, new_frames};
 ghost use Rattle.pdb_frames.specs.Merge.{by_heads, merge};
-ghost use Rattle.pdb_frames.specs.Table.{BeginsSomewhere, IsStep, StartsIncrease, merge_from, frame_table_of};
+ghost use Rattle.pdb_frames.specs.Table.{BeginsSomewhere, IsFrameStep, StartsIncrease, merge_from, frame_table_of};
 
 use crate::addr_range::AddrRange;
 use crate::frame_data::FrameData;
@@ -151,7 +151,7 @@ impl<'t> FallibleIterator for FrameDataIter<'t> {
 
     type Error = Error;
 
-    ghost next_gives = { IsStep };
+    ghost next_gives = { IsFrameStep };
 
     fn next(&mut self) -> Result<Option<FrameData>> {
         match (

@@ -8,8 +8,8 @@ ghost use Rattle.pdb_frames.specs.declared.old_frame_data.OldFrameData.{OldFrame
 ghost use Rattle.pdb_frames.specs.declared.new_frame_data.NewFrameData.{NewFrameData};
 ghost use Rattle.pdb_frames.specs.Span.{Span};
 ghost use Rattle.pdb_frames.specs.Merge.{by_heads};
-ghost use Rattle.pdb_frames.specs.Table.{Frames, IsStep, StartsIncrease};
-ghost use Rattle.pdb_frames.specs.Laws.{CoversToItsEnd, IsSortedByStart, IsMerged, IsWoven, EndsForGood, ComparesByNumber};
+ghost use Rattle.pdb_frames.specs.Table.{Frames, IsFrameStep, StartsIncrease};
+ghost use Rattle.pdb_frames.specs.Laws.{CoversToItsEnd, IsSortedByStart, IsMerged, IsWoven, FramesEndForGood, ComparesByNumber};
 ghost use Rattle.pdb_frames.specs.declared.new_frame_data.TheConstants.{NEW_SIZE};
 ghost use Rattle.pdb_frames.specs.declared.old_frame_data.TheConstants.{OLD_SIZE};
 
@@ -25,20 +25,20 @@ pub fn ranges()
 {}
 
 /// Frames that are put in the order of their starts are the same frames, each as often as before.
-pub fn sorted()
+pub fn insertion_sorts()
     ensures { (frames : List FrameData) → IsSortedByStart frames }
 {}
 
 /// If starts increase, the comparison of heads merges as the definition says, and the starts of the
 /// result increase.
-pub fn merged()
+pub fn merge_is_exact()
     ensures { (frames : Frames) → StartsIncrease frames → IsMerged frames }
 {}
 
 /// Whatever the starts are, the comparison of heads gives every new record and no old one twice,
 /// each in the order of its stream.
 #[tactic(auto, using(crate::proofs::LawLemmas::is_woven))]
-pub fn woven()
+pub fn merge_keeps_order()
     ensures { (old : List OldFrameData) (new : List NewFrameData) → IsWoven old new (by_heads old new) }
 {}
 
@@ -47,7 +47,7 @@ pub fn woven()
 #[tactic(auto, using(crate::proofs::LawLemmas::ends_for_good))]
 pub fn steps()
     ensures { (left others : List FrameData) (result : Result (Option FrameData) Error) →
-        IsStep left result others → EndsForGood left result others }
+        IsFrameStep left result others → FramesEndForGood left result others }
 {}
 
 /// Kinds of frames compare as their numbers, and two are equal exactly if they are the same kind.

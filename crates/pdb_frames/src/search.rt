@@ -4,7 +4,7 @@
 ghost use Rattle.std.specs.Prelude.{◌≡◌, ◌<◌, ◌≤◌, ◌/◌, length, map};
 ghost use Rattle.std.specs.List.Sorted.{IsStrictlyIncreasing};
 ghost use Rattle.pdb_base.specs.Halving.{IsFound};
-ghost use Rattle.pdb_base.specs.Records.{spelled};
+ghost use Rattle.pdb_base.specs.Records.{values_of_size};
 ghost use Rattle.pdb_frames.specs.Span.{Span, begins, from_address, start_at, IsEnd};
 
 use crate::frame_record::{FrameRecord, from_place, record_at};
@@ -13,7 +13,7 @@ use crate::frame_record::{FrameRecord, from_place, record_at};
 #[tactic(auto, using(crate::proofs::SearchLemmas::start_there))]
 fn start_at<R: FrameRecord>(bytes: &[u8], place: usize) -> u32
     requires { place < length bytes.now / R.SIZE }
-    ensures { result ≡ start_at R.span (spelled R.SIZE R.value bytes.now) place }
+    ensures { result ≡ start_at R.span (values_of_size R.SIZE R.value bytes.now) place }
 {
     record_at::<R>(bytes, place).start()
 }
@@ -55,7 +55,7 @@ fn most_near(records: usize) -> usize
 /// start is kept beside the index, since one subtraction both compares and gives the distance.
 #[tactic(auto, using(pdb_base::proofs::lemmas::Halving::halving_begins, pdb_base::proofs::lemmas::Halving::halving_takes, pdb_base::proofs::lemmas::Halving::halving_passes, pdb_base::proofs::lemmas::Halving::halving_ends, crate::proofs::SplitLemmas::first_part, crate::proofs::SplitLemmas::second_part, crate::proofs::SplitLemmas::known_by_distance, crate::proofs::SplitLemmas::split_begins, crate::proofs::SplitLemmas::part_inside))]
 fn search<R: FrameRecord>(bytes: &[u8], address: u32) -> Found
-    ensures { IsFound (start_at R.span (spelled R.SIZE R.value bytes.now)) (length bytes.now / R.SIZE) address
+    ensures { IsFound (start_at R.span (values_of_size R.SIZE R.value bytes.now)) (length bytes.now / R.SIZE) address
         result.place result.start }
 {
     let (mut place, mut size) = (0, bytes.len() / R::SIZE);
@@ -112,9 +112,9 @@ fn begins_at(start: u32, size: u32, address: u32) -> bool
 /// If the starts don't increase from record to record, they are the bytes from some record on, or
 /// from after the last one.
 pub(crate) fn starting_at<R: FrameRecord>(bytes: &[u8], address: u32) -> &[u8]
-    ensures exact { IsStrictlyIncreasing (map (λ frame. (R.span frame).start) (spelled R.SIZE R.value bytes.now))
-        → spelled R.SIZE R.value result.now ≡ from_address R.span address (spelled R.SIZE R.value bytes.now) }
-    ensures end { IsEnd (spelled R.SIZE R.value result.now) (spelled R.SIZE R.value bytes.now) }
+    ensures exact { IsStrictlyIncreasing (map (λ frame. (R.span frame).start) (values_of_size R.SIZE R.value bytes.now))
+        → values_of_size R.SIZE R.value result.now ≡ from_address R.span address (values_of_size R.SIZE R.value bytes.now) }
+    ensures end { IsEnd (values_of_size R.SIZE R.value result.now) (values_of_size R.SIZE R.value bytes.now) }
 {
     let found = search::<R>(bytes, address);
     let Some(last) = found.place.checked_sub(1) else {

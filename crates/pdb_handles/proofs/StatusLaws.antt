@@ -8,7 +8,7 @@ use Rattle.std.specs.declared.io.ErrorKind.{ErrorKind}
 use Rattle.std.specs.declared.io.ErrorKind.TheVariants as kinds
 use Rattle.pdb_base.specs.Refusal.{Refusal, invalid_stream_length, io_error, unimplemented_feature, unimplemented_symbol_kind, invalid_type_information_header, unimplemented_type_kind, unexpected_numeric_prefix, unimplemented_file_checksum_kind}
 use Rattle.pdb_handles.specs.declared.fault.Fault.{Fault}
-use Rattle.pdb_handles.specs.Fault.{fault_of, kind_number, text_number, texts}
+use Rattle.pdb_handles.specs.Fault.{fault_of, error_kind_number, text_number, texts}
 use Rattle.pdb_handles.specs.Told.{IsOurs, candidate, if_told, is_same, kind_numbered, refusal_told, text_numbered}
 
 inside : {X : Type 0} (x y : X) → Some x ≡ Some y → x ≡ y
@@ -36,9 +36,9 @@ text_back text (place, within, is) =
     let number : suc place ≡ text_number text = omega (arith, number_at 1 texts place text refl at) in
     subst (λ (n : ℕ). text_numbered n ≡ Some text) number at
 
-pub kind_back : (kind : ErrorKind) → Contains (kinds.UnexpectedEof ∷ kinds.OutOfMemory ∷ []) kind → kind_numbered (kind_number kind) ≡ Some kind
-kind_back kind (zero, inside, is) = subst (λ (k : ErrorKind). kind_numbered (kind_number k) ≡ Some k) is refl
-kind_back kind (suc zero, inside, is) = subst (λ (k : ErrorKind). kind_numbered (kind_number k) ≡ Some k) is refl
+pub kind_back : (kind : ErrorKind) → Contains (kinds.UnexpectedEof ∷ kinds.OutOfMemory ∷ []) kind → kind_numbered (error_kind_number kind) ≡ Some kind
+kind_back kind (zero, inside, is) = subst (λ (k : ErrorKind). kind_numbered (error_kind_number k) ≡ Some k) is refl
+kind_back kind (suc zero, inside, is) = subst (λ (k : ErrorKind). kind_numbered (error_kind_number k) ≡ Some k) is refl
 kind_back kind (suc (suc k), inside, is) = absurd (omega (arith, inside))
 
 candidate_of : (refusal : Refusal) → IsOurs refusal → candidate (fault_of refusal) ≡ Some refusal

@@ -6,9 +6,9 @@ use Rattle.std.specs.List.{slice_get}
 use Rattle.pdb_base.specs.Answer.{◌>>=◌}
 use Rattle.pdb_base.proofs.lemmas.Collected.{ok, ok_is, ok_is_no_err}
 use Rattle.pdb_tpi.specs.declared.open_table.RecordPlace.{RecordPlace}
-use Rattle.pdb_tpi.specs.OpenTable.{bytes_at, record_at, step_located}
+use Rattle.pdb_tpi.specs.OpenTable.{record_bytes, record_place, step_located}
 use Rattle.pdb_tpi.specs.Record.{type_of}
-use Rattle.pdb_tpi.specs.Steps.{WalkPosition, step_of, steps_taken, stopped, walk, walk_rest}
+use Rattle.pdb_tpi.specs.Steps.{WalkPosition, step_of, steps_taken, step_at_end, walk, walk_rest}
 use Rattle.pdb_tpi.specs.Table.{Table}
 use Rattle.pdb_handles.specs.declared.fault.Fault.{Fault}
 use Rattle.pdb_handles.specs.declared.walked.TypeRow.{TypeRow}
@@ -18,7 +18,7 @@ use Rattle.pdb_handles.specs.Walked.{AreNext, EndsWith, IsTypeRow, WritesNext}
 
 -- what is written of the record at a place, if a walk stands before it
 abbrev pub IsToldAt : WalkPosition → RecordPlace → TypeRow → Type 0
-IsToldAt stand place told = IsTypeRow (index_told stand.index) place (type_of (index_told stand.index) (bytes_at stand.table place)) told
+IsToldAt stand place told = IsTypeRow (index_told stand.index) place (type_of (index_told stand.index) (record_bytes stand.table place)) told
 
 -- ---- steps
 
@@ -33,8 +33,8 @@ Stays stand step = (step.1.table ≡ stand.table) × (step.0 ≡ None → step.1
 -- by the item that is left, and the bytes behind the last one
 stays_by : (stand : WalkPosition) (item : Option (List ℕ)) (rest : List ℕ) (step : Placed)
     → (option_map_or (λ (i : List ℕ). ok (Some (stand.index, i), record stand { index = stand.index + 1 })) item
-    (stopped stand rest) >>= λ taken. Ok
-    (option_map (λ (i : ℕ × List ℕ). record_at stand.table (steps_taken stand) i.1) taken.0, taken.1)) ≡ Ok step
+    (step_at_end stand rest) >>= λ taken. Ok
+    (option_map (λ (i : ℕ × List ℕ). record_place stand.table (steps_taken stand) i.1) taken.0, taken.1)) ≡ Ok step
     → Stays stand step
 stays_by stand (Some item) rest step is = subst (Stays stand) (ok_is {A = Placed} _ step is) (refl, λ none. absurd cc)
 stays_by stand None [] step is = subst (Stays stand) (ok_is {A = Placed} (None, stand) step is) (refl, λ none. refl)
@@ -46,11 +46,11 @@ stays stand step is = stays_by stand (slice_get (walk stand.table) (steps_taken 
 
 -- what is written of a record, where the walk then stands behind it
 pub told_behind : (stand next : WalkPosition) (index : ℕ) (place : RecordPlace) (told : TypeRow) → index ≡ index_told stand.index → step_located stand ≡ Ok (Some place, next)
-    → IsTypeRow index place (type_of index (bytes_at next.table place)) told → IsToldAt stand place told
+    → IsTypeRow index place (type_of index (record_bytes next.table place)) told → IsToldAt stand place told
 told_behind stand next index place told is step row =
     let same = (stays stand (Some place, next) step).0 in
-    subst (λ (i : ℕ). IsTypeRow i place (type_of i (bytes_at stand.table place)) told) is
-    (subst (λ (t : Table). IsTypeRow index place (type_of index (bytes_at t place)) told) same row)
+    subst (λ (i : ℕ). IsTypeRow i place (type_of i (record_bytes stand.table place)) told) is
+    (subst (λ (t : Table). IsTypeRow index place (type_of index (record_bytes t place)) told) same row)
 
 -- ---- records, one after another
 

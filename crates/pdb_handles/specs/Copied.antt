@@ -12,32 +12,32 @@ pub record Copied (A : Type 0) : Type 0 where
   pub room : List A
 
 -- nothing is written
-abbrev pub untouched : {A : Type 0} → Fault → List A → Copied A
-untouched fault room = record { fault = fault; length = 0; room = room }
+abbrev pub nothing_copied : {A : Type 0} → Fault → List A → Copied A
+nothing_copied fault room = record { fault = fault; length = 0; room = room }
 
 -- The items are written at the front of the array, and the rest of it stays as it was. If there is no
 -- room for all of them, none is written, and the length still says how many there are.
-abbrev pub written : {A : Type 0} → List A → List A → Copied A
-written room items =
+abbrev pub items_copied : {A : Type 0} → List A → List A → Copied A
+items_copied room items =
     if nat_lt (length room) (length items)
     then record { fault = too_small; length = length items; room = room }
     else record { fault = fine; length = length items; room = items ++ drop (length items) room }
 
 -- the items of an answer are written, or the fault is that of its refusal
-abbrev pub copied : {A : Type 0} → List A → Answer (List A) → Copied A
-copied room (Ok items) = written room items
-copied room (Err refusal) = untouched (fault_of refusal) room
+abbrev pub answer_copied : {A : Type 0} → List A → Answer (List A) → Copied A
+answer_copied room (Ok items) = items_copied room items
+answer_copied room (Err refusal) = nothing_copied (fault_of refusal) room
 
 -- the answer for what a handle holds, if it holds what is asked, and else `not_open`
 abbrev pub copied_of : {A B : Type 0} → List B → (A → Answer (List B)) → Option A → Copied B
-copied_of room answer (Some held) = copied room (answer held)
-copied_of room answer None = untouched not_open room
+copied_of room answer (Some held) = answer_copied room (answer held)
+copied_of room answer None = nothing_copied not_open room
 
 -- a text is written, or the fault is `no_text` if there is none
 abbrev pub text_copied : List ℕ → Option (List ℕ) → Copied ℕ
-text_copied room (Some text) = written room text
-text_copied room None = untouched no_text room
+text_copied room (Some text) = items_copied room text
+text_copied room None = nothing_copied no_text room
 
 -- What is meant was written; or memory was refused, and nothing was written.
 abbrev pub CopiesOrLacks : {A : Type 0} → Copied A → List A → Copied A → Type 0
-CopiesOrLacks done room meant = (done ≡ meant) ⊎ (done ≡ untouched (fault_of out_of_memory) room)
+CopiesOrLacks done room meant = (done ≡ meant) ⊎ (done ≡ nothing_copied (fault_of out_of_memory) room)

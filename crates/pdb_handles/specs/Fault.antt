@@ -66,10 +66,10 @@ abbrev pub text_number : List ℕ → ℕ
 text_number text = place_among 1 texts text
 
 -- the number of the kind of an error of a source; a file in memory has no other kinds
-abbrev pub kind_number : ErrorKind → ℕ
-kind_number kinds.UnexpectedEof = 1
-kind_number kinds.OutOfMemory = 2
-kind_number kind = 0
+abbrev pub error_kind_number : ErrorKind → ℕ
+error_kind_number kinds.UnexpectedEof = 1
+error_kind_number kinds.OutOfMemory = 2
+error_kind_number kind = 0
 
 -- ---- refusals
 
@@ -81,7 +81,7 @@ fault_of (invalid_page_size size) = record { status = 3; first = size; second = 
 fault_of (stream_not_found number) = record { status = 4; first = number; second = 0 }
 fault_of stream_name_not_found = record { status = 5; first = 0; second = 0 }
 fault_of (invalid_stream_length stream) = record { status = 6; first = text_number stream; second = 0 }
-fault_of (io_error kind) = record { status = 7; first = kind_number kind; second = 0 }
+fault_of (io_error kind) = record { status = 7; first = error_kind_number kind; second = 0 }
 fault_of unexpected_eof = record { status = 8; first = 0; second = 0 }
 fault_of (unimplemented_feature feature) = record { status = 9; first = text_number feature; second = 0 }
 fault_of global_symbols_not_found = record { status = 10; first = 0; second = 0 }

@@ -2,11 +2,11 @@
 use Rattle.std.specs.Prelude.{◌≡◌, ℕ, Bool, true, false, is_some, unwrap_or, List, slice_get, Option}
 use Rattle.std.specs.Option.{option_map}
 use Rattle.pdb_frames.specs.declared.frame_data.FrameData.{FrameData}
-use Rattle.pdb_frames.specs.FrameNumbers.{kind_number}
+use Rattle.pdb_frames.specs.FrameNumbers.{frame_type_number}
 use Rattle.pdb_frames.specs.Table.{BeginsSomewhere, Frames, StartsIncrease, merge_from}
 use Rattle.pdb_handles.specs.declared.frame.Frame.{Frame}
 use Rattle.pdb_handles.specs.Fault.{no_value}
-use Rattle.pdb_handles.specs.Found.{Found, found}
+use Rattle.pdb_handles.specs.Found.{Found, value_or_fault}
 
 -- a Boolean as a number
 abbrev pub flag : Bool → ℕ
@@ -16,7 +16,7 @@ flag false = 0
 -- a frame for the caller
 abbrev pub frame_of : FrameData → Frame
 frame_of frame = record {
-  kind = kind_number frame.ty;
+  kind = frame_type_number frame.ty;
   code_start = frame.code_start;
   code_size = frame.code_size;
   locals_size = frame.locals_size;
@@ -35,7 +35,7 @@ frame_of frame = record {
 
 -- the first of some frames, if there is one, for the caller
 abbrev pub first_told : Frame → List FrameData → Found Frame
-first_told old frames = found no_value old (option_map frame_of (slice_get frames 0))
+first_told old frames = value_or_fault no_value old (option_map frame_of (slice_get frames 0))
 
 -- The first frame from an address on is written: of those in the order of their addresses if the tables are sorted, and
 -- of any tables the first of some that are left there.

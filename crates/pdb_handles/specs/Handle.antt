@@ -29,14 +29,14 @@ held_as content (Ok value) = Ok (content value)
 held_as content (Err refusal) = Err refusal
 
 -- Memory was refused, and nothing is held.
-abbrev pub Lacks : Fault → Option Content → Type 0
-Lacks fault now = (fault ≡ fault_of out_of_memory) × (now ≡ None)
+abbrev pub HoldsNothing : Fault → Option Content → Type 0
+HoldsNothing fault now = (fault ≡ fault_of out_of_memory) × (now ≡ None)
 
 -- The handle holds what is meant; or the fault is that of the refusal that is meant, and the handle holds
 -- nothing; or memory was refused.
 abbrev pub OpensTo : Answer Content → Fault → Option Content → Type 0
-OpensTo (Ok content) fault now = ((fault ≡ fine) × (now ≡ Some content)) ⊎ Lacks fault now
-OpensTo (Err refusal) fault now = ((fault ≡ fault_of refusal) × (now ≡ None)) ⊎ Lacks fault now
+OpensTo (Ok content) fault now = ((fault ≡ fine) × (now ≡ Some content)) ⊎ HoldsNothing fault now
+OpensTo (Err refusal) fault now = ((fault ≡ fault_of refusal) × (now ≡ None)) ⊎ HoldsNothing fault now
 
 -- A handle that holds nothing is opened to what is meant. One that holds something is refused with
 -- `already_open`, and still holds it.

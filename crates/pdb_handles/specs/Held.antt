@@ -9,6 +9,6 @@ use denote.RawPtr.{Ptr}
 use base.Fml.{Fml, ftrue}
 
 -- the contents, and the right to free their block; nothing if there are no contents
-abbrev pub owned : Global → Ptr → Option Content → Fml
-owned alloc p None = ftrue
-owned alloc p (Some content) = box_owns (ghosts.dealloc_token alloc) the_row p content
+abbrev pub owns_block : Global → Ptr → Option Content → Fml
+owns_block alloc p None = ftrue
+owns_block alloc p (Some content) = box_owns (ghosts.dealloc_token alloc) the_row p content

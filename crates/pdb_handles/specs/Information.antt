@@ -7,7 +7,7 @@ use Rattle.pdb_file.specs.StreamNames.{Named, stream_names_of}
 use Rattle.pdb_file.specs.declared.information.PDBInformation.{PDBInformation}
 use Rattle.pdb_handles.specs.declared.information.Information.{Information}
 use Rattle.pdb_handles.specs.declared.information.NamedStream.{NamedStream}
-use Rattle.pdb_handles.specs.File.{said}
+use Rattle.pdb_handles.specs.File.{read_of_file}
 use Rattle.pdb_handles.specs.Records.{Listing}
 
 -- the numbers that tell a file from others, for the caller
@@ -16,7 +16,7 @@ information_of read = record { version = read.version; signature = read.signatur
 
 -- those in stream 1
 abbrev pub information_said : List ℕ → Answer Information
-information_said file = said file_information file >>= λ read. Ok (information_of read)
+information_said file = read_of_file file_information file >>= λ read. Ok (information_of read)
 
 -- a stream and how long its name is, for the caller
 abbrev pub named_row : Named → NamedStream
@@ -28,4 +28,4 @@ named_listing streams = record { rows = map named_row streams; names = flat_map 
 
 -- the streams that stream 1 names, in the order of their entries
 abbrev pub names_said : List ℕ → Answer (Option (Listing NamedStream))
-names_said file = said file_information file >>= stream_names_of >>= λ streams. Ok (Some (named_listing streams))
+names_said file = read_of_file file_information file >>= stream_names_of >>= λ streams. Ok (Some (named_listing streams))

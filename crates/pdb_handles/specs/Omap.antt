@@ -3,7 +3,7 @@ use Rattle.std.specs.Prelude.{◌≡◌, ◌⊎◌, ℕ, List, Option}
 use Rattle.pdb_space.specs.Omap.{IsSortedBySource, MovesSomehow, OmapValue, shift}
 use Rattle.pdb_handles.specs.declared.omap.OmapRow.{OmapRow}
 use Rattle.pdb_handles.specs.Fault.{fine, not_mapped}
-use Rattle.pdb_handles.specs.Found.{Found, found}
+use Rattle.pdb_handles.specs.Found.{Found, value_or_fault}
 
 -- a record for the caller
 abbrev pub omap_row : OmapValue → OmapRow
@@ -18,6 +18,6 @@ TellsOrder table told =
 -- The address to which a table moves an address is written, or it moves it nowhere: exactly if the table is sorted by
 -- source, and in any table as some record moves it.
 pub record TellsMoved (table : List OmapValue) (address old : ℕ) (told : Found ℕ) : Type 0 where
-  pub exact : IsSortedBySource table → told ≡ found not_mapped old (shift table address)
+  pub exact : IsSortedBySource table → told ≡ value_or_fault not_mapped old (shift table address)
   pub unsorted : told.fault ≡ fine → MovesSomehow table address told.value
-  pub found : (value : Option ℕ) × (told ≡ found not_mapped old value)
+  pub found : (value : Option ℕ) × (told ≡ value_or_fault not_mapped old value)

@@ -5,7 +5,7 @@ use Rattle.pdb_space.specs.Conversions.{translated_parts}
 use Rattle.pdb_space.specs.Omap.{IsSortedBySource, OmapValue}
 use Rattle.pdb_space.specs.Ranges.{IsNotEmpty}
 use Rattle.pdb_handles.specs.declared.ranges.Span.{Span}
-use Rattle.pdb_handles.specs.Copied.{Copied, CopiesOrLacks, written}
+use Rattle.pdb_handles.specs.Copied.{Copied, CopiesOrLacks, items_copied}
 
 -- a range for the caller
 abbrev pub span_of : Range ℕ → Span
@@ -13,7 +13,7 @@ span_of range = record { start = range.start; end = range.end }
 
 -- These ranges were written for the caller; or memory was refused.
 abbrev pub WritesRanges : List (Range ℕ) → List Span → Copied Span → Type 0
-WritesRanges ranges room told = CopiesOrLacks told room (written room (map span_of ranges))
+WritesRanges ranges room told = CopiesOrLacks told room (items_copied room (map span_of ranges))
 
 -- Some ranges were written, none of them empty and at most one for each record; or memory was refused.
 pub record WritesSome (table : List OmapValue) (room : List Span) (told : Copied Span) : Type 0 where

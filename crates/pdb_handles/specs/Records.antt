@@ -3,21 +3,21 @@ use Rattle.std.specs.Prelude.{◌≡◌, ◌⊎◌, ℕ, ◌||◌, nat_lt, if◌
 use Rattle.std.specs.List.{flat_map}
 use Rattle.pdb_base.specs.Answer.{Answer, ◌>>=◌}
 use Rattle.pdb_base.specs.Refusal.{out_of_memory}
-use Rattle.pdb_values.specs.TypeValue.{TypeValue, argument_list, field_list, name_of, values_in}
+use Rattle.pdb_values.specs.TypeValue.{TypeValue, argument_list, field_list, name_of_type, values_in}
 use Rattle.pdb_tpi.specs.Record.{type_of}
 use Rattle.pdb_handles.specs.declared.fault.Fault.{Fault}
 use Rattle.pdb_handles.specs.declared.fields.FieldRow.{FieldRow}
 use Rattle.pdb_handles.specs.declared.listing.Listing.{Listing as Collected}
-use Rattle.pdb_handles.specs.Copied.{Copied, untouched, written}
+use Rattle.pdb_handles.specs.Copied.{Copied, nothing_copied, items_copied}
 use Rattle.pdb_handles.specs.Fault.{fine, fault_of, no_value, too_small}
 use Rattle.pdb_handles.specs.Frame.{flag}
 use Rattle.pdb_handles.specs.Row.{row_of}
 
 -- what is written of a list that may be absent
 abbrev pub if_copied : {A : Type 0} → List A → Answer (Option (List A)) → Copied A
-if_copied room (Ok (Some items)) = written room items
-if_copied room (Ok None) = untouched no_value room
-if_copied room (Err refusal) = untouched (fault_of refusal) room
+if_copied room (Ok (Some items)) = items_copied room items
+if_copied room (Ok None) = nothing_copied no_value room
+if_copied room (Err refusal) = nothing_copied (fault_of refusal) room
 
 -- what the type in a record of this index says
 abbrev pub of_type : {A : Type 0} → (TypeValue → A) → ℕ → List ℕ → Answer A
@@ -30,11 +30,11 @@ arguments_in value = None
 
 -- the bytes of a field's name; none if the field has no name
 abbrev pub name_bytes : TypeValue → List ℕ
-name_bytes value = unwrap_or (name_of value) []
+name_bytes value = unwrap_or (name_of_type value) []
 
 -- a field for the caller
 abbrev pub field_row : TypeValue → FieldRow
-field_row value = record { info = row_of value; has_name = flag (is_some (name_of value)); name_length = length (name_bytes value) }
+field_row value = record { info = row_of value; has_name = flag (is_some (name_of_type value)); name_length = length (name_bytes value) }
 
 -- rows for the caller, and their names one behind another
 pub record Listing (R : Type 0) : Type 0 where
@@ -67,23 +67,23 @@ pub record Fielded (R : Type 0) : Type 0 where
   pub size : ℕ
 
 -- nothing is written
-abbrev pub unfielded : {R : Type 0} → Fault → List R → List ℕ → Fielded R
-unfielded fault rows names = record { fault = fault; rows = rows; count = 0; names = names; size = 0 }
+abbrev pub no_rows_copied : {R : Type 0} → Fault → List R → List ℕ → Fielded R
+no_rows_copied fault rows names = record { fault = fault; rows = rows; count = 0; names = names; size = 0 }
 
 -- The rows and the names are written at the fronts of the arrays, the names one behind another. If there
 -- is no room for all of either, nothing is written, and the counts still say how many there are.
-abbrev pub fielded : {R : Type 0} → List R → List ℕ → List R → List ℕ → Fielded R
-fielded rows names told bytes =
+abbrev pub rows_copied : {R : Type 0} → List R → List ℕ → List R → List ℕ → Fielded R
+rows_copied rows names told bytes =
     if nat_lt (length rows) (length told) || nat_lt (length names) (length bytes)
     then record { fault = too_small; rows = rows; count = length told; names = names; size = length bytes }
     else record { fault = fine; rows = told ++ drop (length told) rows; count = length told; names = bytes ++ drop (length bytes) names; size = length bytes }
 
 -- the listing that is meant is written, or the fault is that of its refusal
 abbrev pub listing_told : {R : Type 0} → List R → List ℕ → Answer (Option (Listing R)) → Fielded R
-listing_told rows names (Ok (Some told)) = fielded rows names told.rows told.names
-listing_told rows names (Ok None) = unfielded no_value rows names
-listing_told rows names (Err refusal) = unfielded (fault_of refusal) rows names
+listing_told rows names (Ok (Some told)) = rows_copied rows names told.rows told.names
+listing_told rows names (Ok None) = no_rows_copied no_value rows names
+listing_told rows names (Err refusal) = no_rows_copied (fault_of refusal) rows names
 
 -- What is meant was written; or memory was refused, and nothing was written.
 abbrev pub FieldsOrLacks : {R : Type 0} → Fielded R → List R → List ℕ → Fielded R → Type 0
-FieldsOrLacks done rows names meant = (done ≡ meant) ⊎ (done ≡ unfielded (fault_of out_of_memory) rows names)
+FieldsOrLacks done rows names meant = (done ≡ meant) ⊎ (done ≡ no_rows_copied (fault_of out_of_memory) rows names)

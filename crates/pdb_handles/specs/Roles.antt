@@ -7,7 +7,7 @@ use Rattle.pdb_file.specs.declared.debug_header.DBIExtraStreams.{DBIExtraStreams
 use Rattle.pdb_handles.specs.declared.fault.Fault.{Fault}
 use Rattle.pdb_handles.specs.declared.roles.Roles.{Roles}
 use Rattle.pdb_handles.specs.Fault.{fine, fault_of}
-use Rattle.pdb_handles.specs.File.{said}
+use Rattle.pdb_handles.specs.File.{read_of_file}
 
 -- the roles for the caller
 abbrev pub roles_of : DBIExtraStreams → Roles
@@ -27,7 +27,7 @@ roles_of streams = record {
 
 -- the roles of the streams of a file
 abbrev pub roles_said : List ℕ → Answer Roles
-roles_said file = said file_roles file >>= λ streams. Ok (roles_of streams)
+roles_said file = read_of_file file_roles file >>= λ streams. Ok (roles_of streams)
 
 -- Memory was refused, and the caller's value stays as it was.
 abbrev pub LacksValue : {B : Type 0} → B → Fault → B → Type 0

@@ -4,7 +4,7 @@ use Rattle.pdb_base.specs.Answer.{Answer, ◌>>=◌}
 use Rattle.pdb_tpi.specs.declared.open_table.RecordPlace.{RecordPlace}
 use Rattle.pdb_tpi.specs.Chain.{fields_of}
 use Rattle.pdb_tpi.specs.Finder.{item_of}
-use Rattle.pdb_tpi.specs.OpenTable.{located, step_located}
+use Rattle.pdb_tpi.specs.OpenTable.{place_of_record, step_located}
 use Rattle.pdb_tpi.specs.StepLaws.{first_stand}
 use Rattle.pdb_tpi.specs.Steps.{WalkPosition}
 use Rattle.pdb_tpi.specs.Table.{table_of}
@@ -15,7 +15,7 @@ use Rattle.pdb_handles.specs.declared.fields.FieldRow.{FieldRow}
 use Rattle.pdb_handles.specs.declared.open_table.Located.{Located}
 use Rattle.pdb_handles.specs.Fault.{fault_of, fine, no_more, no_value, not_open}
 use Rattle.pdb_handles.specs.Found.{Found, not_held}
-use Rattle.pdb_handles.specs.Records.{Fielded, Listing, all_found, listing_told, unfielded}
+use Rattle.pdb_handles.specs.Records.{Fielded, Listing, all_found, listing_told, no_rows_copied}
 
 -- the table in a stream, with its walk before the first item
 abbrev pub table_opened : List ℕ → Answer WalkPosition
@@ -33,7 +33,7 @@ located_told old index (Err refusal) = record { fault = fault_of refusal; value 
 
 -- the same for the table that a handle holds
 abbrev pub located_in : Located → ℕ → Option WalkPosition → Found Located
-located_in old index (Some stand) = located_told old index (located stand.table index)
+located_in old index (Some stand) = located_told old index (place_of_record stand.table index)
 located_in old index None = not_held old
 
 -- an index, or 0xffffffff if it is above that
@@ -56,20 +56,20 @@ step_to fault value stand = record { fault = fault; value = value; held = Some (
 
 -- A step returns the place of the next record, and the walk stands behind it; or it returns that no
 -- record is left, or the fault of the next record.
-abbrev pub stepped : WalkPosition → Answer (Option RecordPlace × WalkPosition) → Step
-stepped stand (Ok (Some place, next)) = step_to fine (located_at (index_told stand.index) place) next
-stepped stand (Ok (None, next)) = step_to no_more (stopped_at stand.index) next
-stepped stand (Err refusal) = step_to (fault_of refusal) (stopped_at stand.index) stand
+abbrev pub step_outcome : WalkPosition → Answer (Option RecordPlace × WalkPosition) → Step
+step_outcome stand (Ok (Some place, next)) = step_to fine (located_at (index_told stand.index) place) next
+step_outcome stand (Ok (None, next)) = step_to no_more (stopped_at stand.index) next
+step_outcome stand (Err refusal) = step_to (fault_of refusal) (stopped_at stand.index) stand
 
 -- the same for what a handle holds
 abbrev pub step_told : Located → Option Content → Step
-step_told old (Some (contents.Table stand)) = stepped stand (step_located stand)
+step_told old (Some (contents.Table stand)) = step_outcome stand (step_located stand)
 step_told old held = record { fault = not_open; value = old; held = held }
 
 -- how a call ended that sets the walk back to the first item, and what the handle holds afterwards
-abbrev pub rewound : Option Content → Found (Option Content)
-rewound (Some (contents.Table stand)) = record { fault = fine; value = Some (contents.Table (first_stand stand.table)) }
-rewound held = record { fault = not_open; value = held }
+abbrev pub rewind_outcome : Option Content → Found (Option Content)
+rewind_outcome (Some (contents.Table stand)) = record { fault = fine; value = Some (contents.Table (first_stand stand.table)) }
+rewind_outcome held = record { fault = not_open; value = held }
 
 -- the fields of a field list in a table, and of the lists that continue it
 abbrev pub fields_in_table : ℕ → WalkPosition → Answer (Option (Listing FieldRow))
@@ -78,4 +78,4 @@ fields_in_table index stand = all_found (fields_of (item_of stand.table) index)
 -- the same for the table that a handle holds
 abbrev pub fields_asked : List FieldRow → List ℕ → ℕ → Option WalkPosition → Fielded FieldRow
 fields_asked rows names index (Some stand) = listing_told rows names (fields_in_table index stand)
-fields_asked rows names index None = unfielded not_open rows names
+fields_asked rows names index None = no_rows_copied not_open rows names

@@ -21,8 +21,8 @@ abbrev pub plain : Refusal → Tells
 plain refusal first second = Some refusal
 
 -- a refusal with one number
-abbrev pub numbered : (ℕ → Refusal) → Tells
-numbered refusal first second = Some (refusal first)
+abbrev pub number_fault : (ℕ → Refusal) → Tells
+number_fault refusal first second = Some (refusal first)
 
 -- a refusal with one number, which must be below a bound
 abbrev pub below : ℕ → (ℕ → Refusal) → Tells
@@ -34,8 +34,8 @@ text_numbered zero = None
 text_numbered (suc place) = slice_get texts place
 
 -- a refusal with a text
-abbrev pub worded : (List ℕ → Refusal) → Tells
-worded refusal first second = option_map refusal (text_numbered first)
+abbrev pub text_fault : (List ℕ → Refusal) → Tells
+text_fault refusal first second = option_map refusal (text_numbered first)
 
 -- the kind with this number; numbers begin at 1
 abbrev pub kind_numbered : ℕ → Option ErrorKind
@@ -50,13 +50,13 @@ of_source first second = option_map io_error (kind_numbered first)
 abbrev pub tellings : List Tells
 tellings =
     none
-    ∷ plain unrecognized_file_format ∷ numbered page_reference_out_of_range ∷ numbered invalid_page_size ∷ numbered stream_not_found
-    ∷ plain stream_name_not_found ∷ worded invalid_stream_length ∷ of_source ∷ plain unexpected_eof
-    ∷ worded unimplemented_feature ∷ plain global_symbols_not_found ∷ plain symbol_too_short ∷ below (2 ^ 16) unimplemented_symbol_kind
-    ∷ worded invalid_type_information_header ∷ plain type_too_short ∷ numbered type_not_found ∷ (λ first second. Some (type_not_indexed first second))
-    ∷ below (2 ^ 16) unimplemented_type_kind ∷ numbered not_a_cross_module_ref ∷ numbered cross_module_ref_not_found ∷ below (2 ^ 16) unexpected_numeric_prefix
-    ∷ plain address_map_not_found ∷ numbered unimplemented_debug_subsection ∷ below (2 ^ 8) unimplemented_file_checksum_kind ∷ numbered invalid_file_checksum_offset
-    ∷ plain lines_not_found ∷ plain invalid_compressed_annotation ∷ numbered unknown_binary_annotation ∷ plain out_of_memory ∷ []
+    ∷ plain unrecognized_file_format ∷ number_fault page_reference_out_of_range ∷ number_fault invalid_page_size ∷ number_fault stream_not_found
+    ∷ plain stream_name_not_found ∷ text_fault invalid_stream_length ∷ of_source ∷ plain unexpected_eof
+    ∷ text_fault unimplemented_feature ∷ plain global_symbols_not_found ∷ plain symbol_too_short ∷ below (2 ^ 16) unimplemented_symbol_kind
+    ∷ text_fault invalid_type_information_header ∷ plain type_too_short ∷ number_fault type_not_found ∷ (λ first second. Some (type_not_indexed first second))
+    ∷ below (2 ^ 16) unimplemented_type_kind ∷ number_fault not_a_cross_module_ref ∷ number_fault cross_module_ref_not_found ∷ below (2 ^ 16) unexpected_numeric_prefix
+    ∷ plain address_map_not_found ∷ number_fault unimplemented_debug_subsection ∷ below (2 ^ 8) unimplemented_file_checksum_kind ∷ number_fault invalid_file_checksum_offset
+    ∷ plain lines_not_found ∷ plain invalid_compressed_annotation ∷ number_fault unknown_binary_annotation ∷ plain out_of_memory ∷ []
 
 -- the refusal that a fault can stand for
 abbrev pub candidate : Fault → Option Refusal

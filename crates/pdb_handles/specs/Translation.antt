@@ -8,7 +8,7 @@ use Rattle.pdb_handles.specs.declared.translation.Place.{Place}
 use Rattle.pdb_handles.specs.declared.translation.Forms.{Forms}
 use Rattle.pdb_handles.specs.declared.translation.Translation.{Translation}
 use Rattle.pdb_handles.specs.Fault.{no_value}
-use Rattle.pdb_handles.specs.Found.{Found, found}
+use Rattle.pdb_handles.specs.Found.{Found, value_or_fault}
 use Rattle.pdb_handles.specs.Frame.{flag}
 
 -- a place for the caller
@@ -16,8 +16,8 @@ abbrev pub place_of : SectionPlace → Place
 place_of place = record { offset = place.offset; section = place.section }
 
 -- a place that may be absent, for the caller
-abbrev pub place_in : Option SectionPlace → Place
-place_in place = option_map_or place_of place (record { offset = 0; section = 0 })
+abbrev pub place_or_none : Option SectionPlace → Place
+place_or_none place = option_map_or place_of place (record { offset = 0; section = 0 })
 
 -- the forms for the caller
 abbrev pub translation_of : Forms → Translation
@@ -25,11 +25,11 @@ translation_of forms = record {
   has_rva = flag (is_some forms.rva);
   rva = unwrap_or forms.rva 0;
   has_place = flag (is_some forms.place);
-  place = place_in forms.place;
+  place = place_or_none forms.place;
   has_internal_rva = flag (is_some forms.internal_rva);
   internal_rva = unwrap_or forms.internal_rva 0;
   has_internal_place = flag (is_some forms.internal_place);
-  internal_place = place_in forms.internal_place;
+  internal_place = place_or_none forms.internal_place;
 }
 
 -- The forms of an address in the image as it is loaded. `by_table` says of the two in the original image that they are
@@ -88,4 +88,4 @@ AreForms map form given forms = ⊥
 -- These forms are written for the caller; or what is given has no form, and nothing is written.
 abbrev pub Translates : AddressMapValue → ℕ → SectionPlace → Translation → Found Translation → Type 0
 Translates map form given old told =
-    (forms : Option Forms) × AreForms map form given forms × (told ≡ found no_value old (option_map translation_of forms))
+    (forms : Option Forms) × AreForms map form given forms × (told ≡ value_or_fault no_value old (option_map translation_of forms))

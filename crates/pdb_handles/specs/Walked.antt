@@ -4,7 +4,7 @@ use Rattle.pdb_base.specs.Answer.{Answer}
 use Rattle.pdb_base.specs.Refusal.{out_of_memory}
 use Rattle.pdb_values.specs.TypeValue.{TypeValue}
 use Rattle.pdb_tpi.specs.declared.open_table.RecordPlace.{RecordPlace}
-use Rattle.pdb_tpi.specs.OpenTable.{bytes_at, step_located}
+use Rattle.pdb_tpi.specs.OpenTable.{record_bytes, step_located}
 use Rattle.pdb_tpi.specs.Record.{type_of}
 use Rattle.pdb_tpi.specs.Steps.{WalkPosition}
 use Rattle.pdb_handles.specs.declared.content.Content.{Content}
@@ -12,7 +12,7 @@ use Rattle.pdb_handles.specs.declared.content.Content.TheVariants as contents
 use Rattle.pdb_handles.specs.declared.fault.Fault.{Fault}
 use Rattle.pdb_handles.specs.declared.row.Row.{Row}
 use Rattle.pdb_handles.specs.declared.walked.TypeRow.{TypeRow}
-use Rattle.pdb_handles.specs.Copied.{Copied, untouched}
+use Rattle.pdb_handles.specs.Copied.{Copied, nothing_copied}
 use Rattle.pdb_handles.specs.Fault.{fault_of, fine, not_open, no_more}
 use Rattle.pdb_handles.specs.Row.{no_numbers, row, row_of}
 use Rattle.pdb_handles.specs.Tables.{index_told, located_at}
@@ -37,7 +37,7 @@ abbrev pub AreNext : WalkPosition → List TypeRow → WalkPosition → Type 0
 AreNext stand [] end = end ≡ stand
 AreNext stand (told ∷ more) end =
     (place : RecordPlace) × (next : WalkPosition) × (step_located stand ≡ Ok (Some place, next))
-    × IsTypeRow (index_told stand.index) place (type_of (index_told stand.index) (bytes_at stand.table place)) told × AreNext next more end
+    × IsTypeRow (index_told stand.index) place (type_of (index_told stand.index) (record_bytes stand.table place)) told × AreNext next more end
 
 -- No record is left, or the fault is that of the next one.
 abbrev pub StopsWith : Answer (Option RecordPlace × WalkPosition) → Fault → Type 0
@@ -61,4 +61,4 @@ pub record WritesNext (old : List TypeRow) (stand : WalkPosition) (told : Copied
 -- The same for the table that a handle holds; nothing is written if it holds none.
 abbrev pub WritesNextOf : List TypeRow → Option Content → Copied TypeRow → Option Content → Type 0
 WritesNextOf old (Some (contents.Table stand)) told held = (end : WalkPosition) × (held ≡ Some (contents.Table end)) × WritesNext old stand told end
-WritesNextOf old before told held = (told ≡ untouched not_open old) × (held ≡ before)
+WritesNextOf old before told held = (told ≡ nothing_copied not_open old) × (held ≡ before)

@@ -4,8 +4,8 @@ ghost use Rattle.std.specs.Prelude.{◌≡◌, ℕ, List, Option};
 ghost use Rattle.std.specs.Option.{option_map};
 ghost use Rattle.pdb_base.specs.Answer.{Answer, Answers};
 ghost use Rattle.pdb_values.specs.Text.{text_bytes};
-ghost use Rattle.pdb_handles.specs.Copied.{CopiesOrLacks, copied, written};
-ghost use Rattle.pdb_handles.specs.Records.{fielded, if_copied};
+ghost use Rattle.pdb_handles.specs.Copied.{CopiesOrLacks, answer_copied, items_copied};
+ghost use Rattle.pdb_handles.specs.Records.{rows_copied, if_copied};
 
 use crate::fault::{FINE, Fault, NONE, TOO_SMALL};
 use pdb_base::{RawString, Result, Stream};
@@ -13,7 +13,7 @@ use pdb_base::{RawString, Result, Stream};
 /// Copies items to the start of a caller's array and sets `length` to their number. If the array
 /// has no room for all of them, none is copied.
 pub fn copy_out<T: Copy>(items: &[T], room: &mut [T], length: &mut usize) -> Fault
-    ensures { record { fault = result; length = length.new; room = room.new } ≡ written room.old items.now }
+    ensures { record { fault = result; length = length.new; room = room.new } ≡ items_copied room.old items.now }
 {
     *length = items.len();
     if room.len() < items.len() {
@@ -34,7 +34,7 @@ pub fn copy_both<T: Copy>(
     size: &mut usize,
 ) -> Fault
     ensures { record { fault = result; rows = rows.new; count = count.new; names = names.new; size = size.new }
-        ≡ fielded rows.old names.old items.now bytes.now }
+        ≡ rows_copied rows.old names.old items.now bytes.now }
 {
     *count = items.len();
     *size = bytes.len();
@@ -59,7 +59,7 @@ pub fn copy_nothing(fault: Fault, length: &mut usize) -> Fault
 pub fn copy_stream(answer: Result<Stream>, room: &mut [u8], length: &mut usize) -> Fault
     ensures { (meant : Answer (List ℕ)) → Answers (λ stream. stream) answer meant
         → CopiesOrLacks (record { fault = result; length = length.new; room = room.new }) room.old
-        (copied room.old meant) }
+        (answer_copied room.old meant) }
 {
     match answer {
         Ok(stream) => copy_out(stream.as_slice(), room, length),
@@ -71,7 +71,7 @@ pub fn copy_stream(answer: Result<Stream>, room: &mut [u8], length: &mut usize) 
 pub fn copy_list<T: Copy>(answer: Result<Vec<T>>, room: &mut [T], length: &mut usize) -> Fault
     ensures { (meant : Answer (List T)) → Answers (λ list. list.items) answer meant
         → CopiesOrLacks (record { fault = result; length = length.new; room = room.new }) room.old
-        (copied room.old meant) }
+        (answer_copied room.old meant) }
 {
     match answer {
         Ok(items) => copy_out(&items, room, length),

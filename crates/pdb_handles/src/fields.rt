@@ -50,7 +50,7 @@ fn field_row(field: &TypeData<'_>) -> FieldRow
 }
 
 /// Collects a `FieldRow` for each field, and their names one after another.
-fn listed(alloc: Global, fields: &[TypeData<'_>]) -> Result<Listing<FieldRow>>
+fn collect_fields(alloc: Global, fields: &[TypeData<'_>]) -> Result<Listing<FieldRow>>
     ensures { Answers listing_view result (Ok (listing (map type_value fields.now))) }
 {
     let mut rows = Vec::with_capacity(alloc, fields.len())?;
@@ -73,7 +73,7 @@ pub fn listing_found(
     ensures { (meant : Answer (List TypeValue)) → Answers (λ fields. map type_value fields.items) found.entry meant
         → Answers (option_map listing_view) result (all_found meant) }
 {
-    Ok(Some(listed(alloc, &found?)?))
+    Ok(Some(collect_fields(alloc, &found?)?))
 }
 
 /// Parses a record and returns the fields that it lists, for the caller, or None if it isn't a list
@@ -87,7 +87,7 @@ pub fn fields_of(alloc: Global, bytes: &[u8], index: u32) -> Result<Option<Listi
 {
     let value = type_in(alloc, bytes, index)?;
     match &value {
-        TypeData::FieldList(list) => Ok(Some(listed(alloc, &list.fields)?)),
+        TypeData::FieldList(list) => Ok(Some(collect_fields(alloc, &list.fields)?)),
         _ => Ok(None),
     }
 }

@@ -2,7 +2,7 @@
 
 ghost use Rattle.std.specs.Prelude.{◌≡◌, IfOk};
 ghost use Rattle.pdb_base.specs.Answer.{Answers};
-ghost use Rattle.pdb_msf.specs.Header.{opened};
+ghost use Rattle.pdb_msf.specs.Header.{file_head};
 ghost use Rattle.pdb_handles.specs.File.{addresses_said, frames_said, layout_said, named_stream_said};
 
 use crate::content::Content;
@@ -15,8 +15,8 @@ use std::alloc::Global;
 ///
 /// # Errors
 /// Fails as `PDB::open` does.
-pub fn opened<'f>(alloc: Global, file: &'f [u8]) -> Result<PDB<&'f [u8]>>
-    ensures head { Answers (λ file. file.head) result (opened file.now) }
+pub fn open_file<'f>(alloc: Global, file: &'f [u8]) -> Result<PDB<&'f [u8]>>
+    ensures head { Answers (λ file. file.head) result (file_head file.now) }
     ensures bytes { IfOk result (λ opened. opened.source.now ≡ file.now) }
 {
     PDB::open(alloc, file)
@@ -39,7 +39,7 @@ pub fn layout_in(alloc: Global, file: &[u8]) -> Result<Content>
 pub fn named_stream_in(alloc: Global, file: &[u8], name: &[u8]) -> Result<Stream>
     ensures { Answers (λ stream. stream) result (named_stream_said name.now file.now) }
 {
-    let mut file = opened(alloc, file)?;
+    let mut file = open_file(alloc, file)?;
     file.named_stream(alloc, name)
 }
 
@@ -50,7 +50,7 @@ pub fn named_stream_in(alloc: Global, file: &[u8], name: &[u8]) -> Result<Stream
 pub fn addresses_in(alloc: Global, file: &[u8]) -> Result<Content>
     ensures { Answers (λ content. content) result (addresses_said file.now) }
 {
-    let mut file = opened(alloc, file)?;
+    let mut file = open_file(alloc, file)?;
     Ok(Content::Addresses(file.address_map(alloc)?))
 }
 
@@ -61,6 +61,6 @@ pub fn addresses_in(alloc: Global, file: &[u8]) -> Result<Content>
 pub fn frames_in(alloc: Global, file: &[u8]) -> Result<Content>
     ensures { Answers (λ content. content) result (frames_said file.now) }
 {
-    let mut file = opened(alloc, file)?;
+    let mut file = open_file(alloc, file)?;
     Ok(Content::Frames(file.frame_table(alloc)?))
 }

@@ -3,7 +3,7 @@
 ghost use Rattle.std.specs.Prelude.{◌≡◌};
 ghost use Rattle.pdb_base.specs.Answer.{Answer, Answers, Gives};
 ghost use Rattle.pdb_handles.specs.Fault.{fine};
-ghost use Rattle.pdb_handles.specs.Found.{answered, found};
+ghost use Rattle.pdb_handles.specs.Found.{answer_or_fault, value_or_fault};
 ghost use Rattle.pdb_handles.specs.Roles.{IsAnswered};
 
 use crate::fault::{FINE, Fault};
@@ -20,7 +20,7 @@ pub fn tell_value<T: Copy>(given: T, value: &mut T) -> Fault
 
 /// Writes a value that was found, or returns the fault `missing` if there is none.
 pub fn tell_found<T: Copy>(answer: Option<T>, missing: Fault, value: &mut T) -> Fault
-    ensures { record { fault = result; value = value.new } ≡ found missing value.old answer }
+    ensures { record { fault = result; value = value.new } ≡ value_or_fault missing value.old answer }
 {
     match answer {
         Some(number) => tell_value(number, value),
@@ -31,7 +31,7 @@ pub fn tell_found<T: Copy>(answer: Option<T>, missing: Fault, value: &mut T) -> 
 /// Writes the value of an answer, or returns the fault of its error.
 pub fn tell_answered<T: Copy>(answer: Result<T>, value: &mut T) -> Fault
     ensures given { (meant : Answer T) → Gives (λ number. number) answer meant
-        → record { fault = result; value = value.new } ≡ answered value.old meant }
+        → record { fault = result; value = value.new } ≡ answer_or_fault value.old meant }
     ensures read { (meant : Answer T) → Answers (λ number. number) answer meant
         → IsAnswered (λ number. number) meant value.old result value.new }
 {

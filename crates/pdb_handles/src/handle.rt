@@ -40,7 +40,7 @@ fn kind_of(content: &Content) -> u32
 
 impl Handle {
     /// Returns a handle that holds nothing.
-    pub fn closed(alloc: Global) -> Handle
+    pub fn empty(alloc: Global) -> Handle
         ensures { result.held.content ≡ None }
     {
         Handle {
@@ -57,7 +57,7 @@ impl Handle {
         if self.kind == 0 {
             return None;
         }
-        let Handle { held, kind: _ } = replace(self, Handle::closed(alloc));
+        let Handle { held, kind: _ } = replace(self, Handle::empty(alloc));
         Some(held.into_content())
     }
 

@@ -1,7 +1,7 @@
 //! What a handle points to.
 
 ghost use Rattle.std.specs.Prelude.{◌≡◌, Option, None, Some, IsSome};
-ghost use Rattle.pdb_handles.specs.Held.{owned};
+ghost use Rattle.pdb_handles.specs.Held.{owns_block};
 ghost use Rattle.pdb_handles.specs.declared.content.Content.{Content};
 
 use crate::content::Content;
@@ -24,7 +24,7 @@ pub struct Held {
 }
 
 impl Model for Held {
-    ghost also_owns = { λ h. owned h.alloc h.ptr h.content };
+    ghost also_owns = { λ h. owns_block h.alloc h.ptr h.content };
 }
 
 impl Held {

@@ -8,7 +8,7 @@ ghost use Rattle.pdb_file.specs.StreamNames.{named_view};
 ghost use Rattle.pdb_handles.specs.Information.{information_said, named_listing, named_row, names_said};
 ghost use Rattle.pdb_handles.specs.Records.{listing_view};
 
-use crate::file::opened;
+use crate::file::open_file;
 use crate::listing::Listing;
 use pdb_base::Result;
 use pdb_file::{StreamName, StreamNames};
@@ -45,7 +45,7 @@ pub struct NamedStream {
 pub fn information_in(alloc: Global, file: &[u8]) -> Result<Information>
     ensures { Answers (λ information. information) result (information_said file.now) }
 {
-    let mut file = opened(alloc, file)?;
+    let mut file = open_file(alloc, file)?;
     let said = file.pdb_information(alloc)?;
     let guid = said.guid;
     Ok(Information {
@@ -67,7 +67,7 @@ fn named_row(named: &StreamName<'_>) -> NamedStream
 }
 
 /// Collects a `NamedStream` for each named stream, and their names one after another.
-fn listed(alloc: Global, streams: &StreamNames<'_>) -> Result<Listing<NamedStream>>
+fn collect_names(alloc: Global, streams: &StreamNames<'_>) -> Result<Listing<NamedStream>>
     ensures { Answers listing_view result (Ok (named_listing streams.now)) }
 {
     let streams = streams.as_slice();
@@ -87,8 +87,8 @@ fn listed(alloc: Global, streams: &StreamNames<'_>) -> Result<Listing<NamedStrea
 pub fn stream_names_in(alloc: Global, file: &[u8]) -> Result<Option<Listing<NamedStream>>>
     ensures { Answers (option_map listing_view) result (names_said file.now) }
 {
-    let mut file = opened(alloc, file)?;
+    let mut file = open_file(alloc, file)?;
     let information = file.pdb_information(alloc)?;
     let streams = information.stream_names(alloc)?;
-    Ok(Some(listed(alloc, &streams)?))
+    Ok(Some(collect_names(alloc, &streams)?))
 }

@@ -3,12 +3,12 @@
 ghost use Rattle.std.specs.Prelude.{◌≡◌, ◌<◌, length, Some};
 ghost use Rattle.std.specs.Option.{option_map};
 ghost use Rattle.pdb_base.specs.Answer.{Answers};
-ghost use Rattle.pdb_tpi.specs.OpenTable.{located, step_located};
-ghost use Rattle.pdb_tpi.specs.Table.{count_of};
+ghost use Rattle.pdb_tpi.specs.OpenTable.{place_of_record, step_located};
+ghost use Rattle.pdb_tpi.specs.Table.{count_in_header};
 ghost use Rattle.pdb_handles.specs.declared.content.Content.TheVariants.{Table};
 ghost use Rattle.pdb_handles.specs.Handle.{held_as};
 ghost use Rattle.pdb_handles.specs.Records.{listing_view};
-ghost use Rattle.pdb_handles.specs.Tables.{fields_in_table, located_at, located_told, stepped, table_opened};
+ghost use Rattle.pdb_handles.specs.Tables.{fields_in_table, located_at, located_told, step_outcome, table_opened};
 
 use crate::content::Content;
 use crate::fault::{END, Fault, NONE};
@@ -57,8 +57,8 @@ pub fn table_in(alloc: Global, stream: &[u8]) -> Result<Content>
 }
 
 /// Returns the number of indexes that the header of a table counts.
-pub fn counted(kept: &OpenTable<TypeIndex>) -> u32
-    ensures { result ≡ count_of kept.now.table }
+pub fn index_count(kept: &OpenTable<TypeIndex>) -> u32
+    ensures { result ≡ count_in_header kept.now.table }
 {
     let header = kept.items().header();
     header.maximum_index - header.minimum_index
@@ -67,7 +67,7 @@ pub fn counted(kept: &OpenTable<TypeIndex>) -> u32
 /// Writes where the record of an index is in the stream.
 pub fn find_record(kept: &mut OpenTable<TypeIndex>, index: u32, place: &mut Located) -> Fault
     ensures told { record { fault = result; value = place.new } ≡
-        located_told place.old index (located kept.old.table index) }
+        located_told place.old index (place_of_record kept.old.table index) }
     ensures kept { kept.new ≡ kept.old }
 {
     kept.learn(TypeIndex(index));
@@ -81,7 +81,7 @@ pub fn find_record(kept: &mut OpenTable<TypeIndex>, index: u32, place: &mut Loca
 /// Writes where the next record is, or the index at which the walk ends or fails.
 pub fn next_record(kept: &mut OpenTable<TypeIndex>, place: &mut Located) -> Fault
     ensures { record { fault = result; value = place.new; held = Some (Table kept.new) } ≡
-        stepped kept.old (step_located kept.old) }
+        step_outcome kept.old (step_located kept.old) }
 {
     let index = kept.index().min(0xffff_ffff) as u32;
     *place = Located {

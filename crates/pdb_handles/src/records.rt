@@ -4,7 +4,7 @@ ghost use Rattle.std.specs.Prelude.{map, Ok};
 ghost use Rattle.std.specs.Option.{option_map};
 ghost use Rattle.pdb_base.specs.Answer.{Answer, Answers};
 ghost use Rattle.pdb_values.specs.Text.{text_bytes};
-ghost use Rattle.pdb_values.specs.TypeValue.{TypeValue, name_of};
+ghost use Rattle.pdb_values.specs.TypeValue.{TypeValue, name_of_type};
 ghost use Rattle.pdb_values.specs.TypeView.{type_value};
 ghost use Rattle.pdb_tpi.specs.Record.{type_of};
 ghost use Rattle.pdb_handles.specs.Records.{arguments_in, of_type};
@@ -74,7 +74,7 @@ pub fn write_type_row(alloc: Global, bytes: &[u8], index: u32, row: &mut Row) ->
 /// # Errors
 /// Fails as `type_in` does.
 pub fn type_name_in<'t>(alloc: Global, bytes: &'t [u8], index: u32) -> Result<Option<RawString<'t>>>
-    ensures { Answers (option_map text_bytes) result (of_type name_of index bytes.now) }
+    ensures { Answers (option_map text_bytes) result (of_type name_of_type index bytes.now) }
 {
     let value = type_in(alloc, bytes, index)?;
     Ok(value.name())

@@ -2,7 +2,7 @@
 
 ghost use Rattle.std.specs.Prelude.{◌≡◌};
 ghost use Rattle.pdb_base.specs.Refusal.{refusal_of};
-ghost use Rattle.pdb_handles.specs.Fault.{fault_of, kind_number, text_number};
+ghost use Rattle.pdb_handles.specs.Fault.{fault_of, error_kind_number, text_number};
 
 use crate::fault::Fault;
 use pdb_base::Error;
@@ -37,7 +37,7 @@ fn text_number(text: &str) -> u32
 /// Returns the number of an I/O error's kind: 1 for `UnexpectedEof`, 2 for `OutOfMemory`, 0 for any
 /// other.
 fn kind_number(kind: ErrorKind) -> u32
-    ensures { result ≡ kind_number kind }
+    ensures { result ≡ error_kind_number kind }
 {
     match kind {
         ErrorKind::UnexpectedEof => 1,
@@ -48,7 +48,7 @@ fn kind_number(kind: ErrorKind) -> u32
 
 impl Fault {
     /// Returns a fault with a status and one number.
-    fn numbered(status: u32, first: u32) -> Fault
+    fn fault_with_number(status: u32, first: u32) -> Fault
         ensures { result ≡ record { status = status; first = first; second = 0 } }
     {
         Fault {
@@ -65,47 +65,56 @@ impl Fault {
     {
         // Inlined, this gives the fault of an error a place of its own, and a caller that succeeds
         // keeps its fault in registers.
-        Fault::refused(error)
+        Fault::fault_of_error(error)
     }
 
     /// Returns the fault that reports an error.
     #[inline(never)]
-    fn refused(error: &Error) -> Fault
+    fn fault_of_error(error: &Error) -> Fault
         ensures { result ≡ fault_of (refusal_of error.now) }
     {
         match error {
-            Error::UnrecognizedFileFormat => Fault::numbered(1, 0),
-            Error::PageReferenceOutOfRange(page) => Fault::numbered(2, *page),
-            Error::InvalidPageSize(size) => Fault::numbered(3, *size),
-            Error::StreamNotFound(number) => Fault::numbered(4, *number),
-            Error::StreamNameNotFound => Fault::numbered(5, 0),
-            Error::InvalidStreamLength(stream) => Fault::numbered(6, text_number(stream)),
-            Error::IoError(cause) => Fault::numbered(7, kind_number(cause.kind())),
-            Error::UnexpectedEof => Fault::numbered(8, 0),
-            Error::UnimplementedFeature(feature) => Fault::numbered(9, text_number(feature)),
-            Error::GlobalSymbolsNotFound => Fault::numbered(10, 0),
-            Error::SymbolTooShort => Fault::numbered(11, 0),
-            Error::UnimplementedSymbolKind(kind) => Fault::numbered(12, *kind as u32),
-            Error::InvalidTypeInformationHeader(rule) => Fault::numbered(13, text_number(rule)),
-            Error::TypeTooShort => Fault::numbered(14, 0),
-            Error::TypeNotFound(index) => Fault::numbered(15, *index),
+            Error::UnrecognizedFileFormat => Fault::fault_with_number(1, 0),
+            Error::PageReferenceOutOfRange(page) => Fault::fault_with_number(2, *page),
+            Error::InvalidPageSize(size) => Fault::fault_with_number(3, *size),
+            Error::StreamNotFound(number) => Fault::fault_with_number(4, *number),
+            Error::StreamNameNotFound => Fault::fault_with_number(5, 0),
+            Error::InvalidStreamLength(stream) => Fault::fault_with_number(6, text_number(stream)),
+            Error::IoError(cause) => Fault::fault_with_number(7, kind_number(cause.kind())),
+            Error::UnexpectedEof => Fault::fault_with_number(8, 0),
+            Error::UnimplementedFeature(feature) => Fault::fault_with_number(
+                9,
+                text_number(feature),
+            ),
+            Error::GlobalSymbolsNotFound => Fault::fault_with_number(10, 0),
+            Error::SymbolTooShort => Fault::fault_with_number(11, 0),
+            Error::UnimplementedSymbolKind(kind) => Fault::fault_with_number(12, *kind as u32),
+            Error::InvalidTypeInformationHeader(rule) => Fault::fault_with_number(
+                13,
+                text_number(rule),
+            ),
+            Error::TypeTooShort => Fault::fault_with_number(14, 0),
+            Error::TypeNotFound(index) => Fault::fault_with_number(15, *index),
             Error::TypeNotIndexed(index, covered) => Fault {
                 status: 16,
                 first: *index,
                 second: *covered,
             },
-            Error::UnimplementedTypeKind(kind) => Fault::numbered(17, *kind as u32),
-            Error::NotACrossModuleRef(index) => Fault::numbered(18, *index),
-            Error::CrossModuleRefNotFound(index) => Fault::numbered(19, *index),
-            Error::UnexpectedNumericPrefix(prefix) => Fault::numbered(20, *prefix as u32),
-            Error::AddressMapNotFound => Fault::numbered(21, 0),
-            Error::UnimplementedDebugSubsection(kind) => Fault::numbered(22, *kind),
-            Error::UnimplementedFileChecksumKind(kind) => Fault::numbered(23, *kind as u32),
-            Error::InvalidFileChecksumOffset(offset) => Fault::numbered(24, *offset),
-            Error::LinesNotFound => Fault::numbered(25, 0),
-            Error::InvalidCompressedAnnotation => Fault::numbered(26, 0),
-            Error::UnknownBinaryAnnotation(number) => Fault::numbered(27, *number),
-            Error::OutOfMemory => Fault::numbered(28, 0),
+            Error::UnimplementedTypeKind(kind) => Fault::fault_with_number(17, *kind as u32),
+            Error::NotACrossModuleRef(index) => Fault::fault_with_number(18, *index),
+            Error::CrossModuleRefNotFound(index) => Fault::fault_with_number(19, *index),
+            Error::UnexpectedNumericPrefix(prefix) => Fault::fault_with_number(20, *prefix as u32),
+            Error::AddressMapNotFound => Fault::fault_with_number(21, 0),
+            Error::UnimplementedDebugSubsection(kind) => Fault::fault_with_number(22, *kind),
+            Error::UnimplementedFileChecksumKind(kind) => Fault::fault_with_number(
+                23,
+                *kind as u32,
+            ),
+            Error::InvalidFileChecksumOffset(offset) => Fault::fault_with_number(24, *offset),
+            Error::LinesNotFound => Fault::fault_with_number(25, 0),
+            Error::InvalidCompressedAnnotation => Fault::fault_with_number(26, 0),
+            Error::UnknownBinaryAnnotation(number) => Fault::fault_with_number(27, *number),
+            Error::OutOfMemory => Fault::fault_with_number(28, 0),
         }
     }
 }

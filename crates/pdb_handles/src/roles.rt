@@ -3,7 +3,7 @@
 ghost use Rattle.pdb_base.specs.Answer.{Answers};
 ghost use Rattle.pdb_handles.specs.Roles.{roles_said};
 
-use crate::file::opened;
+use crate::file::open_file;
 use pdb_base::Result;
 use std::alloc::Global;
 
@@ -42,7 +42,7 @@ pub struct Roles {
 pub fn roles_in(alloc: Global, file: &[u8]) -> Result<Roles>
     ensures { Answers (λ roles. roles) result (roles_said file.now) }
 {
-    let mut file = opened(alloc, file)?;
+    let mut file = open_file(alloc, file)?;
     let streams = file.extra_streams(alloc)?;
     Ok(Roles {
         fpo: streams.fpo.0,

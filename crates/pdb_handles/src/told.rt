@@ -91,7 +91,7 @@ fn candidate(status: u32, first: u32, second: u32) -> Option<Error>
 
 /// Returns the error that a fault reports, or None if it reports none.
 #[tactic(auto, unfolding(crate::specs::Told::refusal_told))]
-pub fn told(about: &Fault) -> Option<Error>
+pub fn error_of_fault(about: &Fault) -> Option<Error>
     ensures { option_map refusal_of result ≡ refusal_told about.now }
 {
     let error = candidate(about.status, about.first, about.second)?;

@@ -2,7 +2,7 @@
 //! original one, which the parts of a program database refer to.
 
 ghost use Rattle.std.specs.Prelude.{◌≡◌};
-ghost use Rattle.pdb_handles.specs.Translation.{AreForms, AreOfInternalPlace, AreOfInternalRva, AreOfPlace, AreOfRva, Translates, place_in, translation_of};
+ghost use Rattle.pdb_handles.specs.Translation.{AreForms, AreOfInternalPlace, AreOfInternalRva, AreOfPlace, AreOfRva, Translates, place_or_none, translation_of};
 
 use crate::fault::{Fault, NONE};
 use crate::found::tell_found;
@@ -117,7 +117,7 @@ fn forms_of(map: &AddressMap, form: u32, section: u16, offset: u32) -> Option<Fo
 
 /// Converts a place in a section of the image as it is loaded for the caller.
 fn place_in(place: Option<SectionOffset>) -> Place
-    ensures { result ≡ place_in place }
+    ensures { result ≡ place_or_none place }
 {
     let (section, offset) = place.map_or((0, 0), |place| (place.section, place.offset));
     Place {
@@ -128,7 +128,7 @@ fn place_in(place: Option<SectionOffset>) -> Place
 
 /// Converts a place in a section of the original image for the caller.
 fn internal_place_in(place: Option<PdbInternalSectionOffset>) -> Place
-    ensures { result ≡ place_in place }
+    ensures { result ≡ place_or_none place }
 {
     place_in(place.map(|place| SectionOffset::new(place.section, place.offset)))
 }

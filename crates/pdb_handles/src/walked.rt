@@ -1,6 +1,6 @@
 //! Walks along tables of types, with the numbers in their records.
 
-ghost use Rattle.pdb_tpi.specs.OpenTable.{bytes_at};
+ghost use Rattle.pdb_tpi.specs.OpenTable.{record_bytes};
 ghost use Rattle.pdb_tpi.specs.Record.{type_of};
 ghost use Rattle.pdb_handles.specs.Walked.{IsTypeRow, WritesNext};
 
@@ -34,7 +34,7 @@ fn write_type(
     place: RecordPlace,
     told: &mut TypeRow,
 )
-    ensures { IsTypeRow index place (type_of index (bytes_at kept.now.table place)) told.new }
+    ensures { IsTypeRow index place (type_of index (record_bytes kept.now.table place)) told.new }
 {
     told.place = Located::at(index, place);
     told.fault = write_type_row(alloc, kept.bytes_at(place), index, &mut told.info);

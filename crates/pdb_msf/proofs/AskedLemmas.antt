@@ -3,8 +3,8 @@ use Rattle.std.proofs.Common.{◌≡◌, ℕ, ◌+◌, ◌^◌, ◌<◌, ◌≤�
 use Rattle.pdb_base.specs.declared.error.Error.{Error}
 use Rattle.pdb_msf.specs.Asked.{Asks, raised_by}
 use Rattle.pdb_msf.specs.Header.{Head}
-use Rattle.pdb_msf.specs.Directory.{Entry, directory_of, entry_of}
-use Rattle.pdb_msf.specs.File.{described, wanted}
+use Rattle.pdb_msf.specs.Directory.{PagesOfStream, directory_of, stream_entry_of}
+use Rattle.pdb_msf.specs.File.{described_stream, requested_size}
 
 -- nothing more is asked
 pub asks_nothing : (asked : ℕ) → asked < 2 ^ 64 → asked ≡ raised_by 0 asked
@@ -22,11 +22,11 @@ asks_refused X old middle new part rest e fits first second = let low = second.0
     (omega arith, omega arith)
 
 -- of a stream that the directory describes its size is wanted, cut to the limit
-pub wanted_is : (old file : List ℕ) (before head : Head) (n : ℕ) (limit : Option ℕ) (directory : List ℕ) (entry : Entry)
+pub wanted_is : (old file : List ℕ) (before head : Head) (n : ℕ) (limit : Option ℕ) (directory : List ℕ) (entry : PagesOfStream)
     → file ≡ old → head ≡ before
-    → directory_of file head ≡ Ok directory → entry_of head.geometry n limit directory ≡ Ok entry
-    → wanted (described old before n limit) ≡ entry.size
+    → directory_of file head ≡ Ok directory → stream_entry_of head.geometry n limit directory ≡ Ok entry
+    → requested_size (described_stream old before n limit) ≡ entry.size
 wanted_is old file before head n limit directory entry same_file same_head read is =
-    let here : wanted (described file head n limit) ≡ entry.size = rw (read, is) refl in
-    ap (λ (f : List ℕ). wanted (described f before n limit)) (sym same_file)
-    ∙ ap (λ (h : Head). wanted (described file h n limit)) (sym same_head) ∙ here
+    let here : requested_size (described_stream file head n limit) ≡ entry.size = rw (read, is) refl in
+    ap (λ (f : List ℕ). requested_size (described_stream f before n limit)) (sym same_file)
+    ∙ ap (λ (h : Head). requested_size (described_stream file h n limit)) (sym same_head) ∙ here

@@ -6,12 +6,12 @@ use Rattle.std.specs.List.{slice_get}
 use Rattle.std.specs.Prelude.{not}
 use Rattle.pdb_base.specs.declared.error.Error.{Error}
 use Rattle.pdb_base.specs.Refusal.{Refusal, refusal_of, unexpected_eof, page_reference_out_of_range, stream_not_found}
-use Rattle.pdb_base.specs.Answer.{Answer, ◌>>=◌, Answers, required}
+use Rattle.pdb_base.specs.Answer.{Answer, ◌>>=◌, Answers, ok_if}
 use Rattle.pdb_msf.specs.declared.header.Geometry.{Geometry}
 use Rattle.pdb_msf.specs.declared.directory.StreamPlace.{StreamPlace}
 use Rattle.pdb_msf.specs.Source.{State, TellsKind}
-use Rattle.pdb_msf.specs.Pages.{pages, present, judged, page_numbers, words}
-use Rattle.pdb_msf.specs.Directory.{Entry, absent, entry_of, limited, place_in, sizes_of, start_of}
+use Rattle.pdb_msf.specs.Pages.{pages, present, valid_page, page_numbers, words}
+use Rattle.pdb_msf.specs.Directory.{PagesOfStream, absent, stream_entry_of, limit_size, stream_place_in, sizes_of, start_of}
 use Rattle.pdb_msf.proofs.LawLemmas.{first_fault}
 
 -- answers that refuse with no error of a source
@@ -35,7 +35,7 @@ plain_then (Err r) more one two = record {
       λ state e is. one.tells state e (let same : r ≡ e = cc in ap (λ (d : Refusal). Err d) same);
 }
 
-plain_required : (b : Bool) (r : Refusal) → ((state : State) → TellsKind state r) → Plain (required b r)
+plain_required : (b : Bool) (r : Refusal) → ((state : State) → TellsKind state r) → Plain (ok_if b r)
 plain_required true r told = plain_ok tt
 plain_required false r told = plain_err r told
 
@@ -43,7 +43,7 @@ plain_present : (o : Option ℕ) → Plain (present o)
 plain_present None = plain_err unexpected_eof (λ state. tt)
 plain_present (Some word) = plain_ok word
 
-plain_judged : (pages_used word : ℕ) → Plain (judged pages_used word)
+plain_judged : (pages_used word : ℕ) → Plain (valid_page pages_used word)
 plain_judged pages_used word = elim (cases_Bool (ltb 0 word && leb word pages_used)) [
   | inl good ↦ rw good (plain_ok word)
   | inr bad ↦ rw bad (plain_err (page_reference_out_of_range word) (λ state. tt))
@@ -53,12 +53,12 @@ plain_numbers : (pages_used count : ℕ) (words : List ℕ) → Plain (page_numb
 plain_numbers pages_used count words = record {
   tells = λ state e is.
       let first = first_fault pages_used count words e is in
-      (plain_then (present (slice_get words first.place)) (judged pages_used)
+      (plain_then (present (slice_get words first.place)) (valid_page pages_used)
       (plain_present (slice_get words first.place)) (plain_judged pages_used)).tells state e first.here;
 }
 
-plain_place : (page_size n : ℕ) (d : List ℕ) → Plain (place_in page_size n d)
-unfolding place_in
+plain_place : (page_size n : ℕ) (d : List ℕ) → Plain (stream_place_in page_size n d)
+unfolding stream_place_in
 plain_place page_size n d =
     plain_then _ _ (plain_present (slice_get (words d) 0)) (λ count.
     plain_then _ _ (plain_required _ (stream_not_found n) (λ state. tt)) (λ known.
@@ -68,12 +68,12 @@ plain_place page_size n d =
     (λ reached.
     let place : StreamPlace = record { size = size; start = start_of page_size count d n } in plain_ok place)))))
 
-plain_entry : (g : Geometry) (n : ℕ) (limit : Option ℕ) (d : List ℕ) → Plain (entry_of g n limit d)
-unfolding entry_of
+plain_entry : (g : Geometry) (n : ℕ) (limit : Option ℕ) (d : List ℕ) → Plain (stream_entry_of g n limit d)
+unfolding stream_entry_of
 plain_entry g n limit d =
     plain_then _ _ (plain_place g.page_size n d) (λ place.
     plain_then _ _ (plain_numbers g.pages_used (pages g.page_size place.size) (words (drop place.start d))) (λ numbers.
-    let entry : Entry = record { size = limited place.size limit; pages = numbers } in plain_ok entry))
+    let entry : PagesOfStream = record { size = limit_size place.size limit; pages = numbers } in plain_ok entry))
 
 -- so a call that reads no source passes no error of one on
 tells_answers : {X A : Type 0} (state : State) (view : X → A) (e : Error) (meant : Answer A) → Plain meant
@@ -86,8 +86,8 @@ pub tells_numbers : {X : Type 0} (state : State) (view : X → List ℕ) (e : Er
 tells_numbers state view e pages_used count words answered =
     tells_answers state view e (page_numbers pages_used count words) (plain_numbers pages_used count words) answered
 
-pub tells_entry : {X : Type 0} (state : State) (view : X → Entry) (e : Error) (g : Geometry) (n : ℕ) (limit : Option ℕ)
+pub tells_entry : {X : Type 0} (state : State) (view : X → PagesOfStream) (e : Error) (g : Geometry) (n : ℕ) (limit : Option ℕ)
     (d : List ℕ)
-    → Answers view (Err e) (entry_of g n limit d) → TellsKind state (refusal_of e)
+    → Answers view (Err e) (stream_entry_of g n limit d) → TellsKind state (refusal_of e)
 tells_entry state view e g n limit d answered =
-    tells_answers state view e (entry_of g n limit d) (plain_entry g n limit d) answered
+    tells_answers state view e (stream_entry_of g n limit d) (plain_entry g n limit d) answered

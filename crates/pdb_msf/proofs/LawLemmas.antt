@@ -11,18 +11,18 @@ use Rattle.std.proofs.lemmas.List.FromFn.{get_or-map-range_with_len, length-map-
 use Rattle.std.proofs.lemmas.Option.{slice_get-get_or, slice_get_within, get_or_from_slice_get}
 use Rattle.std.specs.List.{list_all, range_with_len, slice_get}
 use Rattle.pdb_base.specs.Refusal.{Refusal, page_reference_out_of_range}
-use Rattle.pdb_base.specs.Answer.{Answer, collected}
+use Rattle.pdb_base.specs.Answer.{Answer, values_of_all}
 use Rattle.pdb_base.specs.Reading.{number_at, word_at}
 use Rattle.pdb_base.proofs.lemmas.Reading.{front_whole, number_whole}
 use Rattle.pdb_base.proofs.lemmas.Collected.{ok, err, ok_is, err_is, ok_is_no_err, bind_ok, collects_all}
 use Rattle.pdb_base.proofs.lemmas.Collected.{collected_more, collected_stops}
 use Rattle.pdb_msf.specs.declared.header.Geometry.{Geometry}
-use Rattle.pdb_msf.specs.Source.{bytes_at, found}
-use Rattle.pdb_msf.specs.Pages.{pages, position_of, scatter, words, present, judged, page_number, page_numbers}
-use Rattle.pdb_msf.specs.Header.{Head, fields_of}
-use Rattle.pdb_msf.specs.Directory.{Entry, directory_of, entry_of, place_in}
+use Rattle.pdb_msf.specs.Source.{bytes_at, bytes_or_eof}
+use Rattle.pdb_msf.specs.Pages.{pages, position_of, scatter, words, present, valid_page, page_number, page_numbers}
+use Rattle.pdb_msf.specs.Header.{Head, fields_of_header}
+use Rattle.pdb_msf.specs.Directory.{PagesOfStream, directory_of, stream_entry_of, stream_place_in}
 use Rattle.pdb_msf.specs.File.{stream_of}
-use Rattle.pdb_msf.specs.Laws.{IsLeast, Scatters, StandAtOffsets, AreGood, FirstFault, CutsOnly}
+use Rattle.pdb_msf.specs.Laws.{IsLeast, Scatters, HasHeaderAtOffsets, AreGood, FirstFault, CutsOnly}
 use Rattle.pdb_msf.proofs.PageLemmas.{pages_reach, pages_tight}
 
 -- ---- pages
@@ -149,8 +149,8 @@ next_word view offset after is long =
     number_whole 4 (drop offset view) (omega (arith, length-drop offset view))
     ∙ ap (λ (n : List ℕ). Ok (word_at offset view, n)) (drop-drop 4 offset view ∙ ap (λ (n : ℕ). drop n view) is)
 
-pub stand_at_offsets : (view : List ℕ) → StandAtOffsets view
-unfolding fields_of
+pub stand_at_offsets : (view : List ℕ) → HasHeaderAtOffsets view
+unfolding fields_of_header
 stand_at_offsets view long =
     rw (
       front_whole 32 view (omega arith),
@@ -167,7 +167,7 @@ pub word_there : (o : Option ℕ) (word : ℕ) → present o ≡ Ok word → o �
 word_there None word e = absurd cc
 word_there (Some there) word e = ap (λ (n : ℕ). Some n) (ok_is there word e)
 
-judged_good : (pages_used word number : ℕ) → judged pages_used word ≡ Ok number → (word ≡ number) × (0 < word)
+judged_good : (pages_used word number : ℕ) → valid_page pages_used word ≡ Ok number → (word ≡ number) × (0 < word)
     × (word ≤ pages_used)
 judged_good pages_used word number e = elim (cases_Bool (ltb 0 word && leb word pages_used)) [
   | inr bad ↦ absurd (ok_is_no_err number (page_reference_out_of_range word)
@@ -183,7 +183,7 @@ judged_good pages_used word number e = elim (cases_Bool (ltb 0 word && leb word 
 good_number : (pages_used : ℕ) (words : List ℕ) (i number : ℕ) → page_number pages_used words i ≡ Ok number
     → (slice_get words i ≡ Some number) × (0 < number) × (number ≤ pages_used)
 good_number pages_used words i number e =
-    let there = bind_ok (present (slice_get words i)) (judged pages_used) number e in
+    let there = bind_ok (present (slice_get words i)) (valid_page pages_used) number e in
     let good = judged_good pages_used there.0 number there.2 in (
       word_there (slice_get words i) there.0 there.1
           ∙ ap (λ (n : ℕ). Some n) good.0,
@@ -216,10 +216,10 @@ answer_cases (Ok x) = inl (x, refl)
 answer_cases (Err e) = inr (e, refl)
 
 first_in : {A : Type 0} (f : ℕ → Answer A) (count : ℕ) (e : Refusal)
-    → collected (map f (range_with_len 0 count)) ≡ Err e
-    → (i : ℕ) × (i < count) × (xs : List A) × (collected (map f (range_with_len 0 i)) ≡ Ok xs) × (f i ≡ Err e)
+    → values_of_all (map f (range_with_len 0 count)) ≡ Err e
+    → (i : ℕ) × (i < count) × (xs : List A) × (values_of_all (map f (range_with_len 0 i)) ≡ Ok xs) × (f i ≡ Err e)
 first_in f zero e h = absurd cc
-first_in {A} f (suc count) e h = elim (answer_cases (collected (map f (range_with_len 0 count)))) [
+first_in {A} f (suc count) e h = elim (answer_cases (values_of_all (map f (range_with_len 0 count)))) [
   | inr refused ↦
       let before = first_in f count refused.0 refused.1 in
       let all = collected_stops f before.0 (suc count) before.2 refused.0 (omega (arith, before.1)) before.3 before.4 in (
@@ -243,7 +243,7 @@ first_in {A} f (suc count) e h = elim (answer_cases (collected (map f (range_wit
     | inl here ↦ absurd (
         let next : count + 1 ≡ suc count = omega arith in
         let all = collected_more f count there.0 here.0 there.1 here.1 in
-        ok_is_no_err (there.0 ++ here.0 ∷ []) e (sym all ∙ ap (λ (n : ℕ). collected (map f (range_with_len 0 n))) next
+        ok_is_no_err (there.0 ++ here.0 ∷ []) e (sym all ∙ ap (λ (n : ℕ). values_of_all (map f (range_with_len 0 n))) next
         ∙ h))
   ]
 ]
@@ -257,7 +257,7 @@ first_fault pages_used count words fault e =
 
 -- ---- streams
 
-pub found_there : (o : Option (List ℕ)) (bytes : List ℕ) → found o ≡ Ok bytes → o ≡ Some bytes
+pub found_there : (o : Option (List ℕ)) (bytes : List ℕ) → bytes_or_eof o ≡ Ok bytes → o ≡ Some bytes
 found_there None bytes e = absurd cc
 found_there (Some there) bytes e = ap (λ (r : List ℕ). Some r) (ok_is there bytes e)
 
@@ -274,23 +274,23 @@ cut_is file page_size numbers size limit bytes e =
     })
 
 -- under a limit an entry differs only in how many bytes are requested
-limited_entry : (g : Geometry) (n limit : ℕ) (d : List ℕ) (entry : Entry) → entry_of g n None d ≡ Ok entry
-    → entry_of g n (Some limit) d ≡ Ok (record { size = min entry.size limit; pages = entry.pages })
-unfolding entry_of
+limited_entry : (g : Geometry) (n limit : ℕ) (d : List ℕ) (entry : PagesOfStream) → stream_entry_of g n None d ≡ Ok entry
+    → stream_entry_of g n (Some limit) d ≡ Ok (record { size = min entry.size limit; pages = entry.pages })
+unfolding stream_entry_of
 limited_entry g n limit d entry e =
-    let place = bind_ok (place_in g.page_size n d) _ entry e in
+    let place = bind_ok (stream_place_in g.page_size n d) _ entry e in
     let numbers = bind_ok (page_numbers g.pages_used (pages g.page_size place.0.size) (words (drop place.0.start d))) _
     entry place.2 in
-    let meant : Entry = record { size = place.0.size; pages = numbers.0 } in
+    let meant : PagesOfStream = record { size = place.0.size; pages = numbers.0 } in
     let same : meant ≡ entry = ok_is meant entry numbers.2 in
-    rw (place.1, numbers.1) (ap (λ (other : Entry). Ok
-    (let cut : Entry = record { size = min other.size limit; pages = other.pages } in cut)) same)
+    rw (place.1, numbers.1) (ap (λ (other : PagesOfStream). Ok
+    (let cut : PagesOfStream = record { size = min other.size limit; pages = other.pages } in cut)) same)
 
 pub cuts_only : (file : List ℕ) (head : Head) (n limit : ℕ) → CutsOnly file head n limit
 unfolding stream_of
 cuts_only file head n limit bytes e =
     let directory = bind_ok (directory_of file head) _ bytes e in
-    let entry = bind_ok (entry_of head.geometry n None directory.0) _ bytes directory.2 in
+    let entry = bind_ok (stream_entry_of head.geometry n None directory.0) _ bytes directory.2 in
     let whole = found_there (scatter file head.geometry.page_size entry.0.pages entry.0.size) bytes entry.2 in
     rw (
       directory.1,

@@ -5,7 +5,7 @@ use Rattle.pdb_base.specs.Reading.{number_at}
 use Rattle.pdb_base.specs.Refusal.{Refusal}
 use Rattle.pdb_base.proofs.lemmas.Collected.{ok_is, bind_ok}
 use Rattle.pdb_msf.specs.Pages.{present, words}
-use Rattle.pdb_msf.specs.Header.{Head, opened}
+use Rattle.pdb_msf.specs.Header.{Head, file_head}
 use Rattle.pdb_msf.specs.Directory.{directory_of, stream_count_in}
 use Rattle.pdb_msf.specs.File.{stream_of}
 use Rattle.pdb_msf.specs.Layout.{LayoutValue, layout_of, stream_by}
@@ -28,13 +28,13 @@ uncounted d slice start e whole begins missing =
 -- ---- a layout over the bytes of its file
 
 record Read (file : List ℕ) (layout : LayoutValue) : Type 0 where
-  pub head : opened file ≡ Ok layout.head
+  pub head : file_head file ≡ Ok layout.head
   pub directory : directory_of file layout.head ≡ Ok layout.directory
 
 layout_read : (file : List ℕ) (layout : LayoutValue) → layout_of file ≡ Ok layout → Read file layout
 unfolding layout_of
 layout_read file layout is =
-    let head = bind_ok (opened file) _ layout is in
+    let head = bind_ok (file_head file) _ layout is in
     let directory = bind_ok (directory_of file head.0) _ layout head.2 in
     let meant : LayoutValue = record { head = head.0; directory = directory.0 } in
     let same : meant ≡ layout = ok_is meant layout directory.2 in
@@ -45,7 +45,7 @@ layout_read file layout is =
           ∙ ap (λ (d : List ℕ). Ok d) (ap (λ (p : LayoutValue). p.directory) same);
     }
 
-pub head_read : (file : List ℕ) (layout : LayoutValue) → layout_of file ≡ Ok layout → opened file ≡ Ok layout.head
+pub head_read : (file : List ℕ) (layout : LayoutValue) → layout_of file ≡ Ok layout → file_head file ≡ Ok layout.head
 head_read file layout is = (layout_read file layout is).head
 
 pub same_stream : (file : List ℕ) (layout : LayoutValue) (n : ℕ) (limit : Option ℕ) → layout_of file ≡ Ok layout

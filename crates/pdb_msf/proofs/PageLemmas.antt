@@ -18,7 +18,7 @@ use Rattle.pdb_base.specs.Answer.{AnswersUnless}
 use Rattle.std.proofs.lemmas.Bool.Decides.{nat_tests}
 use Rattle.pdb_msf.specs.Header.{is_page_size}
 use Rattle.pdb_msf.specs.PageList.{page_positions}
-use Rattle.pdb_msf.specs.Source.{bytes_at, found}
+use Rattle.pdb_msf.specs.Source.{bytes_at, bytes_or_eof}
 use Rattle.pdb_msf.specs.Pages.{pages, position_of}
 use Rattle.pdb_msf.specs.Directory.{absent}
 use Rattle.pdb_base.proofs.lemmas.Collected.{ok_is}
@@ -126,17 +126,17 @@ pages_le page_size bytes positive =
     ]
 
 -- what was found at so many positions has so many bytes
-pub length_found : (file at bytes : List ℕ) → found (bytes_at file at) ≡ Ok bytes → length bytes ≡ length at
+pub length_found : (file at bytes : List ℕ) → bytes_or_eof (bytes_at file at) ≡ Ok bytes → length bytes ≡ length at
 unfolding bytes_at
 length_found file at bytes e = elim (cases_Bool (list_all (λ place. ltb place (length file)) at)) [
-  | inl all ↦ let shown : found (Some (map (slice_index file) at)) ≡ Ok bytes =
-      subst (λ (b : Bool). found (cond b (Some (map (slice_index file) at)) None) ≡ Ok bytes) all e in
+  | inl all ↦ let shown : bytes_or_eof (Some (map (slice_index file) at)) ≡ Ok bytes =
+      subst (λ (b : Bool). bytes_or_eof (cond b (Some (map (slice_index file) at)) None) ≡ Ok bytes) all e in
       sym (ap length (ok_is (map (slice_index file) at) bytes shown)) ∙ length-map at (slice_index file)
-  | inr none ↦ absurd (let shown : found None ≡ Ok bytes =
-      subst (λ (b : Bool). found (cond b (Some (map (slice_index file) at)) None) ≡ Ok bytes) none e in cc)
+  | inr none ↦ absurd (let shown : bytes_or_eof None ≡ Ok bytes =
+      subst (λ (b : Bool). bytes_or_eof (cond b (Some (map (slice_index file) at)) None) ≡ Ok bytes) none e in cc)
 ]
 
 pub length_viewed : (failed : Type 0) (file at : List ℕ) (size : ℕ) (result : Result (List ℕ) Error) → length at ≡ size
-    → AnswersUnless failed (λ v. v) result (found (bytes_at file at)) → IfOk result (λ v. length v ≡ size)
+    → AnswersUnless failed (λ v. v) result (bytes_or_eof (bytes_at file at)) → IfOk result (λ v. length v ≡ size)
 length_viewed failed file at size (Ok bytes) sized answered = length_found file at bytes answered ∙ sized
 length_viewed failed file at size (Err e) sized answered = tt

@@ -13,13 +13,13 @@ use Rattle.pdb_base.specs.Answer.{Answer}
 use Rattle.pdb_msf.specs.Pages.{pages, page_numbers, words}
 use Rattle.pdb_msf.specs.declared.header.Geometry.{Geometry}
 use Rattle.pdb_msf.specs.declared.directory.StreamPlace.{StreamPlace}
-use Rattle.pdb_msf.specs.Directory.{absent, count_of, entry_of, limited, pages_taken, place_in, sizes_of, start_of}
+use Rattle.pdb_msf.specs.Directory.{absent, first_word, stream_entry_of, limit_size, pages_taken, stream_place_in, sizes_of, start_of}
 use Rattle.pdb_msf.specs.Directory.{starts_of}
 use Rattle.pdb_msf.proofs.WordLemmas.{length-words, next_word, no_word, word_past, words-drop, total_more}
 
 pub no_count : (page_size n : ℕ) (d : List ℕ) → slice_get (words d) 0 ≡ None
-    → place_in page_size n d ≡ Err unexpected_eof
-unfolding place_in
+    → stream_place_in page_size n d ≡ Err unexpected_eof
+unfolding stream_place_in
 no_count page_size n d none = rw none refl
 
 -- the directory has this count
@@ -27,8 +27,8 @@ pub record HasCount (d : List ℕ) (count : ℕ) : Type 0 where
   pub is : slice_get (words d) 0 ≡ Some count
 
 pub not_counted : (page_size n : ℕ) (d : List ℕ) (count : ℕ) → HasCount d count → count ≤ n
-    → place_in page_size n d ≡ Err (stream_not_found n)
-unfolding place_in
+    → stream_place_in page_size n d ≡ Err (stream_not_found n)
+unfolding stream_place_in
 not_counted page_size n d count counted above = rw (counted.is, le-ltb n count above) refl
 
 -- the stream is counted, and its size may stand in the directory
@@ -37,8 +37,8 @@ pub record IsCounted (n : ℕ) (d : List ℕ) (count : ℕ) : Type 0 where
   pub known : n < count
 
 pub no_size : (page_size n : ℕ) (d : List ℕ) (count : ℕ) → IsCounted n d count → slice_get (sizes_of d) n ≡ None
-    → place_in page_size n d ≡ Err unexpected_eof
-unfolding place_in
+    → stream_place_in page_size n d ≡ Err unexpected_eof
+unfolding stream_place_in
 no_size page_size n d count counted none = rw (counted.has.is, lt-ltb n count counted.known, none) refl
 
 -- the stream is counted and has a size
@@ -47,14 +47,14 @@ pub record HasSize (n : ℕ) (d : List ℕ) (count size : ℕ) : Type 0 where
   pub is : slice_get (sizes_of d) n ≡ Some size
 
 pub absent_stream : (page_size n : ℕ) (d : List ℕ) (count size : ℕ) → HasSize n d count size → size ≡ absent
-    → place_in page_size n d ≡ Err (stream_not_found n)
-unfolding place_in
+    → stream_place_in page_size n d ≡ Err (stream_not_found n)
+unfolding stream_place_in
 absent_stream page_size n d count size sized gone =
     rw (sized.counted.has.is, lt-ltb n count sized.counted.known, sized.is, eq-eqb size absent gone) refl
 
 pub unreached : (page_size n : ℕ) (d : List ℕ) (count size : ℕ) → HasSize n d count size → (size ≡ absent → ⊥)
-    → length d < start_of page_size count d n → place_in page_size n d ≡ Err unexpected_eof
-unfolding place_in
+    → length d < start_of page_size count d n → stream_place_in page_size n d ≡ Err unexpected_eof
+unfolding stream_place_in
 unreached page_size n d count size sized there past =
     rw (
       sized.counted.has.is,
@@ -66,8 +66,8 @@ unreached page_size n d count size sized there past =
 
 pub stands : (page_size n : ℕ) (d : List ℕ) (count size : ℕ) → HasSize n d count size → (size ≡ absent → ⊥)
     → start_of page_size count d n ≤ length d
-    → place_in page_size n d ≡ Ok (record { size = size; start = start_of page_size count d n })
-unfolding place_in
+    → stream_place_in page_size n d ≡ Ok (record { size = size; start = start_of page_size count d n })
+unfolding stream_place_in
 stands page_size n d count size sized there reached =
     rw (
       sized.counted.has.is,
@@ -90,7 +90,7 @@ count_read d slice start x whole begins read =
 
 -- and where there is none, the directory ends before it
 pub count_missing : (page_size n : ℕ) (d slice : List ℕ) (start : Place) (e : Refusal) → slice ≡ d
-    → start ≡ record { slice = slice; pos = 0 } → number_at 4 (left start) ≡ Err e → place_in page_size n d ≡ Err e
+    → start ≡ record { slice = slice; pos = 0 } → number_at 4 (left start) ≡ Err e → stream_place_in page_size n d ≡ Err e
 count_missing page_size n d slice start e whole begins missing =
     let none = no_word (words d) 0 (left start) e
     (ap (λ (p : Place). words (left p)) begins ∙ ap words whole) missing in
@@ -132,7 +132,7 @@ size_there n d slice start place same count size whole begins counted kept known
     (record { whole = kept ∙ ap (λ (p : Place). p.slice) begins ∙ whole; begins = sought }) read
 
 pub size_missing : (page_size n count : ℕ) (d slice : List ℕ) (place : Place) (e : Refusal) → IsCounted n d count
-    → IsBehind n d slice place → number_at 4 (left place) ≡ Err e → place_in page_size n d ≡ Err e
+    → IsBehind n d slice place → number_at 4 (left place) ≡ Err e → stream_place_in page_size n d ≡ Err e
 size_missing page_size n count d slice place e counted at missing =
     let none = no_word (sizes_of d) n (left place) e (sizes_left n d slice place at) missing in
     rw none.1 (no_size page_size n d count counted none.0)
@@ -142,7 +142,7 @@ pub no_size_there : (page_size n : ℕ) (d slice : List ℕ) (start place : Plac
     (e : Refusal) → slice ≡ d → start ≡ record { slice = slice; pos = 0 } → number_at 4 (left start) ≡ Ok count
     → same ≡ start.slice → n < count.0
     → place ≡ record { slice = same; pos = min (4 + 4 * n) (length same) } → number_at 4 (left place) ≡ Err e
-    → place_in page_size n d ≡ Err e
+    → stream_place_in page_size n d ≡ Err e
 no_size_there page_size n d slice start place same count e whole begins counted kept known sought missing =
     size_missing page_size n count.0 d same place e
     (record { has = count_read d slice start count whole begins counted; known = known })
@@ -151,7 +151,7 @@ no_size_there page_size n d slice start place same count e whole begins counted 
 -- ---- the places that are kept
 
 -- the count that stands first
-pub count_is : (d : List ℕ) (count : ℕ) → HasCount d count → count_of d ≡ count
+pub count_is : (d : List ℕ) (count : ℕ) → HasCount d count → first_word d ≡ count
 count_is d count counted = get_or_from_slice_get (words d) 0 count 0 counted.is
 
 -- as many sizes stand in the directory as there are whole fours behind the count
@@ -168,8 +168,8 @@ pub no_starts : (page_size : ℕ) (d : List ℕ) → slice_get (words d) 0 ≡ N
 no_starts page_size d none =
     let empty : length (words d) ≤ 0 = word_past (words d) 0 none in
     let no_sizes : length (sizes_of d) ≡ 0 = omega (arith, length-drop 1 (words d), empty) in
-    let known : min (count_of d) (length (sizes_of d)) ≡ 0 = omega arith in
-    ap (λ (n : ℕ). map (start_of page_size (count_of d) d) (range_with_len 0 n)) known
+    let known : min (first_word d) (length (sizes_of d)) ≡ 0 = omega arith in
+    ap (λ (n : ℕ). map (start_of page_size (first_word d) d) (range_with_len 0 n)) known
 
 -- a stream with a size has a place
 pub start_within : (page_size n : ℕ) (d starts : List ℕ) (count size : ℕ) → starts ≡ starts_of page_size d
@@ -178,9 +178,9 @@ start_within page_size n d starts count size are sized =
     let within : n < length (sizes_of d) = slice_get_within (sizes_of d) n size sized.is in
     let first = count_is d count sized.counted.has in
     let known = sized.counted.known in
-    let long : length starts ≡ min (count_of d) (length (sizes_of d)) =
-    ap length are ∙ length-map-range_with_len (start_of page_size (count_of d) d) 0
-    (min (count_of d) (length (sizes_of d))) in
+    let long : length starts ≡ min (first_word d) (length (sizes_of d)) =
+    ap length are ∙ length-map-range_with_len (start_of page_size (first_word d) d) 0
+    (min (first_word d) (length (sizes_of d))) in
     omega arith
 
 pub start_is : (page_size n : ℕ) (d starts : List ℕ) (count size other : ℕ) → starts ≡ starts_of page_size d
@@ -190,7 +190,7 @@ start_is page_size n d starts count size other are sized =
     let first = count_is d count sized.counted.has in
     let known = sized.counted.known in
     ap (λ (s : List ℕ). get_or s n other) are
-    ∙ get_or-map-range_with_len (start_of page_size (count_of d) d) 0 (min (count_of d) (length (sizes_of d))) n n other
+    ∙ get_or-map-range_with_len (start_of page_size (first_word d) d) 0 (min (first_word d) (length (sizes_of d))) n n other
     (omega arith) (omega arith)
     ∙ ap (λ (k : ℕ). start_of page_size k d n) first
 
@@ -211,17 +211,17 @@ numbers_left at d slice start place whole begins sought =
     ∙ ap words (drop_min at d)
 
 pub entry_found : (g : Geometry) (n : ℕ) (limit : Option ℕ) (d : List ℕ) (place : StreamPlace) (numbers : List ℕ)
-    → place_in g.page_size n d ≡ Ok place
+    → stream_place_in g.page_size n d ≡ Ok place
     → page_numbers g.pages_used (pages g.page_size place.size) (words (drop place.start d)) ≡ Ok numbers
-    → entry_of g n limit d ≡ Ok (record { size = limited place.size limit; pages = numbers })
-unfolding entry_of
+    → stream_entry_of g n limit d ≡ Ok (record { size = limit_size place.size limit; pages = numbers })
+unfolding stream_entry_of
 entry_found g n limit d place numbers here good = rw (here, good) refl
 
 pub entry_refused : (g : Geometry) (n : ℕ) (limit : Option ℕ) (d : List ℕ) (place : StreamPlace) (e : Refusal)
-    → place_in g.page_size n d ≡ Ok place
+    → stream_place_in g.page_size n d ≡ Ok place
     → page_numbers g.pages_used (pages g.page_size place.size) (words (drop place.start d)) ≡ Err e
-    → entry_of g n limit d ≡ Err e
-unfolding entry_of
+    → stream_entry_of g n limit d ≡ Err e
+unfolding stream_entry_of
 entry_refused g n limit d place e here bad = rw (here, bad) refl
 
 -- the page numbers that are read at the place of a stream

@@ -12,7 +12,7 @@ use Rattle.std.proofs.lemmas.List.{ext_get_or, length-map, map-id}
 use Rattle.std.proofs.lemmas.List.FromFn.{length-range_with_len, get_or-map-range_with_len, take-map-range_with_len}
 use Rattle.pdb_msf.specs.declared.source.SourceSlice.{SourceSlice}
 use Rattle.pdb_msf.specs.Source.{slice_positions, positions, bytes_at}
-use Rattle.pdb_msf.specs.Within.{is_within, fitting}
+use Rattle.pdb_msf.specs.Within.{is_within, if_fits_usize}
 
 -- ---- one slice more
 
@@ -61,8 +61,8 @@ size_more slices i d total next within is sum = let more = length-positions_more
 -- and one that does not
 pub size_past : (slices : List SourceSlice) (i : ℕ) (d : SourceSlice) (total : ℕ) → i < length slices
     → total ≡ length (positions (take i slices)) → 2 ^ 64 ≤ total + (get_or slices i d).size
-    → fitting (length (positions slices)) ≡ None
-unfolding fitting
+    → if_fits_usize (length (positions slices)) ≡ None
+unfolding if_fits_usize
 size_past slices i d total within is past =
     let more = length-positions_more slices i d within in
     let most = length-positions_take slices (i + 1) in
@@ -71,8 +71,8 @@ size_past slices i d total within is past =
     rw test refl
 
 pub size_fits : (slices : List SourceSlice) (total : ℕ) → total ≡ length (positions slices) → total < 2 ^ 64
-    → fitting (length (positions slices)) ≡ Some total
-unfolding fitting
+    → if_fits_usize (length (positions slices)) ≡ Some total
+unfolding if_fits_usize
 size_fits slices total is small =
     let test : ltb (length (positions slices)) (2 ^ 64) ≡ true =
     lt-ltb (length (positions slices)) (2 ^ 64) (omega (arith, is, small)) in

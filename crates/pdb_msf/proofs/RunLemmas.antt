@@ -8,7 +8,7 @@ use Rattle.std.proofs.lemmas.Bool.Decides.{eqb_tells}
 use Rattle.std.proofs.lemmas.List.{append-nil}
 use Rattle.std.proofs.lemmas.List.Sums.{fold-append}
 use Rattle.pdb_msf.specs.declared.source.SourceSlice.{SourceSlice}
-use Rattle.pdb_msf.specs.PageList.{page_slice, joined, with_slice}
+use Rattle.pdb_msf.specs.PageList.{page_slice, join_slices, with_slice}
 use Rattle.pdb_msf.specs.Runs.{Run, run_pages, run_slice, BeginElsewhere, AreLongest, AreJoined}
 use Rattle.pdb_msf.proofs.SliceLemmas.{range_joined}
 
@@ -34,8 +34,8 @@ same_end : (page_size end page : ℕ) → 0 < page_size → end * page_size ≡ 
 same_end page_size end page positive same = eq_of_mul-eq-mul_left page_size positive end page (omega arith)
 
 next_slices : (page_size : ℕ) (run : Run) (page : ℕ) → 0 < page_size
-    → map (run_slice page_size) (with_next run page) ≡ joined (run_slice page_size run) (page_slice page_size page)
-unfolding with_next joined
+    → map (run_slice page_size) (with_next run page) ≡ join_slices (run_slice page_size run) (page_slice page_size page)
+unfolding with_next join_slices
 next_slices page_size run page positive = elim (eqb_tells (run.first + run.count) page) [
   | inl meets ↦
       let end : run.first * page_size + run.count * page_size ≡ (run.first + run.count) * page_size = omega arith in

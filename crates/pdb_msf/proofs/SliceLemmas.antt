@@ -8,7 +8,7 @@ use Rattle.std.proofs.lemmas.List.{append-nil, take-append-le, take_all}
 use Rattle.std.proofs.lemmas.List.FromFn.{length-range_with_len}
 use Rattle.pdb_msf.specs.declared.source.SourceSlice.{SourceSlice}
 use Rattle.pdb_msf.specs.Source.{slice_positions, positions}
-use Rattle.pdb_msf.specs.PageList.{joined, with_slice, first_of}
+use Rattle.pdb_msf.specs.PageList.{join_slices, with_slice, first_bytes_of}
 use Rattle.pdb_msf.proofs.PositionLemmas.{take-range_with_len, take-append-ge}
 
 -- ---- one slice more
@@ -17,7 +17,7 @@ use Rattle.pdb_msf.proofs.PositionLemmas.{take-range_with_len, take-append-ge}
 pub add_joined : (slices : List SourceSlice) (i : ℕ) (last next : SourceSlice) → length slices ≡ suc i
     → last ≡ get_or slices i last → eqb (last.offset + last.size) next.offset ≡ true
     → set slices i (record { offset = last.offset; size = last.size + next.size }) ≡ with_slice slices next
-unfolding with_slice joined
+unfolding with_slice join_slices
 add_joined [] i last next long is meets = absurd (omega arith)
 add_joined (slice ∷ []) zero last next long is meets =
     let test : eqb (slice.offset + slice.size) next.offset ≡ true =
@@ -32,7 +32,7 @@ add_joined (slice ∷ (other ∷ slices)) (suc i) last next long is meets =
 pub add_apart : (slices : List SourceSlice) (i : ℕ) (last next : SourceSlice) → length slices ≡ suc i
     → last ≡ get_or slices i last → eqb (last.offset + last.size) next.offset ≡ false
     → slices ++ next ∷ [] ≡ with_slice slices next
-unfolding with_slice joined
+unfolding with_slice join_slices
 add_apart [] i last next long is apart = absurd (omega arith)
 add_apart (slice ∷ []) zero last next long is apart =
     let test : eqb (slice.offset + slice.size) next.offset ≡ false =
@@ -77,9 +77,9 @@ range_joined from (suc size) more =
     (range_joined (from + 1) size more ∙ ap (λ (n : ℕ). range_with_len (from + 1) size
     ++ range_with_len n more) start)
 
-joined_positions : (slice next : SourceSlice) → positions (joined slice next) ≡ slice_positions slice
+joined_positions : (slice next : SourceSlice) → positions (join_slices slice next) ≡ slice_positions slice
     ++ slice_positions next
-unfolding joined
+unfolding join_slices
 joined_positions slice next = elim (eqb_tells (slice.offset + slice.size) next.offset) [
   | inl meets ↦ rw meets.0 (append-nil (range_with_len slice.offset (slice.size + next.size))
       ∙ range_joined slice.offset slice.size next.size
@@ -113,8 +113,8 @@ length-positions_first slice slices =
     ∙ ap (λ (n : ℕ). n + length (positions slices)) (length-range_with_len slice.offset slice.size)
 
 -- all of slices that have no more bytes
-pub first_of_all : (n : ℕ) (slices : List SourceSlice) → length (positions slices) ≤ n → first_of n slices ≡ slices
-unfolding first_of
+pub first_of_all : (n : ℕ) (slices : List SourceSlice) → length (positions slices) ≤ n → first_bytes_of n slices ≡ slices
+unfolding first_bytes_of
 first_of_all n [] few = refl
 first_of_all n (slice ∷ slices) few =
     let whole = length-positions_first slice slices in
@@ -123,8 +123,8 @@ first_of_all n (slice ∷ slices) few =
 
 -- without their last one slices still have their first n bytes, if there are that many
 pub first_of_fewer : (n : ℕ) (shorter : List SourceSlice) (last : SourceSlice) → n ≤ length (positions shorter)
-    → n < length (positions shorter) + last.size → first_of n shorter ≡ first_of n (shorter ++ last ∷ [])
-unfolding first_of
+    → n < length (positions shorter) + last.size → first_bytes_of n shorter ≡ first_bytes_of n (shorter ++ last ∷ [])
+unfolding first_bytes_of
 first_of_fewer n [] last there more =
     let test : leb last.size n ≡ false = lt-leb last.size n (omega arith) in
     let none : eqb n 0 ≡ true = eq-eqb n 0 (omega arith) in
@@ -141,9 +141,9 @@ first_of_fewer n (slice ∷ shorter) last there more =
 -- where they end within the last one, this is cut
 pub first_of_cut : (n : ℕ) (shorter : List SourceSlice) (last : SourceSlice) → length (positions shorter) < n
     → n < length (positions shorter) + last.size
-    → first_of n (shorter ++ last ∷ []) ≡ shorter
+    → first_bytes_of n (shorter ++ last ∷ []) ≡ shorter
     ++ record { offset = last.offset; size = n - length (positions shorter) } ∷ []
-unfolding first_of
+unfolding first_bytes_of
 first_of_cut n [] last behind within =
     let test : leb last.size n ≡ false = lt-leb last.size n (omega arith) in
     let some : eqb n 0 ≡ false = ne_eqb n 0 (omega arith) in
@@ -158,8 +158,8 @@ first_of_cut n (slice ∷ shorter) last behind within =
     ∙ ap (λ (k : ℕ). shorter ++ record { offset = last.offset; size = k } ∷ []) size))
 
 -- their positions are the first n positions
-pub positions_first_of : (n : ℕ) (slices : List SourceSlice) → positions (first_of n slices) ≡ take n (positions slices)
-unfolding first_of
+pub positions_first_of : (n : ℕ) (slices : List SourceSlice) → positions (first_bytes_of n slices) ≡ take n (positions slices)
+unfolding first_bytes_of
 positions_first_of n [] = sym (take_all n [] (omega arith))
 positions_first_of n (slice ∷ slices) = elim (cases_lt n slice.size) [
   | inr fits ↦ let test : leb slice.size n ≡ true = le-leb slice.size n fits in

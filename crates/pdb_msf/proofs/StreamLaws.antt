@@ -9,13 +9,13 @@ use Rattle.std.proofs.lemmas.List.{take_all, take_more}
 use Rattle.std.proofs.lemmas.Option.{slice_get-get_or}
 use Rattle.pdb_base.specs.declared.error.Error.{Error}
 use Rattle.pdb_base.specs.Refusal.{Refusal, refusal_of, unexpected_eof, stream_not_found}
-use Rattle.pdb_base.specs.Answer.{Answer, AnswersUnless, collected, required}
+use Rattle.pdb_base.specs.Answer.{Answer, AnswersUnless, values_of_all, ok_if}
 use Rattle.pdb_base.proofs.lemmas.Collected.{ok_is, err_is, ok_is_no_err, bind_ok, collected_more}
 use Rattle.pdb_msf.specs.declared.directory.StreamPlace.{StreamPlace}
-use Rattle.pdb_msf.specs.Source.{HasFailed, found}
+use Rattle.pdb_msf.specs.Source.{HasFailed, bytes_or_eof}
 use Rattle.pdb_msf.specs.Pages.{pages, page_number, page_numbers, present, scatter, words}
 use Rattle.pdb_msf.specs.Header.{Head, directory_pages}
-use Rattle.pdb_msf.specs.Directory.{Entry, absent, directory_numbers, directory_of, entry_of, limited, place_in, sizes_of}
+use Rattle.pdb_msf.specs.Directory.{PagesOfStream, absent, directory_numbers, directory_of, stream_entry_of, limit_size, stream_place_in, sizes_of}
 use Rattle.pdb_msf.specs.Directory.{start_of}
 use Rattle.pdb_msf.specs.File.{stream_of}
 use Rattle.pdb_msf.specs.Laws.{AreGood, IsDirectory, IsStream, Moment, IsLater, AnswersAlike, AgreeUnless}
@@ -30,7 +30,7 @@ sizes_follow n [] = refl
 sizes_follow n (word ∷ all) = let next : 1 + n ≡ suc n = omega arith in
     ap (λ (i : ℕ). slice_get (word ∷ all) i) (sym next)
 
-passed : (b : Bool) (e : Refusal) (x : Unit {0}) → required b e ≡ Ok x → b ≡ true
+passed : (b : Bool) (e : Refusal) (x : Unit {0}) → ok_if b e ≡ Ok x → b ≡ true
 passed true e x is = refl
 passed false e x is = absurd cc
 
@@ -48,16 +48,16 @@ record Stands (page_size n : ℕ) (d : List ℕ) (place : StreamPlace) : Type 0 
   pub is : place.start ≡ start_of page_size count d n
   pub reached : place.start ≤ length d
 
-stands_where : (page_size n : ℕ) (d : List ℕ) (place : StreamPlace) → place_in page_size n d ≡ Ok place
+stands_where : (page_size n : ℕ) (d : List ℕ) (place : StreamPlace) → stream_place_in page_size n d ≡ Ok place
     → Stands page_size n d place
-unfolding place_in
+unfolding stream_place_in
 stands_where page_size n d place e =
     let counted = bind_ok (present (slice_get (words d) 0)) _ place e in
-    let known = bind_ok (required (ltb n counted.0) (stream_not_found n)) _ place counted.2 in
+    let known = bind_ok (ok_if (ltb n counted.0) (stream_not_found n)) _ place counted.2 in
     let sized = bind_ok (present (slice_get (sizes_of d) n)) _ place known.2 in
-    let there = bind_ok (required (not (eqb sized.0 absent)) (stream_not_found n)) _ place sized.2 in
+    let there = bind_ok (ok_if (not (eqb sized.0 absent)) (stream_not_found n)) _ place sized.2 in
     let start = start_of page_size counted.0 d n in
-    let reached = bind_ok (required (leb start (length d)) unexpected_eof) _ place there.2 in
+    let reached = bind_ok (ok_if (leb start (length d)) unexpected_eof) _ place there.2 in
     let meant : StreamPlace = record { size = sized.0; start = start } in
     let same : meant ≡ place = ok_is meant place reached.2 in
     let size : sized.0 ≡ place.size = ap (λ (p : StreamPlace). p.size) same in
@@ -81,12 +81,12 @@ good_word : (pages_used : ℕ) (words : List ℕ) (i number : ℕ) → slice_get
 good_word pages_used words i number is some few = rw (is, lt-ltb 0 number some, le-leb number pages_used few) refl
 
 up_to : (f : ℕ → Answer ℕ) (numbers : List ℕ) (count : ℕ) → ((i : ℕ) → i < count → f i ≡ Ok (get_or numbers i 0))
-    → (k : ℕ) → k ≤ length numbers → k ≤ count → collected (map f (range_with_len 0 k)) ≡ Ok (take k numbers)
+    → (k : ℕ) → k ≤ length numbers → k ≤ count → values_of_all (map f (range_with_len 0 k)) ≡ Ok (take k numbers)
 up_to f numbers count one zero long few = refl
 up_to f numbers count one (suc k) long few =
     let next : k + 1 ≡ suc k = omega arith in
     let before = up_to f numbers count one k (omega arith) (omega arith) in
-    ap (λ (n : ℕ). collected (map f (range_with_len 0 n))) (sym next)
+    ap (λ (n : ℕ). values_of_all (map f (range_with_len 0 n))) (sym next)
     ∙ collected_more f k (take k numbers) (get_or numbers k 0) before (one k (omega arith))
     ∙ ap (λ (ns : List ℕ). Ok ns) (sym (take_more numbers k 0 (omega arith)) ∙ ap (λ (n : ℕ). take n numbers) next)
 
@@ -110,7 +110,7 @@ is_directory file head directory e =
     let g = head.geometry in
     let numbers = bind_ok (directory_numbers file head) _ directory e in
     let location =
-    bind_ok (found (scatter file g.page_size head.location (4 * directory_pages g))) _ numbers.0 numbers.1 in
+    bind_ok (bytes_or_eof (scatter file g.page_size head.location (4 * directory_pages g))) _ numbers.0 numbers.1 in
     record {
       location = location.0;
       located = (scatters file g.page_size head.location (4 * directory_pages g)).found location.0
@@ -134,19 +134,19 @@ only_directory file head directory is =
 
 pub is_stream : (file : List ℕ) (head : Head) (n : ℕ) (limit : Option ℕ) (bytes : List ℕ)
     → stream_of file head n limit ≡ Ok bytes → IsStream file head n limit bytes
-unfolding stream_of entry_of
+unfolding stream_of stream_entry_of
 is_stream file head n limit bytes e =
     let g = head.geometry in
     let directory = bind_ok (directory_of file head) _ bytes e in
-    let entry = bind_ok (entry_of g n limit directory.0) _ bytes directory.2 in
-    let place = bind_ok (place_in g.page_size n directory.0) _ entry.0 entry.1 in
+    let entry = bind_ok (stream_entry_of g n limit directory.0) _ bytes directory.2 in
+    let place = bind_ok (stream_place_in g.page_size n directory.0) _ entry.0 entry.1 in
     let numbers = bind_ok (page_numbers g.pages_used (pages g.page_size place.0.size)
     (words (drop place.0.start directory.0))) _ entry.0 place.2 in
-    let meant : Entry = record { size = limited place.0.size limit; pages = numbers.0 } in
+    let meant : PagesOfStream = record { size = limit_size place.0.size limit; pages = numbers.0 } in
     let same : meant ≡ entry.0 = ok_is meant entry.0 numbers.2 in
     let at = stands_where g.page_size n directory.0 place.0 place.1 in
-    let lies : found (scatter file g.page_size numbers.0 (limited place.0.size limit)) ≡ Ok bytes =
-    ap (λ (entry : Entry). found (scatter file g.page_size entry.pages entry.size)) same ∙ entry.2 in
+    let lies : bytes_or_eof (scatter file g.page_size numbers.0 (limit_size place.0.size limit)) ≡ Ok bytes =
+    ap (λ (entry : PagesOfStream). bytes_or_eof (scatter file g.page_size entry.pages entry.size)) same ∙ entry.2 in
     record {
       directory = directory.0;
       has = is_directory file head directory.0 directory.1;
@@ -162,7 +162,7 @@ is_stream file head n limit bytes e =
       numbers = numbers.0;
       good = are_good g.pages_used (pages g.page_size place.0.size)
           (words (drop place.0.start directory.0)) numbers.0 numbers.1;
-      lies = (scatters file g.page_size numbers.0 (limited place.0.size limit)).found bytes (found_there _ bytes lies);
+      lies = (scatters file g.page_size numbers.0 (limit_size place.0.size limit)).found bytes (found_there _ bytes lies);
     }
 
 pub only_stream : (file : List ℕ) (head : Head) (n : ℕ) (limit : Option ℕ) (bytes : List ℕ)
@@ -181,11 +181,11 @@ only_stream file head n limit bytes is =
     let stood = stands g.page_size n d is.count is.size sized is.there
     (subst (λ (k : ℕ). k ≤ length d) is.place is.reached) in
     let place : StreamPlace = record { size = is.size; start = is.start } in
-    let here : place_in g.page_size n d ≡ Ok place = stood
+    let here : stream_place_in g.page_size n d ≡ Ok place = stood
     ∙ ap (λ (k : ℕ). Ok (let p : StreamPlace = record { size = is.size; start = k } in p)) (sym is.place) in
     let good = read_good g.pages_used (pages g.page_size is.size) (words (drop is.start d)) is.numbers is.good in
     let entry = entry_found g n limit d place is.numbers here good in
-    let lies = (scatters file g.page_size is.numbers (limited is.size limit)).only bytes is.lies in
+    let lies = (scatters file g.page_size is.numbers (limit_size is.size limit)).only bytes is.lies in
     rw (read, entry, lies) refl
 
 -- ---- whatever was asked before

@@ -6,10 +6,10 @@ use Rattle.pdb_msf.specs.declared.header.Geometry.{Geometry}
 use Rattle.pdb_msf.specs.declared.header.Header.{Header}
 use Rattle.pdb_msf.specs.declared.directory.Directory.{Directory}
 use Rattle.pdb_msf.specs.declared.directory.StreamPlace.{StreamPlace}
-use Rattle.pdb_msf.specs.Source.{HasFailed, IsKept, State, found}
+use Rattle.pdb_msf.specs.Source.{HasFailed, IsKept, State, bytes_or_eof}
 use Rattle.pdb_msf.specs.Pages.{scatter}
 use Rattle.pdb_msf.specs.Header.{Head, IsHeader, directory_pages, header_view}
-use Rattle.pdb_msf.specs.Directory.{Entry, HasStarts, directory_of, entry_of, place_in, size_in, stream_count_in}
+use Rattle.pdb_msf.specs.Directory.{PagesOfStream, HasStarts, directory_of, stream_entry_of, stream_place_in, size_in, stream_count_in}
 
 -- an open file: its source, what its header says, how many bytes were requested from the source to read
 -- streams, and whether its directory is kept in memory
@@ -35,8 +35,8 @@ pub record ReadsFile {S X A : Type 0} (state : S → State) (old new : Opened S)
   pub head : new.head ≡ old.head
 
 -- where stream n of a file is in the directory
-abbrev pub placed : List ℕ → Head → ℕ → Answer StreamPlace
-placed file head n = directory_of file head >>= place_in head.geometry.page_size n
+abbrev pub place_of_stream : List ℕ → Head → ℕ → Answer StreamPlace
+place_of_stream file head n = directory_of file head >>= stream_place_in head.geometry.page_size n
 
 -- how many streams a file has, including absent ones
 abbrev pub stream_count_of : List ℕ → Head → Answer ℕ
@@ -47,15 +47,15 @@ abbrev pub stream_size_of : List ℕ → Head → ℕ → Answer ℕ
 stream_size_of file head n = directory_of file head >>= size_in head.geometry.page_size n
 
 -- stream n of a file, as the directory describes it
-abbrev pub described : List ℕ → Head → ℕ → Option ℕ → Answer Entry
-described file head n limit = directory_of file head >>= entry_of head.geometry n limit
+abbrev pub described_stream : List ℕ → Head → ℕ → Option ℕ → Answer PagesOfStream
+described_stream file head n limit = directory_of file head >>= stream_entry_of head.geometry n limit
 
 -- the bytes of stream n of a file, at most as many as the limit says
 unfoldable pub stream_of : List ℕ → Head → ℕ → Option ℕ → Answer (List ℕ)
 stream_of file head n limit = do
   directory ← directory_of file head
-  entry ← entry_of head.geometry n limit directory
-  found (scatter file head.geometry.page_size entry.pages entry.size)
+  entry ← stream_entry_of head.geometry n limit directory
+  bytes_or_eof (scatter file head.geometry.page_size entry.pages entry.size)
 
 -- how many bytes are requested to locate the directory: its page numbers, four bytes each,
 -- and its bytes; 0 if it is kept
@@ -63,9 +63,9 @@ abbrev pub locating : Bool → Geometry → ℕ
 locating located geometry = if located then 0 else 4 * directory_pages geometry + geometry.directory_size
 
 -- how many bytes of a stream are requested: its size, cut to the limit, or 0 if the stream is refused
-abbrev pub wanted : Answer Entry → ℕ
-wanted (Ok entry) = entry.size
-wanted (Err refusal) = 0
+abbrev pub requested_size : Answer PagesOfStream → ℕ
+requested_size (Ok entry) = entry.size
+requested_size (Err refusal) = 0
 
 -- The directory that is kept is the one that the file has, with the offsets of its streams.
 pub record IsKeptOf (file : List ℕ) (head : Head) (directory : Directory) : Type 0 where

@@ -6,7 +6,7 @@ use Rattle.std.specs.Prelude.{◌∷◌, ◌++◌, length, take, Ok, Err, codes}
 use Rattle.std.specs.List.{starts_with}
 use Rattle.std.specs.Int.{is_power_of_two}
 use Rattle.pdb_base.specs.Refusal.{unexpected_eof, unimplemented_feature, unrecognized_file_format, invalid_page_size}
-use Rattle.pdb_base.specs.Answer.{Answer, ◌>>=◌, required}
+use Rattle.pdb_base.specs.Answer.{Answer, ◌>>=◌, ok_if}
 use Rattle.pdb_base.specs.Reading.{front_at, number_at}
 use Rattle.pdb_msf.specs.declared.header.Geometry.{Geometry}
 use Rattle.pdb_msf.specs.declared.header.Header.{Header}
@@ -37,13 +37,13 @@ small_magic = codes "Microsoft C/C++ program database 2.00\r\n" ++ 0x1a ∷ 0x4a
 -- with `unimplemented_feature`, and any other with `unrecognized_file_format`.
 unfoldable pub magic_of : List ℕ → Answer (Unit {0})
 magic_of view = do
-  whole ← required (nat_le 52 (length view)) unexpected_eof
-  newer ← required (not (starts_with nat_eq view small_magic)) (unimplemented_feature (codes "small MSF file format"))
-  required (starts_with nat_eq view big_magic) unrecognized_file_format
+  whole ← ok_if (nat_le 52 (length view)) unexpected_eof
+  newer ← ok_if (not (starts_with nat_eq view small_magic)) (unimplemented_feature (codes "small MSF file format"))
+  ok_if (starts_with nat_eq view big_magic) unrecognized_file_format
 
 -- the fields of a header in their order, and the bytes after them
-unfoldable pub fields_of : List ℕ → Answer (Geometry × List ℕ)
-fields_of view = do
+unfoldable pub fields_of_header : List ℕ → Answer (Geometry × List ℕ)
+fields_of_header view = do
   magic ← front_at 32 view
   page_size ← number_at 4 magic.1
   free_page_map ← number_at 4 page_size.1
@@ -70,8 +70,8 @@ pub record IsHeader (header : Header) : Type 0 where
 unfoldable pub geometry_of : List ℕ → Answer (Geometry × List ℕ)
 geometry_of view = do
   magic ← magic_of view
-  fields ← fields_of view
-  sized ← required (is_page_size fields.0.page_size) (invalid_page_size fields.0.page_size)
+  fields ← fields_of_header view
+  sized ← ok_if (is_page_size fields.0.page_size) (invalid_page_size fields.0.page_size)
   Ok fields
 
 -- the header at the front of a file
@@ -86,5 +86,5 @@ unfoldable pub opening : ℕ → List ℕ → Answer (List ℕ)
 opening size file = if nat_lt (length file) size then Err unrecognized_file_format else Ok (take size file)
 
 -- the header of a file, which is within its first 4096 bytes
-unfoldable pub opened : List ℕ → Answer Head
-opened file = opening 4096 file >>= head_of
+unfoldable pub file_head : List ℕ → Answer Head
+file_head file = opening 4096 file >>= head_of

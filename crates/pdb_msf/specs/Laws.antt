@@ -9,8 +9,8 @@ use Rattle.pdb_base.specs.Refusal.{Refusal, refusal_of}
 use Rattle.pdb_base.specs.Answer.{AnswersUnless, IsOtherFault}
 use Rattle.pdb_msf.specs.Source.{State, IsKept, HasFailed}
 use Rattle.pdb_msf.specs.Pages.{pages, position_of, scatter, words, page_number, page_numbers}
-use Rattle.pdb_msf.specs.Header.{Head, fields_of, directory_pages}
-use Rattle.pdb_msf.specs.Directory.{absent, limited, pages_taken, sizes_of}
+use Rattle.pdb_msf.specs.Header.{Head, fields_of_header, directory_pages}
+use Rattle.pdb_msf.specs.Directory.{absent, limit_size, pages_taken, sizes_of}
 use Rattle.pdb_msf.specs.File.{stream_of}
 
 -- `count` pages hold this many bytes, and no fewer pages do.
@@ -35,9 +35,9 @@ pub record Scatters (file : List ℕ) (page_size : ℕ) (numbers : List ℕ) (si
 
 -- If there are 52 bytes or more, the fields of a header stand at fixed offsets, and
 -- the list of pages follows them.
-abbrev pub StandAtOffsets : List ℕ → Type 0
-StandAtOffsets view =
-    52 ≤ length view → fields_of view ≡ Ok (
+abbrev pub HasHeaderAtOffsets : List ℕ → Type 0
+HasHeaderAtOffsets view =
+    52 ≤ length view → fields_of_header view ≡ Ok (
       record
           { page_size = word_at 32 view; pages_used = word_at 40 view; directory_size = word_at 44 view },
       drop 52 view,
@@ -90,7 +90,7 @@ pub record IsStream (file : List ℕ) (head : Head) (n : ℕ) (limit : Option �
   pub numbers : List ℕ
   pub good : AreGood head.geometry.pages_used (pages head.geometry.page_size size)
       (words (drop start directory)) numbers
-  pub lies : IsScattered file head.geometry.page_size numbers (limited size limit) bytes
+  pub lies : IsScattered file head.geometry.page_size numbers (limit_size size limit) bytes
 
 -- A file at one moment: the state of its source, and what its header says.
 pub record Moment : Type 0 where

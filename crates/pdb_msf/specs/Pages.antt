@@ -6,7 +6,7 @@ use Rattle.std.specs.Int.{div_ceil}
 use Rattle.std.specs.List.{range_with_len}
 use Rattle.pdb_base.specs.Endian.{little_number}
 use Rattle.pdb_base.specs.Refusal.{unexpected_eof, page_reference_out_of_range}
-use Rattle.pdb_base.specs.Answer.{Answer, ◌>>=◌, collected}
+use Rattle.pdb_base.specs.Answer.{Answer, ◌>>=◌, values_of_all}
 use Rattle.pdb_msf.specs.Source.{bytes_at}
 
 -- how many pages it takes to hold this many bytes
@@ -28,8 +28,8 @@ words (a ∷ b ∷ c ∷ d ∷ rest) = little_number 4 (a ∷ b ∷ c ∷ d ∷ 
 words _ = []
 
 -- the page number, if it is valid: neither 0 nor above the number of pages used; any other is refused
-abbrev pub judged : ℕ → ℕ → Answer ℕ
-judged pages_used number = if nat_lt 0 number
+abbrev pub valid_page : ℕ → ℕ → Answer ℕ
+valid_page pages_used number = if nat_lt 0 number
     && nat_le number pages_used then Ok number else Err (page_reference_out_of_range number)
 
 -- a word of a list, which is refused with `unexpected_eof` if the list has no such word
@@ -39,8 +39,8 @@ present (Some word) = Ok word
 
 -- the word at index i as a page number
 abbrev pub page_number : ℕ → List ℕ → ℕ → Answer ℕ
-page_number pages_used numbers i = present (slice_get numbers i) >>= judged pages_used
+page_number pages_used numbers i = present (slice_get numbers i) >>= valid_page pages_used
 
 -- the first `count` words as page numbers, each checked in turn
 unfoldable pub page_numbers : ℕ → ℕ → List ℕ → Answer (List ℕ)
-page_numbers pages_used count numbers = collected (map (page_number pages_used numbers) (range_with_len 0 count))
+page_numbers pages_used count numbers = values_of_all (map (page_number pages_used numbers) (range_with_len 0 count))

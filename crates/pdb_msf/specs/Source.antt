@@ -69,13 +69,13 @@ KeepsKind state result = IfErr result (λ e. TellsKind state (refusal_of e))
 -- The result of a view: it shows the bytes that are meant; or it fails at the end of the bytes, which is
 -- possible only if none are meant; or it fails for lack of memory; or it fails with another fault, which is
 -- possible only if `failed` holds.
-abbrev pub Shows : {V : Type 0} → Type 0 → (V → List ℕ) → Result V Error → Option (List ℕ) → Type 0
-Shows failed bytes (Ok view) meant = meant ≡ Some (bytes view)
-Shows failed bytes (Err e) meant =
+abbrev pub ShowsBytes : {V : Type 0} → Type 0 → (V → List ℕ) → Result V Error → Option (List ℕ) → Type 0
+ShowsBytes failed bytes (Ok view) meant = meant ≡ Some (bytes view)
+ShowsBytes failed bytes (Err e) meant =
     ((error_kind e ≡ UnexpectedEof) × (meant ≡ None))
     ⊎ ((error_kind e ≡ OutOfMemory) ⊎ (IsOther (error_kind e) × failed))
 
 -- the bytes that were found, or else the refusal that the file ends too soon
-abbrev pub found : Option (List ℕ) → Answer (List ℕ)
-found (Some bytes) = Ok bytes
-found None = Err (io_error UnexpectedEof)
+abbrev pub bytes_or_eof : Option (List ℕ) → Answer (List ℕ)
+bytes_or_eof (Some bytes) = Ok bytes
+bytes_or_eof None = Err (io_error UnexpectedEof)

@@ -7,5 +7,5 @@ abbrev pub is_within : ℕ → SourceSlice → Bool
 is_within len slice = slice.size == 0 || (nat_le slice.offset len && nat_le slice.size (len - slice.offset))
 
 -- the size if a usize can hold it, and otherwise None
-unfoldable pub fitting : ℕ → Option ℕ
-fitting size = if nat_lt size (2 ^ 64) then Some size else None
+unfoldable pub if_fits_usize : ℕ → Option ℕ
+if_fits_usize size = if nat_lt size (2 ^ 64) then Some size else None

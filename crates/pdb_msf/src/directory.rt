@@ -7,7 +7,7 @@ ghost use Rattle.pdb_msf.specs.Source.{HasFailed, IsKept, KeepsKind};
 ghost use Rattle.pdb_msf.specs.Header.{directory_pages, header_view, IsHeader};
 ghost use Rattle.pdb_msf.specs.Asked.{Asks};
 ghost use Rattle.pdb_msf.specs.Exactly.{RefusesExactly};
-ghost use Rattle.pdb_msf.specs.Directory.{absent, directory_numbers, directory_of, entry_of, entry_view, limited, pages_taken, place_in};
+ghost use Rattle.pdb_msf.specs.Directory.{absent, directory_numbers, directory_of, stream_entry_of, entry_view, limit_size, pages_taken, stream_place_in};
 ghost use Rattle.pdb_msf.specs.Directory.{starts_of, stream_count_in, HasPages, HasStarts};
 ghost use Rattle.pdb_msf.specs.File.{locating};
 
@@ -162,10 +162,10 @@ impl Directory {
     }
 
     /// Returns the place of a stream in the directory.
-    #[tactic(auto, unfolding(crate::specs::Directory::place_in))]
+    #[tactic(auto, unfolding(crate::specs::Directory::stream_place_in))]
     pub fn place(&self, page_size: u32, stream_number: u32) -> Result<StreamPlace>
         requires { HasStarts page_size self.now }
-        ensures place { Gives (λ place. place) result (place_in page_size stream_number self.now.bytes.items) }
+        ensures place { Gives (λ place. place) result (stream_place_in page_size stream_number self.now.bytes.items) }
         ensures there { IfOk result (λ place. place.size < absent) }
     {
         let mut buffer = ParseBuffer::from(self.bytes.as_slice());
@@ -190,7 +190,7 @@ impl Directory {
 
     /// Returns a stream as the directory describes it: how many of its bytes are to be read, and
     /// all of its page numbers.
-    #[tactic(auto, unfolding(crate::specs::Directory::entry_of))]
+    #[tactic(auto, unfolding(crate::specs::Directory::stream_entry_of))]
     pub fn entry(
         &self,
         alloc: Global,
@@ -201,8 +201,8 @@ impl Directory {
         requires sized { 256 ≤ geometry.page_size }
         requires places { HasStarts geometry.page_size self.now }
         ensures entry { Answers entry_view result
-            (entry_of geometry stream_number limit self.now.bytes.items) }
-        ensures exact { RefusesExactly result (place_in geometry.page_size stream_number self.now.bytes.items) }
+            (stream_entry_of geometry stream_number limit self.now.bytes.items) }
+        ensures exact { RefusesExactly result (stream_place_in geometry.page_size stream_number self.now.bytes.items) }
         ensures whole { IfOk result (HasPages geometry.page_size) }
     {
         let place = self.place(geometry.page_size, stream_number)?;
@@ -211,15 +211,15 @@ impl Directory {
         let count = geometry.pages(place.size as usize);
         let pages = geometry.page_numbers(alloc, &mut buffer, count)?;
         Ok(StreamEntry {
-            size: limited(place.size, limit),
+            size: limit_size(place.size, limit),
             pages,
         })
     }
 }
 
 /// Returns a size cut to the limit, if there is one.
-fn limited(size: u32, limit: Option<usize>) -> usize
-    ensures size { result ≡ limited size limit }
+fn limit_size(size: u32, limit: Option<usize>) -> usize
+    ensures size { result ≡ limit_size size limit }
     ensures cut { result ≤ size }
 {
     match limit {

@@ -3,8 +3,8 @@
 ghost use Rattle.std.specs.Prelude.{◌≡◌, ◌<◌, ◌≤◌, ◌*◌, ◌^◌, length, drop, min, vec_len, IfOk, OnOk};
 ghost use Rattle.pdb_base.specs.Answer.{Answers, Gives};
 ghost use Rattle.pdb_base.specs.Place.{left};
-ghost use Rattle.pdb_msf.specs.Pages.{pages, words, judged, page_numbers};
-ghost use Rattle.pdb_msf.specs.Header.{is_page_size, magic_of, fields_of, geometry_of, head_of, header_view, IsHeader, directory_pages, location_pages};
+ghost use Rattle.pdb_msf.specs.Pages.{pages, words, valid_page, page_numbers};
+ghost use Rattle.pdb_msf.specs.Header.{is_page_size, magic_of, fields_of_header, geometry_of, head_of, header_view, IsHeader, directory_pages, location_pages};
 ghost use Rattle.pdb_msf.specs.Exactly.{RefusesExactly};
 
 use crate::magic::{big, small};
@@ -63,7 +63,7 @@ impl Geometry {
 
     /// Checks a page number, and returns it if it is neither 0 nor above `pages_used`.
     pub fn judge(self, number: u32) -> Result<u32>
-        ensures { Gives (λ n. n) result (judged self.pages_used number) }
+        ensures { Gives (λ n. n) result (valid_page self.pages_used number) }
     {
         if number == 0 || number > self.pages_used {
             return Err(Error::PageReferenceOutOfRange(number));
@@ -119,9 +119,9 @@ fn check_magic(view: &[u8]) -> Result<()>
 }
 
 /// Reads the fields of a header, including the magic.
-#[tactic(auto, unfolding(crate::specs::Header::fields_of))]
+#[tactic(auto, unfolding(crate::specs::Header::fields_of_header))]
 fn read_fields(buffer: &mut ParseBuffer<'_>) -> Result<Geometry>
-    ensures { Gives (λ geometry. (geometry, left buffer.new)) result (fields_of (left buffer.old)) }
+    ensures { Gives (λ geometry. (geometry, left buffer.new)) result (fields_of_header (left buffer.old)) }
 {
     buffer.take(big::MAGIC.len())?;
     let page_size = buffer.parse_u32()?;

@@ -28,7 +28,7 @@ pub fn can_be_joined(len: usize, slices: &[SourceSlice]) -> bool
 /// Joins the bytes that the slices name at the start of the file, truncates the file to them, and
 /// frees the memory behind them. If the system can't shrink the block, the bytes stay in the larger
 /// one.
-pub fn joined(mut file: Vec<u8>, slices: &[SourceSlice]) -> Vec<u8>
+pub fn join_slices(mut file: Vec<u8>, slices: &[SourceSlice]) -> Vec<u8>
     requires { IsTrue (can_be_joined (length file.items) 0 slices.now) }
     ensures { result.items ≡ map (slice_index file.items) (positions slices.now) }
 {

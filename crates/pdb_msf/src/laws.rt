@@ -3,12 +3,12 @@
 
 ghost use Rattle.std.specs.Prelude.{◌≡◌, ℕ, ◌<◌, List, [], ◌∷◌, map, Option, Ok, Err};
 ghost use Rattle.pdb_base.specs.Refusal.{Refusal, page_reference_out_of_range};
-ghost use Rattle.pdb_msf.specs.Pages.{pages, judged, page_numbers};
+ghost use Rattle.pdb_msf.specs.Pages.{pages, valid_page, page_numbers};
 ghost use Rattle.pdb_msf.specs.Runs.{AreJoined};
-ghost use Rattle.pdb_msf.specs.Header.{Head, opened};
+ghost use Rattle.pdb_msf.specs.Header.{Head, file_head};
 ghost use Rattle.pdb_msf.specs.File.{stream_of};
 ghost use Rattle.pdb_msf.specs.Layout.{LayoutValue, layout_of, stream_by};
-ghost use Rattle.pdb_msf.specs.Laws.{IsLeast, Scatters, StandAtOffsets, AreGood, FirstFault, CutsOnly, IsStream, Moment, IsLater, AnswersAlike};
+ghost use Rattle.pdb_msf.specs.Laws.{IsLeast, Scatters, HasHeaderAtOffsets, AreGood, FirstFault, CutsOnly, IsStream, Moment, IsLater, AnswersAlike};
 
 /// The number of pages that some bytes take is the least that holds them.
 pub fn pages()
@@ -20,8 +20,8 @@ pub fn pages()
 #[tactic(auto, unfolding(crate::specs::Pages::pages))]
 pub fn worked_rows()
     ensures counts { map (pages 4096) (0 ∷ 1 ∷ 4095 ∷ 4096 ∷ 4097 ∷ []) ≡ 0 ∷ 1 ∷ 1 ∷ 1 ∷ 2 ∷ [] }
-    ensures good { map (judged 15) (1 ∷ 14 ∷ 15 ∷ []) ≡ Ok 1 ∷ Ok 14 ∷ Ok 15 ∷ [] }
-    ensures bad { map (judged 15) (0 ∷ 16 ∷ 17 ∷ []) ≡
+    ensures good { map (valid_page 15) (1 ∷ 14 ∷ 15 ∷ []) ≡ Ok 1 ∷ Ok 14 ∷ Ok 15 ∷ [] }
+    ensures bad { map (valid_page 15) (0 ∷ 16 ∷ 17 ∷ []) ≡
         map (λ number. Err (page_reference_out_of_range number)) (0 ∷ 16 ∷ 17 ∷ []) }
 {}
 
@@ -44,7 +44,7 @@ pub fn page_list()
 /// pages that locate the directory from byte 52 on.
 #[tactic(auto, using(crate::proofs::LawLemmas::stand_at_offsets))]
 pub fn header()
-    ensures { (view : List ℕ) → StandAtOffsets view }
+    ensures { (view : List ℕ) → HasHeaderAtOffsets view }
 {}
 
 /// Page numbers are read as they are in the bytes if all are good, and otherwise the error is that
@@ -77,7 +77,7 @@ pub fn streams()
 /// stream read by it from those bytes is the file's stream, or fails as that does.
 #[tactic(auto, using(crate::proofs::LayoutLemmas::head_read, crate::proofs::LayoutLemmas::same_stream))]
 pub fn layouts()
-    ensures head { (file : List ℕ) (layout : LayoutValue) → layout_of file ≡ Ok layout → opened file ≡ Ok layout.head }
+    ensures head { (file : List ℕ) (layout : LayoutValue) → layout_of file ≡ Ok layout → file_head file ≡ Ok layout.head }
     ensures stream { (file : List ℕ) (layout : LayoutValue) (n : ℕ) (limit : Option ℕ) →
         layout_of file ≡ Ok layout → stream_by layout file n limit ≡ stream_of file layout.head n limit }
 {}

@@ -3,7 +3,7 @@
 ghost use Rattle.std.specs.Prelude.{◌≡◌};
 ghost use Rattle.pdb_base.specs.Answer.{Answers, Gives};
 ghost use Rattle.pdb_msf.specs.Exactly.{RefusesExactly};
-ghost use Rattle.pdb_msf.specs.Directory.{directory_numbers, place_in, stream_count_in};
+ghost use Rattle.pdb_msf.specs.Directory.{directory_numbers, stream_place_in, stream_count_in};
 ghost use Rattle.pdb_msf.specs.Layout.{layout_of, pages_by, size_by, stream_by};
 
 use crate::directory::{Directory, read_numbers};
@@ -42,7 +42,7 @@ impl Layout {
     /// Fails as `open_msf` does if the header is bad, and with `IoError` or
     /// `PageReferenceOutOfRange` if the directory can't be read. Fails with `OutOfMemory` if an
     /// allocation fails.
-    #[tactic(auto, unfolding(crate::specs::Header::opened, crate::specs::Layout::layout_of))]
+    #[tactic(auto, unfolding(crate::specs::Header::file_head, crate::specs::Layout::layout_of))]
     pub fn read(alloc: Global, file: &[u8]) -> Result<Layout>
         ensures { Answers (λ layout. layout) result (layout_of file.now) }
     {
@@ -144,7 +144,7 @@ impl Layout {
     ) -> Result<Stream>
         ensures stream { Answers (λ stream. stream) result (stream_by self.now file.now stream_number limit) }
         ensures exact { RefusesExactly result
-            (place_in self.now.head.geometry.page_size stream_number self.now.directory) }
+            (stream_place_in self.now.head.geometry.page_size stream_number self.now.directory) }
     {
         let geometry = self.header.geometry;
         let entry = self.directory.entry(alloc, geometry, stream_number, limit)?;

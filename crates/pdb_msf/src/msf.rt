@@ -3,11 +3,11 @@
 ghost use Rattle.std.specs.Prelude.{◌≡◌, ◌+◌, ◌^◌, ◌<◌, ◌≤◌, false, IsTrue, IsOk, IfOk, MatchResult};
 ghost use Rattle.pdb_base.specs.Answer.{Answers, AnswersUnless, RefusesUnless};
 ghost use Rattle.pdb_msf.specs.Source.{HasFailed, IsKept, KeepsKind};
-ghost use Rattle.pdb_msf.specs.Header.{geometry_of, head_of, opening, opened};
+ghost use Rattle.pdb_msf.specs.Header.{geometry_of, head_of, opening, file_head};
 ghost use Rattle.pdb_msf.specs.Asked.{Asks};
 ghost use Rattle.pdb_msf.specs.Exactly.{RefusesExactly};
 ghost use Rattle.pdb_msf.specs.Directory.{directory_of};
-ghost use Rattle.pdb_msf.specs.File.{Opened, IsFresh, described, locating, placed, stream_count_of, stream_of, stream_size_of, wanted};
+ghost use Rattle.pdb_msf.specs.File.{Opened, IsFresh, described_stream, locating, place_of_stream, stream_count_of, stream_of, stream_size_of, requested_size};
 
 use crate::directory::Directory;
 use crate::header::{Header, read_header};
@@ -57,7 +57,7 @@ pub trait Msf<S: Source> {
         // returns.
         ensures asked { Asks (file self.old).asked (file self.new).asked
             (locating (file self.old).located (file self.old).head.geometry
-            + wanted (described (S.state (file self.old).source).bytes (file self.old).head stream_number limit))
+            + requested_size (described_stream (S.state (file self.old).source).bytes (file self.old).head stream_number limit))
             result }
         // The directory stays kept, and after the call it is kept unless reading or keeping it
         // failed.
@@ -70,7 +70,7 @@ pub trait Msf<S: Source> {
             IsOk (directory_of (S.state (file self.old).source).bytes (file self.old).head) }
         // Where the directory is kept, what it says of the stream's place needs no memory.
         ensures exact { IsTrue (file self.old).located → RefusesExactly result
-            (placed (S.state (file self.old).source).bytes (file self.old).head stream_number) };
+            (place_of_stream (S.state (file self.old).source).bytes (file self.old).head stream_number) };
 }
 
 /// A file in the format MSF 7.00, whose bytes come from a source.
@@ -268,7 +268,7 @@ impl<S: Source + Drop> BigMSF<S> {
         ensures answer { AnswersUnless (¬ IsTrue (S.state self.source).is_sound) (λ stream. stream) result
             (stream_of (S.state self.source).bytes self.head stream_number limit) }
         ensures exact { IsTrue self.located → RefusesExactly result
-            (placed (S.state self.source).bytes self.head stream_number) }
+            (place_of_stream (S.state self.source).bytes self.head stream_number) }
     {
         self.locate(alloc)?;
         let BigMSF {
@@ -316,10 +316,10 @@ pub(crate) fn view_front<S: Source>(source: &mut S, alloc: Global, size: usize) 
 /// that locate the directory that is missing or bad.
 ///
 /// Fails with `OutOfMemory` if an allocation fails.
-#[tactic(auto, unfolding(crate::specs::Header::opened), using(crate::proofs::lemmas::Kept::unsound))]
+#[tactic(auto, unfolding(crate::specs::Header::file_head), using(crate::proofs::lemmas::Kept::unsound))]
 pub fn open_msf<S: Source + Drop>(alloc: Global, mut source: S) -> Result<BigMSF<S>>
     ensures head { AnswersUnless (¬ IsTrue (S.state source).is_sound)
-        (λ m. m.head) result (opened (S.state source).bytes) }
+        (λ m. m.head) result (file_head (S.state source).bytes) }
     ensures kept { IfOk result (λ m. IsKept (S.state source) (S.state m.source)) }
     ensures fresh { IfOk result (λ m. IsFresh m) }
 {

@@ -3,7 +3,7 @@
 ghost use Rattle.std.specs.Prelude.{◌≡◌, ◌==◌, ◌+◌, ◌^◌, ◌<◌, ◌≤◌, ◌∷◌, ◌++◌, [], false, true, length, take, IsOk, OnOk, OnErr};
 ghost use Rattle.pdb_base.specs.Memory.{FailsOnlyForMemory};
 ghost use Rattle.pdb_msf.specs.Source.{positions};
-ghost use Rattle.pdb_msf.specs.PageList.{first_of, page_positions, page_slice, with_slice};
+ghost use Rattle.pdb_msf.specs.PageList.{first_bytes_of, page_positions, page_slice, with_slice};
 
 use crate::source::SourceSlice;
 use pdb_base::{Error, Result};
@@ -25,9 +25,9 @@ pub struct PageList {
 impl Model for PageList {
     ghost use Rattle.std.specs.Prelude.{◌≡◌, ◌≤◌, length};
     ghost use Rattle.pdb_msf.specs.Source.{positions};
-    ghost use Rattle.pdb_msf.specs.PageList.{Listed};
+    ghost use Rattle.pdb_msf.specs.PageList.{SliceList};
 
-    ghost Value = { Listed };
+    ghost Value = { SliceList };
 
     ghost view = { λ l. record { page_size = l.page_size; slices = l.slices.items; is_truncated = l.is_truncated } };
 
@@ -77,7 +77,7 @@ impl PageList {
     /// Keeps the first `len` bytes, or all if there are fewer. The list then counts as truncated,
     /// however many bytes it had.
     pub fn truncate(&mut self, len: usize)
-        ensures slices { self.new ≡ record self.old { slices = first_of len self.old.slices; is_truncated = true } }
+        ensures slices { self.new ≡ record self.old { slices = first_bytes_of len self.old.slices; is_truncated = true } }
         ensures positions { positions self.new.slices ≡ take len (positions self.old.slices) }
     {
         self.is_truncated = true;

@@ -4,7 +4,7 @@ ghost use Rattle.std.specs.Prelude.{◌≡◌, ◌≢◌, ◌*◌, ◌^◌, ◌<
 ghost use Rattle.std.specs.IoError.{error_kind};
 ghost use Rattle.std.specs.List.{range_with_len};
 ghost use Rattle.pdb_base.specs.Answer.{Answers, AnswersUnless};
-ghost use Rattle.pdb_msf.specs.Source.{HasFailed, IsKept, KeepsKind, bytes_at, found, positions};
+ghost use Rattle.pdb_msf.specs.Source.{HasFailed, IsKept, KeepsKind, bytes_at, bytes_or_eof, positions};
 ghost use Rattle.pdb_msf.specs.Pages.{position_of, scatter};
 ghost use Rattle.pdb_msf.specs.Asked.{Asks};
 
@@ -30,7 +30,7 @@ pub fn source_error(error: io::Error) -> Error
 /// Views slices of a source.
 fn view<S: Source>(source: &mut S, alloc: Global, slices: &[SourceSlice]) -> Result<ReadView>
     ensures bytes { AnswersUnless (HasFailed (S.state source.old) (S.state source.new)) (λ v. v) result
-        (found (bytes_at (S.state source.old).bytes (positions slices.now))) }
+        (bytes_or_eof (bytes_at (S.state source.old).bytes (positions slices.now))) }
     ensures kept { IsKept (S.state source.old) (S.state source.new) }
     ensures kind { KeepsKind (S.state source.new) result }
 {
@@ -40,7 +40,7 @@ fn view<S: Source>(source: &mut S, alloc: Global, slices: &[SourceSlice]) -> Res
 /// Views slices of a source, and consumes it.
 fn into_view<S: Source + Drop>(source: S, alloc: Global, slices: &[SourceSlice]) -> Result<ReadView>
     ensures { AnswersUnless (¬ IsTrue (S.state source).is_sound) (λ v. v) result
-        (found (bytes_at (S.state source).bytes (positions slices.now))) }
+        (bytes_or_eof (bytes_at (S.state source).bytes (positions slices.now))) }
 {
     source.into_view(alloc, slices).map_err(source_error)
 }
@@ -107,7 +107,7 @@ impl<S: Source> CountedSource<S> {
         requires reached { size ≤ length numbers.now * page_size }
         requires few { length numbers.now ≤ 2 ^ 40 }
         ensures bytes { AnswersUnless (HasFailed (S.state self.old.source) (S.state self.new.source)) (λ v. v) result
-            (found (scatter (S.state self.old.source).bytes page_size numbers.now size)) }
+            (bytes_or_eof (scatter (S.state self.old.source).bytes page_size numbers.now size)) }
         ensures len { IfOk result (λ v. length v ≡ size) }
         ensures kept { IsKept (S.state self.old.source) (S.state self.new.source) }
         ensures kind { KeepsKind (S.state self.new.source) result }
@@ -134,7 +134,7 @@ impl<S: Source + Drop> CountedSource<S> {
         requires reached { size ≤ length numbers.now * page_size }
         requires few { length numbers.now ≤ 2 ^ 40 }
         ensures bytes { AnswersUnless (¬ IsTrue (S.state self.source).is_sound) (λ v. v) result
-            (found (scatter (S.state self.source).bytes page_size numbers.now size)) }
+            (bytes_or_eof (scatter (S.state self.source).bytes page_size numbers.now size)) }
         ensures len { IfOk result (λ v. length v ≡ size) }
     {
         let list = page_list(alloc, page_size, numbers, size)?;

@@ -2,11 +2,11 @@
 
 ghost use Rattle.std.specs.Prelude.{◌≡◌, ◌++◌, ℕ, List, length, map, true, IsTrue, IfOk, IfErr, IsErrAnd, None, slice_index};
 ghost use Rattle.std.specs.IoError.{error_kind};
-ghost use Rattle.pdb_msf.specs.Source.{State, IsKept, IsLastFault, in_memory, HasFailed, Shows, bytes_at, positions, slice_positions};
+ghost use Rattle.pdb_msf.specs.Source.{State, IsKept, IsLastFault, in_memory, HasFailed, ShowsBytes, bytes_at, positions, slice_positions};
 ghost use Rattle.std.specs.List.{list_all};
-ghost use Rattle.pdb_msf.specs.Within.{is_within, fitting};
+ghost use Rattle.pdb_msf.specs.Within.{is_within, if_fits_usize};
 
-use crate::in_place::{can_be_joined, joined};
+use crate::in_place::{can_be_joined, join_slices};
 use std::alloc::{AllocError, Global};
 use std::io;
 use std::io::ErrorKind;
@@ -86,7 +86,7 @@ pub trait Source {
     /// the bytes, kind `OutOfMemory` only if an allocation fails, and any other kind only if the
     /// source's count of faults rises.
     fn view(&mut self, alloc: Global, slices: &[SourceSlice]) -> Result<ReadView, io::Error>
-        ensures view { Shows (HasFailed (state self.old) (state self.new)) (λ v. v) result
+        ensures view { ShowsBytes (HasFailed (state self.old) (state self.new)) (λ v. v) result
             (bytes_at (state self.old).bytes (positions slices.now)) }
         ensures kind { IfErr result (λ e. IsLastFault (state self.new) (error_kind e)) }
         ensures kept { IsKept (state self.old) (state self.new) };
@@ -98,7 +98,7 @@ pub trait Source {
     fn into_view(mut self, alloc: Global, slices: &[SourceSlice]) -> Result<ReadView, io::Error>
     where
         Self: Sized + Drop,
-        ensures { Shows (¬ IsTrue (state self).is_sound) (λ v. v) result
+        ensures { ShowsBytes (¬ IsTrue (state self).is_sound) (λ v. v) result
             (bytes_at (state self).bytes (positions slices.now)) }
     {
         self.view(alloc, slices)
@@ -115,7 +115,7 @@ impl Source for Vec<u8> {
     /// checked before anything is allocated. It has kind `OutOfMemory` if an allocation fails, or
     /// if the sum of the sizes is above `usize::MAX`.
     fn view(&mut self, alloc: Global, slices: &[SourceSlice]) -> Result<ReadView, io::Error>
-        ensures view { Shows ⊥ (λ v. v) result (bytes_at self.old.items (positions slices.now)) }
+        ensures view { ShowsBytes ⊥ (λ v. v) result (bytes_at self.old.items (positions slices.now)) }
         ensures exact { bytes_at self.old.items (positions slices.now) ≡ None →
             IsErrAnd result (λ e. error_kind e ≡ ErrorKind.UnexpectedEof) }
         ensures kept { self.new ≡ self.old }
@@ -140,7 +140,7 @@ impl<'b> Source for &'b [u8] {
     /// # Errors
     /// Fails as the `view` of a `Vec<u8>` does.
     fn view(&mut self, alloc: Global, slices: &[SourceSlice]) -> Result<ReadView, io::Error>
-        ensures view { Shows (HasFailed (in_memory self.old.now) (in_memory self.new.now)) (λ v. v) result
+        ensures view { ShowsBytes (HasFailed (in_memory self.old.now) (in_memory self.new.now)) (λ v. v) result
             (bytes_at self.old.now (positions slices.now)) }
         ensures kind { IfErr result (λ e. IsLastFault (in_memory self.new.now) (error_kind e)) }
         ensures kept { IsKept (in_memory self.old.now) (in_memory self.new.now) }
@@ -154,7 +154,7 @@ impl<'b> Source for &'b [u8] {
 // A view of bytes in memory. The slices are checked before anything is allocated.
 #[tactic(auto, using(crate::proofs::PositionLemmas::bytes_within, crate::proofs::PositionLemmas::bytes_past))]
 fn view_of(file: &[u8], alloc: Global, slices: &[SourceSlice]) -> Result<ReadView, io::Error>
-    ensures view { Shows ⊥ (λ v. v) result (bytes_at file.now (positions slices.now)) }
+    ensures view { ShowsBytes ⊥ (λ v. v) result (bytes_at file.now (positions slices.now)) }
     ensures exact { bytes_at file.now (positions slices.now) ≡ None →
         IsErrAnd result (λ e. error_kind e ≡ ErrorKind.UnexpectedEof) }
 {
@@ -164,16 +164,16 @@ fn view_of(file: &[u8], alloc: Global, slices: &[SourceSlice]) -> Result<ReadVie
     let Some(size) = total_size(slices) else {
         return Err(io::Error::from(ErrorKind::OutOfMemory));
     };
-    Ok(ReadView::new(copied(alloc, file, slices, size)?))
+    Ok(ReadView::new(copy_slices(alloc, file, slices, size)?))
 }
 
 // A view of bytes in memory, which are joined in place where they can be.
 #[tactic(auto, using(crate::proofs::JoinLemmas::can_found))]
 fn into_view_of(file: Vec<u8>, alloc: Global, slices: &[SourceSlice]) -> Result<ReadView, io::Error>
-    ensures { Shows ⊥ (λ v. v) result (bytes_at file.items (positions slices.now)) }
+    ensures { ShowsBytes ⊥ (λ v. v) result (bytes_at file.items (positions slices.now)) }
 {
     if can_be_joined(file.len(), slices) {
-        return Ok(ReadView::new(joined(file, slices)));
+        return Ok(ReadView::new(join_slices(file, slices)));
     }
     view_of(file.as_slice(), alloc, slices)
 }
@@ -189,7 +189,7 @@ fn all_within(len: usize, slices: &[SourceSlice]) -> bool
 
 // The sizes of all slices together, if that is a number.
 fn total_size(slices: &[SourceSlice]) -> Option<usize>
-    ensures { result ≡ fitting (length (positions slices.now)) }
+    ensures { result ≡ if_fits_usize (length (positions slices.now)) }
 {
     let mut total = 0usize;
     for slice in slices {
@@ -199,7 +199,7 @@ fn total_size(slices: &[SourceSlice]) -> Option<usize>
 }
 
 // The bytes of slices that are all within the file, copied into a single allocation.
-fn copied(
+fn copy_slices(
     alloc: Global,
     file: &[u8],
     slices: &[SourceSlice],

@@ -11,7 +11,7 @@ use Rattle.pdb_base.specs.Refusal.{Refusal, refusal_of, unexpected_eof, out_of_m
 use Rattle.pdb_base.specs.Answer.{Answer, ◌>>=◌}
 use Rattle.pdb_base.specs.Memory.{HasItem}
 use Rattle.pdb_base.specs.Reading.{front_at, number_at}
-use Rattle.pdb_base.specs.Repeated.{SpellsEach, repeated}
+use Rattle.pdb_base.specs.Repeated.{SpellsEach, read_times}
 use Rattle.pdb_base.specs.Spelling.{SpellsNumber, Begins}
 use Rattle.pdb_base.proofs.lemmas.Collected.{err, err_is, ok, ok_is, ok_is_no_err}
 use Rattle.pdb_base.proofs.lemmas.Reading.{front_cut, front_whole}
@@ -49,18 +49,18 @@ ids_agree_in_list Bits32 = rows (counted_row Bits32 id_index)
 
 -- the indexes behind a count
 abbrev pub behind_count : {A : Type 0} → (ℕ → A) → ℕ × List ℕ → Answer (List A × List ℕ)
-behind_count said count = repeated (index_at said) count.0 count.1 >>= λ items. ok (items.0, items.1)
+behind_count said count = read_times (index_at said) count.0 count.1 >>= λ items. ok (items.0, items.1)
 
 pub counted_is : {A : Type 0} (width : CountWidth) (said : ℕ → A) (bytes : List ℕ) (count : ℕ) (rest : List ℕ)
     (answer : Answer (List A × List ℕ))
-    → number_at (count_bytes width) bytes ≡ Ok (count, rest) → repeated (index_at said) count rest ≡ answer
+    → number_at (count_bytes width) bytes ≡ Ok (count, rest) → read_times (index_at said) count rest ≡ answer
     → counted_at width said bytes ≡ answer
 counted_is {A} width said bytes count rest (Ok items) is all =
     bind_at (number_at (count_bytes width) bytes) (behind_count said) (count, rest) is
-    ∙ bind_at (repeated (index_at said) count rest) (λ xs. ok (xs.0, xs.1)) items all
+    ∙ bind_at (read_times (index_at said) count rest) (λ xs. ok (xs.0, xs.1)) items all
 counted_is {A} width said bytes count rest (Err e) is all =
     bind_at (number_at (count_bytes width) bytes) (behind_count said) (count, rest) is
-    ∙ bind_no (repeated (index_at said) count rest) (λ xs. ok (xs.0, xs.1)) e all
+    ∙ bind_no (read_times (index_at said) count rest) (λ xs. ok (xs.0, xs.1)) e all
 
 -- a count that the bytes don't hold is refused
 pub counted_short : {A : Type 0} (width : CountWidth) (said : ℕ → A) (bytes : List ℕ) (count : ℕ) (rest : List ℕ)
@@ -151,7 +151,7 @@ number_is_no_want width bytes cause is want =
 -- ---- a list of arguments that is skipped
 
 skipped : (bytes : List ℕ) (count : ℕ) (rest : List ℕ) (answer : Answer (List TypeIndex × List ℕ))
-    → number_at 4 bytes ≡ Ok (count, rest) → repeated (index_at as_type) count rest ≡ answer
+    → number_at 4 bytes ≡ Ok (count, rest) → read_times (index_at as_type) count rest ≡ answer
     → arguments_end bytes ≡ (answer >>= λ list. ok list.1)
 skipped bytes count rest answer is all = ap (λ (a : Answer (List TypeIndex × List ℕ)). a >>= λ list. ok list.1)
     (counted_is Bits32 as_type bytes count rest answer is all)

@@ -10,7 +10,7 @@ use Rattle.pdb_base.specs.Numeric.{Numeral, unsigned_leaves}
 use Rattle.pdb_base.proofs.lemmas.Collected.{ok, err, ok_is, err_is, ok_is_no_err, bind_ok}
 use Rattle.pdb_records.specs.Agreement.{Agrees}
 use Rattle.pdb_records.specs.Shape.{num}
-use Rattle.pdb_records.specs.Dimensions.{IsDimension, NoDimension, GoesOn, AreDimensions, NoDimensionBehind}
+use Rattle.pdb_records.specs.Dimensions.{IsDimension, NoDimension, HasAnotherDimension, AreDimensions, NoDimensionBehind}
 use Rattle.pdb_records.specs.Dimensions.{NoDimensions, dimension_at, behind_dimension, dimensions_upto, dimensions_at}
 use Rattle.pdb_records.specs.Dimensions.{largest_dimension, too_large}
 use Rattle.pdb_records.proofs.Agreeing.{answer_cases, bind_at, bind_no, mapped_err}
@@ -95,11 +95,11 @@ dimension_agrees = record {
 -- ---- dimensions one behind the other
 
 pub one_more : (bytes : List ℕ) (n : ℕ) (mid : List ℕ) (ns : List ℕ) (rest : List ℕ) → IsDimension bytes n mid
-    → GoesOn mid → AreDimensions mid ns rest → AreDimensions bytes (n ∷ ns) rest
+    → HasAnotherDimension mid → AreDimensions mid ns rest → AreDimensions bytes (n ∷ ns) rest
 one_more bytes n mid [] rest one goes more = absurd more
 one_more bytes n mid (m ∷ ns) rest one goes more = (mid, one, goes, more)
 
-goes_on : (byte : ℕ) (bytes : List ℕ) → GoesOn (suc byte ∷ bytes)
+goes_on : (byte : ℕ) (bytes : List ℕ) → HasAnotherDimension (suc byte ∷ bytes)
 goes_on byte bytes = λ is. absurd (omega (arith, is))
 
 found_behind : (most : ℕ) → ((bytes : List ℕ) → length bytes < most → (ns rest : List ℕ)
@@ -126,14 +126,14 @@ found_upto (suc most) bytes fits ns rest is =
     found_behind most (found_upto most) bytes first.0.0 first.0.1 here
     (omega (arith, fits, num_takes bytes first.0.0 first.0.1 here.0)) ns rest first.2
 
-behind_goes : (more : List ℕ → Answer (List ℕ × List ℕ)) (n : ℕ) (mid : List ℕ) (ns rest : List ℕ) → GoesOn mid
+behind_goes : (more : List ℕ → Answer (List ℕ × List ℕ)) (n : ℕ) (mid : List ℕ) (ns rest : List ℕ) → HasAnotherDimension mid
     → more mid ≡ Ok (ns, rest) → behind_dimension more n mid ≡ Ok (n ∷ ns, rest)
 behind_goes more n [] ns rest goes is = absurd goes
 behind_goes more n (zero ∷ mid) ns rest goes is = absurd (goes refl)
 behind_goes more n (suc byte ∷ mid) ns rest goes is =
     bind_at (more (suc byte ∷ mid)) (λ ms. Ok (n ∷ ms.0, ms.1)) (ns, rest) is
 
-behind_stops : (more : List ℕ → Answer (List ℕ × List ℕ)) (n : ℕ) (mid : List ℕ) (e : Refusal) → GoesOn mid
+behind_stops : (more : List ℕ → Answer (List ℕ × List ℕ)) (n : ℕ) (mid : List ℕ) (e : Refusal) → HasAnotherDimension mid
     → more mid ≡ Err e → behind_dimension more n mid ≡ Err e
 behind_stops more n [] e goes is = absurd goes
 behind_stops more n (zero ∷ mid) e goes is = absurd (goes refl)

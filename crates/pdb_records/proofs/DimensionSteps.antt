@@ -6,10 +6,10 @@ use Rattle.std.proofs.lemmas.List.{take-append-drop, length-take-le}
 use Rattle.pdb_base.specs.Endian.{little_number}
 use Rattle.pdb_base.specs.Refusal.{Refusal, unexpected_eof}
 use Rattle.pdb_base.specs.Answer.{Answer, ◌>>=◌}
-use Rattle.pdb_base.specs.Reading.{front_at, number_at, peeked}
+use Rattle.pdb_base.specs.Reading.{front_at, number_at, peek_number}
 use Rattle.pdb_base.proofs.lemmas.Collected.{ok, err, ok_is, err_is, ok_is_no_err}
 use Rattle.pdb_base.proofs.lemmas.Reading.{number_cut, number_whole}
-use Rattle.pdb_records.specs.Dimensions.{IsDimension, GoesOn, dimension_at, dimensions_at, end_at}
+use Rattle.pdb_records.specs.Dimensions.{IsDimension, HasAnotherDimension, dimension_at, dimensions_at, end_at}
 use Rattle.pdb_records.specs.Padding.{least_pad, behind_pad, BeginsPad, padding_at}
 use Rattle.pdb_records.proofs.Agreeing.{answer_cases, bind_at, bind_no}
 use Rattle.pdb_records.proofs.StepLemmas.{behind, behind_more}
@@ -26,7 +26,7 @@ pub no_byte_read : number_at 1 [] ≡ Err unexpected_eof
 no_byte_read = number_cut 1 [] (omega arith)
 
 pub step_more : (before : List ℕ) (bytes : List ℕ) (n : ℕ) (mid : List ℕ) → dimension_at bytes ≡ Ok (n, mid)
-    → GoesOn mid → behind before (dimensions_at bytes) ≡ behind (before ++ n ∷ []) (dimensions_at mid)
+    → HasAnotherDimension mid → behind before (dimensions_at bytes) ≡ behind (before ++ n ∷ []) (dimensions_at mid)
 step_more before bytes n mid is goes =
     let here : IsDimension bytes n mid = dimension_agrees.found bytes n mid is in
     let step : dimensions_at bytes ≡ (dimensions_at mid >>= λ ns. ok (n ∷ ns.0, ns.1)) =
@@ -68,25 +68,25 @@ dimension_shorter bytes n rest is = num_takes bytes n rest (dimension_agrees.fou
 
 -- ---- the first byte
 
-pub peek_cons : (byte : ℕ) (rest : List ℕ) → peeked 1 (byte ∷ rest) ≡ Ok byte
-unfolding peeked
+pub peek_cons : (byte : ℕ) (rest : List ℕ) → peek_number 1 (byte ∷ rest) ≡ Ok byte
+unfolding peek_number
 peek_cons byte rest = bind_at (number_at 1 (byte ∷ rest)) (λ n. ok n.0) (byte, rest) (byte_read byte rest)
 
-pub peek_none : peeked 1 [] ≡ Err unexpected_eof
-unfolding peeked
+pub peek_none : peek_number 1 [] ≡ Err unexpected_eof
+unfolding peek_number
 peek_none = bind_no (number_at 1 []) (λ n. ok n.0) unexpected_eof no_byte_read
 
 -- the byte that is seen is the first
-pub peek_is : (byte : ℕ) (rest : List ℕ) (seen : ℕ) → peeked 1 (byte ∷ rest) ≡ Ok seen → byte ≡ seen
+pub peek_is : (byte : ℕ) (rest : List ℕ) (seen : ℕ) → peek_number 1 (byte ∷ rest) ≡ Ok seen → byte ≡ seen
 peek_is byte rest seen is = ok_is byte seen (sym (peek_cons byte rest) ∙ is)
 
-pub peeked_some : (bytes : List ℕ) (e : Refusal) → bytes ≢ [] → peeked 1 bytes ≡ Err e → ⊥
+pub peeked_some : (bytes : List ℕ) (e : Refusal) → bytes ≢ [] → peek_number 1 bytes ≡ Err e → ⊥
 peeked_some [] e some is = some refl
 peeked_some (byte ∷ rest) e some is = ok_is_no_err byte e (sym (peek_cons byte rest) ∙ is)
 
 -- ---- where dimensions end
 
-pub end_unseen : (bytes : List ℕ) (e : Refusal) → peeked 1 bytes ≡ Err e → end_at bytes ≡ Err e
+pub end_unseen : (bytes : List ℕ) (e : Refusal) → peek_number 1 bytes ≡ Err e → end_at bytes ≡ Err e
 end_unseen [] e is = ap (λ (d : Refusal). err d) (err_is {A = ℕ} unexpected_eof e (sym peek_none ∙ is))
 end_unseen (byte ∷ rest) e is = absurd (ok_is_no_err byte e (sym (peek_cons byte rest) ∙ is))
 
@@ -94,12 +94,12 @@ pub end_unread : (bytes : List ℕ) (e : Refusal) → number_at 1 bytes ≡ Err 
 end_unread [] e is = ap (λ (d : Refusal). err d) (err_is {A = ℕ × List ℕ} unexpected_eof e (sym no_byte_read ∙ is))
 end_unread (byte ∷ rest) e is = absurd (ok_is_no_err (byte, rest) e (sym (byte_read byte rest) ∙ is))
 
-pub end_no : (bytes : List ℕ) (seen : ℕ) → peeked 1 bytes ≡ Ok seen → seen ≢ 0 → end_at bytes ≡ Ok (false, bytes)
+pub end_no : (bytes : List ℕ) (seen : ℕ) → peek_number 1 bytes ≡ Ok seen → seen ≢ 0 → end_at bytes ≡ Ok (false, bytes)
 end_no [] seen is other = absurd (ok_is_no_err seen unexpected_eof (sym is ∙ peek_none))
 end_no (zero ∷ rest) seen is other = absurd (other (sym (peek_is 0 rest seen is)))
 end_no (suc byte ∷ rest) seen is other = refl
 
-pub end_yes : (bytes : List ℕ) (seen n : ℕ) (rest : List ℕ) → peeked 1 bytes ≡ Ok seen → seen ≡ 0
+pub end_yes : (bytes : List ℕ) (seen n : ℕ) (rest : List ℕ) → peek_number 1 bytes ≡ Ok seen → seen ≡ 0
     → number_at 1 bytes ≡ Ok (n, rest) → end_at bytes ≡ Ok (true, rest)
 end_yes [] seen n rest is nul read = absurd (ok_is_no_err seen unexpected_eof (sym is ∙ peek_none))
 end_yes (zero ∷ more) seen n rest is nul read =
@@ -119,7 +119,7 @@ end_found (zero ∷ more) rest is = ap (λ (p : Bool × List ℕ). 0 ∷ p.1) (o
 end_found (suc byte ∷ more) rest is = absurd
     (false≢true (ap (λ (p : Bool × List ℕ). p.0) (ok_is (false, suc byte ∷ more) (true, rest) is)))
 
-pub end_missed : (bytes rest : List ℕ) → end_at bytes ≡ Ok (false, rest) → GoesOn bytes × (bytes ≡ rest)
+pub end_missed : (bytes rest : List ℕ) → end_at bytes ≡ Ok (false, rest) → HasAnotherDimension bytes × (bytes ≡ rest)
 end_missed [] rest is = absurd (ok_is_no_err (false, rest) unexpected_eof (sym is))
 end_missed (zero ∷ more) rest is = absurd
     (false≢true (sym (ap (λ (p : Bool × List ℕ). p.0) (ok_is (true, more) (false, rest) is))))
@@ -188,7 +188,7 @@ pad_of byte more (first ∷ pad) rest large len is =
     let same : first ≡ byte = cc in
     ((omega (arith, same, large), omega (arith, len, ap behind_pad same)), is)
 
-pub padding_none : (bytes : List ℕ) (seen : ℕ) → peeked 1 bytes ≡ Ok seen → seen < least_pad
+pub padding_none : (bytes : List ℕ) (seen : ℕ) → peek_number 1 bytes ≡ Ok seen → seen < least_pad
     → padding_at bytes ≡ Ok (tt, bytes)
 unfolding padding_at
 padding_none [] seen is small = refl
@@ -199,7 +199,7 @@ unfolding padding_at
 padding_ends [] is = refl
 padding_ends (byte ∷ more) is = absurd cc
 
-pub padding_cut : (bytes : List ℕ) (seen : ℕ) (e : Refusal) → peeked 1 bytes ≡ Ok seen → least_pad ≤ seen
+pub padding_cut : (bytes : List ℕ) (seen : ℕ) (e : Refusal) → peek_number 1 bytes ≡ Ok seen → least_pad ≤ seen
     → front_at (behind_pad seen + 1) bytes ≡ Err e → padding_at bytes ≡ Err e
 unfolding padding_at
 padding_cut [] seen e is large cut = absurd (ok_is_no_err seen unexpected_eof (sym is ∙ peek_none))
@@ -209,7 +209,7 @@ padding_cut (byte ∷ more) seen e is large cut =
     cut_at (byte ∷ more) (omega (arith, same, large), omega (arith, short.0, ap behind_pad same))
     ∙ ap (λ (d : Refusal). err d) (sym short.1)
 
-pub padding_step : (bytes : List ℕ) (seen : ℕ) (pad rest : List ℕ) → peeked 1 bytes ≡ Ok seen → least_pad ≤ seen
+pub padding_step : (bytes : List ℕ) (seen : ℕ) (pad rest : List ℕ) → peek_number 1 bytes ≡ Ok seen → least_pad ≤ seen
     → front_at (behind_pad seen + 1) bytes ≡ Ok (pad, rest) → (padding_at bytes ≡ padding_at rest)
     × (length rest < length bytes)
 unfolding padding_at

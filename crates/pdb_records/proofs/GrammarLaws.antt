@@ -26,10 +26,10 @@ use Rattle.pdb_values.specs.TypeValue.{TypeValue}
 use Rattle.pdb_values.specs.TypeValue as values
 use Rattle.pdb_records.specs.Rows.{listed_method_row, continuation_row}
 use Rattle.pdb_records.specs.Lists.{arguments_row, array_row}
-use Rattle.pdb_records.specs.Arrays.{array_of, ended, dimensions_to_end, array_at}
+use Rattle.pdb_records.specs.Arrays.{array_of, end_of_bytes, dimensions_to_end, array_at}
 use Rattle.pdb_records.specs.Leaves.{leaf_of, row_of}
 use Rattle.pdb_records.specs.Counted.{counted_at}
-use Rattle.pdb_records.specs.Known.{IsKnown}
+use Rattle.pdb_records.specs.Known.{IsOfKnownLeaf}
 use Rattle.pdb_records.specs.Records.{data_at, behind_leaf}
 use Rattle.pdb_records.specs.Fields.{Entry, field, continues, field_list_of, entry_of, field_at, record_of, record_at}
 use Rattle.pdb_records.specs.Fields.{continuation_leaf, field_list_leaf}
@@ -49,29 +49,29 @@ IsEnd bytes nothing rest = (bytes ≡ []) × (rest ≡ [])
 abbrev NoEnd : List ℕ → Refusal → Type 0
 NoEnd bytes e = (bytes ≢ []) × (e ≡ unexpected_eof)
 
-found_end : (bytes : List ℕ) (nothing : Unit {0}) (rest : List ℕ) → ended bytes ≡ Ok (nothing, rest)
+found_end : (bytes : List ℕ) (nothing : Unit {0}) (rest : List ℕ) → end_of_bytes bytes ≡ Ok (nothing, rest)
     → IsEnd bytes nothing rest
 found_end [] nothing rest is = (refl, sym (ap (λ (p : Unit {0} × List ℕ). p.1) (ok_is (tt, []) (nothing, rest) is)))
 found_end (byte ∷ bytes) nothing rest is = absurd (ok_is_no_err (nothing, rest) unexpected_eof (sym is))
 
 only_end : (bytes : List ℕ) (nothing : Unit {0}) (rest : List ℕ) → IsEnd bytes nothing rest
-    → ended bytes ≡ Ok (nothing, rest)
+    → end_of_bytes bytes ≡ Ok (nothing, rest)
 only_end [] nothing rest is = ap (λ (r : List ℕ). ok (tt, r)) (sym is.1)
 only_end (byte ∷ bytes) nothing rest is = absurd (no_cons is.0) where
   no_cons : byte ∷ bytes ≡ [] → ⊥
   no_cons same = cc
 
-failed_end : (bytes : List ℕ) (e : Refusal) → ended bytes ≡ Err e → NoEnd bytes e
+failed_end : (bytes : List ℕ) (e : Refusal) → end_of_bytes bytes ≡ Err e → NoEnd bytes e
 failed_end [] e is = absurd (ok_is_no_err (tt, []) e is)
 failed_end (byte ∷ bytes) e is = (λ same. no_cons same, sym (err_is {A = Unit {0} × List ℕ} unexpected_eof e is)) where
   no_cons : byte ∷ bytes ≡ [] → ⊥
   no_cons same = cc
 
-fails_end : (bytes : List ℕ) (e : Refusal) → NoEnd bytes e → ended bytes ≡ Err e
+fails_end : (bytes : List ℕ) (e : Refusal) → NoEnd bytes e → end_of_bytes bytes ≡ Err e
 fails_end [] e is = absurd (is.0 refl)
 fails_end (byte ∷ bytes) e is = ap (λ (d : Refusal). err d) (sym is.1)
 
-end_agrees : Agrees ended IsEnd NoEnd
+end_agrees : Agrees end_of_bytes IsEnd NoEnd
 end_agrees = record { found = found_end; only = only_end; failed = failed_end; fails = fails_end }
 
 last_agree : Agrees dimensions_to_end AreLastDimensions NoLastDimensions
@@ -79,10 +79,10 @@ unfolding dimensions_to_end
 last_agree =
     reworded dimensions_to_end _ AreLastDimensions _ NoLastDimensions
     (chained dimensions_at AreDimensions NoDimensions
-    (λ ns mid. padding_at mid >>= λ pads. ended pads.1 >>= λ none. ok (ns, none.1)) _ _ dimensions_agree
+    (λ ns mid. padding_at mid >>= λ pads. end_of_bytes pads.1 >>= λ none. ok (ns, none.1)) _ _ dimensions_agree
     (λ ns. chained padding_at IsPadded IsPaddedShort
-    (λ pads end. ended end >>= λ none. ok (ns, none.1)) _ _ padding_agrees
-    (λ pads. mapped (λ none. ns) ended IsEnd NoEnd end_agrees)))
+    (λ pads end. end_of_bytes end >>= λ none. ok (ns, none.1)) _ _ padding_agrees
+    (λ pads. mapped (λ none. ns) end_of_bytes IsEnd NoEnd end_agrees)))
     (λ bytes ns rest is. subst (λ (ms : List ℕ). AreLastDimensions bytes ms rest) is.3.3.2
     (is.1, is.3.1, is.2, is.3.2, is.3.3.1.0, is.3.3.1.1))
     (λ bytes ns rest is. (ns, is.0, is.2, (tt, is.1, is.3, (tt, (is.4, is.5), refl))))
@@ -163,7 +163,7 @@ data_leaves number MethodList bytes x rest is = omega (arith, ap length is.1.1)
 data_leaves number (Array strided) bytes x rest is = omega (arith, ap length is.1.3.1.5)
 
 data_of_leaves : (number : ℕ) (leaf : Option Leaf) (bytes : List ℕ) (x : TypeValue) (rest : List ℕ)
-    → IsKnown (IsData number) leaf bytes x rest → length rest ≤ length bytes
+    → IsOfKnownLeaf (IsData number) leaf bytes x rest → length rest ≤ length bytes
 data_of_leaves number None bytes x rest is = absurd is
 data_of_leaves number (Some leaf) bytes x rest is = data_leaves number leaf bytes x rest is
 

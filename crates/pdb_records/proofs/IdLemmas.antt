@@ -20,7 +20,7 @@ use Rattle.pdb_records.specs.declared.id_leaf.IdLeaf.{IdLeaf}
 use Rattle.pdb_records.specs.declared.id_leaf.IdLeaf.TheVariants.{Plain, BuildInfo, StringList}
 use Rattle.pdb_records.specs.declared.parse.counted.CountWidth.TheVariants.{Bits16, Bits32}
 use Rattle.pdb_records.specs.Counted.{counted_at}
-use Rattle.pdb_records.specs.Known.{IsKnown}
+use Rattle.pdb_records.specs.Known.{IsOfKnownLeaf}
 use Rattle.pdb_records.specs.Ids.{id_leaf_of, behind_id_leaf, id_at, id_record, IsIdData, IsId}
 use Rattle.pdb_records.specs.IdLists.{SaysIdItem, item_count, HoldsIdItem, IsCutIdList, build_info_leaf}
 use Rattle.pdb_records.specs.IdLists.{string_list_leaf}
@@ -85,7 +85,7 @@ data_few number StringList bytes value rest is = let all : length is.0 ≡ item_
     omega (arith, all, types_few Bits32 bytes is.0 rest is.1)
 
 behind_few : (number : ℕ) (leaf : Option IdLeaf) (bytes : List ℕ) (value : IdValue) (rest : List ℕ)
-    → IsKnown (IsIdData number) leaf bytes value rest → 4 * item_count value ≤ length bytes
+    → IsOfKnownLeaf (IsIdData number) leaf bytes value rest → 4 * item_count value ≤ length bytes
 behind_few number None bytes value rest is = absurd is
 behind_few number (Some leaf) bytes value rest is = data_few number leaf bytes value rest is
 

@@ -17,7 +17,7 @@ use Rattle.pdb_base.proofs.lemmas.Spelling.{numbers, texts, pascal_texts}
 use Rattle.pdb_base.proofs.lemmas.Numeric.{nums, variants, num_refusals, variant_refusals}
 use Rattle.pdb_flags.specs.PointerAttributes.{is_pointer_word}
 use Rattle.pdb_records.specs.Agreement.{Agrees}
-use Rattle.pdb_base.specs.Repeated.{repeated}
+use Rattle.pdb_base.specs.Repeated.{read_times}
 use Rattle.pdb_records.specs.Shape.{Shape, u8, u16, u32, num, variant, type_index, id_index, some_type, some_id}
 use Rattle.pdb_records.specs.Shape.{pointer_word, text, when, times, Spells, SpellsTextBy, SpellsIndex, SpellsPointer}
 use Rattle.pdb_records.specs.Shape.{SpellsWhen, SpellsTimes, as_type, as_id, type_named, id_named, ends_texts}
@@ -292,9 +292,9 @@ when_agree {A} Spells read Fault false agrees = record {
 
 none_agree : {A : Type 0} (Spells : A → List ℕ → Type 0) (read : List ℕ → Answer (A × List ℕ))
     (Fault : List ℕ → Refusal → Type 0)
-    → Agrees (repeated read 0) (Begins (SpellsTimes Spells 0)) (FirstOf Spells Fault 0)
+    → Agrees (read_times read 0) (Begins (SpellsTimes Spells 0)) (FirstOf Spells Fault 0)
 none_agree {A} Spells read Fault =
-    reworded (repeated read 0) (λ bytes xs rest. ([] ≡ xs) × (bytes ≡ rest)) (Begins (SpellsTimes Spells 0))
+    reworded (read_times read 0) (λ bytes xs rest. ([] ≡ xs) × (bytes ≡ rest)) (Begins (SpellsTimes Spells 0))
     (λ bytes e. ⊥) (FirstOf Spells Fault 0) (given []) there back (λ bytes e no. no) (λ bytes e no. no) where
       there : (bytes : List ℕ) (xs : List A) (rest : List ℕ) → ([] ≡ xs) × (bytes ≡ rest)
           → Begins (SpellsTimes Spells 0) bytes xs rest
@@ -318,16 +318,16 @@ Parts {A} Spells count bytes ys rest = (x : A) × (mid : List ℕ) × Begins Spe
 more_agree : {A : Type 0} (Spells : A → List ℕ → Type 0) (read : List ℕ → Answer (A × List ℕ))
     (Fault : List ℕ → Refusal → Type 0) (count : ℕ)
     → Agrees read (Begins Spells) (λ bytes e. BeginsNone Spells bytes × Fault bytes e)
-    → Agrees (repeated read count) (Begins (SpellsTimes Spells count)) (FirstOf Spells Fault count)
-    → Agrees (repeated read (suc count)) (Begins (SpellsTimes Spells (suc count))) (FirstOf Spells Fault (suc count))
+    → Agrees (read_times read count) (Begins (SpellsTimes Spells count)) (FirstOf Spells Fault count)
+    → Agrees (read_times read (suc count)) (Begins (SpellsTimes Spells (suc count))) (FirstOf Spells Fault (suc count))
 more_agree {A} Spells read Fault count one more =
-    reworded (repeated read (suc count)) (Parts Spells count) (Begins (SpellsTimes Spells (suc count)))
+    reworded (read_times read (suc count)) (Parts Spells count) (Begins (SpellsTimes Spells (suc count)))
     (FirstOf Spells Fault (suc count)) (FirstOf Spells Fault (suc count))
     (chained read (Begins Spells) (λ bytes e. BeginsNone Spells bytes × Fault bytes e)
-    (λ x mid. repeated read count mid >>= λ xs. ok (x ∷ xs.0, xs.1))
+    (λ x mid. read_times read count mid >>= λ xs. ok (x ∷ xs.0, xs.1))
     (λ x mid ys rest. (xs : List A) × Begins (SpellsTimes Spells count) mid xs rest × (x ∷ xs ≡ ys))
     (λ x mid e. FirstOf Spells Fault count mid e)
-    one (λ x. mapped (λ xs. x ∷ xs) (repeated read count) (Begins (SpellsTimes Spells count))
+    one (λ x. mapped (λ xs. x ∷ xs) (read_times read count) (Begins (SpellsTimes Spells count))
     (FirstOf Spells Fault count) more))
     there back (λ bytes e is. is) (λ bytes e is. is) where
       there : (bytes : List ℕ) (ys : List A) (rest : List ℕ) → Parts Spells count bytes ys rest
@@ -374,7 +374,7 @@ more_agree {A} Spells read Fault count one more =
 times_agree : {A : Type 0} (Spells : A → List ℕ → Type 0) (read : List ℕ → Answer (A × List ℕ))
     (Fault : List ℕ → Refusal → Type 0) (count : ℕ)
     → Agrees read (Begins Spells) (λ bytes e. BeginsNone Spells bytes × Fault bytes e)
-    → Agrees (repeated read count) (Begins (SpellsTimes Spells count)) (FirstOf Spells Fault count)
+    → Agrees (read_times read count) (Begins (SpellsTimes Spells count)) (FirstOf Spells Fault count)
 times_agree Spells read Fault zero one = none_agree Spells read Fault
 times_agree Spells read Fault (suc count) one =
     more_agree Spells read Fault count one (times_agree Spells read Fault count one)
@@ -393,6 +393,6 @@ shapes pointer_word = pointers_agree
 shapes (text leaf) = texts_agree (ends_texts leaf)
 shapes (when test shape) = when_agree (Spells shape) (read_shape shape) (Fault shape) test (shapes shape)
 shapes (times count shape) =
-    with_none (SpellsTimes (Spells shape) count) (repeated (read_shape shape) count)
+    with_none (SpellsTimes (Spells shape) count) (read_times (read_shape shape) count)
     (FirstOf (Spells shape) (Fault shape) count)
     (times_agree (Spells shape) (read_shape shape) (Fault shape) count (shapes shape))

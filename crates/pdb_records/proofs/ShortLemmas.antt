@@ -18,7 +18,7 @@ use Rattle.pdb_records.specs.Fields.{Entry, field, continues, fields_among, fiel
 use Rattle.pdb_records.specs.Fields.{field_list_leaf}
 use Rattle.pdb_records.specs.Grammar.{IsData, IsEntryOf, IsEntry, IsRecordOf, IsRecord}
 use Rattle.pdb_records.specs.declared.parse.counted.CountWidth.TheVariants.{Bits32}
-use Rattle.pdb_records.specs.Known.{IsKnown}
+use Rattle.pdb_records.specs.Known.{IsOfKnownLeaf}
 use Rattle.pdb_records.specs.Short.{HalfAsMany, IsShort, AreShort}
 use Rattle.pdb_records.proofs.CountedLemmas.{types_few}
 use Rattle.pdb_records.proofs.ListLemmas.{method_long}
@@ -66,7 +66,7 @@ data_short size number (Array strided) bytes value rest fits is =
     subst (λ (v : TypeValue). IsShort size v) is.2 (subst (λ (a : _). IsShort size (values.array a)) dimensions.2 made)
 
 behind_short : (size number : ℕ) (leaf : Option Leaf) (bytes : List ℕ) (value : TypeValue) (rest : List ℕ)
-    → length bytes ≤ size → IsKnown (IsData number) leaf bytes value rest → IsShort size value
+    → length bytes ≤ size → IsOfKnownLeaf (IsData number) leaf bytes value rest → IsShort size value
 behind_short size number None bytes value rest fits is = absurd is
 behind_short size number (Some leaf) bytes value rest fits is = data_short size number leaf bytes value rest fits is
 

@@ -10,7 +10,7 @@ use Rattle.pdb_base.specs.Reading.{number_at}
 use Rattle.pdb_base.proofs.lemmas.Collected.{ok}
 use Rattle.pdb_base.proofs.lemmas.Reading.{number_cut, number_whole}
 use Rattle.pdb_records.specs.Agreement.{Agrees}
-use Rattle.pdb_base.specs.Repeated.{repeated}
+use Rattle.pdb_base.specs.Repeated.{read_times}
 use Rattle.pdb_records.specs.Shape.{index_at}
 use Rattle.pdb_records.specs.ToEnd.{TakesBytes, read_upto, to_end}
 use Rattle.pdb_records.proofs.Agreeing.{answer_cases, bind_at, bind_no}
@@ -73,22 +73,22 @@ to_end_stops {A} read before (byte ∷ bytes) e some is =
 
 pub repeated_step : {A : Type 0} (read : List ℕ → Answer (A × List ℕ)) (before : List A) (count : ℕ) (bytes : List ℕ)
     (x : A) (rest : List ℕ) → 0 < count → read bytes ≡ Ok (x, rest)
-    → behind before (repeated read count bytes) ≡ behind (before ++ x ∷ []) (repeated read (count - 1) rest)
+    → behind before (read_times read count bytes) ≡ behind (before ++ x ∷ []) (read_times read (count - 1) rest)
 repeated_step {A} read before zero bytes x rest some is = absurd (omega (arith, some))
 repeated_step {A} read before (suc count) bytes x rest some is =
     let less : suc count - 1 ≡ count = omega arith in
-    let one : repeated read (suc count) bytes ≡ (repeated read count rest >>= λ xs. ok (x ∷ xs.0, xs.1)) =
-    bind_at (read bytes) (λ y. repeated read count y.1 >>= λ xs. ok (y.0 ∷ xs.0, xs.1)) (x, rest) is in
+    let one : read_times read (suc count) bytes ≡ (read_times read count rest >>= λ xs. ok (x ∷ xs.0, xs.1)) =
+    bind_at (read bytes) (λ y. read_times read count y.1 >>= λ xs. ok (y.0 ∷ xs.0, xs.1)) (x, rest) is in
     ap (λ (r : Answer (List A × List ℕ)). behind before r) one
-    ∙ behind_more before x (repeated read count rest)
-    ∙ ap (λ (n : ℕ). behind (before ++ x ∷ []) (repeated read n rest)) (sym less)
+    ∙ behind_more before x (read_times read count rest)
+    ∙ ap (λ (n : ℕ). behind (before ++ x ∷ []) (read_times read n rest)) (sym less)
 
 pub repeated_stops : {A : Type 0} (read : List ℕ → Answer (A × List ℕ)) (before : List A) (count : ℕ) (bytes : List ℕ)
-    (e : Refusal) → 0 < count → read bytes ≡ Err e → behind before (repeated read count bytes) ≡ Err e
+    (e : Refusal) → 0 < count → read bytes ≡ Err e → behind before (read_times read count bytes) ≡ Err e
 repeated_stops {A} read before zero bytes e some is = absurd (omega (arith, some))
 repeated_stops {A} read before (suc count) bytes e some is =
-    bind_no (repeated read (suc count) bytes) (λ xs. ok (before ++ xs.0, xs.1)) e
-    (bind_no (read bytes) (λ y. repeated read count y.1 >>= λ xs. ok (y.0 ∷ xs.0, xs.1)) e is)
+    bind_no (read_times read (suc count) bytes) (λ xs. ok (before ++ xs.0, xs.1)) e
+    (bind_no (read bytes) (λ y. read_times read count y.1 >>= λ xs. ok (y.0 ∷ xs.0, xs.1)) e is)
 
 -- ---- indexes, which have four bytes each
 
@@ -108,31 +108,31 @@ index_short said bytes short = bind_no (number_at 4 bytes) (λ n. ok (said n.0, 
 
 -- bytes that can't hold so many end too soon
 pub indexes_short : {A : Type 0} (said : ℕ → A) (count : ℕ) (bytes : List ℕ) → length bytes < 4 * count
-    → repeated (index_at said) count bytes ≡ Err unexpected_eof
+    → read_times (index_at said) count bytes ≡ Err unexpected_eof
 indexes_short {A} said zero bytes short = absurd (omega (arith, short))
 indexes_short {A} said (suc count) bytes short = elim (cases_lt (length bytes) 4) [
   | inl few ↦ bind_no (index_at said bytes)
-      (λ y. repeated (index_at said) count y.1 >>= λ xs. ok (y.0 ∷ xs.0, xs.1)) unexpected_eof
+      (λ y. read_times (index_at said) count y.1 >>= λ xs. ok (y.0 ∷ xs.0, xs.1)) unexpected_eof
       (index_short said bytes few)
   | inr enough ↦
       let one = index_whole said bytes enough in
-      bind_at (index_at said bytes) (λ y. repeated (index_at said) count y.1 >>= λ xs. ok (y.0 ∷ xs.0, xs.1))
+      bind_at (index_at said bytes) (λ y. read_times (index_at said) count y.1 >>= λ xs. ok (y.0 ∷ xs.0, xs.1))
       (one.0, one.1) one.2
-      ∙ bind_no (repeated (index_at said) count one.1) (λ xs. ok (one.0 ∷ xs.0, xs.1)) unexpected_eof
+      ∙ bind_no (read_times (index_at said) count one.1) (λ xs. ok (one.0 ∷ xs.0, xs.1)) unexpected_eof
       (indexes_short said count one.1 (omega (arith, short, one.3)))
 ]
 
 -- an index, and so many behind it
 one_more : {A : Type 0} (said : ℕ → A) (count : ℕ) (bytes : List ℕ) (x : A) (rest : List ℕ) (xs : List A × List ℕ)
-    → index_at said bytes ≡ Ok (x, rest) → repeated (index_at said) count rest ≡ Ok xs
-    → repeated (index_at said) (suc count) bytes ≡ Ok (x ∷ xs.0, xs.1)
+    → index_at said bytes ≡ Ok (x, rest) → read_times (index_at said) count rest ≡ Ok xs
+    → read_times (index_at said) (suc count) bytes ≡ Ok (x ∷ xs.0, xs.1)
 one_more said count bytes x rest xs is more =
-    bind_at (index_at said bytes) (λ y. repeated (index_at said) count y.1 >>= λ ys. ok (y.0 ∷ ys.0, ys.1)) (x, rest) is
-    ∙ bind_at (repeated (index_at said) count rest) (λ ys. ok (x ∷ ys.0, ys.1)) xs more
+    bind_at (index_at said bytes) (λ y. read_times (index_at said) count y.1 >>= λ ys. ok (y.0 ∷ ys.0, ys.1)) (x, rest) is
+    ∙ bind_at (read_times (index_at said) count rest) (λ ys. ok (x ∷ ys.0, ys.1)) xs more
 
 -- bytes that hold so many have them
 indexes_whole : {A : Type 0} (said : ℕ → A) (count : ℕ) (bytes : List ℕ) → 4 * count ≤ length bytes
-    → (xs : List A × List ℕ) × (repeated (index_at said) count bytes ≡ Ok xs)
+    → (xs : List A × List ℕ) × (read_times (index_at said) count bytes ≡ Ok xs)
 indexes_whole {A} said zero bytes fits = (([], bytes), refl)
 indexes_whole {A} said (suc count) bytes fits =
     let one = index_whole said bytes (omega (arith, fits)) in
@@ -141,7 +141,7 @@ indexes_whole {A} said (suc count) bytes fits =
 
 -- and they end behind four bytes each
 pub indexes_end : {A : Type 0} (said : ℕ → A) (count : ℕ) (bytes : List ℕ) → 4 * count ≤ length bytes → (xs : List A)
-    × (repeated (index_at said) count bytes ≡ Ok (xs, drop (4 * count) bytes))
+    × (read_times (index_at said) count bytes ≡ Ok (xs, drop (4 * count) bytes))
 unfolding index_whole
 indexes_end {A} said zero bytes fits = ([], refl)
 indexes_end {A} said (suc count) bytes fits =
@@ -158,7 +158,7 @@ indexes_end {A} said (suc count) bytes fits =
 
 -- of more than none there is a first one
 pub indexes_item : {A : Type 0} (said : ℕ → A) (count : ℕ) (bytes : List ℕ) → 4 * count ≤ length bytes → 0 < count
-    → (x : A) × (xs : List A) × (end : List ℕ) × (repeated (index_at said) count bytes ≡ Ok (x ∷ xs, end))
+    → (x : A) × (xs : List A) × (end : List ℕ) × (read_times (index_at said) count bytes ≡ Ok (x ∷ xs, end))
 indexes_item {A} said zero bytes fits some = absurd (omega (arith, some))
 indexes_item {A} said (suc count) bytes fits some =
     let one = index_whole said bytes (omega (arith, fits)) in

@@ -19,16 +19,16 @@ array_of head dimensions = record {
 }
 
 -- succeeds if no bytes are left, and else fails with `unexpected_eof`
-abbrev pub ended : List ℕ → Answer (Unit {0} × List ℕ)
-ended [] = Ok (tt, [])
-ended (byte ∷ bytes) = Err unexpected_eof
+abbrev pub end_of_bytes : List ℕ → Answer (Unit {0} × List ℕ)
+end_of_bytes [] = Ok (tt, [])
+end_of_bytes (byte ∷ bytes) = Err unexpected_eof
 
 -- reads dimensions and padding, and fails if any bytes are left behind them
 unfoldable pub dimensions_to_end : List ℕ → Answer (List ℕ × List ℕ)
 dimensions_to_end bytes = do
   ns ← dimensions_at bytes
   pads ← padding_at ns.1
-  none ← ended pads.1
+  none ← end_of_bytes pads.1
   Ok (ns.0, none.1)
 
 -- reads an array, and fails if any bytes are left behind it

@@ -2,7 +2,7 @@
 use Rattle.std.specs.Prelude.{ℕ, List, Ok}
 use Rattle.pdb_base.specs.Answer.{Answer, ◌>>=◌}
 use Rattle.pdb_base.specs.Reading.{number_at}
-use Rattle.pdb_base.specs.Repeated.{repeated}
+use Rattle.pdb_base.specs.Repeated.{read_times}
 use Rattle.pdb_records.specs.Shape.{index_at}
 use Rattle.pdb_records.specs.declared.parse.counted.CountWidth.{CountWidth}
 use Rattle.pdb_records.specs.declared.parse.counted.CountWidth.TheVariants.{Bits16, Bits32}
@@ -14,5 +14,5 @@ count_bytes Bits32 = 4
 
 -- reads a count, and then that many indexes
 abbrev pub counted_at : {A : Type 0} → CountWidth → (ℕ → A) → List ℕ → Answer (List A × List ℕ)
-counted_at width said bytes = number_at (count_bytes width) bytes >>= λ count. repeated (index_at said) count.0 count.1
+counted_at width said bytes = number_at (count_bytes width) bytes >>= λ count. read_times (index_at said) count.0 count.1
     >>= λ items. Ok (items.0, items.1)

@@ -28,15 +28,15 @@ NoDimension bytes refusal =
     ⊎ ((n : ℕ) × (rest : List ℕ) × Begins SpellsNum bytes n rest × (largest_dimension < n) × (refusal ≡ too_large))
 
 -- the bytes go on with another dimension: they begin with a byte that isn't zero
-abbrev pub GoesOn : List ℕ → Type 0
-GoesOn [] = ⊥
-GoesOn (byte ∷ bytes) = byte ≢ 0
+abbrev pub HasAnotherDimension : List ℕ → Type 0
+HasAnotherDimension [] = ⊥
+HasAnotherDimension (byte ∷ bytes) = byte ≢ 0
 
 -- the bytes begin with these dimensions, and a zero byte stands behind the last
 abbrev pub AreDimensions : List ℕ → List ℕ → List ℕ → Type 0
 AreDimensions bytes [] rest = ⊥
 AreDimensions bytes (n ∷ []) rest = IsDimension bytes n (0 ∷ rest)
-AreDimensions bytes (n ∷ m ∷ ns) rest = (mid : List ℕ) × IsDimension bytes n mid × GoesOn mid
+AreDimensions bytes (n ∷ m ∷ ns) rest = (mid : List ℕ) × IsDimension bytes n mid × HasAnotherDimension mid
     × AreDimensions mid (m ∷ ns) rest
 
 -- Behind these dimensions, the bytes begin with no dimension that can be read, or they end.
@@ -44,7 +44,7 @@ abbrev pub NoDimensionBehind : List ℕ → List ℕ → Refusal → Type 0
 NoDimensionBehind [] bytes refusal = NoDimension bytes refusal
 NoDimensionBehind (n ∷ ns) bytes refusal =
     (mid : List ℕ) × IsDimension bytes n mid ×
-    (((mid ≡ []) × (ns ≡ []) × (refusal ≡ unexpected_eof)) ⊎ (GoesOn mid × NoDimensionBehind ns mid refusal))
+    (((mid ≡ []) × (ns ≡ []) × (refusal ≡ unexpected_eof)) ⊎ (HasAnotherDimension mid × NoDimensionBehind ns mid refusal))
 
 -- the dimensions are refused with their first fault
 abbrev pub NoDimensions : List ℕ → Refusal → Type 0

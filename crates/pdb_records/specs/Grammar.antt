@@ -18,7 +18,7 @@ use Rattle.pdb_values.specs.TypeValue as values
 use Rattle.pdb_records.specs.Rows.{listed_method_row, continuation_row}
 use Rattle.pdb_records.specs.Lists.{arguments_row, array_row}
 use Rattle.pdb_records.specs.Arrays.{array_of}
-use Rattle.pdb_records.specs.Known.{IsKnown, NoKnown}
+use Rattle.pdb_records.specs.Known.{IsOfKnownLeaf, NoKnown}
 use Rattle.pdb_records.specs.Leaves.{leaf_of, row_of}
 use Rattle.pdb_records.specs.Fields.{Entry, field, continues, field_list_of, continuation_leaf, field_list_leaf}
 
@@ -70,7 +70,7 @@ NoData number (Array strided) bytes refusal = NoArray strided bytes refusal
 
 -- the contents of the record behind a leaf of this number, other than a field list
 abbrev pub IsBehind : ℕ → List ℕ → TypeValue → List ℕ → Type 0
-IsBehind number = IsKnown (IsData number) (leaf_of number)
+IsBehind number = IsOfKnownLeaf (IsData number) (leaf_of number)
 
 -- A leaf without a record is refused with its number, and a record with its first fault.
 abbrev pub NoBehind : ℕ → List ℕ → Refusal → Type 0

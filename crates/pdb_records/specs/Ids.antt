@@ -21,7 +21,7 @@ use Rattle.pdb_records.specs.declared.parse.id_plain.PlainIdLeaf.TheVariants.{Fu
 use Rattle.pdb_records.specs.declared.parse.id_plain.PlainIdLeaf.TheVariants.{RemoteSource}
 use Rattle.pdb_records.specs.declared.parse.counted.CountWidth.TheVariants.{Bits16, Bits32}
 use Rattle.pdb_records.specs.Counted.{counted_at}
-use Rattle.pdb_records.specs.Known.{IsKnown, NoKnown, known_at}
+use Rattle.pdb_records.specs.Known.{IsOfKnownLeaf, NoKnown, known_at}
 use Rattle.pdb_records.specs.IdRows.{function_id_row, member_function_id_row, build_info_row, string_list_row}
 use Rattle.pdb_records.specs.IdRows.{string_id_row, source_row, remote_source_row}
 
@@ -77,7 +77,7 @@ NoIdData number StringList bytes refusal = Stops string_list_row bytes refusal
 
 -- the contents of the id record behind a leaf of this number
 abbrev pub IsBehindId : ℕ → List ℕ → IdValue → List ℕ → Type 0
-IsBehindId number = IsKnown (IsIdData number) (id_leaf_of number)
+IsBehindId number = IsOfKnownLeaf (IsIdData number) (id_leaf_of number)
 
 -- A leaf without a record is refused with its number, and a record with its first fault.
 abbrev pub NoBehindId : ℕ → List ℕ → Refusal → Type 0

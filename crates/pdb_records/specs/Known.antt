@@ -4,9 +4,9 @@ use Rattle.pdb_base.specs.Refusal.{Refusal, unimplemented_type_kind}
 use Rattle.pdb_base.specs.Answer.{Answer}
 
 -- the contents of a record whose leaf is known
-abbrev pub IsKnown : {L A : Type 0} → (L → List ℕ → A → List ℕ → Type 0) → Option L → List ℕ → A → List ℕ → Type 0
-IsKnown Is None bytes value rest = ⊥
-IsKnown Is (Some leaf) bytes value rest = Is leaf bytes value rest
+abbrev pub IsOfKnownLeaf : {L A : Type 0} → (L → List ℕ → A → List ℕ → Type 0) → Option L → List ℕ → A → List ℕ → Type 0
+IsOfKnownLeaf Is None bytes value rest = ⊥
+IsOfKnownLeaf Is (Some leaf) bytes value rest = Is leaf bytes value rest
 
 -- why the leaf of this number, or the record behind it, is refused
 abbrev pub NoKnown : {L : Type 0} → ℕ → (L → List ℕ → Refusal → Type 0) → Option L → List ℕ → Refusal → Type 0

@@ -27,10 +27,10 @@ Stops {A} (field shape next) bytes refusal =
     ⊎ ((v : Value shape) × (mid : List ℕ) × Begins (Spells shape) bytes v mid × Stops (next v) mid refusal)
 
 -- reads a row at the front of bytes: its value, and the bytes behind it
-abbrev pub read : {A : Type 0} → Row A → List ℕ → Answer (A × List ℕ)
-read {A} (gives a) bytes = Ok (a, bytes)
-read {A} (field shape next) bytes = read_shape shape bytes >>= λ v. read (next v.0) v.1
+abbrev pub read_row : {A : Type 0} → Row A → List ℕ → Answer (A × List ℕ)
+read_row {A} (gives a) bytes = Ok (a, bytes)
+read_row {A} (field shape next) bytes = read_shape shape bytes >>= λ v. read_row (next v.0) v.1
 
 -- the same as `read`, but unfolded only on demand
 unfoldable pub row : {A : Type 0} → Row A → List ℕ → Answer (A × List ℕ)
-row {A} r bytes = read r bytes
+row {A} r bytes = read_row r bytes

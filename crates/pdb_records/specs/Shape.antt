@@ -11,7 +11,7 @@ use Rattle.pdb_base.specs.Reading.{number_at, text_at, pascal_text_at}
 use Rattle.pdb_base.specs.Numeric.{num_at, variant_at}
 use Rattle.pdb_base.specs.Spelling.{SpellsNumber, SpellsNum, SpellsVariant, SpellsText, SpellsPascalText}
 use Rattle.pdb_flags.specs.PointerAttributes.{is_pointer_word}
-use Rattle.pdb_base.specs.Repeated.{SpellsEach, repeated}
+use Rattle.pdb_base.specs.Repeated.{SpellsEach, read_times}
 
 -- the shape of a field in a record
 pub data Shape : Type 0 where
@@ -150,4 +150,4 @@ read_shape some_id = index_at id_named
 read_shape pointer_word = pointer_word_at
 read_shape (text leaf) = text_by (ends_texts leaf)
 read_shape (when test shape) = when_at test (read_shape shape)
-read_shape (times count shape) = repeated (read_shape shape) count
+read_shape (times count shape) = read_times (read_shape shape) count

@@ -12,7 +12,7 @@ use Rattle.pdb_types.specs.declared.span.Span.{Span}
 use Rattle.pdb_types.specs.Gap.{AreGapRows}
 use Rattle.pdb_types.specs.Layout.{HasGaps, field_span, field_value, is_virtual_field, layout_value}
 use Rattle.pdb_reports.specs.declared.layout_row.LayoutRow.{LayoutRow}
-use Rattle.pdb_handles.specs.Records.{Fielded, fielded}
+use Rattle.pdb_handles.specs.Records.{Fielded, rows_copied}
 use Rattle.pdb_reports.specs.LayoutRow.{LaysOutOrLacks, field_name, field_row, gap_row, is_virtual_value, rows_of}
 use Rattle.pdb_reports.specs.LayoutRow.{value_span}
 
@@ -68,7 +68,7 @@ names_seen fields names is = is ∙ sym (flat_map-map field_name field_value fie
 -- the rows of a layout, which are written with the names of its fields
 pub laid_out : (layout : Layout) (rows all : List LayoutRow) (names more : List ℕ) (told : Fielded LayoutRow)
     → HasGaps layout → all ≡ rows_of (layout_value layout).fields layout.gaps.items
-    → more ≡ flat_map field_name (layout_value layout).fields → told ≡ fielded rows names all more
+    → more ≡ flat_map field_name (layout_value layout).fields → told ≡ rows_copied rows names all more
     → LaysOutOrLacks rows names (Ok (Some (layout_value layout))) told
 laid_out layout rows all names more told has are called is =
     inl (record {

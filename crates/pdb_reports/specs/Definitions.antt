@@ -4,18 +4,18 @@ use Rattle.pdb_base.specs.Answer.{Answer, ◌>>=◌}
 use Rattle.pdb_base.specs.Refusal.{Refusal, out_of_memory}
 use Rattle.pdb_tpi.specs.Table.{Table, table_of}
 use Rattle.pdb_types.specs.Declaration.{source_name}
-use Rattle.pdb_types.specs.Definition.{all_definitions, walked}
+use Rattle.pdb_types.specs.Definition.{all_definitions, whole_table}
 use Rattle.pdb_types.specs.Size.{size_of}
 use Rattle.pdb_types.specs.TypeAt.{type_at}
 use Rattle.pdb_handles.specs.declared.content.Content.{Content}
 use Rattle.pdb_handles.specs.declared.content.Content.TheVariants as contents
-use Rattle.pdb_handles.specs.Copied.{Copied, untouched, written}
+use Rattle.pdb_handles.specs.Copied.{Copied, nothing_copied, items_copied}
 use Rattle.pdb_handles.specs.Fault.{fault_of, no_value, not_open}
-use Rattle.pdb_handles.specs.Found.{Found, found}
+use Rattle.pdb_handles.specs.Found.{Found, value_or_fault}
 
 -- the table of types in a stream, whose definitions are found in one walk along it
 abbrev pub definitions_opened : List ℕ → Answer Table
-definitions_opened stream = table_of stream >>= walked
+definitions_opened stream = table_of stream >>= whole_table
 
 -- the table whose definitions a handle holds, if it holds some
 abbrev pub definitions_held : Option Content → Option Table
@@ -28,7 +28,7 @@ definitions_named name table = Ok (all_definitions table (source_name name))
 
 -- a value that was found; or it was not found, or refused, and then the variable stays as it was
 abbrev pub found_told : {A : Type 0} → A → Answer (Option A) → Found A
-found_told old (Ok value) = found no_value old value
+found_told old (Ok value) = value_or_fault no_value old value
 found_told old (Err refusal) = record { fault = fault_of refusal; value = old }
 
 -- the same for what a handle holds, if it holds what is asked, and else `not_open`
@@ -49,10 +49,10 @@ IsOfTable table refusal =
 -- A text is written; or the fault is that of memory, of a type in the table or of its size, and nothing is written.
 abbrev pub WritesText : Table → List ℕ → Copied ℕ → Type 0
 WritesText table room told =
-    ((text : List ℕ) × (told ≡ written room text))
-    ⊎ ((refusal : Refusal) × IsOfTable table refusal × (told ≡ untouched (fault_of refusal) room))
+    ((text : List ℕ) × (told ≡ items_copied room text))
+    ⊎ ((refusal : Refusal) × IsOfTable table refusal × (told ≡ nothing_copied (fault_of refusal) room))
 
 -- The same for the table whose definitions a handle holds; nothing is written if it holds none.
 abbrev pub WritesTextOf : Option Table → List ℕ → Copied ℕ → Type 0
 WritesTextOf (Some table) room told = WritesText table room told
-WritesTextOf None room told = told ≡ untouched not_open room
+WritesTextOf None room told = told ≡ nothing_copied not_open room

@@ -12,12 +12,12 @@ use Rattle.pdb_identity.specs.declared.format.Format.{Format}
 use Rattle.pdb_identity.specs.declared.format.Format.TheVariants as formats
 use Rattle.pdb_identity.specs.declared.identity.Identity.{Identity}
 use Rattle.pdb_reports.specs.declared.identity.FileIdentity.{FileIdentity}
-use Rattle.pdb_handles.specs.File.{said}
+use Rattle.pdb_handles.specs.File.{read_of_file}
 use Rattle.pdb_handles.specs.Frame.{flag}
 
 -- a number in the header of the debug information, or 0 if the file has no such header
-abbrev pub number_in : (DBIHeader → ℕ) → Option DBIHeader → ℕ
-number_in number header = option_map_or number header 0
+abbrev pub header_number : (DBIHeader → ℕ) → Option DBIHeader → ℕ
+header_number number header = option_map_or number header 0
 
 -- the bits of the features that a file tells of itself, from the lowest on
 abbrev pub feature_bits : Features → ℕ
@@ -32,9 +32,9 @@ identity_of identity = record {
   age = age_of identity;
   information_age = identity.information_age;
   has_debug_header = flag (is_some identity.debug_header);
-  debug_age = number_in (λ header. header.age) identity.debug_header;
-  machine = number_in (λ header. header.machine_type) identity.debug_header;
-  flags = number_in (λ header. header.flags) identity.debug_header;
+  debug_age = header_number (λ header. header.age) identity.debug_header;
+  machine = header_number (λ header. header.machine_type) identity.debug_header;
+  flags = header_number (λ header. header.flags) identity.debug_header;
   guid = swap_fields identity.guid;
   has_features = flag (is_some identity.features);
   features = option_map_or feature_bits identity.features 0;
@@ -42,7 +42,7 @@ identity_of identity = record {
 
 -- what identifies the file of these bytes, for the caller
 abbrev pub identity_said : List ℕ → Answer FileIdentity
-identity_said file = said file_identity file >>= λ identity. Ok (identity_of identity)
+identity_said file = read_of_file file_identity file >>= λ identity. Ok (identity_of identity)
 
 -- The text of a key in the form of a number: in upper case, in lower case, or the GUID alone with its hyphens. Other
 -- numbers stand for no form.

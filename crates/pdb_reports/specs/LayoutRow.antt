@@ -19,7 +19,7 @@ use Rattle.pdb_types.specs.Layout.{FieldValue, LayoutValue, layout_of}
 use Rattle.pdb_reports.specs.declared.layout_row.LayoutRow.{LayoutRow}
 use Rattle.pdb_handles.specs.Fault.{fault_of, no_value, not_open}
 use Rattle.pdb_handles.specs.Frame.{flag}
-use Rattle.pdb_handles.specs.Records.{Fielded, fielded, unfielded}
+use Rattle.pdb_handles.specs.Records.{Fielded, rows_copied, no_rows_copied}
 
 -- a row of zeros
 abbrev pub no_layout : LayoutRow
@@ -109,21 +109,21 @@ pub record WritesLayout (rows : List LayoutRow) (names : List ℕ) (layout : Lay
     : Type 0 where
   pub gaps : List Gap
   pub are : AreGapRows (map value_span layout.fields) layout.size (list_any is_virtual_value layout.fields) gaps
-  pub done : told ≡ fielded rows names (rows_of layout.fields gaps) (flat_map field_name layout.fields)
+  pub done : told ≡ rows_copied rows names (rows_of layout.fields gaps) (flat_map field_name layout.fields)
 
 -- The same for a layout that may be absent or refused.
 abbrev pub LaysOut : List LayoutRow → List ℕ → Answer (Option LayoutValue) → Fielded LayoutRow → Type 0
 LaysOut rows names (Ok (Some layout)) told = WritesLayout rows names layout told
-LaysOut rows names (Ok None) told = told ≡ unfielded no_value rows names
-LaysOut rows names (Err refusal) told = told ≡ unfielded (fault_of refusal) rows names
+LaysOut rows names (Ok None) told = told ≡ no_rows_copied no_value rows names
+LaysOut rows names (Err refusal) told = told ≡ no_rows_copied (fault_of refusal) rows names
 
 -- The same; or memory was refused, and nothing was written.
 abbrev pub LaysOutOrLacks : List LayoutRow → List ℕ → Answer (Option LayoutValue) → Fielded LayoutRow → Type 0
 LaysOutOrLacks rows names meant told =
-    LaysOut rows names meant told ⊎ (told ≡ unfielded (fault_of out_of_memory) rows names)
+    LaysOut rows names meant told ⊎ (told ≡ no_rows_copied (fault_of out_of_memory) rows names)
 
 -- The same for the type of an index in the table whose definitions a handle holds; nothing is written if it
 -- holds none.
 abbrev pub LaysOutOf : List LayoutRow → List ℕ → ℕ → Option Table → Fielded LayoutRow → Type 0
 LaysOutOf rows names index (Some table) told = LaysOutOrLacks rows names (layout_of table index) told
-LaysOutOf rows names index None told = told ≡ unfielded not_open rows names
+LaysOutOf rows names index None told = told ≡ no_rows_copied not_open rows names

@@ -6,16 +6,16 @@ ghost use Rattle.uuid.specs.Text.{hyphenated_text, upper};
 ghost use Rattle.pdb_base.specs.Answer.{Answer, Answers};
 ghost use Rattle.pdb_identity.specs.Identity.{file_identity};
 ghost use Rattle.pdb_identity.specs.Key.{lower_key, upper_key};
-ghost use Rattle.pdb_handles.specs.Copied.{CopiesOrLacks, copied, written};
+ghost use Rattle.pdb_handles.specs.Copied.{CopiesOrLacks, answer_copied, items_copied};
 ghost use Rattle.pdb_reports.specs.Identity.{feature_bits, format_number, identity_of, identity_said, key_text};
-ghost use Rattle.pdb_handles.specs.File.{said};
+ghost use Rattle.pdb_handles.specs.File.{read_of_file};
 ghost use Rattle.pdb_handles.specs.Records.{if_copied};
 ghost use Rattle.pdb_handles.specs.Roles.{IsAnswered};
 
 use pdb_base::Result;
 use pdb_file::Features;
 use pdb_handles::copied::{copy_nothing, copy_out};
-use pdb_handles::file::opened;
+use pdb_handles::file::open_file;
 use pdb_handles::{FINE, Fault, NONE, flag};
 use pdb_identity::{Format, Identity, LowerKey, UpperKey};
 use std::alloc::Global;
@@ -105,9 +105,9 @@ impl FileIdentity {
 
 /// Reads what identifies a file.
 fn read_identity(alloc: Global, file: &[u8]) -> Result<Identity>
-    ensures { Answers (λ identity. identity) result (said file_identity file.now) }
+    ensures { Answers (λ identity. identity) result (read_of_file file_identity file.now) }
 {
-    let mut file = opened(alloc, file)?;
+    let mut file = open_file(alloc, file)?;
     Identity::of(alloc, &mut file)
 }
 
@@ -158,7 +158,7 @@ fn lower_text(alloc: Global, guid: Uuid, age: u32) -> Result<String>
 fn copy_made(made: Result<String>, room: &mut [u8], length: &mut usize) -> Fault
     ensures { (meant : Answer (List ℕ)) → Answers string_bytes made meant
         → CopiesOrLacks (record { fault = result; length = length.new; room = room.new }) room.old
-        (copied room.old meant) }
+        (answer_copied room.old meant) }
 {
     match made {
         Ok(text) => copy_out(text.as_bytes(), room, length),
@@ -169,7 +169,7 @@ fn copy_made(made: Result<String>, room: &mut [u8], length: &mut usize) -> Fault
 /// Copies the text of a GUID with hyphens to the caller's array.
 fn copy_guid(guid: Uuid, room: &mut [u8], length: &mut usize) -> Fault
     ensures { record { fault = result; length = length.new; room = room.new }
-        ≡ written room.old (hyphenated_text upper guid) }
+        ≡ items_copied room.old (hyphenated_text upper guid) }
 {
     let mut buffer = [0u8; 36];
     let text = guid.hyphenated().encode_upper(&mut buffer);

@@ -200,7 +200,7 @@ fn push_gaps(rows: &mut Vec<LayoutRow>, gaps: &[Gap]) -> Result<()>
 
 /// Collects the entries of a layout, and the names of its fields one after another.
 #[tactic(auto, using(crate::proofs::LayoutRowLemmas::rows_seen, crate::proofs::LayoutRowLemmas::names_seen))]
-fn listed(alloc: Global, layout: &Layout<'_>) -> Result<LayoutListing>
+fn collect_entries(alloc: Global, layout: &Layout<'_>) -> Result<LayoutListing>
     requires { HasGaps layout.now }
     ensures rows { IfOk result (λ listed. listed.rows.items ≡
         rows_of (layout_value layout.now).fields layout.now.gaps.items) }
@@ -229,7 +229,7 @@ fn write_layout(
     ensures { LaysOutOrLacks rows.old names.old (Ok (Some (layout_value layout.now)))
         (record { fault = result; rows = rows.new; count = count.new; names = names.new; size = size.new }) }
 {
-    match listed(alloc, layout) {
+    match collect_entries(alloc, layout) {
         Ok(listed) => copy_both(&listed.rows, &listed.names, rows, count, names, size),
         Err(error) => write_nothing(Fault::of(&error), count, size),
     }

@@ -7,9 +7,9 @@ use Rattle.std.specs.List.{filter, filter_map, range_with_len, cons_option, All}
 use Rattle.std.proofs.lemmas.Bool.{cases_lt, le-ltb, lt-ltb, le-leb, lt-leb, cases_Bool}
 use Rattle.std.proofs.lemmas.List.{append-nil}
 use Rattle.std.proofs.lemmas.List.Sorted.{IsNonDecreasingBy-drop}
-use Rattle.pdb_space.specs.Sum.{largest, fitting}
-use Rattle.pdb_space.specs.Omap.{OmapValue, IsSortedBySource, moved, shift}
-use Rattle.pdb_space.specs.Conversions.{translated, translated_parts}
+use Rattle.pdb_space.specs.Sum.{largest, if_fits_32_bits}
+use Rattle.pdb_space.specs.Omap.{OmapValue, IsSortedBySource, move_address, shift}
+use Rattle.pdb_space.specs.Conversions.{translation_by, translated_parts}
 use Rattle.pdb_space.specs.Ranges.{numbers_of, end_to_end, pointwise, unless_empty, part, next_source, parts}
 use Rattle.pdb_space.specs.Ranges.{parts_until, IsNotEmpty}
 
@@ -93,7 +93,7 @@ shift-before table a sorted before = rw (none-below table a sorted before) refl
 
 -- from the first record on, and before the second, where the first moves it
 shift-first : (mapping : OmapValue) (table : List OmapValue) (a : ℕ) → IsSortedBySource table → mapping.source ≤ a
-    → a < next_source table (a + 1) → shift (mapping ∷ table) a ≡ moved mapping a
+    → a < next_source table (a + 1) → shift (mapping ∷ table) a ≡ move_address mapping a
 unfolding shift
 shift-first mapping table a sorted at before =
     let below : leb mapping.source a ≡ true = le-leb mapping.source a at in
@@ -123,13 +123,13 @@ flat-unless_empty s e =
       | inr none ↦ let test : ltb s e ≡ false = le-ltb s e none in rw test (sym (numbers-none s e none))
     ]
 
-visible-below : (a : ℕ) → a < largest → visible (fitting a) ≡ a ∷ []
+visible-below : (a : ℕ) → a < largest → visible (if_fits_32_bits a) ≡ a ∷ []
 visible-below a below =
     let fits : leb a largest ≡ true = le-leb a largest (omega arith) in
     let held : ltb a largest ≡ true = lt-ltb a largest below in
     rw (fits, held) refl
 
-visible-above : (a : ℕ) → largest ≤ a → visible (fitting a) ≡ []
+visible-above : (a : ℕ) → largest ≤ a → visible (if_fits_32_bits a) ≡ []
 visible-above a above =
     elim (cases_lt largest a) [
       | inl past ↦ let fits : leb a largest ≡ false = lt-leb a largest past in rw fits refl
@@ -138,7 +138,7 @@ visible-above a above =
     ]
 
 -- of what is cut to end at the largest number, the first is there just where a range can hold it
-cut-step : (a end : ℕ) → a < end → numbers_of (span a (min end largest)) ≡ visible (fitting a)
+cut-step : (a end : ℕ) → a < end → numbers_of (span a (min end largest)) ≡ visible (if_fits_32_bits a)
     ++ numbers_of (span (a + 1) (min end largest))
 cut-step a end some =
     elim (cases_lt a largest) [
@@ -149,8 +149,8 @@ cut-step a end some =
 
 -- the first address of a part, and the part behind it
 part-step : (mapping : OmapValue) (next s e : ℕ) → mapping.source ≤ s → s < next → s < e
-    → flat (part mapping next (span s e)) ≡ visible (moved mapping s) ++ flat (part mapping next (span (s + 1) e))
-unfolding part moved
+    → flat (part mapping next (span s e)) ≡ visible (move_address mapping s) ++ flat (part mapping next (span (s + 1) e))
+unfolding part move_address
 part-step mapping next s e at before some =
     let low : max mapping.source s ≡ s = omega arith in
     let further : max mapping.source (s + 1) ≡ s + 1 = omega arith in
@@ -162,7 +162,7 @@ part-step mapping next s e at before some =
           rw (somewhere, low, further, on)
           (flat-unless_empty (mapping.target + (s - mapping.source)) (min end largest)
           ∙ cut-step (mapping.target + (s - mapping.source)) end (omega arith)
-          ∙ ap (λ (more : List ℕ). visible (fitting (mapping.target + (s - mapping.source))) ++ more)
+          ∙ ap (λ (more : List ℕ). visible (if_fits_32_bits (mapping.target + (s - mapping.source))) ++ more)
           (sym (flat-unless_empty (mapping.target + (s - mapping.source) + 1) (min end largest))))
     ]
 
@@ -227,9 +227,9 @@ step-first mapping table s e sorted at before within some others =
     rw here
     (end_to_end-cons (part mapping (next_source table e) (span s e)) (parts table (span s e))
     ∙ rw (part-step mapping (next_source table e) s e at within some, rest)
-    (append_assoc (visible (moved mapping s)) (flat (part mapping (next_source table e) (span (s + 1) e)))
+    (append_assoc (visible (move_address mapping s)) (flat (part mapping (next_source table e) (span (s + 1) e)))
     (end_to_end (parts table (span (s + 1) e))))
-    ∙ ap (λ (more : List ℕ). visible (moved mapping s) ++ more)
+    ∙ ap (λ (more : List ℕ). visible (move_address mapping s) ++ more)
     (sym (end_to_end-cons (part mapping (next_source table e) (span (s + 1) e)) (parts table (span (s + 1) e)))))
 
 -- .. or from the second record on.
@@ -364,7 +364,7 @@ parts_until_laid table asked sorted = ap end_to_end (parts_until_sorted table as
 -- ---- without a table
 
 kept-numbers : (s count : ℕ) → s + count ≤ largest
-    → filter (λ a. ltb a largest) (filter_map (translated None) (range_with_len s count)) ≡ range_with_len s count
+    → filter (λ a. ltb a largest) (filter_map (translation_by None) (range_with_len s count)) ≡ range_with_len s count
 kept-numbers s zero fits = refl
 kept-numbers s (suc count) fits =
     let held : ltb s largest ≡ true = lt-ltb s largest (omega arith) in
@@ -372,7 +372,7 @@ kept-numbers s (suc count) fits =
 
 -- the addresses of a range that fits 32 bits are the range
 identity_laid : (asked : Range ℕ) → asked.end ≤ largest
-    → end_to_end (cons_option (unless_empty asked) []) ≡ pointwise (translated None) asked
+    → end_to_end (cons_option (unless_empty asked) []) ≡ pointwise (translation_by None) asked
 unfolding pointwise
 identity_laid asked fits =
     end_to_end-cons (unless_empty asked) []
@@ -394,7 +394,7 @@ identity_not_empty asked =
     ]
 
 pub untouched_laid : (asked : Range ℕ) → asked.end ≤ largest
-    → end_to_end (translated_parts None asked) ≡ pointwise (translated None) asked
+    → end_to_end (translated_parts None asked) ≡ pointwise (translation_by None) asked
 unfolding translated_parts
 untouched_laid asked fits = identity_laid asked fits
 

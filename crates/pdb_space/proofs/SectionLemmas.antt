@@ -8,7 +8,7 @@ use Rattle.std.specs.Result.{OkIff, result_ok}
 use Rattle.std.proofs.lemmas.List.{at_drop_more, drop_all}
 use Rattle.std.proofs.lemmas.Bool.{cases_lt, le-ltb, lt-ltb, le-leb, lt-leb, ne_eqb}
 use Rattle.pdb_space.specs.declared.section_header.ImageSectionHeader.{ImageSectionHeader}
-use Rattle.pdb_space.specs.Sum.{largest, fitting}
+use Rattle.pdb_space.specs.Sum.{largest, if_fits_32_bits}
 use Rattle.pdb_space.specs.SectionPlace.{SectionPlace}
 use Rattle.pdb_space.specs.Laws.{IsFirstToReach}
 use Rattle.pdb_space.specs.Sections.{begins_by, place_in, section_from, section_of, address_of}
@@ -58,7 +58,7 @@ from-later first here rest a at short =
 
 -- the address of an offset in the section at an index
 abbrev address_at : List ImageSectionHeader → ℕ → ℕ → Option ℕ
-address_at sections index offset = option_and_then (λ section. fitting (section.virtual_address + offset))
+address_at sections index offset = option_and_then (λ section. if_fits_32_bits (section.virtual_address + offset))
     (slice_get sections index)
 
 -- a place that was found is in a section from the first on, and its address is what was searched for

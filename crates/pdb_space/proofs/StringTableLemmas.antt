@@ -5,12 +5,12 @@ use Rattle.std.proofs.lemmas.Bool.{cases_lt, ne_eqb}
 use Rattle.std.proofs.lemmas.Bool.Decides.{nat_tests}
 use Rattle.std.proofs.lemmas.List.{length-drop, length-take-le, drop-drop}
 use Rattle.pdb_base.specs.Refusal.{Refusal, unexpected_eof, unimplemented_feature}
-use Rattle.pdb_base.specs.Answer.{◌>>=◌, required}
+use Rattle.pdb_base.specs.Answer.{◌>>=◌, ok_if}
 use Rattle.pdb_base.specs.Reading.{front_at, number_at, word_at}
 use Rattle.pdb_base.proofs.lemmas.Collected.{ok, ok_is, ok_is_no_err, bind_ok}
 use Rattle.pdb_base.proofs.lemmas.Reading.{front_whole, front_cut, number_whole, number_cut}
 use Rattle.pdb_space.specs.declared.string_table.Header.{Header}
-use Rattle.pdb_space.specs.StringTable.{signature, is_known_version, header_at, names_of}
+use Rattle.pdb_space.specs.StringTable.{names_signature, is_known_version, header_at, names_of}
 use Rattle.pdb_space.specs.StringTableLaws.{HoldsNames, FindsNames, RefusesByFirstFault}
 
 -- ---- the header
@@ -62,20 +62,20 @@ header_cut stream short = elim (cases_lt (length stream) 4) [
 
 -- what is refused of a stream that holds a header
 abbrev unsigned : Refusal
-unsigned = unimplemented_feature (codes "invalid string table signature")
+unsigned = unimplemented_feature (codes "invalid string table names_signature")
 
 abbrev unknown : Refusal
 unknown = unimplemented_feature (codes "unknown string table hash version")
 
 -- a stream as long as a header, read by the places of its parts
 by_places : (stream : List ℕ) → 12 ≤ length stream →
-    names_of stream ≡ (required (word_at 0 stream == signature) unsigned >>= λ signed.
+    names_of stream ≡ (ok_if (word_at 0 stream == names_signature) unsigned >>= λ signed.
     front_at (word_at 8 stream) (drop 12 stream) >>= λ names.
-    required (is_known_version (word_at 4 stream)) unknown >>= λ known. Ok names.0)
+    ok_if (is_known_version (word_at 4 stream)) unknown >>= λ known. Ok names.0)
 unfolding names_of
 by_places stream long = rw (header_there stream long) refl
 
-required_holds : (test : Bool) (e : Refusal) (x : Unit {0}) → required test e ≡ Ok x → test ≡ true
+required_holds : (test : Bool) (e : Refusal) (x : Unit {0}) → ok_if test e ≡ Ok x → test ≡ true
 required_holds true e x h = refl
 required_holds false e x h = absurd (ok_is_no_err x e (sym h))
 
@@ -95,10 +95,10 @@ pub names_held : (stream names : List ℕ) → names_of stream ≡ Ok names → 
 names_held stream names e = elim (cases_lt (length stream) 12) [
   | inl cut ↦ absurd (ok_is_no_err names unexpected_eof (sym e ∙ short stream cut))
   | inr long ↦
-      let signed = bind_ok (required (word_at 0 stream == signature) unsigned) _ names
+      let signed = bind_ok (ok_if (word_at 0 stream == names_signature) unsigned) _ names
       (sym (by_places stream long) ∙ e) in
       let front = bind_ok (front_at (word_at 8 stream) (drop 12 stream)) _ names signed.2 in
-      let known = bind_ok (required (is_known_version (word_at 4 stream)) unknown) _ names front.2 in
+      let known = bind_ok (ok_if (is_known_version (word_at 4 stream)) unknown) _ names front.2 in
       let is : front.0.0 ≡ names = ok_is front.0.0 names known.2 in
       elim (cases_lt (length (drop 12 stream)) (word_at 8 stream)) [
         | inl cut ↦ absurd (ok_is_no_err front.0 unexpected_eof
@@ -112,7 +112,7 @@ names_held stream names e = elim (cases_lt (length stream) 12) [
             (sym (front_whole (word_at 8 stream) (drop 12 stream) fits) ∙ front.1)) ∙ is in
             let size : word_at 8 stream ≡ length names = sym (length-take-le (word_at 8 stream) (drop 12 stream) fits)
             ∙ ap length taken in
-            let test = required_holds (word_at 0 stream == signature) unsigned signed.0 signed.1 in
+            let test = required_holds (word_at 0 stream == names_signature) unsigned signed.0 signed.1 in
             record {
               signed = grind (arith, nat_tests, test);
               version = known_cases (word_at 4 stream) (required_holds
@@ -127,7 +127,7 @@ names_held stream names e = elim (cases_lt (length stream) 12) [
 -- the names that the stream holds are read
 names_read : (stream names : List ℕ) → HoldsNames stream names → names_of stream ≡ Ok names
 names_read stream names held =
-    let signed : (word_at 0 stream == signature) ≡ true = eq-eqb (word_at 0 stream) signature held.signed in
+    let signed : (word_at 0 stream == names_signature) ≡ true = eq-eqb (word_at 0 stream) names_signature held.signed in
     let known = known_of (word_at 4 stream) held.version in
     let front = front_whole (word_at 8 stream) (drop 12 stream)
     (omega (arith, held.size, held.fits, length-drop 12 stream)) in
@@ -141,14 +141,14 @@ pub refuses_by_first_fault : (stream : List ℕ) → RefusesByFirstFault stream
 refuses_by_first_fault stream = record {
   short = short stream;
   unsigned = λ long other.
-      let test : (word_at 0 stream == signature) ≡ false = ne_eqb (word_at 0 stream) signature other in
+      let test : (word_at 0 stream == names_signature) ≡ false = ne_eqb (word_at 0 stream) names_signature other in
       by_places stream long ∙ rw test refl;
   cut = λ long signed past.
-      let test : (word_at 0 stream == signature) ≡ true = eq-eqb (word_at 0 stream) signature signed in
+      let test : (word_at 0 stream == names_signature) ≡ true = eq-eqb (word_at 0 stream) names_signature signed in
       let front = front_cut (word_at 8 stream) (drop 12 stream) (omega (arith, past, length-drop 12 stream)) in
       by_places stream long ∙ rw (test, front) refl;
   unknown = λ fits signed not_one not_two.
-      let test : (word_at 0 stream == signature) ≡ true = eq-eqb (word_at 0 stream) signature signed in
+      let test : (word_at 0 stream == names_signature) ≡ true = eq-eqb (word_at 0 stream) names_signature signed in
       let front = front_whole (word_at 8 stream) (drop 12 stream) (omega (arith, fits, length-drop 12 stream)) in
       let one : (word_at 4 stream == 1) ≡ false = ne_eqb (word_at 4 stream) 1 not_one in
       let two : (word_at 4 stream == 2) ≡ false = ne_eqb (word_at 4 stream) 2 not_two in

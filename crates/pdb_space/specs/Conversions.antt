@@ -20,9 +20,9 @@ pub record AddressMapValue : Type 0 where
   pub original_to_transformed : Option (List OmapValue)
 
 -- where an OMAP table moves an address; without a table the address stays the same
-abbrev pub translated : Option (List OmapValue) → ℕ → Option ℕ
-translated None address = Some address
-translated (Some table) address = shift table address
+abbrev pub translation_by : Option (List OmapValue) → ℕ → Option ℕ
+translation_by None address = Some address
+translation_by (Some table) address = shift table address
 
 -- the parts of a range as an OMAP table moves them; without a table the range itself, if it isn't empty
 unfoldable pub translated_parts : Option (List OmapValue) → Range ℕ → List (Range ℕ)
@@ -37,7 +37,7 @@ loaded_sections map = unwrap_or map.transformed_sections map.original_sections
 
 -- the internal address from which this address was moved
 unfoldable pub rva_to_internal_rva : AddressMapValue → ℕ → Option ℕ
-rva_to_internal_rva map address = translated map.transformed_to_original address
+rva_to_internal_rva map address = translation_by map.transformed_to_original address
 
 -- the place of this address in a section of the image as it is loaded
 unfoldable pub rva_to_section_offset : AddressMapValue → ℕ → Option SectionPlace
@@ -53,7 +53,7 @@ rva_to_internal_offset map address = do
 
 -- the address to which this internal address was moved
 unfoldable pub internal_rva_to_rva : AddressMapValue → ℕ → Option ℕ
-internal_rva_to_rva map internal = translated map.original_to_transformed internal
+internal_rva_to_rva map internal = translation_by map.original_to_transformed internal
 
 -- the place of the address to which it was moved, in a section of the image as it is loaded
 unfoldable pub internal_rva_to_section_offset : AddressMapValue → ℕ → Option SectionPlace

@@ -6,10 +6,10 @@ use Rattle.std.specs.List.{last_or}
 use Rattle.std.specs.List.Sorted.{IsNonDecreasingBy}
 use Rattle.pdb_base.specs.Endian.{little_number}
 use Rattle.pdb_base.specs.Refusal.{invalid_stream_length}
-use Rattle.pdb_base.specs.Answer.{Answer, ◌>>=◌, required}
+use Rattle.pdb_base.specs.Answer.{Answer, ◌>>=◌, ok_if}
 use Rattle.pdb_base.specs.Reading.{front_at, read_as}
-use Rattle.pdb_base.specs.Records.{spelled}
-use Rattle.pdb_space.specs.Sum.{fitting}
+use Rattle.pdb_base.specs.Records.{values_of_size}
+use Rattle.pdb_space.specs.Sum.{if_fits_32_bits}
 
 -- a record of an OMAP table: the first address that it moves, and where it moves that address
 pub record OmapValue : Type 0 where
@@ -26,7 +26,7 @@ first_mapping bytes = read_as mapping_of (front_at 8 bytes)
 
 -- the records that bytes hold, eight bytes each
 abbrev pub mappings_of : List ℕ → List OmapValue
-mappings_of bytes = spelled 8 mapping_of bytes
+mappings_of bytes = values_of_size 8 mapping_of bytes
 
 -- the source of the record at an index
 abbrev pub source_at : List OmapValue → ℕ → ℕ
@@ -39,7 +39,7 @@ target_at table place = slice_index (map (λ mapping. mapping.target) table) pla
 -- the table in a stream, whose length must be a multiple of eight
 unfoldable pub omap_table_of : List ℕ → Answer (List OmapValue)
 omap_table_of bytes = do
-  whole ← required (length bytes % 8 == 0) (invalid_stream_length (codes "OMAP"))
+  whole ← ok_if (length bytes % 8 == 0) (invalid_stream_length (codes "OMAP"))
   Ok (mappings_of bytes)
 
 -- The sources don't decrease from record to record.
@@ -52,16 +52,16 @@ last_at_or_below table address = last_or None (filter (λ mapping. nat_le mappin
 
 -- Where a record moves an address: to its target plus the distance of the address from its source. The
 -- address goes nowhere if the target is 0 or the sum does not fit in 32 bits.
-unfoldable pub moved : OmapValue → ℕ → Option ℕ
-moved mapping address = if mapping.target == 0 then None else fitting (mapping.target + (address - mapping.source))
+unfoldable pub move_address : OmapValue → ℕ → Option ℕ
+move_address mapping address = if mapping.target == 0 then None else if_fits_32_bits (mapping.target + (address - mapping.source))
 
 -- where a table moves an address: where the last record with a source at or below it does
 unfoldable pub shift : List OmapValue → ℕ → Option ℕ
-shift table address = option_and_then (λ mapping. moved mapping address) (last_at_or_below table address)
+shift table address = option_and_then (λ mapping. move_address mapping address) (last_at_or_below table address)
 
 -- Some record of the table with a source at or below the address moves it to `result`.
 pub record MovesSomehow (table : List OmapValue) (address result : ℕ) : Type 0 where
   pub mapping : OmapValue
   pub contained : Contains table mapping
   pub at_or_below : mapping.source ≤ address
-  pub moves : moved mapping address ≡ Some result
+  pub moves : move_address mapping address ≡ Some result

@@ -3,7 +3,7 @@ use Rattle.std.specs.Prelude.{ℕ, ◌+◌, ◌-◌, ◌==◌, Bool, nat_lt, nat
 use Rattle.std.specs.Prelude.{Option, Some, None}
 use Rattle.std.specs.List.{enumerate_from}
 use Rattle.pdb_space.specs.declared.section_header.ImageSectionHeader.{ImageSectionHeader}
-use Rattle.pdb_space.specs.Sum.{fitting}
+use Rattle.pdb_space.specs.Sum.{if_fits_32_bits}
 use Rattle.pdb_space.specs.SectionPlace.{SectionPlace}
 use Rattle.pdb_space.specs.Steps.{◌>>=◌}
 
@@ -42,4 +42,4 @@ section_numbered sections number = if number == 0 then None else slice_get secti
 unfoldable pub address_of : List ImageSectionHeader → SectionPlace → Option ℕ
 address_of sections place = do
   section ← section_numbered sections place.section
-  fitting (section.virtual_address + place.offset)
+  if_fits_32_bits (section.virtual_address + place.offset)

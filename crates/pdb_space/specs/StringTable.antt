@@ -3,14 +3,14 @@
 -- each of which ends with a NUL.
 use Rattle.std.specs.Prelude.{ℕ, Bool, ◌==◌, ◌||◌, List, Ok, drop, codes}
 use Rattle.pdb_base.specs.Refusal.{unimplemented_feature}
-use Rattle.pdb_base.specs.Answer.{Answer, ◌>>=◌, required}
+use Rattle.pdb_base.specs.Answer.{Answer, ◌>>=◌, ok_if}
 use Rattle.pdb_base.specs.Reading.{front_at, number_at, text_at}
 use Rattle.pdb_base.specs.Text.{lossy}
 use Rattle.pdb_space.specs.declared.string_table.Header.{Header}
 
 -- the number at the front of every string table
-abbrev pub signature : ℕ
-signature = 0xeffeeffe
+abbrev pub names_signature : ℕ
+names_signature = 0xeffeeffe
 
 -- whether a version of the hash is known, which 1 and 2 are
 abbrev pub is_known_version : ℕ → Bool
@@ -28,9 +28,9 @@ header_at bytes = do
 unfoldable pub names_of : List ℕ → Answer (List ℕ)
 names_of stream = do
   header ← header_at stream
-  signed ← required (header.0.signature == signature) (unimplemented_feature (codes "invalid string table signature"))
+  signed ← ok_if (header.0.signature == names_signature) (unimplemented_feature (codes "invalid string table names_signature"))
   names ← front_at header.0.names_size header.1
-  known ← required (is_known_version header.0.hash_version)
+  known ← ok_if (is_known_version header.0.hash_version)
       (unimplemented_feature (codes "unknown string table hash version"))
   Ok names.0
 

@@ -4,12 +4,12 @@ use Rattle.std.specs.Prelude.{◌≡◌, ◌≢◌, ◌⊎◌, ℕ, ◌+◌, ◌
 use Rattle.std.specs.Prelude.{Err, codes}
 use Rattle.std.specs.List.{AllByRecursion}
 use Rattle.pdb_base.specs.Refusal.{Refusal, unexpected_eof, unimplemented_feature}
-use Rattle.pdb_space.specs.StringTable.{signature, name_of, names_of}
+use Rattle.pdb_space.specs.StringTable.{names_signature, name_of, names_of}
 
 -- The stream holds a string table with these names: it begins with the u32 signature, a u32 version that is
 -- known and the u32 size of the names, and the names follow.
 pub record HoldsNames (stream names : List ℕ) : Type 0 where
-  pub signed : word_at 0 stream ≡ signature
+  pub signed : word_at 0 stream ≡ names_signature
   pub version : (word_at 4 stream ≡ 1) ⊎ (word_at 4 stream ≡ 2)
   pub size : word_at 8 stream ≡ length names
   pub fits : 12 + length names ≤ length stream
@@ -24,11 +24,11 @@ pub record FindsNames (stream : List ℕ) : Type 0 where
 -- it has another signature, the names don't fit in it, or the version is not known.
 pub record RefusesByFirstFault (stream : List ℕ) : Type 0 where
   pub short : length stream < 12 → names_of stream ≡ Err unexpected_eof
-  pub unsigned : 12 ≤ length stream → word_at 0 stream ≢ signature
-      → names_of stream ≡ Err (unimplemented_feature (codes "invalid string table signature"))
-  pub cut : 12 ≤ length stream → word_at 0 stream ≡ signature → length stream < 12 + word_at 8 stream
+  pub unsigned : 12 ≤ length stream → word_at 0 stream ≢ names_signature
+      → names_of stream ≡ Err (unimplemented_feature (codes "invalid string table names_signature"))
+  pub cut : 12 ≤ length stream → word_at 0 stream ≡ names_signature → length stream < 12 + word_at 8 stream
       → names_of stream ≡ Err unexpected_eof
-  pub unknown : 12 + word_at 8 stream ≤ length stream → word_at 0 stream ≡ signature → word_at 4 stream ≢ 1
+  pub unknown : 12 + word_at 8 stream ≤ length stream → word_at 0 stream ≡ names_signature → word_at 4 stream ≢ 1
       → word_at 4 stream ≢ 2 → names_of stream ≡ Err (unimplemented_feature (codes "unknown string table hash version"))
 
 -- The name at an offset: the names consist of as many bytes as the offset says, the name, its NUL and the

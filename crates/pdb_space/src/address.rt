@@ -3,7 +3,7 @@
 ghost use Rattle.std.specs.Prelude.{◌≡◌, ◌+◌, ◌-◌, ◌≤◌, Some, codes};
 ghost use Rattle.pdb_base.specs.ErrorText.{hexadecimal};
 ghost use Rattle.pdb_base.specs.Index.{debug_text};
-ghost use Rattle.pdb_space.specs.Sum.{Fits, clipped, distance_from, fitting, wrapped, wrapped_distance_from};
+ghost use Rattle.pdb_space.specs.Sum.{Fits, clip_to_32_bits, distance_from, if_fits_32_bits, wrap_to_32_bits, wrapped_distance_from};
 
 use std::fmt;
 use std::marker::Model;
@@ -26,7 +26,7 @@ impl Model for Rva {
 impl Rva {
     /// Returns the address `offset` bytes after this one, or None if it doesn't fit in 32 bits.
     pub fn checked_add(self, offset: u32) -> Option<Self>
-        ensures { result ≡ fitting (self + offset) }
+        ensures { result ≡ if_fits_32_bits (self + offset) }
     {
         self.0.checked_add(offset).map(|sum| Rva(sum))
     }
@@ -42,7 +42,7 @@ impl Rva {
     /// Returns the address `offset` bytes after this one, or 0xffffffff if it doesn't fit in 32
     /// bits.
     pub fn saturating_add(self, offset: u32) -> Self
-        ensures { result ≡ clipped (self + offset) }
+        ensures { result ≡ clip_to_32_bits (self + offset) }
     {
         Rva(self.0.saturating_add(offset))
     }
@@ -57,7 +57,7 @@ impl Rva {
 
     /// Returns the address `offset` bytes after this one, modulo 2^32: 0 follows 0xffffffff.
     pub fn wrapping_add(self, offset: u32) -> Self
-        ensures { result ≡ wrapped (self + offset) }
+        ensures { result ≡ wrap_to_32_bits (self + offset) }
     {
         Rva(self.0.wrapping_add(offset))
     }

@@ -5,7 +5,7 @@ ghost use Rattle.std.specs.Prelude.{◌≡◌, ◌≤◌, [], None, All, IfSome,
 ghost use Rattle.std.specs.Iterator.{YieldsFirst, item_count};
 ghost use Rattle.pdb_space.specs.Omap.{IsSortedBySource, MovesSomehow};
 ghost use Rattle.pdb_space.specs.Ranges.{IsNotEmpty, end_to_end, pointwise};
-ghost use Rattle.pdb_space.specs.Conversions.{loaded_sections, translated, translated_parts};
+ghost use Rattle.pdb_space.specs.Conversions.{loaded_sections, translation_by, translated_parts};
 
 use crate::address::Rva;
 use crate::internal_address::PdbInternalRva;
@@ -91,7 +91,7 @@ impl AddressMap {
         ensures parts { IfSome self.now.original_to_transformed IsSortedBySource →
             result ≡ translated_parts self.now.original_to_transformed range }
         ensures laid { IfSome self.now.original_to_transformed IsSortedBySource →
-            end_to_end result ≡ pointwise (translated self.now.original_to_transformed) range }
+            end_to_end result ≡ pointwise (translation_by self.now.original_to_transformed) range }
         ensures few { IfSome self.now.original_to_transformed (λ table. length result ≤ length table) }
         ensures not_empty { All IsNotEmpty result }
     {
@@ -111,7 +111,7 @@ impl AddressMap {
         ensures parts { IfSome self.now.transformed_to_original IsSortedBySource →
             result ≡ translated_parts self.now.transformed_to_original range }
         ensures laid { IfSome self.now.transformed_to_original IsSortedBySource →
-            end_to_end result ≡ pointwise (translated self.now.transformed_to_original) range }
+            end_to_end result ≡ pointwise (translation_by self.now.transformed_to_original) range }
         ensures few { IfSome self.now.transformed_to_original (λ table. length result ≤ length table) }
         ensures not_empty { All IsNotEmpty result }
     {
@@ -135,7 +135,7 @@ impl AddressMap {
 /// Returns where a table moves an address, as `OMAPTable::lookup` does, or the address itself if
 /// there is no table.
 pub(crate) fn translate(table: &Option<OMAPTable>, address: u32) -> Option<u32>
-    ensures exact { IfSome table.now IsSortedBySource → result ≡ translated table.now address }
+    ensures exact { IfSome table.now IsSortedBySource → result ≡ translation_by table.now address }
     ensures unsorted { IfSome table.now (λ records. IfSome result (MovesSomehow records address)) }
 {
     match table {
@@ -149,7 +149,7 @@ pub(crate) fn translate(table: &Option<OMAPTable>, address: u32) -> Option<u32>
 #[tactic(auto, unfolding(crate::specs::Conversions::translated_parts), using(crate::proofs::RangeLemmas::untouched_laid, crate::proofs::RangeLemmas::untouched_not_empty))]
 fn translate_range(table: &Option<OMAPTable>, range: Range<u32>) -> RangeIter<'_>
     ensures parts { IfSome table.now IsSortedBySource → result ≡ translated_parts table.now range }
-    ensures laid { IfSome table.now IsSortedBySource → end_to_end result ≡ pointwise (translated table.now) range }
+    ensures laid { IfSome table.now IsSortedBySource → end_to_end result ≡ pointwise (translation_by table.now) range }
     ensures few { IfSome table.now (λ records. length result ≤ length records) }
     ensures not_empty { All IsNotEmpty result }
 {

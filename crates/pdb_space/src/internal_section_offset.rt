@@ -2,7 +2,7 @@
 
 ghost use Rattle.std.specs.Prelude.{◌≡◌, ◌≢◌, ◌↔◌, ◌+◌, IsTrue};
 ghost use Rattle.std.specs.Option.{option_map};
-ghost use Rattle.pdb_space.specs.Sum.{Fits, clipped, fitting, wrapped};
+ghost use Rattle.pdb_space.specs.Sum.{Fits, clip_to_32_bits, if_fits_32_bits, wrap_to_32_bits};
 ghost use Rattle.pdb_space.specs.SectionPlace.{at_offset, order_within_section};
 ghost use Rattle.pdb_space.specs.SectionOrder.{is_partial_order};
 
@@ -51,7 +51,7 @@ impl PdbInternalSectionOffset {
     /// Returns the place `offset` bytes after this one, or None if its offset doesn't fit in 32
     /// bits.
     pub fn checked_add(self, offset: u32) -> Option<Self>
-        ensures { result ≡ option_map (at_offset self) (fitting (self.offset + offset)) }
+        ensures { result ≡ option_map (at_offset self) (if_fits_32_bits (self.offset + offset)) }
     {
         let sum = self.offset.checked_add(offset)?;
         Some(PdbInternalSectionOffset::new(self.section, sum))
@@ -60,7 +60,7 @@ impl PdbInternalSectionOffset {
     /// Returns the place `offset` bytes after this one, or the one at offset 0xffffffff if its
     /// offset doesn't fit in 32 bits.
     pub fn saturating_add(self, offset: u32) -> Self
-        ensures { result ≡ at_offset self (clipped (self.offset + offset)) }
+        ensures { result ≡ at_offset self (clip_to_32_bits (self.offset + offset)) }
     {
         PdbInternalSectionOffset::new(self.section, self.offset.saturating_add(offset))
     }
@@ -68,7 +68,7 @@ impl PdbInternalSectionOffset {
     /// Returns the place `offset` bytes after this one, with its offset modulo 2^32: 0 follows
     /// 0xffffffff.
     pub fn wrapping_add(self, offset: u32) -> Self
-        ensures { result ≡ at_offset self (wrapped (self.offset + offset)) }
+        ensures { result ≡ at_offset self (wrap_to_32_bits (self.offset + offset)) }
     {
         PdbInternalSectionOffset::new(self.section, self.offset.wrapping_add(offset))
     }

@@ -2,7 +2,7 @@
 
 ghost use Rattle.std.specs.Prelude.{◌≡◌, ◌+◌, ◌-◌, ◌≤◌, length, min};
 ghost use Rattle.pdb_space.specs.Sum.{largest};
-ghost use Rattle.pdb_space.specs.Omap.{first_mapping, mapping_of, moved};
+ghost use Rattle.pdb_space.specs.Omap.{first_mapping, mapping_of, move_address};
 ghost use Rattle.pdb_space.specs.Ranges.{part};
 
 use byteorder::{ByteOrder, LittleEndian};
@@ -69,10 +69,10 @@ impl OMAPRecord {
 
     /// Returns where the record moves an address at or after its source, or None if the target is 0
     /// or the result doesn't fit in 32 bits.
-    #[tactic(auto, unfolding(crate::specs::Omap::moved))]
-    pub(crate) fn moved(self, address: u32) -> Option<u32>
+    #[tactic(auto, unfolding(crate::specs::Omap::move_address))]
+    pub(crate) fn move_address(self, address: u32) -> Option<u32>
         requires { self.source ≤ address }
-        ensures { result ≡ moved self address }
+        ensures { result ≡ move_address self address }
     {
         if self.target == 0 {
             return None;
@@ -90,14 +90,14 @@ impl OMAPRecord {
         if self.target == 0 {
             return None;
         }
-        let start = self.clipped(asked.start);
-        let end = self.clipped(next.min(asked.end));
+        let start = self.saturating_target(asked.start);
+        let end = self.saturating_target(next.min(asked.end));
         if start < end { Some(start..end) } else { None }
     }
 
     /// Returns the target plus the distance of `address` from the source, at most 0xffffffff. The
     /// distance of an address before the source is 0.
-    fn clipped(self, address: u32) -> u32
+    fn saturating_target(self, address: u32) -> u32
         ensures { result ≡ min (self.target + (address - self.source)) largest }
     {
         self.target

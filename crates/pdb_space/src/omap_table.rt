@@ -145,11 +145,11 @@ impl OMAPTable {
         let bytes = self.bytes();
         let found = search(bytes, range.start, &mut Count::new());
         let Some(last) = found.place.checked_sub(1) else {
-            return RangeIter::translated(None, self.records(), range);
+            return RangeIter::over_records(None, self.records(), range);
         };
         let rest = self.records_from(found.place);
         let record = OMAPRecord::new(found.source, target_at(bytes, last));
         let first = record.part(rest.next_source(range.end), &range);
-        RangeIter::translated(first, rest, range)
+        RangeIter::over_records(first, rest, range)
     }
 }

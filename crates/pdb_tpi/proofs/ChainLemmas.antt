@@ -17,8 +17,8 @@ use Rattle.pdb_values.specs.declared.type_data.TypeData.{TypeData}
 use Rattle.pdb_base.proofs.lemmas.Collected.{ok, err, ok_is, err_is, ok_is_no_err}
 use Rattle.pdb_values.specs.TypeValue.{TypeValue}
 use Rattle.pdb_values.specs.TypeView.{type_value}
-use Rattle.pdb_tpi.specs.Chain.{LookUp, Listed, listed_value, list_of, not_below, Lead, IsChain, GoesUp, Breaks}
-use Rattle.pdb_tpi.specs.Chain.{in_front, continued, joined, fields_of, IsChainAnswer}
+use Rattle.pdb_tpi.specs.Chain.{LookUp, ContinuedList, listed_value, list_of, not_below, Lead, IsChain, GoesUp, Breaks}
+use Rattle.pdb_tpi.specs.Chain.{in_front, fields_behind, join_fields, fields_of, IsChainAnswer}
 use Rattle.pdb_tpi.specs.Chain.Step.{goes_below, goes_up, fields_step}
 
 -- ---- answers
@@ -40,29 +40,29 @@ twice_in_front : (fields more : List TypeValue) (others : Answer (List TypeValue
 twice_in_front fields more (Ok last) = ap (λ (all : List TypeValue). ok all) (sym (append_assoc fields more last))
 twice_in_front fields more (Err e) = refl
 
-pub fields_listed : (look : LookUp) (index : ℕ) (list : Listed) → list_of look index ≡ Ok list
-    → fields_of look index ≡ joined (λ i. fields_of look i) index list
+pub fields_listed : (look : LookUp) (index : ℕ) (list : ContinuedList) → list_of look index ≡ Ok list
+    → fields_of look index ≡ join_fields (λ i. fields_of look i) index list
 fields_listed look index list is = fields_step look index
-    ∙ ap (λ (answer : Answer Listed). answer >>= joined (λ i. fields_of look i) index) is
+    ∙ ap (λ (answer : Answer ContinuedList). answer >>= join_fields (λ i. fields_of look i) index) is
 
 pub fields_refused : (look : LookUp) (index : ℕ) (e : Refusal) → list_of look index ≡ Err e
     → fields_of look index ≡ Err e
 fields_refused look index e is = fields_step look index
-    ∙ ap (λ (answer : Answer Listed). answer >>= joined (λ i. fields_of look i) index) is
+    ∙ ap (λ (answer : Answer ContinuedList). answer >>= join_fields (λ i. fields_of look i) index) is
 
 -- ---- along a chain by a loop: the fields so far, and those of the lists in which the last list goes on
 
 abbrev pub Follows : LookUp → ℕ → List TypeValue → ℕ → Option TypeIndex → Type 0
 Follows look index fields above continuation =
-    fields_of look index ≡ in_front fields (continued (λ i. fields_of look i) above continuation)
+    fields_of look index ≡ in_front fields (fields_behind (λ i. fields_of look i) above continuation)
 
-pub follows_more : (look : LookUp) (index : ℕ) (fields : List TypeValue) (above : ℕ) (next : TypeIndex) (list : Listed)
+pub follows_more : (look : LookUp) (index : ℕ) (fields : List TypeValue) (above : ℕ) (next : TypeIndex) (list : ContinuedList)
     → Follows look index fields above (Some next) → next.0 < above → list_of look next.0 ≡ Ok list
     → Follows look index (fields ++ list.fields) next.0 list.continuation
 follows_more look index fields above next list so_far below is =
     so_far
     ∙ ap (in_front fields) (goes_below (λ i. fields_of look i) above next below ∙ fields_listed look next.0 list is)
-    ∙ twice_in_front fields list.fields (continued (λ i. fields_of look i) next.0 list.continuation)
+    ∙ twice_in_front fields list.fields (fields_behind (λ i. fields_of look i) next.0 list.continuation)
 
 pub follows_refused : (look : LookUp) (index : ℕ) (fields : List TypeValue) (above : ℕ) (next : TypeIndex) (e : Refusal)
     → Follows look index fields above (Some next) → next.0 < above → list_of look next.0 ≡ Err e
@@ -99,31 +99,31 @@ next_refused look index fields above next e so_far below (inr want) = inr want
 -- ---- chains
 
 -- lists that lead to an index stand in front of its fields
-led : (look : LookUp) (from : ℕ) (lists : List Listed) (to : ℕ) → Lead look from lists to
+led : (look : LookUp) (from : ℕ) (lists : List ContinuedList) (to : ℕ) → Lead look from lists to
     → fields_of look from ≡ in_front (flat_map (λ list. list.fields) lists) (fields_of look to)
 led look from [] to same = ap (λ (i : ℕ). fields_of look i) same ∙ sym (none_in_front (fields_of look to))
 led look from (list ∷ lists) to (is, (next, goes_on, below, lead)) =
     fields_listed look from list is
     ∙ ap (λ (continuation : Option TypeIndex). in_front list.fields
-    (continued (λ i. fields_of look i) from continuation)) goes_on
+    (fields_behind (λ i. fields_of look i) from continuation)) goes_on
     ∙ ap (in_front list.fields) (goes_below (λ i. fields_of look i) from next below ∙ led look next.0 lists to lead)
     ∙ twice_in_front list.fields (flat_map (λ list. list.fields) lists) (fields_of look to)
 
-last_fields : (look : LookUp) (at : ℕ) (last : Listed) → list_of look at ≡ Ok last → last.continuation ≡ None
+last_fields : (look : LookUp) (at : ℕ) (last : ContinuedList) → list_of look at ≡ Ok last → last.continuation ≡ None
     → fields_of look at ≡ Ok (flat_map (λ list. list.fields) (last ∷ []))
 last_fields look at last is ends = fields_listed look at last is
     ∙ ap (λ (continuation : Option TypeIndex). in_front last.fields
-    (continued (λ i. fields_of look i) at continuation)) ends
+    (fields_behind (λ i. fields_of look i) at continuation)) ends
 
-chain_fields : (look : LookUp) (index : ℕ) (lists : List Listed) → IsChain look index lists
+chain_fields : (look : LookUp) (index : ℕ) (lists : List ContinuedList) → IsChain look index lists
     → fields_of look index ≡ Ok (flat_map (λ list. list.fields) lists)
 chain_fields look index lists chain =
     led look index chain.before chain.at chain.lead
     ∙ ap (in_front (flat_map (λ list. list.fields) chain.before))
     (last_fields look chain.at chain.last chain.is_last chain.ends)
     ∙ ap (λ (all : List TypeValue). ok all) (sym
-    (flat_map-append (λ (list : Listed). list.fields) chain.before (chain.last ∷ []))
-    ∙ ap (λ (all : List Listed). flat_map (λ list. list.fields) all) (sym chain.are))
+    (flat_map-append (λ (list : ContinuedList). list.fields) chain.before (chain.last ∷ []))
+    ∙ ap (λ (all : List ContinuedList). flat_map (λ list. list.fields) all) (sym chain.are))
 
 break_refuses : (look : LookUp) (at : ℕ) (refusal : Refusal) → (list_of look at ≡ Err refusal)
     ⊎ (GoesUp look at × (refusal ≡ not_below)) → fields_of look at ≡ Err refusal
@@ -131,7 +131,7 @@ break_refuses look at refusal (inl is) = fields_refused look at refusal is
 break_refuses look at refusal (inr (up, is)) =
     fields_listed look at up.list up.is
     ∙ ap (λ (continuation : Option TypeIndex). in_front up.list.fields
-    (continued (λ i. fields_of look i) at continuation)) up.goes_on
+    (fields_behind (λ i. fields_of look i) at continuation)) up.goes_on
     ∙ ap (in_front up.list.fields) (goes_up (λ i. fields_of look i) at up.next up.above)
     ∙ ap (λ (e : Refusal). err {A = List TypeValue} e) (sym is)
 
@@ -143,10 +143,10 @@ chain_refused look index refusal broken =
 
 -- each index has a chain, or one that breaks
 abbrev HasChain : LookUp → ℕ → Type 0
-HasChain look index = ((lists : List Listed) × IsChain look index lists)
+HasChain look index = ((lists : List ContinuedList) × IsChain look index lists)
     ⊎ ((refusal : Refusal) × Breaks look index refusal)
 
-chain_more : (look : LookUp) (index : ℕ) (list : Listed) (next : TypeIndex) → list_of look index ≡ Ok list
+chain_more : (look : LookUp) (index : ℕ) (list : ContinuedList) (next : TypeIndex) → list_of look index ≡ Ok list
     → list.continuation ≡ Some next → next.0 < index → HasChain look next.0 → HasChain look index
 chain_more look index list next is goes_on below (inl (lists, chain)) =
     inl (
@@ -155,7 +155,7 @@ chain_more look index list next is goes_on below (inl (lists, chain)) =
         before = list ∷ chain.before;
         at = chain.at;
         last = chain.last;
-        are = ap (λ (all : List Listed). list ∷ all) chain.are;
+        are = ap (λ (all : List ContinuedList). list ∷ all) chain.are;
         lead = (is, (next, goes_on, below, chain.lead));
         is_last = chain.is_last;
         ends = chain.ends;
@@ -209,7 +209,7 @@ has_chain (suc most) look index few = elim (answer_cases (list_of look index)) [
 ]
 
 fields_chained : (look : LookUp) (index : ℕ) (fields : List TypeValue) → fields_of look index ≡ Ok fields
-    → HasChain look index → (lists : List Listed) × IsChain look index lists
+    → HasChain look index → (lists : List ContinuedList) × IsChain look index lists
     × (fields ≡ flat_map (λ list. list.fields) lists)
 fields_chained look index fields is (inl (lists, chain)) =
     (lists, chain, ok_is fields (flat_map (λ list. list.fields) lists) (sym is ∙ chain_fields look index lists chain))
@@ -228,7 +228,7 @@ fields_broken look index refusal is (inr (other, broken)) =
 -- ---- there is one chain
 
 -- the list of an index is one
-one_list : (look : LookUp) (index : ℕ) (list other : Listed) → list_of look index ≡ Ok list
+one_list : (look : LookUp) (index : ℕ) (list other : ContinuedList) → list_of look index ≡ Ok list
     → list_of look index ≡ Ok other → list ≡ other
 one_list look index list other is also = ok_is list other (sym is ∙ also)
 
@@ -240,18 +240,18 @@ one_next : (continuation : Option TypeIndex) (next other : TypeIndex) → contin
 one_next continuation next other is also = cc
 
 -- a last list leads nowhere
-ends_here : (look : LookUp) (from : ℕ) (last list : Listed) (next : TypeIndex) → list_of look from ≡ Ok last
+ends_here : (look : LookUp) (from : ℕ) (last list : ContinuedList) (next : TypeIndex) → list_of look from ≡ Ok last
     → last.continuation ≡ None → list_of look from ≡ Ok list → list.continuation ≡ Some next → ⊥
 ends_here look from last list next is_last ends is goes_on =
-    no_next list.continuation next (ap (λ (l : Listed). l.continuation) (one_list look from list last is is_last)
+    no_next list.continuation next (ap (λ (l : ContinuedList). l.continuation) (one_list look from list last is is_last)
     ∙ ends) goes_on
 
-one_chain_from : (look : LookUp) (from : ℕ) (before others : List Listed) (at to : ℕ) (last end : Listed)
+one_chain_from : (look : LookUp) (from : ℕ) (before others : List ContinuedList) (at to : ℕ) (last end : ContinuedList)
     → Lead look from before at → list_of look at ≡ Ok last → last.continuation ≡ None
     → Lead look from others to → list_of look to ≡ Ok end → end.continuation ≡ None → before ++ last ∷ [] ≡ others
     ++ end ∷ []
 one_chain_from look from [] [] at to last end here is ends there also done =
-    ap (λ (l : Listed). l ∷ []) (one_list look from last end (ap (list_of look) here ∙ is)
+    ap (λ (l : ContinuedList). l ∷ []) (one_list look from last end (ap (list_of look) here ∙ is)
     (ap (list_of look) there ∙ also))
 one_chain_from look from [] (list ∷ others) at to last end here is ends
     (first, (next, goes_on, below, lead)) also done =
@@ -263,12 +263,12 @@ one_chain_from look from (list ∷ before) (other ∷ others) at to last end (fi
     (second, (other_next, also_on, also_below, also_lead)) also done =
     let same = one_list look from list other first second in
     let same_next = one_next list.continuation next other_next goes_on
-    (ap (λ (l : Listed). l.continuation) same ∙ also_on) in
+    (ap (λ (l : ContinuedList). l.continuation) same ∙ also_on) in
     let behind = one_chain_from look next.0 before others at to last end lead is ends
     (subst (λ (n : TypeIndex). Lead look n.0 others to) (sym same_next) also_lead) also done in
-    ap (λ (l : Listed). l ∷ (before ++ last ∷ [])) same ∙ ap (λ (all : List Listed). other ∷ all) behind
+    ap (λ (l : ContinuedList). l ∷ (before ++ last ∷ [])) same ∙ ap (λ (all : List ContinuedList). other ∷ all) behind
 
-one_chain : (look : LookUp) (index : ℕ) (lists others : List Listed) → IsChain look index lists
+one_chain : (look : LookUp) (index : ℕ) (lists others : List ContinuedList) → IsChain look index lists
     → IsChain look index others → lists ≡ others
 one_chain look index lists others chain other =
     chain.are

@@ -8,10 +8,10 @@ use Rattle.std.proofs.lemmas.List.Folds.{fold-map}
 use Rattle.std.proofs.lemmas.List.Sums.{fold_more}
 use Rattle.pdb_base.specs.Count.{after_calls}
 use Rattle.pdb_base.proofs.lemmas.Count.{few_calls}
-use Rattle.pdb_tpi.specs.Table.{Table, IsTable, count_of}
+use Rattle.pdb_tpi.specs.Table.{Table, IsTable, count_in_header}
 use Rattle.pdb_tpi.specs.Steps.{WalkPosition, walk, walk_rest, nth_item}
 use Rattle.pdb_tpi.specs.Place.{IsPlace, ArePlaces}
-use Rattle.pdb_tpi.specs.Finder.{first_of, block_of, has_index, known_after, known_of, item_of, find_of, reads_between}
+use Rattle.pdb_tpi.specs.Finder.{first_of_block, block_of, has_index, known_after, known_of, item_of, find_of, reads_between}
 use Rattle.pdb_tpi.specs.Finder.{reads_of, most_blocks}
 use Rattle.pdb_tpi.proofs.TableLemmas.{place_first}
 
@@ -26,24 +26,24 @@ places_none table capacity room = record {
 }
 
 -- a table that counts no index has no block
-pub no_blocks : (table : Table) → count_of table ≡ 0 → most_blocks table ≡ 0
+pub no_blocks : (table : Table) → count_in_header table ≡ 0 → most_blocks table ≡ 0
 unfolding most_blocks
 no_blocks table none = omega arith
 
 -- a table that has indexes has a place for its first block
-pub some_blocks : (table : Table) → 0 < count_of table → 0 < most_blocks table
+pub some_blocks : (table : Table) → 0 < count_in_header table → 0 < most_blocks table
 unfolding most_blocks
 some_blocks table some =
-    let count = count_of table in
+    let count = count_in_header table in
     let blocks : 0 < count / 8 + min 1 (count % 8) = omega arith in
     omega arith
 
 -- there is a place for one more block while iterators stand before its first item
-pub room_for : (table : Table) (known index position : ℕ) → IsPlace table index position → index ≡ first_of table known
+pub room_for : (table : Table) (known index position : ℕ) → IsPlace table index position → index ≡ first_of_block table known
     → index < table.header.maximum_index → known < most_blocks table
 unfolding most_blocks
 room_for table known index position place is below =
-    let count = count_of table in
+    let count = count_in_header table in
     let bytes = length table.bytes - table.header.header_size in
     let far = place.far in
     let within = place.within in
@@ -54,7 +54,7 @@ room_for table known index position place is below =
 
 pub places_push : (table : Table) (positions : List ℕ) (capacity index position : ℕ)
     → ArePlaces table positions capacity → IsPlace table index position
-    → index ≡ first_of table (length positions) → index < table.header.maximum_index
+    → index ≡ first_of_block table (length positions) → index < table.header.maximum_index
     → ArePlaces table (positions ++ position ∷ []) capacity
 places_push table positions capacity index position places place is below =
     let more = length_push positions position in
@@ -64,7 +64,7 @@ places_push table positions capacity index position places place is below =
         | inr last ↦
             let here : length positions ≡ block = omega (arith, more, few, last) in
             rw (get_or_push positions position 0 block here)
-            (let P : ℕ → Type 0 = λ i. IsPlace table i position in subst P (is ∙ ap (first_of table) here) place)
+            (let P : ℕ → Type 0 = λ i. IsPlace table i position in subst P (is ∙ ap (first_of_block table) here) place)
       ];
       below = λ block few. elim (cases_lt block (length positions)) [
         | inl before ↦ places.below block before
@@ -74,7 +74,7 @@ places_push table positions capacity index position places place is below =
       reserved = places.reserved;
     }
 
-pub places_first : (table : Table) (capacity : ℕ) → IsTable table → 0 < count_of table → most_blocks table ≤ capacity
+pub places_first : (table : Table) (capacity : ℕ) → IsTable table → 0 < count_in_header table → most_blocks table ≤ capacity
     → ArePlaces table (table.header.header_size ∷ []) capacity
 places_first table capacity sound some room =
     places_push table [] capacity table.header.minimum_index table.header.header_size (places_none table capacity room)
@@ -84,11 +84,11 @@ places_first table capacity sound some room =
 pub block_learned : (table : Table) (positions : List ℕ) (capacity block end : ℕ) → ArePlaces table positions capacity
     → block ≡ length positions → 0 < length positions
     → IsPlace table (table.header.minimum_index + (block * 8 - 1) + 1) end
-    → first_of table block < table.header.maximum_index
+    → first_of_block table block < table.header.maximum_index
     → (length positions < capacity) × ArePlaces table (positions ++ end ∷ []) capacity
 block_learned table positions capacity block end places is some place below =
     let index : ℕ = table.header.minimum_index + (block * 8 - 1) + 1 in
-    let first : index ≡ first_of table (length positions) = omega arith in
+    let first : index ≡ first_of_block table (length positions) = omega arith in
     let last : index < table.header.maximum_index = omega arith in
     let room = room_for table (length positions) index end place first last in
     let reserved = places.reserved in

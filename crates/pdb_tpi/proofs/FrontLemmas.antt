@@ -6,7 +6,7 @@ use Rattle.std.proofs.lemmas.Bool.Decides.{nat_tests}
 use Rattle.std.proofs.lemmas.List.{length-take-le, length-drop}
 use Rattle.byteorder.specs.Endian.{little_number}
 use Rattle.pdb_base.specs.Refusal.{Refusal, unexpected_eof, type_too_short}
-use Rattle.pdb_base.specs.Answer.{◌>>=◌, required}
+use Rattle.pdb_base.specs.Answer.{◌>>=◌, ok_if}
 use Rattle.pdb_base.specs.Reading.{front_at}
 use Rattle.pdb_base.proofs.lemmas.Collected.{ok, ok_is, ok_is_no_err, bind_ok}
 use Rattle.pdb_base.proofs.lemmas.Reading.{front_whole, front_cut, number_whole, number_cut}
@@ -22,7 +22,7 @@ front_is count bytes x e = elim (cases_lt (length bytes) count) [
   | inr long ↦ (long, ok_is x (take count bytes, drop count bytes) (sym e ∙ front_whole count bytes long))
 ]
 
-pub required_is : (test : Bool) (e : Refusal) (x : Unit {0}) → required test e ≡ Ok x → test ≡ true
+pub required_is : (test : Bool) (e : Refusal) (x : Unit {0}) → ok_if test e ≡ Ok x → test ≡ true
 required_is true e x h = refl
 required_is false e x h = absurd (ok_is_no_err x e (sym h))
 
@@ -42,9 +42,9 @@ front_item bytes item e = elim (cases_lt (length bytes) 2) [
   | inr long ↦
       let word = little_number 2 (take 2 bytes) in
       let behind = drop 2 bytes in
-      let read : first_item bytes ≡ (required (leb 2 word) type_too_short >>= λ kind. front_at word behind
+      let read : first_item bytes ≡ (ok_if (leb 2 word) type_too_short >>= λ kind. front_at word behind
       >>= λ front. Ok front.0) = rw (number_whole 2 bytes long) refl in
-      let kind = bind_ok (required (leb 2 word) type_too_short) (λ _. front_at word behind >>= λ front. Ok front.0) item
+      let kind = bind_ok (ok_if (leb 2 word) type_too_short) (λ _. front_at word behind >>= λ front. Ok front.0) item
       (sym read ∙ e) in
       let front = bind_ok (front_at word behind) (λ f. Ok f.0) item kind.2 in
       let whole = front_is word behind front.0 front.1 in

@@ -3,11 +3,11 @@ use Rattle.std.proofs.Common.{◌≡◌, ℕ, ◌+◌, ◌≤◌, false, ltb, Li
 use Rattle.std.specs.Int.{w32, cast_signed}
 use Rattle.std.proofs.lemmas.Bool.{le-ltb}
 use Rattle.std.proofs.lemmas.List.{drop-drop, length-drop}
-use Rattle.pdb_base.specs.Reading.{front_at, number_at, signed_at}
+use Rattle.pdb_base.specs.Reading.{front_at, number_at, number_in, signed_at}
 use Rattle.pdb_base.proofs.lemmas.Collected.{ok}
 use Rattle.pdb_tpi.specs.declared.header.Slice.{Slice}
 use Rattle.pdb_tpi.specs.Header.{slice_of, header_fields}
-use Rattle.pdb_tpi.specs.Laws.{number_in, StandAtOffsets}
+use Rattle.pdb_tpi.specs.Laws.{HasTableHeaderAtOffsets}
 
 number_is : (width offset : ℕ) (bytes : List ℕ) → offset + width ≤ length bytes
     → number_at width (drop offset bytes) ≡ Ok (number_in width offset bytes, drop (offset + width) bytes)
@@ -35,7 +35,7 @@ slice_is offset bytes long =
     } in
     rw (low, high) (ap (λ (n : ℕ). ok (slice, drop n bytes)) behind)
 
-pub fields_stand : (bytes : List ℕ) → StandAtOffsets bytes
+pub fields_stand : (bytes : List ℕ) → HasTableHeaderAtOffsets bytes
 unfolding header_fields
 fields_stand bytes long =
     let version = number_is 4 0 bytes (omega arith) in

@@ -6,7 +6,7 @@ use Rattle.std.proofs.lemmas.Bool.{cases_lt, lt-ltb, eq-eqb, false≢true}
 use Rattle.std.proofs.lemmas.Bool.Decides.{nat_tests}
 use Rattle.std.proofs.lemmas.List.{append_assoc}
 use Rattle.pdb_tpi.specs.Table.{Table}
-use Rattle.pdb_tpi.specs.Finder.{first_of, known_after, known_of, StandIn, AreShown, IsKnown}
+use Rattle.pdb_tpi.specs.Finder.{first_of_block, known_after, known_of, StandIn, AreShown, IsKnown}
 
 -- what stands in a list stands in a longer one
 stand_behind : (firsts before shown : List ℕ) → StandIn firsts shown → StandIn firsts (before ++ shown)
@@ -30,9 +30,9 @@ stand_in_tail firsts (b ∷ before) behind shown i first in_order is =
 
 -- the first indexes of the blocks from one on
 abbrev firsts_from : Table → ℕ → ℕ → List ℕ
-firsts_from table old known = map (first_of table) (range_with_len old (known - old))
+firsts_from table old known = map (first_of_block table) (range_with_len old (known - old))
 
-firsts_more : (table : Table) (old known : ℕ) → old < known → firsts_from table old known ≡ first_of table old
+firsts_more : (table : Table) (old known : ℕ) → old < known → firsts_from table old known ≡ first_of_block table old
     ∷ firsts_from table (old + 1) known
 firsts_more table old known more = let count : known - old ≡ suc (known - (old + 1)) = omega arith in rw count refl
 
@@ -49,19 +49,19 @@ no_place (b ∷ before) behind first is = cc
 
 -- more blocks begin with the first of them
 shown_first : (table : Table) (old known : ℕ) (shown : List ℕ) → AreShown table old shown known → old < known
-    → StandIn (first_of table old ∷ firsts_from table (old + 1) known) shown
+    → StandIn (first_of_block table old ∷ firsts_from table (old + 1) known) shown
 shown_first table old known shown are more = let P : List ℕ → Type 0 = λ fs. StandIn fs shown in
     subst P (firsts_more table old known more) are.in_order
 
 shown_with : (table : Table) (old known : ℕ) (shown : List ℕ) → old < known
-    → StandIn (first_of table old ∷ firsts_from table (old + 1) known) shown
+    → StandIn (first_of_block table old ∷ firsts_from table (old + 1) known) shown
     → StandIn (firsts_from table old known) shown
 shown_with table old known shown more in_order = let P : List ℕ → Type 0 = λ fs. StandIn fs shown in
     subst P (sym (firsts_more table old known more)) in_order
 
 -- ---- one more iterator
 
-known_here : (table : Table) (old i : ℕ) (shown : List ℕ) (known : ℕ) → i ≡ first_of table old
+known_here : (table : Table) (old i : ℕ) (shown : List ℕ) (known : ℕ) → i ≡ first_of_block table old
     → i < table.header.maximum_index → IsKnown table (old + 1) shown known → IsKnown table old (i ∷ shown) known
 known_here table old i shown known is below ih =
     let more = ih.reached.more in
@@ -83,7 +83,7 @@ known_here table old i shown known is below ih =
               more = omega (arith, some);
               below = λ block from to. are.below block (omega (arith, from)) to;
               in_order = stand_in_tail (firsts_from table (old + 1) other) first.0 first.1 shown i
-                  (first_of table old) first.3 first.2;
+                  (first_of_block table old) first.3 first.2;
             })
       ];
     }
@@ -94,7 +94,7 @@ later_place firsts [] behind shown i first other in_order is = absurd (other cc)
 later_place firsts (b ∷ before) behind shown i first other in_order is = (before, behind, cc, in_order)
 
 known_later : (table : Table) (old i : ℕ) (shown : List ℕ) (known : ℕ)
-    → (i ≡ first_of table old → i < table.header.maximum_index → ⊥) → IsKnown table old shown known
+    → (i ≡ first_of_block table old → i < table.header.maximum_index → ⊥) → IsKnown table old shown known
     → IsKnown table old (i ∷ shown) known
 known_later table old i shown known other ih = record {
   reached = record {
@@ -106,12 +106,12 @@ known_later table old i shown known other ih = record {
     | inr few ↦ let from = ih.reached.more in omega (arith, few)
     | inl some ↦
         let first = shown_first table old more (i ∷ shown) are some in
-        let below : first_of table old < table.header.maximum_index = are.below old (omega arith) some in
+        let below : first_of_block table old < table.header.maximum_index = are.below old (omega arith) some in
         ih.most more (record {
           more = are.more;
           below = are.below;
           in_order = shown_with table old more shown some
-              (later_place (firsts_from table (old + 1) more) first.0 first.1 shown i (first_of table old)
+              (later_place (firsts_from table (old + 1) more) first.0 first.1 shown i (first_of_block table old)
               (λ is. other is (omega (arith, is, below))) first.3 first.2);
         })
   ];
@@ -125,34 +125,34 @@ known_none table old = record {
   most = λ other are. elim (cases_lt old other) [
     | inr few ↦ few
     | inl some ↦ let first = shown_first table old other [] are some in
-        absurd (no_place first.0 first.1 (first_of table old) first.2)
+        absurd (no_place first.0 first.1 (first_of_block table old) first.2)
   ];
 }
 
-not_both : (table : Table) (old i : ℕ) → eqb i (first_of table old) && ltb i table.header.maximum_index ≡ false
-    → i ≡ first_of table old → i < table.header.maximum_index → ⊥
+not_both : (table : Table) (old i : ℕ) → eqb i (first_of_block table old) && ltb i table.header.maximum_index ≡ false
+    → i ≡ first_of_block table old → i < table.header.maximum_index → ⊥
 not_both table old i test is below =
-    let same : eqb i (first_of table old) ≡ true = eq-eqb i (first_of table old) is in
+    let same : eqb i (first_of_block table old) ≡ true = eq-eqb i (first_of_block table old) is in
     let less : ltb i table.header.maximum_index ≡ true = lt-ltb i table.header.maximum_index below in
     false≢true (sym test ∙ rw (same, less) refl)
 
-known_by : (table : Table) (old i : ℕ) (shown : List ℕ) (test : Bool) → eqb i (first_of table old)
+known_by : (table : Table) (old i : ℕ) (shown : List ℕ) (test : Bool) → eqb i (first_of_block table old)
     && ltb i table.header.maximum_index ≡ test
     → ((from : ℕ) → IsKnown table from shown (fold (known_after table) from shown))
     → IsKnown table old (i ∷ shown) (fold (known_after table) (known_after table old i) shown)
 known_by table old i shown true test ih =
-    let is : i ≡ first_of table old = grind (arith, nat_tests) in
+    let is : i ≡ first_of_block table old = grind (arith, nat_tests) in
     let below : i < table.header.maximum_index = grind (arith, nat_tests) in
     rw test (known_here table old i shown (fold (known_after table) (old + 1) shown) is below (ih (old + 1)))
 known_by table old i shown false test ih =
-    let other : i ≡ first_of table old → i < table.header.maximum_index → ⊥ =
+    let other : i ≡ first_of_block table old → i < table.header.maximum_index → ⊥ =
     λ is below. not_both table old i test is below in
     rw test (known_later table old i shown (fold (known_after table) old shown) other (ih old))
 
 known_is : (table : Table) (shown : List ℕ) (old : ℕ) → IsKnown table old shown (fold (known_after table) old shown)
 known_is table [] old = known_none table old
 known_is table (i ∷ shown) old = known_by table old i shown
-    (eqb i (first_of table old) && ltb i table.header.maximum_index) refl (known_is table shown)
+    (eqb i (first_of_block table old) && ltb i table.header.maximum_index) refl (known_is table shown)
 
 pub is_known : (table : Table) (known : ℕ) (shown : List ℕ) → IsKnown table known shown (known_of table known shown)
 unfolding known_of

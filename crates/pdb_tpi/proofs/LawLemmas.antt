@@ -14,7 +14,7 @@ use Rattle.pdb_base.specs.Refusal.{Refusal, unexpected_eof, type_too_short}
 use Rattle.pdb_base.specs.Answer.{Answer}
 use Rattle.pdb_base.proofs.lemmas.Collected.{ok_is_no_err}
 use Rattle.pdb_tpi.specs.Table.{Table}
-use Rattle.pdb_tpi.specs.Walk.{framed, IsItem, IsWalk, first_item, behind, items, rest}
+use Rattle.pdb_tpi.specs.Walk.{with_length, IsItem, IsWalk, first_item, behind, items, rest}
 use Rattle.pdb_tpi.specs.Steps.{room, body, walk, walk_rest}
 use Rattle.pdb_tpi.specs.Finder.{has_index, block_of, reads_of, reads_between}
 use Rattle.pdb_tpi.specs.Laws.{AreBytes, WalksOnce, HasFault, ReadsFew}
@@ -48,13 +48,13 @@ front_of head item more len word kind =
           ∙ take-append_seam item more);
     }
 
-pub framed_front : (item more : List ℕ) → IsItem item → first_item (framed item ++ more) ≡ Ok item
+pub framed_front : (item more : List ℕ) → IsItem item → first_item (with_length item ++ more) ≡ Ok item
 framed_front item more is =
     let head = little_bytes 2 (length item) in
     let most = is.most in
     let word : little_number 2 head ≡ length item = ap (little_number 2) (sym (append-nil head))
     ∙ little_number-reads_back 2 (length item) [] (omega arith) in
-    item_front (framed item ++ more) item (front_of head item more
+    item_front (with_length item ++ more) item (front_of head item more
     (length-bytes_low_first 0 2 (length item)) word is.least)
 
 -- two bytes are those of the number that they say
@@ -89,7 +89,7 @@ bytes_dropped (suc n) (byte ∷ bytes) fits = bytes_dropped n bytes fits.1
 
 -- an item at the front of bytes stands there behind its length
 front_framed : (bytes item : List ℕ) → AreBytes bytes → first_item bytes ≡ Ok item → IsItem item
-    × (framed item ++ behind item bytes ≡ bytes)
+    × (with_length item ++ behind item bytes ≡ bytes)
 front_framed bytes item fits e =
     let front = front_item bytes item e in
     let kind = front.kind in
@@ -108,18 +108,18 @@ front_framed bytes item fits e =
           ∙ take-append-drop 2 bytes,
     )
 
-length_framed : (item : List ℕ) → length (framed item) ≡ 2 + length item
+length_framed : (item : List ℕ) → length (with_length item) ≡ 2 + length item
 length_framed item = length-append (little_bytes 2 (length item)) item
     ∙ ap (λ (n : ℕ). n + length item) (length-bytes_low_first 0 2 (length item))
 
-behind_framed : (item more : List ℕ) → behind item (framed item ++ more) ≡ more
-behind_framed item more = ap (λ (n : ℕ). drop n (framed item ++ more)) (sym (length_framed item))
-    ∙ drop-append_seam (framed item) more
+behind_framed : (item more : List ℕ) → behind item (with_length item ++ more) ≡ more
+behind_framed item more = ap (λ (n : ℕ). drop n (with_length item ++ more)) (sym (length_framed item))
+    ∙ drop-append_seam (with_length item) more
 
 -- ---- the walk that there is
 
 no_front : (bytes item more : List ℕ) (fault : Refusal) → first_item bytes ≡ Err fault → IsItem item
-    → bytes ≢ framed item ++ more
+    → bytes ≢ with_length item ++ more
 no_front bytes item more fault e is same =
     ok_is_no_err item fault (sym (ap first_item same ∙ framed_front item more is) ∙ e)
 
@@ -137,8 +137,8 @@ walk_goes_on : (limit : ℕ) (bytes item left : List ℕ) (found : List (List �
 walk_goes_on limit bytes item left found fits e further =
     let framed_item = front_framed bytes item fits e in
     record {
-      joined = append_assoc (framed item) (flat_map framed found) left
-          ∙ ap (λ (r : List ℕ). framed item ++ r) further.joined ∙ framed_item.1;
+      joined = append_assoc (with_length item) (flat_map with_length found) left
+          ∙ ap (λ (r : List ℕ). with_length item ++ r) further.joined ∙ framed_item.1;
       sized = (framed_item.0, further.sized);
       few = let few = further.few in omega arith;
       ends = λ less. further.ends (omega (arith, less));
@@ -179,8 +179,8 @@ only_by limit bytes [] left (Ok item) fits e walk ih =
 only_by limit bytes [] left (Err fault) fits e walk ih =
     (sym (items_none (suc limit) bytes fault e), walk.joined ∙ sym (rest_none (suc limit) bytes fault e))
 only_by limit bytes (item ∷ found) left answer fits e walk ih =
-    let more = flat_map framed found ++ left in
-    let whole : framed item ++ more ≡ bytes = sym (append_assoc (framed item) (flat_map framed found) left)
+    let more = flat_map with_length found ++ left in
+    let whole : with_length item ++ more ≡ bytes = sym (append_assoc (with_length item) (flat_map with_length found) left)
     ∙ walk.joined in
     let front : first_item bytes ≡ Ok item = ap first_item (sym whole) ∙ framed_front item more walk.sized.0 in
     let tail : behind item bytes ≡ more = ap (behind item) (sym whole) ∙ behind_framed item more in
@@ -205,7 +205,7 @@ walk_only : (limit : ℕ) (bytes : List ℕ) (found : List (List ℕ)) (left : L
 walk_only zero bytes found left fits walk =
     let none = none_found found walk.few in (
       none ∙ sym (items_full bytes),
-      sym (ap (λ (f : List (List ℕ)). flat_map framed f ++ left) none) ∙ walk.joined
+      sym (ap (λ (f : List (List ℕ)). flat_map with_length f ++ left) none) ∙ walk.joined
           ∙ sym (rest_full bytes),
     )
 walk_only (suc limit) bytes found left fits walk =

@@ -17,7 +17,7 @@ use Rattle.pdb_tpi.specs.Walk.{first_item, behind, items, rest, fault_of}
 use Rattle.pdb_tpi.specs.Steps.{WalkPosition, IsStep, steps_taken, room, body, walk, walk_rest, nth_item}
 use Rattle.pdb_tpi.specs.Place.{IsPlace}
 use Rattle.pdb_tpi.specs.Finder.{item_of}
-use Rattle.pdb_tpi.specs.OpenTable.{bytes_at, located, size_of, position_of, record_at, step_located}
+use Rattle.pdb_tpi.specs.OpenTable.{record_bytes, place_of_record, item_size, item_position, record_place, step_located}
 use Rattle.pdb_tpi.proofs.FrontLemmas.{front_item}
 use Rattle.pdb_tpi.proofs.WalkLemmas.{items_more, rest_more, items_none, rest_none, items_full, rest_full, nth_some}
 use Rattle.pdb_tpi.proofs.WalkLemmas.{nth_none}
@@ -25,14 +25,14 @@ use Rattle.pdb_tpi.proofs.StepLemmas.{nth_ok, step_none, step_some}
 
 -- items from the front of bytes on, and what is left behind them, take all of the bytes
 sized_from : (limit : ℕ) (bytes : List ℕ) (answer : Answer (List ℕ)) → first_item bytes ≡ answer
-    → ((further : List ℕ) → sum_by size_of (items limit further) + length (rest limit further) ≡ length further)
-    → sum_by size_of (items (suc limit) bytes) + length (rest (suc limit) bytes) ≡ length bytes
+    → ((further : List ℕ) → sum_by item_size (items limit further) + length (rest limit further) ≡ length further)
+    → sum_by item_size (items (suc limit) bytes) + length (rest (suc limit) bytes) ≡ length bytes
 sized_from limit bytes (Ok item) e ih =
     let within = (front_item bytes item e).within in
     rw (items_more limit bytes item e, rest_more limit bytes item e)
     (omega (
       arith,
-      sum_by-cons size_of item (items limit (behind item bytes)),
+      sum_by-cons item_size item (items limit (behind item bytes)),
       ih (behind item bytes),
       length-drop (2 + length item) bytes,
       within,
@@ -40,23 +40,23 @@ sized_from limit bytes (Ok item) e ih =
 sized_from limit bytes (Err fault) e ih =
     rw (items_none (suc limit) bytes fault e, rest_none (suc limit) bytes fault e) (omega arith)
 
-all_sized : (limit : ℕ) (bytes : List ℕ) → sum_by size_of (items limit bytes) + length (rest limit bytes) ≡ length bytes
+all_sized : (limit : ℕ) (bytes : List ℕ) → sum_by item_size (items limit bytes) + length (rest limit bytes) ≡ length bytes
 all_sized zero bytes = rw (items_full bytes, rest_full bytes) (omega arith)
 all_sized (suc limit) bytes = sized_from limit bytes (first_item bytes) refl (all_sized limit)
 
-whole_sized : (table : Table) → sum_by size_of (walk table) + length (walk_rest table) ≡ length (body table)
+whole_sized : (table : Table) → sum_by item_size (walk table) + length (walk_rest table) ≡ length (body table)
 unfolding walk walk_rest
 whole_sized table = all_sized (room table) (body table)
 
 -- an iterator stands where the item before which it stands begins
 pub stands_at : (table : Table) (index position : ℕ) → IsPlace table index position
-    → position ≡ position_of table (index - table.header.minimum_index)
-unfolding position_of
+    → position ≡ item_position table (index - table.header.minimum_index)
+unfolding item_position
 stands_at table index position place =
     let n = index - table.header.minimum_index in
-    let further : sum_by size_of (drop n (walk table)) + length (walk_rest table) ≡ length (drop position table.bytes) =
-    ap (λ (found : List (List ℕ)). sum_by size_of found + length (walk_rest table)) place.goes_on.items
-    ∙ ap (λ (left : List ℕ). sum_by size_of (items (room table - n)
+    let further : sum_by item_size (drop n (walk table)) + length (walk_rest table) ≡ length (drop position table.bytes) =
+    ap (λ (found : List (List ℕ)). sum_by item_size found + length (walk_rest table)) place.goes_on.items
+    ∙ ap (λ (left : List ℕ). sum_by item_size (items (room table - n)
     (drop position table.bytes)) + length left) place.goes_on.rest
     ∙ all_sized (room table - n) (drop position table.bytes) in
     let far = place.far in
@@ -65,20 +65,20 @@ stands_at table index position place =
       arith,
       whole_sized table,
       further,
-      sum_by-take-drop size_of (walk table) n,
+      sum_by-take-drop item_size (walk table) n,
       length-drop position table.bytes,
       length-drop table.header.header_size table.bytes,
     )
 
 -- the next item begins behind an item's length and its record
 record_ends : (table : Table) (n : ℕ) (item : List ℕ) → nth_item table n ≡ Ok item
-    → position_of table (n + 1) ≡ position_of table n + 2 + length item
-unfolding position_of
+    → item_position table (n + 1) ≡ item_position table n + 2 + length item
+unfolding item_position
 record_ends table n item e = elim ((slice_get_cases (walk table) n).1) [
   | inl here ↦
       let same : here.0 ≡ item = ok_is here.0 item (sym (nth_some table n here.0 here.2) ∙ e) in
-      let size : size_of (get_or (walk table) n here.0) ≡ size_of item = ap size_of (here.3 ∙ same) in
-      omega (arith, sum_by_more size_of (walk table) n here.0 here.1, size)
+      let size : item_size (get_or (walk table) n here.0) ≡ item_size item = ap item_size (here.3 ∙ same) in
+      omega (arith, sum_by_more item_size (walk table) n here.0 here.1, size)
   | inr past ↦ absurd (ok_is_no_err item (fault_of (walk_rest table)) (sym e ∙ nth_none table n past.1))
 ]
 
@@ -89,9 +89,9 @@ no_item_there (first ∷ all) item n none is = cc
 -- an item begins behind those before it
 item_begins_by : (limit n : ℕ) (bytes item : List ℕ) (answer : Answer (List ℕ)) → first_item bytes ≡ answer
     → ((m : ℕ) (further : List ℕ) → slice_get (items limit further) m ≡ Some item
-    → first_item (drop (sum_by size_of (take m (items limit further))) further) ≡ Ok item)
+    → first_item (drop (sum_by item_size (take m (items limit further))) further) ≡ Ok item)
     → slice_get (items (suc limit) bytes) n ≡ Some item
-    → first_item (drop (sum_by size_of (take n (items (suc limit) bytes))) bytes) ≡ Ok item
+    → first_item (drop (sum_by item_size (take n (items (suc limit) bytes))) bytes) ≡ Ok item
 item_begins_by limit n bytes item (Err fault) e further is =
     absurd (no_item_there (items (suc limit) bytes) item n (items_none (suc limit) bytes fault e) is)
 item_begins_by limit zero bytes item (Ok first) e further is =
@@ -100,14 +100,14 @@ item_begins_by limit zero bytes item (Ok first) e further is =
 item_begins_by limit (suc n) bytes item (Ok first) e further is =
     let there : slice_get (items limit (behind first bytes)) n ≡ Some item =
     rw (items_more limit bytes first e) at is in
-    let rest : ℕ = sum_by size_of (take n (items limit (behind first bytes))) in
-    let size : sum_by size_of (take (suc n) (items (suc limit) bytes)) ≡ size_of first + rest =
-    rw (items_more limit bytes first e) (sum_by-cons size_of first (take n (items limit (behind first bytes)))) in
-    let begins : first_item (drop rest (drop (size_of first) bytes)) ≡ Ok item = further n (behind first bytes) there in
-    ap (λ (s : ℕ). first_item (drop s bytes)) size ∙ ap first_item (sym (drop-drop rest (size_of first) bytes)) ∙ begins
+    let rest : ℕ = sum_by item_size (take n (items limit (behind first bytes))) in
+    let size : sum_by item_size (take (suc n) (items (suc limit) bytes)) ≡ item_size first + rest =
+    rw (items_more limit bytes first e) (sum_by-cons item_size first (take n (items limit (behind first bytes)))) in
+    let begins : first_item (drop rest (drop (item_size first) bytes)) ≡ Ok item = further n (behind first bytes) there in
+    ap (λ (s : ℕ). first_item (drop s bytes)) size ∙ ap first_item (sym (drop-drop rest (item_size first) bytes)) ∙ begins
 
 item_begins : (limit n : ℕ) (bytes item : List ℕ) → slice_get (items limit bytes) n ≡ Some item
-    → first_item (drop (sum_by size_of (take n (items limit bytes))) bytes) ≡ Ok item
+    → first_item (drop (sum_by item_size (take n (items limit bytes))) bytes) ≡ Ok item
 item_begins zero n bytes item is = absurd (no_item_there (items zero bytes) item n (items_full bytes) is)
 item_begins (suc limit) n bytes item is =
     item_begins_by limit n bytes item (first_item bytes) refl
@@ -115,10 +115,10 @@ item_begins (suc limit) n bytes item is =
 
 -- the bytes at the place of a record are the record
 pub record_stands : (table : Table) (n : ℕ) (item : List ℕ) → nth_item table n ≡ Ok item
-    → bytes_at table (record_at table n item) ≡ item
-unfolding position_of walk
+    → record_bytes table (record_place table n item) ≡ item
+unfolding item_position walk
 record_stands table n item e =
-    let size : ℕ = sum_by size_of (take n (items (room table) (body table))) in
+    let size : ℕ = sum_by item_size (take n (items (room table) (body table))) in
     let front = front_item (drop size (body table)) item
     (item_begins (room table) n (body table) item (nth_ok table n item e)) in
     let there : drop (table.header.header_size + size + 2) table.bytes ≡ drop 2 (drop size (body table)) =
@@ -129,15 +129,15 @@ record_stands table n item e =
 -- The record of item `n` of the walk stands right before a position.
 pub record IsRecordBefore (table : Table) (n : ℕ) (item : List ℕ) (end : ℕ) : Type 0 where
   pub before : length item ≤ end
-  pub place : record { offset = end - length item; length = length item } ≡ record_at table n item
+  pub place : record { offset = end - length item; length = length item } ≡ record_place table n item
 
 -- it does so where an iterator stands behind that item
 pub record_placed : (table : Table) (n index end : ℕ) (item : List ℕ) → IsPlace table index end
     → index ≡ table.header.minimum_index + n + 1 → nth_item table n ≡ Ok item → IsRecordBefore table n item end
 record_placed table n index end item place is e =
     let next : index - table.header.minimum_index ≡ n + 1 = omega arith in
-    let stands : end ≡ position_of table (n + 1) =
-    stands_at table index end place ∙ ap (position_of table) next in
+    let stands : end ≡ item_position table (n + 1) =
+    stands_at table index end place ∙ ap (item_position table) next in
     let ends = record_ends table n item e in
     let at : ℕ → RecordPlace = λ offset. record { offset = offset; length = length item } in
     record { before = omega (arith, stands, ends); place = ap at (omega (arith, stands, ends)) }
@@ -146,7 +146,7 @@ record_placed table n index end item place is e =
 pub record_found : (table : Table) (i place end : ℕ) (item : List ℕ) (found : RecordPlace)
     → i ≡ table.header.minimum_index + place → i < table.header.maximum_index → nth_item table place ≡ Ok item
     → IsPlace table (table.header.minimum_index + place + 1) end
-    → found ≡ record { offset = end - length item; length = length item } → located table i ≡ Ok (Some found)
+    → found ≡ record { offset = end - length item; length = length item } → place_of_record table i ≡ Ok (Some found)
 unfolding item_of
 record_found table i place end item found is below e behind there =
     let least : ltb i table.header.minimum_index ≡ false = grind (arith, nat_tests) in
@@ -180,8 +180,8 @@ unfolding item_of
 primitive table i below = rw (lt-ltb i table.header.minimum_index below) refl
 
 -- What the place of an index says of its item: the item's bytes are there, and a primitive type's are ff ff.
-pub item_located : (table : Table) (i : ℕ) (place : Option RecordPlace) → located table i ≡ Ok place
-    → let bytes = option_map_or (bytes_at table) place (0xff ∷ 0xff ∷ []) in (item_of table i ≡ Ok bytes)
+pub item_located : (table : Table) (i : ℕ) (place : Option RecordPlace) → place_of_record table i ≡ Ok place
+    → let bytes = option_map_or (record_bytes table) place (0xff ∷ 0xff ∷ []) in (item_of table i ≡ Ok bytes)
     × (2 ≤ length bytes)
 item_located table i place e = elim (cases_lt i table.header.minimum_index) [
   | inl below ↦
@@ -191,9 +191,9 @@ item_located table i place e = elim (cases_lt i table.header.minimum_index) [
   | inr least ↦
       let first : ltb i table.header.minimum_index ≡ false = le-ltb i table.header.minimum_index least in
       let found = bind_ok (item_of table i)
-      (λ item. ok (Some (record_at table (i - table.header.minimum_index) item))) place (rw first at e) in
-      let some : Some (record_at table (i - table.header.minimum_index) found.0) ≡ place =
-      ok_is (Some (record_at table (i - table.header.minimum_index) found.0)) place found.2 in
+      (λ item. ok (Some (record_place table (i - table.header.minimum_index) item))) place (rw first at e) in
+      let some : Some (record_place table (i - table.header.minimum_index) found.0) ≡ place =
+      ok_is (Some (record_place table (i - table.header.minimum_index) found.0)) place found.2 in
       let item = item_in_walk table i found.0 least found.1 in
       rw (← some, record_stands table (i - table.header.minimum_index) found.0 item)
       (found.1, least_of table (i - table.header.minimum_index) found.0 item)
@@ -202,11 +202,11 @@ item_located table i place e = elim (cases_lt i table.header.minimum_index) [
 -- the places of the records that steps return
 abbrev told : WalkPosition → Answer (Option (ℕ × List ℕ) × WalkPosition) → Answer (Option RecordPlace × WalkPosition)
 told stand answer =
-    answer >>= λ step. Ok (option_map (λ item. record_at stand.table (steps_taken stand) item.1) step.0, step.1)
+    answer >>= λ step. Ok (option_map (λ item. record_place stand.table (steps_taken stand) item.1) step.0, step.1)
 
 pub step_told : {X : Type 0} (seen : X → ℕ × List ℕ) (old new : WalkPosition) (given : Option X)
     → IsStep seen old (Ok given) new
-    → step_located old ≡ Ok (option_map (λ x. record_at old.table (steps_taken old) (seen x).1) given, new)
+    → step_located old ≡ Ok (option_map (λ x. record_place old.table (steps_taken old) (seen x).1) given, new)
 step_told seen old new None step = ap (told old) step.gives
 step_told seen old new (Some x) step = ap (told old) step.gives
 

@@ -11,7 +11,7 @@ use Rattle.pdb_base.specs.Answer.{Answer}
 use Rattle.pdb_base.proofs.lemmas.Collected.{err, ok_is, err_is, ok_is_no_err}
 use Rattle.pdb_tpi.specs.Table.{Table}
 use Rattle.pdb_tpi.specs.Walk.{first_item, fault_of}
-use Rattle.pdb_tpi.specs.Steps.{WalkPosition, walk, walk_rest, nth_item, steps_taken, items_left, stopped, step_of}
+use Rattle.pdb_tpi.specs.Steps.{WalkPosition, walk, walk_rest, nth_item, steps_taken, items_left, step_at_end, step_of}
 use Rattle.pdb_tpi.specs.Steps.{IsStep}
 use Rattle.pdb_tpi.specs.Place.{IsPlace}
 use Rattle.pdb_tpi.proofs.FrontLemmas.{empty_front}
@@ -62,11 +62,11 @@ place_behind table index position place past = elim (cases_lt index (2 ^ 32)) [
 -- ---- steps
 
 pub step_stops : (stand : WalkPosition) → slice_get (walk stand.table) (steps_taken stand) ≡ None
-    → step_of stand ≡ stopped stand (walk_rest stand.table)
+    → step_of stand ≡ step_at_end stand (walk_rest stand.table)
 unfolding step_of
 step_stops stand e = rw e refl
 
-stopped_fault : (stand : WalkPosition) (rest : List ℕ) → rest ≢ [] → stopped stand rest ≡ Err (fault_of rest)
+stopped_fault : (stand : WalkPosition) (rest : List ℕ) → rest ≢ [] → step_at_end stand rest ≡ Err (fault_of rest)
 stopped_fault stand [] some = absurd (some refl)
 stopped_fault stand (byte ∷ rest) some = refl
 
@@ -75,7 +75,7 @@ pub step_ends : (table : Table) (index position : ℕ) → IsPlace table index p
 step_ends table index position place none =
     let stand : WalkPosition = record { table = table; index = index } in
     let end = place_end table index position unexpected_eof place (ap first_item none ∙ empty_front) in
-    step_stops stand end.none ∙ ap (stopped stand) (end.rest ∙ none)
+    step_stops stand end.none ∙ ap (step_at_end stand) (end.rest ∙ none)
 
 pub step_faults : (table : Table) (index position : ℕ) (fault : Refusal) → IsPlace table index position
     → drop position table.bytes ≢ []
@@ -85,7 +85,7 @@ step_faults table index position fault place some e =
     let stand : WalkPosition = record { table = table; index = index } in
     let is = nth_err table (index - table.header.minimum_index) fault e in
     let end = place_behind table index position place is.0 in
-    step_stops stand end.none ∙ ap (stopped stand) end.rest ∙ stopped_fault stand (drop position table.bytes) some
+    step_stops stand end.none ∙ ap (step_at_end stand) end.rest ∙ stopped_fault stand (drop position table.bytes) some
     ∙ ap (λ (f : Refusal). err f) (ap fault_of (sym end.rest) ∙ is.1)
 
 pub step_gives : (stand : WalkPosition) (item : List ℕ) → nth_item stand.table (steps_taken stand) ≡ Ok item
@@ -110,14 +110,14 @@ some_is_none x e = cc
 
 -- what a step behind the last item tells
 no_item : (stand : WalkPosition) (rest : List ℕ) (item : ℕ × List ℕ) (new : WalkPosition)
-    → stopped stand rest ≡ Ok (Some item, new) → ⊥
+    → step_at_end stand rest ≡ Ok (Some item, new) → ⊥
 no_item stand [] item new e =
     let ended : Option (ℕ × List ℕ) × WalkPosition = (None, stand) in
     let given : Option (ℕ × List ℕ) × WalkPosition = (Some item, new) in
     some_is_none item (sym (ap (λ (p : Option (ℕ × List ℕ) × WalkPosition). p.0) (ok_is ended given e)))
 no_item stand (byte ∷ rest) item new e = ok_is_no_err (Some item, new) (fault_of (byte ∷ rest)) (sym e)
 
-at_end : (stand : WalkPosition) (rest : List ℕ) (new : WalkPosition) → stopped stand rest ≡ Ok (None, new) → rest ≡ []
+at_end : (stand : WalkPosition) (rest : List ℕ) (new : WalkPosition) → step_at_end stand rest ≡ Ok (None, new) → rest ≡ []
 at_end stand [] new e = refl
 at_end stand (byte ∷ rest) new e = let none : Option (ℕ × List ℕ) = None in
     absurd (ok_is_no_err (none, new) (fault_of (byte ∷ rest)) (sym e))
@@ -177,10 +177,10 @@ step_none seen old new step = elim ((slice_get_cases (walk old.table) (steps_tak
       let is : given ≡ ended = ok_is given ended (sym gives ∙ step.gives) in
       absurd (some_is_none (old.index, here.0) (ap (λ (p : Option (ℕ × List ℕ) × WalkPosition). p.0) is))
   | inr past ↦
-      let is : stopped old (walk_rest old.table) ≡ Ok (None, new) = sym (step_stops old past.1) ∙ step.gives in
+      let is : step_at_end old (walk_rest old.table) ≡ Ok (None, new) = sym (step_stops old past.1) ∙ step.gives in
       let rest = at_end old (walk_rest old.table) new is in
       let stays : (None, old) ≡ (None, new) =
-      ok_is {A = Option (ℕ × List ℕ) × WalkPosition} (None, old) (None, new) (sym (ap (stopped old) rest) ∙ is) in
+      ok_is {A = Option (ℕ × List ℕ) × WalkPosition} (None, old) (None, new) (sym (ap (step_at_end old) rest) ∙ is) in
       (past.0, rest, sym (ap (λ (p : Option (ℕ × List ℕ) × WalkPosition). p.1) stays))
 ]
 
@@ -190,7 +190,7 @@ pub record IsFaulted (old : WalkPosition) (fault : Refusal) : Type 0 where
   pub some : walk_rest old.table ≢ []
   pub is : fault_of (walk_rest old.table) ≡ fault
 
-faulted_by : (stand : WalkPosition) (rest : List ℕ) (fault : Refusal) → stopped stand rest ≡ Err fault
+faulted_by : (stand : WalkPosition) (rest : List ℕ) (fault : Refusal) → step_at_end stand rest ≡ Err fault
     → (rest ≢ []) × (fault_of rest ≡ fault)
 faulted_by stand [] fault e =
     let none : Option (ℕ × List ℕ) = None in absurd (ok_is_no_err (none, stand) fault e)

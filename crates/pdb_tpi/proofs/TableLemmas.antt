@@ -3,10 +3,10 @@ use Rattle.std.proofs.Common.{◌≡◌, ℕ, ◌-◌, ◌^◌, ◌≤◌, ◌<�
 use Rattle.std.proofs.Common.{subst, arith, Ok}
 use Rattle.std.proofs.lemmas.Bool.Decides.{nat_tests}
 use Rattle.pdb_base.specs.Refusal.{Refusal}
-use Rattle.pdb_base.specs.Answer.{Answer, ◌>>=◌, required}
+use Rattle.pdb_base.specs.Answer.{Answer, ◌>>=◌, ok_if}
 use Rattle.pdb_base.proofs.lemmas.Collected.{ok_is, bind_ok}
 use Rattle.pdb_tpi.specs.declared.header.Header.{Header}
-use Rattle.pdb_tpi.specs.Header.{empty_header, header_fields, checked, read_header_of, header_of}
+use Rattle.pdb_tpi.specs.Header.{empty_header, header_fields, check_header, read_header_of, header_of}
 use Rattle.pdb_tpi.specs.Table.{Table, IsTable}
 use Rattle.pdb_tpi.specs.Walk.{items, rest}
 use Rattle.pdb_tpi.specs.Steps.{room, body, walk, walk_rest}
@@ -20,12 +20,12 @@ pub record IsChecked (header : Header) (len : ℕ) : Type 0 where
   pub ordered : header.minimum_index ≤ header.maximum_index
 
 then_required : {A : Type 0} (test : Bool) (e : Refusal) (more : Answer A) (x : A)
-    → (required test e >>= λ _. more) ≡ Ok x → (test ≡ true) × (more ≡ Ok x)
+    → (ok_if test e >>= λ _. more) ≡ Ok x → (test ≡ true) × (more ≡ Ok x)
 then_required true e more x h = (refl, h)
 then_required false e more x h = absurd cc
 
-checked_is : (header : Header) (len : ℕ) (x : Unit {0}) → checked header len ≡ Ok x → IsChecked header len
-unfolding checked
+checked_is : (header : Header) (len : ℕ) (x : Unit {0}) → check_header header len ≡ Ok x → IsChecked header len
+unfolding check_header
 checked_is header len x e =
     let least = then_required (leb 56 header.header_size) _ _ x e in
     let most = then_required (leb header.header_size 1024) _ _ x least.1 in
@@ -45,8 +45,8 @@ read_is : (bytes : List ℕ) (header : Header) → read_header_of bytes ≡ Ok h
 unfolding read_header_of
 read_is bytes header e =
     let fields = bind_ok (header_fields bytes)
-    (λ fields. checked fields.0 (length bytes) >>= λ _. Ok fields.0) header e in
-    let good = bind_ok (checked fields.0.0 (length bytes)) (λ _. Ok fields.0.0) header fields.2 in
+    (λ fields. check_header fields.0 (length bytes) >>= λ _. Ok fields.0) header e in
+    let good = bind_ok (check_header fields.0.0 (length bytes)) (λ _. Ok fields.0.0) header fields.2 in
     subst (λ (h : Header). IsChecked h (length bytes)) (ok_is fields.0.0 header good.2)
     (checked_is fields.0.0 (length bytes) good.0 good.1)
 

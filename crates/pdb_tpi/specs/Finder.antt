@@ -5,7 +5,7 @@ use Rattle.std.specs.Int.{div_ceil}
 use Rattle.std.specs.List.{fold, range_with_len}
 use Rattle.pdb_base.specs.Refusal.{type_not_found, type_not_indexed}
 use Rattle.pdb_base.specs.Answer.{Answer}
-use Rattle.pdb_tpi.specs.Table.{Table, count_of}
+use Rattle.pdb_tpi.specs.Table.{Table, count_in_header}
 use Rattle.pdb_tpi.specs.Steps.{walk, walk_rest, nth_item}
 
 -- a table, and how many of its blocks are known
@@ -14,8 +14,8 @@ pub record FinderState : Type 0 where
   pub known : ℕ
 
 -- the index of the first item of a block
-abbrev pub first_of : Table → ℕ → ℕ
-first_of table block = table.header.minimum_index + 8 * block
+abbrev pub first_of_block : Table → ℕ → ℕ
+first_of_block table block = table.header.minimum_index + 8 * block
 
 -- the block of an index
 abbrev pub block_of : Table → ℕ → ℕ
@@ -23,7 +23,7 @@ block_of table i = (i - table.header.minimum_index) / 8
 
 -- the number of blocks that a new finder knows: the first one, if the header counts any index
 abbrev pub known_when_new : Table → ℕ
-known_when_new table = if count_of table == 0 then 0 else 1
+known_when_new table = if count_in_header table == 0 then 0 else 1
 
 -- These indexes occur in a list of indexes in this order, next to each other or not.
 abbrev pub StandIn : List ℕ → List ℕ → Type 0
@@ -35,8 +35,8 @@ StandIn (first ∷ firsts) shown = (before : List ℕ) × (behind : List ℕ) ×
 -- iterators at these first indexes were shown in their order.
 pub record AreShown (table : Table) (old : ℕ) (shown : List ℕ) (known : ℕ) : Type 0 where
   pub more : old ≤ known
-  pub below : (block : ℕ) → old ≤ block → block < known → first_of table block < table.header.maximum_index
-  pub in_order : StandIn (map (first_of table) (range_with_len old (known - old))) shown
+  pub below : (block : ℕ) → old ≤ block → block < known → first_of_block table block < table.header.maximum_index
+  pub in_order : StandIn (map (first_of_block table) (range_with_len old (known - old))) shown
 
 -- The number of blocks that are known after iterators that stood at these indexes were shown: the most
 -- for which `AreShown` holds.
@@ -47,7 +47,7 @@ pub record IsKnown (table : Table) (old : ℕ) (shown : List ℕ) (known : ℕ) 
 -- The number of blocks that are known after one iterator was shown: one more, if it stands before the
 -- first item of the next block and the index of that item is below the maximum.
 abbrev pub known_after : Table → ℕ → ℕ → ℕ
-known_after table known i = if i == first_of table known
+known_after table known i = if i == first_of_block table known
     && nat_lt i table.header.maximum_index then known + 1 else known
 
 -- the same after several iterators, one after another
@@ -56,7 +56,7 @@ known_of table known shown = fold (known_after table) known shown
 
 -- the last index of the blocks that are known, or 0 if none is
 abbrev pub max_index_of : Table → ℕ → ℕ
-max_index_of table known = if known == 0 then 0 else min (first_of table known) table.header.maximum_index - 1
+max_index_of table known = if known == 0 then 0 else min (first_of_block table known) table.header.maximum_index - 1
 
 -- whether the header counts an index
 abbrev pub has_index : Table → ℕ → Bool
@@ -100,4 +100,4 @@ reads_of table known i =
 -- The most blocks that can be known: as many as hold the counted items, but, since an item takes at least
 -- four bytes, at most one more than one for each 32 bytes behind the header.
 unfoldable pub most_blocks : Table → ℕ
-most_blocks table = min (div_ceil (count_of table) 8) (1 + (length table.bytes - table.header.header_size) / 32)
+most_blocks table = min (div_ceil (count_in_header table) 8) (1 + (length table.bytes - table.header.header_size) / 32)

@@ -3,7 +3,7 @@
 use Rattle.std.specs.Prelude.{ℕ, pos, nat_le, List, [], ◌∷◌, length, Ok, codes}
 use Rattle.std.specs.Int.{w32}
 use Rattle.pdb_base.specs.Refusal.{unexpected_eof, invalid_type_information_header}
-use Rattle.pdb_base.specs.Answer.{Answer, ◌>>=◌, required}
+use Rattle.pdb_base.specs.Answer.{Answer, ◌>>=◌, ok_if}
 use Rattle.pdb_base.specs.Reading.{number_at, signed_at}
 use Rattle.pdb_tpi.specs.declared.header.Header.{Header}
 use Rattle.pdb_tpi.specs.declared.header.Slice.{Slice}
@@ -71,23 +71,23 @@ header_fields bytes = do
 
 -- Checks the header of a table of `len` bytes: its size must be from 56 to 1024 and at most `len`, its
 -- minimum index at least 4096, and its maximum index not below the minimum.
-unfoldable pub checked : Header → ℕ → Answer (Unit {0})
-checked header len = do
-  least ← required (nat_le 56 header.header_size)
+unfoldable pub check_header : Header → ℕ → Answer (Unit {0})
+check_header header len = do
+  least ← ok_if (nat_le 56 header.header_size)
       (invalid_type_information_header (codes "header size is impossibly small"))
-  most ← required (nat_le header.header_size 1024)
+  most ← ok_if (nat_le header.header_size 1024)
       (invalid_type_information_header (codes "header size is unreasonably large"))
-  whole ← required (nat_le header.header_size len) unexpected_eof
-  typed ← required (nat_le 4096 header.minimum_index)
+  whole ← ok_if (nat_le header.header_size len) unexpected_eof
+  typed ← ok_if (nat_le 4096 header.minimum_index)
       (invalid_type_information_header (codes "minimum type index is < 4096"))
-  required (nat_le header.minimum_index header.maximum_index)
+  ok_if (nat_le header.minimum_index header.maximum_index)
       (invalid_type_information_header (codes "maximum type index is < minimum type index"))
 
 -- reads and checks the header at the front of a table's bytes
 unfoldable pub read_header_of : List ℕ → Answer Header
 read_header_of bytes = do
   fields ← header_fields bytes
-  good ← checked fields.0 (length bytes)
+  good ← check_header fields.0 (length bytes)
   Ok fields.0
 
 -- the header of a table; a table without bytes has the empty header

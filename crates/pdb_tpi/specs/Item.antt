@@ -7,5 +7,5 @@ abbrev pub index_of : {I : Type 0} → Item I → I
 index_of item = item.index
 
 -- the bytes of an item's record, without the length that stands before it
-abbrev pub bytes_of : {I : Type 0} → Item I → List ℕ
-bytes_of item = item.bytes.now
+abbrev pub item_bytes : {I : Type 0} → Item I → List ℕ
+item_bytes item = item.bytes.now

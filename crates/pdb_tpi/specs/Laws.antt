@@ -3,10 +3,11 @@ use Rattle.std.specs.Prelude.{◌≡◌, ℕ, ◌+◌, ◌-◌, ◌%◌, ◌<◌
 use Rattle.std.specs.Int.{w32, cast_signed}
 use Rattle.std.specs.List.{AllByRecursion}
 use Rattle.pdb_base.specs.Endian.{little_number}
+use Rattle.pdb_base.specs.Reading.{number_in}
 use Rattle.pdb_base.specs.Refusal.{unexpected_eof, type_too_short, type_not_found}
 use Rattle.pdb_tpi.specs.Header.{header_fields}
 use Rattle.pdb_tpi.specs.Table.{Table}
-use Rattle.pdb_tpi.specs.Walk.{framed, IsItem, IsWalk, items, rest, fault_of}
+use Rattle.pdb_tpi.specs.Walk.{with_length, IsItem, IsWalk, items, rest, fault_of}
 use Rattle.pdb_tpi.specs.Steps.{walk}
 use Rattle.pdb_tpi.specs.Finder.{has_index, block_of, reads_of}
 
@@ -14,13 +15,9 @@ use Rattle.pdb_tpi.specs.Finder.{has_index, block_of, reads_of}
 abbrev pub AreBytes : List ℕ → Type 0
 AreBytes bytes = AllByRecursion (λ byte. byte < 256) bytes
 
--- the number of `width` bytes at an offset, lowest byte first
-abbrev pub number_in : ℕ → ℕ → List ℕ → ℕ
-number_in width offset bytes = little_number width (take width (drop offset bytes))
-
 -- The fields of a header stand at fixed offsets, within the first 56 bytes.
-abbrev pub StandAtOffsets : List ℕ → Type 0
-StandAtOffsets bytes =
+abbrev pub HasTableHeaderAtOffsets : List ℕ → Type 0
+HasTableHeaderAtOffsets bytes =
     56 ≤ length bytes
     → header_fields bytes
     ≡ Ok (
@@ -55,7 +52,7 @@ pub record HasFault (bytes : List ℕ) : Type 0 where
   pub too_short : 2 ≤ length bytes → little_number 2 (take 2 bytes) < 2 → fault_of bytes ≡ type_too_short
   pub cut : 2 ≤ little_number 2 (take 2 bytes) → length bytes < 2 + little_number 2 (take 2 bytes)
       → fault_of bytes ≡ unexpected_eof
-  pub whole : (item more : List ℕ) → IsItem item → bytes ≡ framed item ++ more
+  pub whole : (item more : List ℕ) → IsItem item → bytes ≡ with_length item ++ more
       → fault_of bytes ≡ type_not_found 0xffffffff
 
 -- A look-up reads at most eight length words. If the walk has the item, these are those of the items

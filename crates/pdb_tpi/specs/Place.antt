@@ -3,7 +3,7 @@ use Rattle.std.specs.Prelude.{◌≡◌, ℕ, ◌+◌, ◌-◌, ◌*◌, ◌<◌
 use Rattle.pdb_tpi.specs.Table.{Table}
 use Rattle.pdb_tpi.specs.Walk.{items, rest}
 use Rattle.pdb_tpi.specs.Steps.{room, walk, walk_rest}
-use Rattle.pdb_tpi.specs.Finder.{first_of, most_blocks}
+use Rattle.pdb_tpi.specs.Finder.{first_of_block, most_blocks}
 
 -- At this position, the walk goes on with the items from number `n` on.
 pub record GoesOn (table : Table) (n position : ℕ) : Type 0 where
@@ -23,7 +23,7 @@ pub record IsPlace (table : Table) (index position : ℕ) : Type 0 where
 -- The positions that a finder keeps: each block's first item, whose index is below the maximum, begins at
 -- its position, and the capacity is enough for the most blocks that can be known.
 pub record ArePlaces (table : Table) (positions : List ℕ) (capacity : ℕ) : Type 0 where
-  pub each : (block : ℕ) → block < length positions → IsPlace table (first_of table block) (slice_index positions block)
-  pub below : (block : ℕ) → block < length positions → first_of table block < table.header.maximum_index
+  pub each : (block : ℕ) → block < length positions → IsPlace table (first_of_block table block) (slice_index positions block)
+  pub below : (block : ℕ) → block < length positions → first_of_block table block < table.header.maximum_index
   pub few : length positions ≤ most_blocks table
   pub reserved : most_blocks table ≤ capacity

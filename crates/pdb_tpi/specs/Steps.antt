@@ -43,15 +43,15 @@ abbrev pub items_left : WalkPosition → ℕ
 items_left stand = length (walk stand.table) - steps_taken stand
 
 -- what a step returns behind the last item: None if no byte is left, and else the fault
-abbrev pub stopped : WalkPosition → List ℕ → Answer (Option (ℕ × List ℕ) × WalkPosition)
-stopped stand [] = Ok (None, stand)
-stopped stand (byte ∷ rest) = Err (fault_of (byte ∷ rest))
+abbrev pub step_at_end : WalkPosition → List ℕ → Answer (Option (ℕ × List ℕ) × WalkPosition)
+step_at_end stand [] = Ok (None, stand)
+step_at_end stand (byte ∷ rest) = Err (fault_of (byte ∷ rest))
 
 -- what a step returns: the next item with its index, and where the iterator stands afterwards
 unfoldable pub step_of : WalkPosition → Answer (Option (ℕ × List ℕ) × WalkPosition)
 step_of stand =
     option_map_or (λ item. Ok (Some (stand.index, item), record stand { index = stand.index + 1 }))
-    (slice_get (walk stand.table) (steps_taken stand)) (stopped stand (walk_rest stand.table))
+    (slice_get (walk stand.table) (steps_taken stand)) (step_at_end stand (walk_rest stand.table))
 
 -- A step returns what `step_of` gives, if `seen` shows each item as its index and bytes, and stays in its
 -- table. A step that fails doesn't move the iterator, so the next one fails with the same refusal. A step

@@ -14,8 +14,8 @@ unfoldable pub table_of : List ℕ → Answer Table
 table_of bytes = header_of bytes >>= λ header. Ok (record { bytes = bytes; header = header })
 
 -- how many indexes the header counts
-abbrev pub count_of : Table → ℕ
-count_of table = table.header.maximum_index - table.header.minimum_index
+abbrev pub count_in_header : Table → ℕ
+count_in_header table = table.header.maximum_index - table.header.minimum_index
 
 -- A table that was read: its header is within its bytes, its indexes are in order and have 32 bits, no
 -- item of it has the index of a primitive type, and it is no longer than a stream can be.

@@ -6,12 +6,12 @@ use Rattle.std.specs.Result.{result_ok}
 use Rattle.std.specs.List.{AllByRecursion, flat_map}
 use Rattle.pdb_base.specs.Endian.{little_bytes}
 use Rattle.pdb_base.specs.Refusal.{Refusal, type_too_short, type_not_found}
-use Rattle.pdb_base.specs.Answer.{Answer, ◌>>=◌, required}
+use Rattle.pdb_base.specs.Answer.{Answer, ◌>>=◌, ok_if}
 use Rattle.pdb_base.specs.Reading.{number_at, front_at}
 
 -- an item with its length before it
-abbrev pub framed : List ℕ → List ℕ
-framed item = little_bytes 2 (length item) ++ item
+abbrev pub with_length : List ℕ → List ℕ
+with_length item = little_bytes 2 (length item) ++ item
 
 -- An item has room for its kind, and at most as many bytes as a u16 can count.
 pub record IsItem (item : List ℕ) : Type 0 where
@@ -22,17 +22,17 @@ pub record IsItem (item : List ℕ) : Type 0 where
 -- with its length before it, followed by the rest, are the bytes. If there are fewer than `limit` items,
 -- the rest doesn't begin with an item.
 pub record IsWalk (limit : ℕ) (bytes : List ℕ) (items : List (List ℕ)) (rest : List ℕ) : Type 0 where
-  pub joined : flat_map framed items ++ rest ≡ bytes
+  pub joined : flat_map with_length items ++ rest ≡ bytes
   pub sized : AllByRecursion IsItem items
   pub few : length items ≤ limit
-  pub ends : length items < limit → (item more : List ℕ) → IsItem item → rest ≢ framed item ++ more
+  pub ends : length items < limit → (item more : List ℕ) → IsItem item → rest ≢ with_length item ++ more
 
 -- Reads the item at the front of bytes. The first fault is that the bytes end within the length, then
 -- that the length leaves no room for a kind, then that the bytes end within the item.
 unfoldable pub first_item : List ℕ → Answer (List ℕ)
 first_item bytes = do
   len ← number_at 2 bytes
-  kind ← required (nat_le 2 len.0) type_too_short
+  kind ← ok_if (nat_le 2 len.0) type_too_short
   item ← front_at len.0 len.1
   Ok item.0
 

@@ -4,9 +4,9 @@ ghost use Rattle.std.specs.Prelude.{◌≡◌, IfOk, map};
 ghost use Rattle.pdb_base.specs.Answer.{Answers, Gives};
 ghost use Rattle.pdb_values.specs.TypeView.{type_value};
 ghost use Rattle.pdb_tpi.specs.Finder.{find_of, item_of};
-ghost use Rattle.pdb_tpi.specs.Item.{bytes_of, index_of};
+ghost use Rattle.pdb_tpi.specs.Item.{item_bytes, index_of};
 ghost use Rattle.pdb_tpi.specs.LookUp.{answers};
-ghost use Rattle.pdb_tpi.specs.Chain.{fields_of, list_of, listed, listed_value};
+ghost use Rattle.pdb_tpi.specs.Chain.{fields_of, list_of, as_field_list, listed_value};
 
 use crate::Type;
 use crate::finder::ItemFinder;
@@ -22,7 +22,7 @@ use std::alloc::Global;
 /// Returns `UnimplementedTypeKind` with this kind if the type is not a list of fields.
 #[tactic(auto, using(pdb_values::proofs::lemmas::Fields::listed))]
 fn list_in<'t>(value: TypeData<'t>, kind: u16) -> Result<FieldList<'t>>
-    ensures { Gives listed_value result (listed kind (type_value value.entry)) }
+    ensures { Gives listed_value result (as_field_list kind (type_value value.entry)) }
 {
     match value {
         TypeData::FieldList(list) => Ok(list),
@@ -42,7 +42,7 @@ pub(crate) enum Types<'f, 't> {
 impl<'f, 't> Types<'f, 't> {
     /// Looks up the type of an index.
     fn look_up(self, index: TypeIndex) -> Result<Type<'t>>
-        ensures item { Gives bytes_of result (answers self.entry index.0) }
+        ensures item { Gives item_bytes result (answers self.entry index.0) }
         ensures index { IfOk result (λ item. index_of item ≡ index) }
     {
         match self {
@@ -67,7 +67,11 @@ fn field_list<'t>(types: Types<'_, 't>, alloc: Global, index: TypeIndex) -> Resu
 }
 
 /// Returns the fields of a list and of the lists that continue it, moved out of them.
-fn joined<'t>(types: Types<'_, 't>, alloc: Global, index: TypeIndex) -> Result<Vec<TypeData<'t>>>
+fn join_fields<'t>(
+    types: Types<'_, 't>,
+    alloc: Global,
+    index: TypeIndex,
+) -> Result<Vec<TypeData<'t>>>
     ensures { Answers (λ fields. map type_value fields.items) result (fields_of (answers types.entry) index.0) }
 {
     let list = field_list(types, alloc, index)?;
@@ -102,7 +106,7 @@ impl<'t> ItemFinder<'t, TypeIndex> {
         ensures { Answers (λ fields. map type_value fields.items) result
             (fields_of (find_of self.now.table self.now.known) index.0) }
     {
-        joined(Types::Known(self), alloc, index)
+        join_fields(Types::Known(self), alloc, index)
     }
 }
 
@@ -116,6 +120,6 @@ impl OpenTable<TypeIndex> {
     pub fn fields(&self, alloc: Global, index: TypeIndex) -> Result<Vec<TypeData<'_>>>
         ensures { Answers (λ fields. map type_value fields.items) result (fields_of (item_of self.now.table) index.0) }
     {
-        joined(Types::All(self), alloc, index)
+        join_fields(Types::All(self), alloc, index)
     }
 }

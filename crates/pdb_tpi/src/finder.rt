@@ -4,11 +4,11 @@ ghost use Rattle.std.specs.Prelude.{◌≡◌, ◌+◌, ◌-◌, ◌*◌, ◌/�
 ghost use Rattle.std.specs.Prelude.{vec_capacity, IsOk, IfOk, Ok};
 ghost use Rattle.pdb_base.specs.Answer.{Answers, Gives};
 ghost use Rattle.pdb_base.specs.Count.{calls_of, after_calls};
-ghost use Rattle.pdb_tpi.specs.Item.{bytes_of, index_of};
+ghost use Rattle.pdb_tpi.specs.Item.{item_bytes, index_of};
 ghost use Rattle.pdb_tpi.specs.Steps.{WalkPosition, nth_item};
-ghost use Rattle.pdb_tpi.specs.Table.{count_of};
+ghost use Rattle.pdb_tpi.specs.Table.{count_in_header};
 ghost use Rattle.pdb_tpi.specs.Place.{ArePlaces, IsPlace};
-ghost use Rattle.pdb_tpi.specs.Finder.{FinderState, first_of, known_when_new, known_after, known_of, max_index_of};
+ghost use Rattle.pdb_tpi.specs.Finder.{FinderState, first_of_block, known_when_new, known_after, known_of, max_index_of};
 ghost use Rattle.pdb_tpi.specs.Finder.{most_blocks, find_of, reads_between, reads_of};
 
 use crate::item::Item;
@@ -55,7 +55,7 @@ impl<I: ItemIndex> ItemInformation<I> {
     pub(crate) fn positions(&self, alloc: Global) -> Result<Vec<u32>>
         ensures positions { Answers (λ positions. length positions.items) result (Ok (known_when_new self.now)) }
         ensures places { IfOk result (λ positions. ArePlaces self.now positions.items (vec_capacity positions)) }
-        ensures uncounted { count_of self.now ≡ 0 → IsOk result }
+        ensures uncounted { count_in_header self.now ≡ 0 → IsOk result }
     {
         let header = self.header();
         let mut positions = Vec::with_capacity(alloc, self.most_blocks())?;
@@ -76,7 +76,7 @@ impl<I: ItemIndex> ItemInformation<I> {
         ensures finder { Answers (λ finder. finder) result
             (Ok (record { table = self.now; known = known_when_new self.now })) }
         ensures few { IfOk result (λ finder. finder.known ≤ most_blocks self.now) }
-        ensures uncounted { count_of self.now ≡ 0 → IsOk result }
+        ensures uncounted { count_in_header self.now ≡ 0 → IsOk result }
     {
         Ok(ItemFinder {
             table: self,
@@ -94,8 +94,8 @@ impl<I: ItemIndex> ItemInformation<I> {
     ) -> Result<(Item<'_, I>, usize)>
         requires some { 0 < length positions.now }
         requires places { (block : ℕ) → block < length positions.now →
-            IsPlace self.now (first_of self.now block) (slice_index positions.now block) }
-        ensures item { Gives (λ found. bytes_of found.0) result (nth_item self.now place) }
+            IsPlace self.now (first_of_block self.now block) (slice_index positions.now block) }
+        ensures item { Gives (λ found. item_bytes found.0) result (nth_item self.now place) }
         ensures index { IfOk result (λ found.
             I.number (index_of found.0) ≡ self.now.header.minimum_index + place) }
         ensures end { IfOk result (λ found. IsPlace self.now (self.now.header.minimum_index + place + 1) found.1) }
@@ -121,8 +121,8 @@ impl<I: ItemIndex> ItemInformation<I> {
     ) -> Result<(Item<'_, I>, usize)>
         requires some { 0 < length positions.now }
         requires places { (block : ℕ) → block < length positions.now →
-            IsPlace self.now (first_of self.now block) (slice_index positions.now block) }
-        ensures item { Gives (λ found. bytes_of found.0) result (nth_item self.now place) }
+            IsPlace self.now (first_of_block self.now block) (slice_index positions.now block) }
+        ensures item { Gives (λ found. item_bytes found.0) result (nth_item self.now place) }
         ensures index { IfOk result (λ found.
             I.number (index_of found.0) ≡ self.now.header.minimum_index + place) }
         ensures end { IfOk result (λ found. IsPlace self.now (self.now.header.minimum_index + place + 1) found.1) }
@@ -198,7 +198,7 @@ impl<'t, I: ItemIndex> ItemFinder<'t, I> {
     /// the item, and with `UnexpectedEof` if the walk ends before the item.
     #[tactic(auto, unfolding(crate::specs::Finder::find_of, crate::specs::Finder::item_of, crate::specs::Finder::reads_of))]
     pub fn find_counted(&self, index: I, count: &mut Count) -> Result<Item<'t, I>>
-        ensures item { Gives bytes_of result (find_of self.now.table self.now.known (I.number index)) }
+        ensures item { Gives item_bytes result (find_of self.now.table self.now.known (I.number index)) }
         ensures index { IfOk result (λ item. index_of item ≡ index) }
         ensures counted { calls_of count.new ≡
             after_calls (reads_of self.now.table self.now.known (I.number index)) (calls_of count.old) }
@@ -229,7 +229,7 @@ impl<'t, I: ItemIndex> ItemFinder<'t, I> {
     /// # Errors
     /// Fails as `find_counted` does.
     pub fn find(&self, index: I) -> Result<Item<'t, I>>
-        ensures item { Gives bytes_of result (find_of self.now.table self.now.known (I.number index)) }
+        ensures item { Gives item_bytes result (find_of self.now.table self.now.known (I.number index)) }
         ensures index { IfOk result (λ item. index_of item ≡ index) }
     {
         self.find_counted(index, &mut Count::new())

@@ -3,7 +3,7 @@
 ghost use Rattle.std.specs.Prelude.{◌<◌, ◌^◌, length, IfOk};
 ghost use Rattle.pdb_base.specs.Answer.{Gives};
 ghost use Rattle.pdb_base.specs.Place.{left};
-ghost use Rattle.pdb_tpi.specs.Header.{slice_of, header_fields, checked, header_of};
+ghost use Rattle.pdb_tpi.specs.Header.{slice_of, header_fields, check_header, header_of};
 
 use pdb_base::{Error, ParseBuffer, Result};
 
@@ -99,9 +99,9 @@ fn read_fields(buffer: &mut ParseBuffer<'_>) -> Result<Header>
 
 impl Header {
     /// Fails for a header that no table of `len` bytes has.
-    #[tactic(auto, unfolding(crate::specs::Header::checked))]
+    #[tactic(auto, unfolding(crate::specs::Header::check_header))]
     fn check(self, len: usize) -> Result<()>
-        ensures { Gives (λ x. x) result (checked self len) }
+        ensures { Gives (λ x. x) result (check_header self len) }
     {
         if self.header_size < FIELDS_SIZE {
             return Err(Error::InvalidTypeInformationHeader("header size is impossibly small"));

@@ -9,7 +9,7 @@ ghost use Rattle.pdb_values.specs.IdValue.{IdValue, id_value};
 ghost use Rattle.pdb_records.specs.Ids.{IsId, NoId};
 ghost use Rattle.pdb_records.specs.IdLists.{item_count, HoldsIdItem, IsCutIdList};
 ghost use Rattle.pdb_records.specs.Assigned.{SaysAssigned, ShowsOrLacks, RefusesOrLacks};
-ghost use Rattle.pdb_tpi.specs.Item.{bytes_of};
+ghost use Rattle.pdb_tpi.specs.Item.{item_bytes};
 ghost use Rattle.pdb_tpi.specs.Record.{id_of};
 
 use crate::item::Item;
@@ -29,14 +29,14 @@ impl<'t> Item<'t, IdIndex> {
     /// allocation for a list that the bytes hold fails.
     #[tactic(auto, unfolding(crate::specs::Record::id_of))]
     pub fn parse(&self, alloc: Global) -> Result<IdData<'t>>
-        ensures read { Answers id_value result (id_of (bytes_of self.now)) }
-        ensures answers { SaysAssigned id_value (IsId (bytes_of self.now)) (NoId (bytes_of self.now)) result }
+        ensures read { Answers id_value result (id_of (item_bytes self.now)) }
+        ensures answers { SaysAssigned id_value (IsId (item_bytes self.now)) (NoId (item_bytes self.now)) result }
         ensures answered { (value : IdValue) (rest : List ℕ) →
-            IsId (bytes_of self.now) value rest → ShowsOrLacks id_value value result }
-        ensures refused { (refusal : Refusal) → NoId (bytes_of self.now) refusal → RefusesOrLacks refusal result }
-        ensures memory { LacksOnlyIf result (HoldsIdItem (bytes_of self.now)) }
-        ensures cut { IsCutIdList (bytes_of self.now) → result ≡ Err UnexpectedEof }
-        ensures short { IfOk result (λ id. 2 * item_count (id_value id) ≤ length (bytes_of self.now)) }
+            IsId (item_bytes self.now) value rest → ShowsOrLacks id_value value result }
+        ensures refused { (refusal : Refusal) → NoId (item_bytes self.now) refusal → RefusesOrLacks refusal result }
+        ensures memory { LacksOnlyIf result (HoldsIdItem (item_bytes self.now)) }
+        ensures cut { IsCutIdList (item_bytes self.now) → result ≡ Err UnexpectedEof }
+        ensures short { IfOk result (λ id. 2 * item_count (id_value id) ≤ length (item_bytes self.now)) }
     {
         parse_id_data(alloc, self.bytes)
     }

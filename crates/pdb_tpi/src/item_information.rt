@@ -2,7 +2,7 @@
 
 ghost use Rattle.std.specs.Prelude.{◌≡◌, ◌≤◌, ◌↔◌, length, take, drop, IsTrue};
 ghost use Rattle.pdb_base.specs.Answer.{Gives};
-ghost use Rattle.pdb_tpi.specs.Table.{table_of, count_of, IsTable};
+ghost use Rattle.pdb_tpi.specs.Table.{table_of, count_in_header, IsTable};
 ghost use Rattle.pdb_tpi.specs.Finder.{most_blocks};
 
 use crate::header::{Header, read_header};
@@ -64,14 +64,14 @@ impl<I: ItemIndex> ItemInformation<I> {
     /// Returns how many indexes the header counts, from its minimum to below its maximum. The
     /// iterator may give fewer items, or more.
     pub fn len(&self) -> usize
-        ensures { result ≡ count_of self.now }
+        ensures { result ≡ count_in_header self.now }
     {
         (self.header.maximum_index - self.header.minimum_index) as usize
     }
 
     /// Returns whether the header counts no index.
     pub fn is_empty(&self) -> bool
-        ensures { IsTrue result ↔ (count_of self.now ≡ 0) }
+        ensures { IsTrue result ↔ (count_in_header self.now ≡ 0) }
     {
         self.len() == 0
     }

@@ -3,7 +3,7 @@
 ghost use Rattle.std.specs.Prelude.{◌≡◌, ◌+◌, ◌≤◌, ℕ, length, nat_lt, ⊤, if◌then◌else◌, IfOk, OnOk, OnErr};
 ghost use Rattle.pdb_base.specs.Answer.{Gives};
 ghost use Rattle.pdb_base.specs.Count.{calls_of, one_more, after_calls};
-ghost use Rattle.pdb_tpi.specs.Item.{bytes_of, index_of};
+ghost use Rattle.pdb_tpi.specs.Item.{item_bytes, index_of};
 ghost use Rattle.pdb_tpi.specs.Walk.{first_item};
 ghost use Rattle.pdb_tpi.specs.Steps.{WalkPosition, walk, steps_taken, nth_item, IsStep, reads_one};
 ghost use Rattle.pdb_tpi.specs.Finder.{reads_between};
@@ -77,7 +77,7 @@ impl<'t, I: ItemIndex> ItemIter<'t, I> {
 
     /// Returns the next item, or the fault at which the walk stops before it.
     pub(crate) fn read(&mut self, count: &mut Count) -> Result<Item<'t, I>>
-        ensures item { Gives bytes_of result (nth_item self.old.table (steps_taken self.old)) }
+        ensures item { Gives item_bytes result (nth_item self.old.table (steps_taken self.old)) }
         ensures index { IfOk result (λ item. I.number (index_of item) ≡ self.old.index) }
         ensures moved { OnOk result (self.new ≡ record self.old { index = self.old.index + 1 }) }
         ensures kept { OnErr result (self.new ≡ self.old) }
@@ -102,7 +102,7 @@ impl<'t, I: ItemIndex> ItemIter<'t, I> {
     /// stops before it. The iterator continues after that item.
     #[inline(always)]
     pub(crate) fn nth(&mut self, steps: u32, count: &mut Count) -> Result<Item<'t, I>>
-        ensures item { Gives bytes_of result (nth_item self.old.table (steps_taken self.old + steps)) }
+        ensures item { Gives item_bytes result (nth_item self.old.table (steps_taken self.old + steps)) }
         ensures index { IfOk result (λ item. I.number (index_of item) ≡ self.old.index + steps) }
         ensures moved { IfOk result (λ _. self.new ≡ record self.old { index = self.old.index + steps + 1 }) }
         ensures counted { calls_of count.new ≡
@@ -121,7 +121,7 @@ impl<'t, I: ItemIndex> FallibleIterator for ItemIter<'t, I> {
 
     type Error = Error;
 
-    ghost next_gives = { IsStep (λ item. (I.number (index_of item), bytes_of item)) };
+    ghost next_gives = { IsStep (λ item. (I.number (index_of item), item_bytes item)) };
 
     fn next(&mut self) -> Result<Option<Item<'t, I>>> {
         let table = self.table;

@@ -4,18 +4,18 @@
 ghost use Rattle.std.specs.Prelude.{◌≡◌, ℕ, ◌+◌, ◌*◌, ◌≤◌, List, length, Ok};
 ghost use Rattle.pdb_tpi.specs.Table.{Table};
 ghost use Rattle.pdb_tpi.specs.Walk.{IsWalk, items, rest};
-ghost use Rattle.pdb_tpi.specs.OpenTable.{bytes_at, record_at};
+ghost use Rattle.pdb_tpi.specs.OpenTable.{record_bytes, record_place};
 ghost use Rattle.pdb_tpi.specs.Steps.{room, body, nth_item, walk, walk_rest};
 ghost use Rattle.pdb_tpi.specs.Finder.{IsKnown, known_of};
 ghost use Rattle.pdb_tpi.specs.Chain.{LookUp, IsChainAnswer};
-ghost use Rattle.pdb_tpi.specs.Laws.{AreBytes, StandAtOffsets, WalksOnce, HasFault, ReadsFew};
+ghost use Rattle.pdb_tpi.specs.Laws.{AreBytes, HasTableHeaderAtOffsets, WalksOnce, HasFault, ReadsFew};
 
 pub mod derived;
 pub mod steps;
 
 /// The fields of a header are at fixed offsets.
 pub fn header()
-    ensures { (bytes : List ℕ) → StandAtOffsets bytes }
+    ensures { (bytes : List ℕ) → HasTableHeaderAtOffsets bytes }
 {}
 
 /// The items that a table's walk gives are a walk of its bytes. Any bytes have exactly one walk,
@@ -39,7 +39,7 @@ pub fn faults()
 #[tactic(auto, using(crate::proofs::PositionLemmas::record_stands))]
 pub fn record_places()
     ensures { (table : Table) (n : ℕ) (item : List ℕ) → nth_item table n ≡ Ok item →
-        bytes_at table (record_at table n item) ≡ item }
+        record_bytes table (record_place table n item) ≡ item }
 {}
 
 /// After iterators were fed to a finder, it knows the greatest number of blocks that were fed in

@@ -3,8 +3,8 @@
 ghost use Rattle.std.specs.Prelude.{◌≡◌, ◌-◌, ◌≤◌, ◌<◌, Ok, IfOk, OnErr};
 ghost use Rattle.pdb_base.specs.Answer.{Answers, Gives};
 ghost use Rattle.pdb_tpi.specs.Finder.{item_of};
-ghost use Rattle.pdb_tpi.specs.Item.{bytes_of, index_of};
-ghost use Rattle.pdb_tpi.specs.OpenTable.{bytes_at, located, step_located};
+ghost use Rattle.pdb_tpi.specs.Item.{item_bytes, index_of};
+ghost use Rattle.pdb_tpi.specs.OpenTable.{record_bytes, place_of_record, step_located};
 ghost use Rattle.pdb_tpi.specs.StepLaws.{first_stand};
 
 use crate::finder::{BLOCK_LEN, PRIMITIVE};
@@ -43,13 +43,13 @@ pub struct OpenTable<I> {
 impl<I> Model for OpenTable<I> {
     ghost use Rattle.std.specs.Prelude.{vec_capacity};
     ghost use Rattle.pdb_tpi.specs.Steps.{WalkPosition};
-    ghost use Rattle.pdb_tpi.specs.OpenTable.{IsOpen};
+    ghost use Rattle.pdb_tpi.specs.OpenTable.{IsOpenTable};
 
     ghost Value = { WalkPosition };
 
     ghost view = { λ t. record { table = t.items; index = t.index } };
 
-    ghost invariant = { λ t. IsOpen t.items t.positions.items (vec_capacity t.positions) t.index t.position };
+    ghost invariant = { λ t. IsOpenTable t.items t.positions.items (vec_capacity t.positions) t.index t.position };
 }
 
 /// Returns the place of a record of `len` bytes whose item ends at the position `end`.
@@ -142,7 +142,7 @@ impl<I: ItemIndex> OpenTable<I> {
     /// the item.
     #[tactic(auto, unfolding(crate::specs::Finder::item_of))]
     pub fn find(&self, index: I) -> Result<Option<RecordPlace>>
-        ensures { Gives (λ place. place) result (located self.now.table (I.number index)) }
+        ensures { Gives (λ place. place) result (place_of_record self.now.table (I.number index)) }
     {
         let header = self.items.header();
         let number: u32 = index.into();
@@ -160,7 +160,7 @@ impl<I: ItemIndex> OpenTable<I> {
     #[inline(never)]
     #[tactic(auto, unfolding(crate::specs::Finder::item_of))]
     fn find_or_fail(&self, index: I) -> Result<Option<RecordPlace>>
-        ensures { Gives (λ place. place) result (located self.now.table (I.number index)) }
+        ensures { Gives (λ place. place) result (place_of_record self.now.table (I.number index)) }
     {
         let header = self.items.header();
         let number: u32 = index.into();
@@ -183,7 +183,7 @@ impl<I: ItemIndex> OpenTable<I> {
     /// # Errors
     /// Fails as `find` does.
     pub fn item(&self, index: I) -> Result<Item<'_, I>>
-        ensures item { Gives bytes_of result (item_of self.now.table (I.number index)) }
+        ensures item { Gives item_bytes result (item_of self.now.table (I.number index)) }
         ensures index { IfOk result (λ item. index_of item ≡ index) }
     {
         let bytes = match self.find(index)? {
@@ -215,7 +215,7 @@ impl<I: ItemIndex> OpenTable<I> {
     /// Returns the bytes of the stream at a place, such as that of a record, as many of them as
     /// there are.
     pub fn bytes_at(&self, place: RecordPlace) -> &[u8]
-        ensures { result.now ≡ bytes_at self.now.table place }
+        ensures { result.now ≡ record_bytes self.now.table place }
     {
         self.items
             .bytes_at(place.offset as usize, place.length as usize)

@@ -12,7 +12,7 @@ ghost use Rattle.pdb_records.specs.Grammar.{IsRecord, NoRecord};
 ghost use Rattle.pdb_records.specs.Memory.{NeedsMemory, IsFalseCount};
 ghost use Rattle.pdb_records.specs.Short.{IsShort};
 ghost use Rattle.pdb_records.specs.Assigned.{SaysAssigned, ShowsOrLacks, RefusesOrLacks};
-ghost use Rattle.pdb_tpi.specs.Item.{bytes_of, index_of};
+ghost use Rattle.pdb_tpi.specs.Item.{item_bytes, index_of};
 ghost use Rattle.pdb_tpi.specs.Record.{type_of};
 
 use crate::item::Item;
@@ -43,19 +43,19 @@ impl<'t> Item<'t, TypeIndex> {
     #[inline(always)]
     #[tactic(auto, unfolding(crate::specs::Record::type_of))]
     pub fn parse(&self, alloc: Global) -> Result<TypeData<'t>>
-        ensures read { Answers type_value result (type_of (index_of self.now).0 (bytes_of self.now)) }
+        ensures read { Answers type_value result (type_of (index_of self.now).0 (item_bytes self.now)) }
         ensures primitive { (index_of self.now).0 < first_record →
             Gives type_value result (primitive_of (index_of self.now).0) }
         ensures answers { first_record ≤ (index_of self.now).0 →
-            SaysAssigned type_value (IsRecord (bytes_of self.now)) (NoRecord (bytes_of self.now)) result }
+            SaysAssigned type_value (IsRecord (item_bytes self.now)) (NoRecord (item_bytes self.now)) result }
         ensures answered { first_record ≤ (index_of self.now).0 → (value : TypeValue) (rest : List ℕ) →
-            IsRecord (bytes_of self.now) value rest → ShowsOrLacks type_value value result }
+            IsRecord (item_bytes self.now) value rest → ShowsOrLacks type_value value result }
         ensures refused { first_record ≤ (index_of self.now).0 → (refusal : Refusal) →
-            NoRecord (bytes_of self.now) refusal → RefusesOrLacks refusal result }
-        ensures memory { LacksOnlyIf result ((first_record ≤ (index_of self.now).0) × NeedsMemory (bytes_of self.now)) }
+            NoRecord (item_bytes self.now) refusal → RefusesOrLacks refusal result }
+        ensures memory { LacksOnlyIf result ((first_record ≤ (index_of self.now).0) × NeedsMemory (item_bytes self.now)) }
         ensures cut { first_record ≤ (index_of self.now).0 →
-            IsFalseCount (bytes_of self.now) → result ≡ Err UnexpectedEof }
-        ensures short { IfOk result (λ value. IsShort (length (bytes_of self.now)) (type_value value)) }
+            IsFalseCount (item_bytes self.now) → result ≡ Err UnexpectedEof }
+        ensures short { IfOk result (λ value. IsShort (length (item_bytes self.now)) (type_value value)) }
     {
         let index = self.index;
         if index.0 < FIRST_RECORD {

@@ -8,7 +8,7 @@ use Rattle.std.proofs.lemmas.List.Folds.{Any-from_list_any}
 use Rattle.pdb_base.specs.Refusal.{type_not_found}
 use Rattle.pdb_tpi.specs.Finder.{item_of}
 use Rattle.pdb_tpi.specs.Steps.{nth_item}
-use Rattle.pdb_tpi.specs.Table.{Table, count_of}
+use Rattle.pdb_tpi.specs.Table.{Table, count_in_header}
 use Rattle.pdb_types.specs.declared.entry.Entry.{Entry}
 use Rattle.pdb_types.specs.Declaration.{TypeName}
 use Rattle.pdb_types.specs.Definition.{all_definitions, defines, first_definition}
@@ -63,7 +63,7 @@ entry_first table name entries k entry are before within here is =
     let index = entry.index.0 in
     let least : table.header.minimum_index ≤ index = rw here at (are.least k entry within) in
     let below = defined_below table name index least is in
-    find_first (is_definition table name) table.header.minimum_index (count_of table) index least
+    find_first (is_definition table name) table.header.minimum_index (count_in_header table) index least
     (omega (arith, least, below)) is
     (λ other above lower. false_from_ne_true (is_definition table name other) (λ also.
     let found = Any-from_list_any (λ (e : Entry). eqb e.index.0 other) entries
@@ -89,7 +89,7 @@ pub entry_none : (table : Table) (name : TypeName) (entries : List Entry)
     → first_definition table name ≡ None
 unfolding first_definition
 entry_none table name entries are before =
-    find_none (is_definition table name) table.header.minimum_index (count_of table)
+    find_none (is_definition table name) table.header.minimum_index (count_in_header table)
     (λ other above below. false_from_ne_true (is_definition table name other) (λ also.
     let found = Any-from_list_any (λ (e : Entry). eqb e.index.0 other) entries
     (are.complete name other refl above also) in
@@ -101,10 +101,10 @@ entry_none table name entries are before =
 -- ---- the law
 
 is_first_by : (table : Table) (name : TypeName) (first : Option ℕ)
-    → find (is_definition table name) (range_with_len table.header.minimum_index (count_of table)) ≡ first
+    → find (is_definition table name) (range_with_len table.header.minimum_index (count_in_header table)) ≡ first
     → IsFirstDefinition table name first
 is_first_by table name (Some index) is =
-    let found = find_found (is_definition table name) table.header.minimum_index (count_of table) index is in (
+    let found = find_found (is_definition table name) table.header.minimum_index (count_in_header table) index is in (
       record { least = found.0; most = omega (arith, found.0, found.1); defines = found.2 },
       λ other at. elim (cases_lt other index) as (λ _. index ≤ other) [
         | inl lower ↦ absurd (both_ways (is_definition table name other) (found.3 other at.least lower) at.defines)
@@ -113,13 +113,13 @@ is_first_by table name (Some index) is =
     )
 is_first_by table name None is = λ other at.
     both_ways (is_definition table name other)
-    (find_missed (is_definition table name) table.header.minimum_index (count_of table) is other at.least
+    (find_missed (is_definition table name) table.header.minimum_index (count_in_header table) is other at.least
     (let l = at.least in let m = at.most in omega arith)) at.defines
 
 pub is_first : (table : Table) (name : TypeName) → IsFirstDefinition table name (first_definition table name)
 unfolding first_definition
 is_first table name = is_first_by table name
-    (find (is_definition table name) (range_with_len table.header.minimum_index (count_of table))) refl
+    (find (is_definition table name) (range_with_len table.header.minimum_index (count_in_header table))) refl
 
 -- ---- all definitions of a name
 
@@ -224,7 +224,7 @@ named_all table name entries k found next are named past =
     sym (
     named.are
     ∙ filter_end (is_definition table name) table.header.minimum_index (next - table.header.minimum_index)
-    (count_of table)
+    (count_in_header table)
     (λ j from. unnamed table name entries k found next are named j (omega (arith, from, least))
     (λ i d later within. absurd (omega (arith, later, within, past))))
     (λ j from. false_from_ne_true (is_definition table name j) (λ also.

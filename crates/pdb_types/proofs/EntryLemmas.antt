@@ -31,8 +31,8 @@ use Rattle.pdb_tpi.proofs.StepLemmas.{nth_ok, step_some, step_none, step_err}
 use Rattle.pdb_types.specs.declared.entry.Entry.{Entry}
 use Rattle.pdb_types.specs.Declaration.{Declared, TypeName, source_name, decorated_name, bears, declaration_of}
 use Rattle.pdb_types.specs.Declaration.{is_forward}
-use Rattle.pdb_types.specs.Definition.{defines, declares, if_none_left, walked}
-use Rattle.pdb_types.specs.Entries.{rank, entry_of, names_entries, entries_of, entries_from, all_entries, is_entry}
+use Rattle.pdb_types.specs.Definition.{defines, declares, if_none_left, whole_table}
+use Rattle.pdb_types.specs.Entries.{rank, name_entry, names_entries, entries_of, entries_from, all_entries, is_entry}
 use Rattle.pdb_types.specs.Entries.{IsIndexed, AreCandidates}
 use Rattle.pdb_types.specs.NameHash.{name_hash}
 use Rattle.pdb_types.specs.TypeAt.{type_at}
@@ -47,11 +47,11 @@ IsWithin from to entry = (from ≤ entry.index.0) × (entry.index.0 < to)
 
 names_of : (index : ℕ) (name : TypeName) (other : Option (List ℕ))
     → All (IsOf index)
-    (entry_of index name ∷ option_map_or (λ text. entry_of index (decorated_name text) ∷ []) other [])
-names_of index name None = All-cons (IsOf index) (entry_of index name) [] refl (All-nil (IsOf index))
+    (name_entry index name ∷ option_map_or (λ text. name_entry index (decorated_name text) ∷ []) other [])
+names_of index name None = All-cons (IsOf index) (name_entry index name) [] refl (All-nil (IsOf index))
 names_of index name (Some text) =
-    let second = entry_of index (decorated_name text) in
-    All-cons (IsOf index) (entry_of index name) (second ∷ []) refl
+    let second = name_entry index (decorated_name text) in
+    All-cons (IsOf index) (name_entry index name) (second ∷ []) refl
     (All-cons (IsOf index) second [] refl (All-nil (IsOf index)))
 
 unless_forward : (index : ℕ) (declared : Declared) (forward : Bool)
@@ -94,30 +94,30 @@ decorated text = decorated_name text
 same_bytes : (xs ys : List ℕ) → bytes_eq xs ys ≡ true → xs ≡ ys
 same_bytes xs ys is = (bytes_eq-Decides xs ys).0 is
 
-the_entry : (index : ℕ) (own name : TypeName) → own ≡ name → is_entry (name_hash name) index (entry_of index own) ≡ true
+the_entry : (index : ℕ) (own name : TypeName) → own ≡ name → is_entry (name_hash name) index (name_entry index own) ≡ true
 the_entry index own name same = and_from (eqb (name_hash own) (name_hash name)) (eqb index index)
     (eq-eqb (name_hash own) (name_hash name) (ap name_hash same)) (eq-eqb index index refl)
 
 second_entry : (index : ℕ) (name : TypeName) (text : List ℕ) (other : Option (List ℕ))
     → option_map_or (λ own. bytes_eq own text) other false ≡ true
     → list_any (is_entry (name_hash (decorated_name text)) index)
-    (entry_of index name ∷ option_map_or (λ own. entry_of index (decorated_name own) ∷ []) other []) ≡ true
+    (name_entry index name ∷ option_map_or (λ own. name_entry index (decorated_name own) ∷ []) other []) ≡ true
 second_entry index name text None is = absurd (false≢true is)
 second_entry index name text (Some own) is =
     let test = is_entry (name_hash (decorated_name text)) index in
-    let second = test (entry_of index (decorated_name own)) in
+    let second = test (name_entry index (decorated_name own)) in
     let here : second ≡ true =
     the_entry index (decorated_name own) (decorated_name text) (ap decorated (same_bytes own text is)) in
-    or_right (test (entry_of index name)) (second || false) (or_left second false here)
+    or_right (test (name_entry index name)) (second || false) (or_left second false here)
 
 has_name : (index : ℕ) (name : TypeName) (declared : Declared) → bears name declared ≡ true
     → list_any (is_entry (name_hash name) index) (names_entries index declared) ≡ true
 has_name index (source_name text) declared is =
     let test = is_entry (name_hash (source_name text)) index in
-    let here : test (entry_of index (source_name declared.name)) ≡ true =
+    let here : test (name_entry index (source_name declared.name)) ≡ true =
     the_entry index (source_name declared.name) (source_name text) (ap source (same_bytes declared.name text is)) in
-    or_left (test (entry_of index (source_name declared.name)))
-    (list_any test (option_map_or (λ own. entry_of index (decorated_name own) ∷ []) declared.unique_name [])) here
+    or_left (test (name_entry index (source_name declared.name)))
+    (list_any test (option_map_or (λ own. name_entry index (decorated_name own) ∷ []) declared.unique_name [])) here
 has_name index (decorated_name text) declared is =
     second_entry index (source_name declared.name) text declared.unique_name is
 
@@ -311,14 +311,14 @@ given_alike x z y (byte ∷ bytes) is = absurd cc
 pub whole_refused : (table : Table) (e : Error)
     → Answers {X = Vec Entry Global} {Y = List Entry} (λ entries. entries.items) (Err e)
     (if_none_left (all_entries table) (walk_rest table))
-    → Answers {X = Table} {Y = Table} (λ table. table) (Err e) (walked table)
-unfolding walked
+    → Answers {X = Table} {Y = Table} (λ table. table) (Err e) (whole_table table)
+unfolding whole_table
 whole_refused table e (inl is) = inl (refused_alike (all_entries table) table (walk_rest table) (refusal_of e) is)
 whole_refused table e (inr memory) = inr memory
 
 pub whole_walked : (table : Table) (entries : List Entry)
-    → if_none_left (all_entries table) (walk_rest table) ≡ Ok entries → walked table ≡ Ok table
-unfolding walked
+    → if_none_left (all_entries table) (walk_rest table) ≡ Ok entries → whole_table table ≡ Ok table
+unfolding whole_table
 whole_walked table entries is = (given_alike (all_entries table) entries table (walk_rest table) is).0
 
 pub whole_entries : (table : Table) (entries : List Entry)

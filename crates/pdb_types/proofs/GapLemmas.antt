@@ -14,7 +14,7 @@ use Rattle.std.proofs.lemmas.List.Sums.{sum_by-append, sum_by-cons}
 use Rattle.pdb_types.specs.declared.gap.Gap.{Gap}
 use Rattle.pdb_types.specs.declared.span.Span.{Span}
 use Rattle.pdb_types.specs.Gap.{AreGapRows, AreOfKind, AreUnusedBits, AreVirtualBases, IsHole, IsTaken, IsWhole}
-use Rattle.pdb_types.specs.Gap.{bits_in, bytes_of, end_of, hole_row, tail_row, tail_start, unused_row}
+use Rattle.pdb_types.specs.Gap.{bits_in, bytes_touched, end_of, hole_row, tail_row, tail_start, unused_row}
 use Rattle.pdb_types.specs.Span.{AreGaps, gap_of, holds}
 use Rattle.pdb_types.proofs.SpanLemmas.{before_test, behind_test, gap_before, gap_behind, gap_holds, gap_some}
 use Rattle.pdb_types.proofs.SpanLemmas.{gap_within, held_test}
@@ -109,7 +109,7 @@ unused_same [] = refl
 unused_same (bits ∷ unused) = ap (λ (l : List Span). bits ∷ l) (unused_same unused)
 
 -- a bit of a span is in one of its bytes
-in_bytes : (bit : ℕ) (span : Span) → holds bit span ≡ true → holds (bit / 8) (bytes_of span) ≡ true
+in_bytes : (bit : ℕ) (span : Span) → holds bit span ≡ true → holds (bit / 8) (bytes_touched span) ≡ true
 in_bytes bit span is =
     let parts = and_parts (leb span.start bit) (ltb bit span.end) is in
     let from = leb-true span.start bit parts.0 in
@@ -118,7 +118,7 @@ in_bytes bit span is =
     (held_test (bit / 8) (span.start / 8) ((span.end - 1) / 8 + 1) (omega (arith, from)) (omega (arith, to)))
 
 -- and each of its bytes has a bit of it
-in_bits : (byte : ℕ) (span : Span) → holds byte (bytes_of span) ≡ true → (bit : ℕ) × (bit / 8 ≡ byte)
+in_bits : (byte : ℕ) (span : Span) → holds byte (bytes_touched span) ≡ true → (bit : ℕ) × (bit / 8 ≡ byte)
     × (holds bit span ≡ true)
 in_bits byte span is = elim (cases_lt span.start span.end) [
   | inl some ↦
@@ -150,15 +150,15 @@ in_bits byte span is = elim (cases_lt span.start span.end) [
 -- ---- the bytes of which fields take bits
 
 abbrev touched : List Span → ℕ → Bool
-touched spans byte = list_any (holds byte) (map bytes_of spans)
+touched spans byte = list_any (holds byte) (map bytes_touched spans)
 
 taken_touches : (spans : List Span) (bit : ℕ) → list_any (holds bit) spans ≡ true → touched spans (bit / 8) ≡ true
 taken_touches [] bit taken = taken
 taken_touches (span ∷ spans) bit taken = elim (cases_Bool (holds bit span)) as
     (λ _. touched (span ∷ spans) (bit / 8) ≡ true) [
-      | inl here ↦ or_left (holds (bit / 8) (bytes_of span)) (touched spans (bit / 8)) (in_bytes bit span here)
+      | inl here ↦ or_left (holds (bit / 8) (bytes_touched span)) (touched spans (bit / 8)) (in_bytes bit span here)
       | inr other ↦
-          or_right (holds (bit / 8) (bytes_of span)) (touched spans (bit / 8))
+          or_right (holds (bit / 8) (bytes_touched span)) (touched spans (bit / 8))
           (taken_touches spans bit (rw other at taken))
     ]
 
@@ -173,7 +173,7 @@ untouched_free spans bit none = elim (cases_Bool (list_any (holds bit) spans)) a
 touched_taken : (spans : List Span) (byte : ℕ) → touched spans byte ≡ true → (bit : ℕ) × (bit / 8 ≡ byte)
     × IsTaken spans bit
 touched_taken [] byte is = absurd cc
-touched_taken (span ∷ spans) byte is = elim (cases_Bool (holds byte (bytes_of span))) [
+touched_taken (span ∷ spans) byte is = elim (cases_Bool (holds byte (bytes_touched span))) [
   | inl here ↦
       let there = in_bits byte span here in
       (there.0, there.1, or_left (holds there.0 span) (list_any (holds there.0) spans) there.2)
@@ -210,9 +210,9 @@ touched_below (span ∷ spans) byte is = elim (cases_Bool (holds byte span)) [
   | inr other ↦ let rest = touched_below spans byte (rw other at is) in omega (arith, rest)
 ]
 
-last_byte : (span : Span) → 0 < (bytes_of span).end → holds ((bytes_of span).end - 1) (bytes_of span) ≡ true
+last_byte : (span : Span) → 0 < (bytes_touched span).end → holds ((bytes_touched span).end - 1) (bytes_touched span) ≡ true
 last_byte span some = elim (cases_lt span.start span.end) as
-    (λ _. holds ((bytes_of span).end - 1) (bytes_of span) ≡ true) [
+    (λ _. holds ((bytes_touched span).end - 1) (bytes_touched span) ≡ true) [
       | inl less ↦
           rw (lt-ltb span.start span.end less)
           (held_test ((span.end - 1) / 8 + 1 - 1) (span.start / 8) ((span.end - 1) / 8 + 1) (omega (arith, less))
@@ -223,22 +223,22 @@ last_byte span some = elim (cases_lt span.start span.end) as
     ]
 
 -- the last of them is touched
-last_touched : (spans : List Span) → 0 < end_of (map bytes_of spans)
-    → touched spans (end_of (map bytes_of spans) - 1) ≡ true
+last_touched : (spans : List Span) → 0 < end_of (map bytes_touched spans)
+    → touched spans (end_of (map bytes_touched spans) - 1) ≡ true
 last_touched [] some = absurd (omega (arith, some))
 last_touched (span ∷ spans) some =
-    let own = (bytes_of span).end in
-    let rest = end_of (map bytes_of spans) in
+    let own = (bytes_touched span).end in
+    let rest = end_of (map bytes_touched spans) in
     let P : ℕ → Type 0 = λ n. touched (span ∷ spans) (n - 1) ≡ true in
     elim (cases_lt own rest) as (λ _. touched (span ∷ spans) (max own rest - 1) ≡ true) [
       | inl less ↦
           let is : rest ≡ max own rest = omega (arith, less) in
-          subst P is (or_right (holds (rest - 1) (bytes_of span)) (touched spans (rest - 1))
+          subst P is (or_right (holds (rest - 1) (bytes_touched span)) (touched spans (rest - 1))
           (last_touched spans (omega (arith, less))))
       | inr more ↦
           let is : own ≡ max own rest = omega (arith, more) in
           let positive : 0 < own = omega (arith, some, is) in
-          subst P is (or_left (holds (own - 1) (bytes_of span)) (touched spans (own - 1)) (last_byte span positive))
+          subst P is (or_left (holds (own - 1) (bytes_touched span)) (touched spans (own - 1)) (last_byte span positive))
     ]
 
 -- where the virtual bases begin
@@ -350,8 +350,8 @@ rows_counted bit holes unused tail size =
 -- The gaps of whole bytes and those of bits are found.
 pub record AreFoundGaps (spans : List Span) (size : ℕ) (virtual : Bool) (tail : ℕ)
     (holes unused : List Span) : Type 0 where
-  pub at : IsTailStart (map bytes_of spans) size virtual tail
-  pub whole : AreGaps (map bytes_of spans) tail holes
+  pub at : IsTailStart (map bytes_touched spans) size virtual tail
+  pub whole : AreGaps (map bytes_touched spans) tail holes
   pub bits : AreGaps (spans ++ map row_bits (whole_rows holes tail size)) (size * 8) unused
 
 -- whether a bit is taken or in a row of whole bytes
@@ -367,7 +367,7 @@ taken_rows : (spans : List Span) (size : ℕ) (virtual : Bool) (tail : ℕ) (hol
     → AreFoundGaps spans size virtual tail holes unused → (bit : ℕ) → list_any (holds bit) spans ≡ true
     → count_by (holds bit) (map row_bits (whole_rows holes tail size ++ map unused_row unused)) ≡ 0
 taken_rows spans size virtual tail holes unused are bit taken =
-    let whole = whole_touched (map bytes_of spans) holes size tail virtual (bit / 8) are.at are.whole
+    let whole = whole_touched (map bytes_touched spans) holes size tail virtual (bit / 8) are.at are.whole
     (taken_touches spans bit taken) in
     let none = are.bits.taken bit (is_either spans holes tail size bit
     ∙ or_left (list_any (holds bit) spans) (list_any (holds bit) (map row_bits (whole_rows holes tail size))) taken)
@@ -382,13 +382,13 @@ free_rows spans size virtual tail holes unused are bit inside free =
     let rows = map row_bits (whole_rows holes tail size) in
     elim (cases_Bool (touched spans (bit / 8))) [
       | inl some ↦
-          let whole = whole_touched (map bytes_of spans) holes size tail virtual (bit / 8) are.at are.whole some in
+          let whole = whole_touched (map bytes_touched spans) holes size tail virtual (bit / 8) are.at are.whole some in
           let none = counted_none (holds bit) rows (whole_counted bit holes tail size ∙ whole) in
           let one = are.bits.free bit inside (is_either spans holes tail size bit
           ∙ or_from (list_any (holds bit) spans) (list_any (holds bit) rows) free none) in
           rows_counted bit holes unused tail size ∙ omega (arith, whole, one)
       | inr none ↦
-          let whole = whole_free (map bytes_of spans) holes size tail (bit / 8) are.whole none
+          let whole = whole_free (map bytes_touched spans) holes size tail (bit / 8) are.whole none
           (omega (arith, inside)) in
           let there = counted_one (holds bit) rows (whole_counted bit holes tail size ∙ whole) in
           let no = are.bits.taken bit (is_either spans holes tail size bit
@@ -400,7 +400,7 @@ beyond_rows : (spans : List Span) (size : ℕ) (virtual : Bool) (tail : ℕ) (ho
     → AreFoundGaps spans size virtual tail holes unused → (bit : ℕ) → size * 8 ≤ bit
     → count_by (holds bit) (map row_bits (whole_rows holes tail size ++ map unused_row unused)) ≡ 0
 beyond_rows spans size virtual tail holes unused are bit past =
-    let whole = whole_beyond (map bytes_of spans) holes size tail (bit / 8) are.at.most are.whole
+    let whole = whole_beyond (map bytes_touched spans) holes size tail (bit / 8) are.at.most are.whole
     (omega (arith, past)) in
     let none = are.bits.beyond bit past in
     rows_counted bit holes unused tail size ∙ omega (arith, whole, none)
@@ -452,7 +452,7 @@ hole_kind spans size virtual tail holes unused are = λ k d within. record {
   whole = whole_bits (get_or holes k d);
   before = λ has.
       let hole = get_or holes k d in
-      let bytes = map bytes_of spans in
+      let bytes = map bytes_touched spans in
       let below = are.at.before has in
       let some = are.whole.some k d within in
       let most = are.whole.within k d within in
@@ -485,7 +485,7 @@ tail_kind spans size virtual tail holes unused are =
             last = λ bit from. untouched_free spans bit
                 (elim (cases_Bool (touched spans (bit / 8))) as (λ _. touched spans (bit / 8) ≡ false) [
                   | inl some ↦
-                      let below = touched_below (map bytes_of spans) (bit / 8) some in
+                      let below = touched_below (map bytes_touched spans) (bit / 8) some in
                       absurd (omega (arith, below, after, from))
                   | inr none ↦ none
                 ]);
@@ -506,7 +506,7 @@ unused_kind spans size virtual tail holes unused are = λ k d within bit here.
     elim (cases_Bool (touched spans (bit / 8))) [
       | inl some ↦ touched_taken spans (bit / 8) some
       | inr none ↦
-          let whole = whole_free (map bytes_of spans) holes size tail (bit / 8) are.whole none
+          let whole = whole_free (map bytes_touched spans) holes size tail (bit / 8) are.whole none
           (omega (arith, inside)) in
           let there = counted_one (holds bit) rows (whole_counted bit holes tail size ∙ whole) in
           let no = are.bits.taken bit (is_either spans holes tail size bit
@@ -537,16 +537,16 @@ found_are spans size virtual tail holes unused are =
 
 -- the rows of a class
 pub rows_are : (spans : List Span) (size : ℕ) (virtual : Bool) (tail : ℕ) (holes unused : List Span)
-    → tail ≡ tail_start (map bytes_of spans) size virtual → AreGaps (map bytes_of spans) tail holes
+    → tail ≡ tail_start (map bytes_touched spans) size virtual → AreGaps (map bytes_touched spans) tail holes
     → AreGaps (spans ++ map row_bits (whole_rows holes tail size)) (size * 8) unused
     → AreGapRows spans size virtual (whole_rows holes tail size ++ map unused_row unused)
 rows_are spans size virtual tail holes unused at whole bits =
-    let P : ℕ → Type 0 = λ t. IsTailStart (map bytes_of spans) size virtual t in
+    let P : ℕ → Type 0 = λ t. IsTailStart (map bytes_touched spans) size virtual t in
     found_are spans size virtual tail holes unused
-    (record { at = subst P (sym at) (tail_by (map bytes_of spans) size virtual); whole = whole; bits = bits })
+    (record { at = subst P (sym at) (tail_by (map bytes_touched spans) size virtual); whole = whole; bits = bits })
 
 pub rows_found : (spans bytes holes taken unused : List Span) (size tail : ℕ) (virtual : Bool) (whole rows : List Gap)
-    → bytes ≡ map bytes_of spans → tail ≡ tail_start bytes size virtual
+    → bytes ≡ map bytes_touched spans → tail ≡ tail_start bytes size virtual
     → AreGaps bytes tail holes → whole ≡ whole_rows holes tail size → taken ≡ spans ++ map row_bits whole
     → AreGaps taken (size * 8) unused → rows ≡ whole ++ map unused_row unused
     → AreGapRows spans size virtual rows
@@ -554,7 +554,7 @@ rows_found spans bytes holes taken unused size tail virtual whole rows are_bytes
     let P : List Span → Type 0 = λ l. AreGaps l tail holes in
     let Q : List Span → Type 0 = λ l. AreGaps l (size * 8) unused in
     let R : List Gap → Type 0 = λ l. AreGapRows spans size virtual l in
-    let first : tail ≡ tail_start (map bytes_of spans) size virtual = at
+    let first : tail ≡ tail_start (map bytes_touched spans) size virtual = at
     ∙ ap (λ (l : List Span). tail_start l size virtual) are_bytes in
     let there : taken ≡ spans ++ map row_bits (whole_rows holes tail size) = are_taken
     ∙ ap (λ (l : List Gap). spans ++ map row_bits l) are_whole in

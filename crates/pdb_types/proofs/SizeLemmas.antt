@@ -11,7 +11,7 @@ use Rattle.pdb_tpi.specs.Table.{Table}
 use Rattle.pdb_types.specs.declared.size_source.SizeSource.{SizeSource}
 use Rattle.pdb_types.specs.declared.size_source.SizeSource.TheVariants.{Stated, SameAs, Unknown}
 use Rattle.pdb_types.specs.Shortcut.{IsAsLarge}
-use Rattle.pdb_types.specs.Size.{Sizes, AreSizes, along, one_size, size_from, size_of, source_at}
+use Rattle.pdb_types.specs.Size.{Sizes, AreSizes, size_along, one_size, size_from, size_of, source_at}
 
 -- ---- only the sizes of lower indexes matter
 
@@ -41,20 +41,20 @@ one_lower table sizes others index same = answer_lower sizes others index (sourc
 
 -- more types than there are lower indexes change nothing
 along_more : (table : Table) (most more index : ℕ) → index < most → index < more
-    → along most table index ≡ along more table index
-unfolding along
+    → size_along most table index ≡ size_along more table index
+unfolding size_along
 along_more table zero more index few many = absurd (omega (arith, few))
 along_more table (suc most) zero index few many = absurd (omega (arith, many))
 along_more table (suc most) (suc more) index few many =
-    one_lower table (along most table) (along more table) index
+    one_lower table (size_along most table) (size_along more table) index
     (λ lower below. along_more table most more lower (omega (arith, below, few)) (omega (arith, below, many)))
 
 -- ---- the laws
 
 pub are_sizes : (table : Table) → AreSizes table (size_of table)
-unfolding size_of along
+unfolding size_of size_along
 are_sizes table index =
-    one_lower table (along index table) (size_of table) index
+    one_lower table (size_along index table) (size_of table) index
     (λ lower below. along_more table index (suc lower) lower below (omega arith))
 
 only_below : (table : Table) (sizes : Sizes) → AreSizes table sizes → (bound index : ℕ) → index < bound

@@ -5,7 +5,7 @@ use Rattle.std.specs.Option.{option_map_or}
 use Rattle.pdb_base.specs.Answer.{Answer, ◌>>=◌}
 use Rattle.pdb_values.specs.TypeValue.{TypeValue}
 use Rattle.pdb_tpi.specs.Steps.{walk_rest}
-use Rattle.pdb_tpi.specs.Table.{Table, count_of}
+use Rattle.pdb_tpi.specs.Table.{Table, count_in_header}
 use Rattle.pdb_tpi.specs.Walk.{fault_of}
 use Rattle.pdb_types.specs.Declaration.{Declared, TypeName, declaration_of, is_forward, bears, sought_name}
 use Rattle.pdb_types.specs.TypeAt.{type_at}
@@ -22,7 +22,7 @@ defines name (Err refusal) = false
 
 -- the indexes that the header of a table counts
 abbrev pub indexes_of : Table → List ℕ
-indexes_of table = range_with_len table.header.minimum_index (count_of table)
+indexes_of table = range_with_len table.header.minimum_index (count_in_header table)
 
 -- the first index of a table whose type is a definition of a name
 unfoldable pub first_definition : Table → TypeName → Option ℕ
@@ -54,5 +54,5 @@ if_none_left x [] = Ok x
 if_none_left x (byte ∷ bytes) = Err (fault_of (byte ∷ bytes))
 
 -- a table whose items end where its bytes do, or else the fault at which the walk over them stops
-unfoldable pub walked : Table → Answer Table
-walked table = if_none_left table (walk_rest table)
+unfoldable pub whole_table : Table → Answer Table
+whole_table table = if_none_left table (walk_rest table)

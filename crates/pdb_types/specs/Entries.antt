@@ -21,8 +21,8 @@ abbrev pub rank : Entry → ℕ
 rank entry = entry.hash * 0x1_0000_0000 + entry.index.0
 
 -- the entry of a name of a definition
-abbrev pub entry_of : ℕ → TypeName → Entry
-entry_of index name = record { hash = name_hash name; index = record { 0 = index } }
+abbrev pub name_entry : ℕ → TypeName → Entry
+name_entry index name = record { hash = name_hash name; index = record { 0 = index } }
 
 -- whether the records of a kind are lists of arguments, of fields or of methods
 abbrev pub is_list : ℕ → Bool
@@ -30,8 +30,8 @@ is_list kind = kind == 0x1203 || kind == 0x1201 || kind == 0x1206
 
 -- the entries of the names of a definition
 abbrev pub names_entries : ℕ → Declared → List Entry
-names_entries index declared = entry_of index (source_name declared.name)
-    ∷ option_map_or (λ name. entry_of index (decorated_name name) ∷ []) declared.unique_name []
+names_entries index declared = name_entry index (source_name declared.name)
+    ∷ option_map_or (λ name. name_entry index (decorated_name name) ∷ []) declared.unique_name []
 
 -- the entries of a type: those of its names, if it is a definition
 abbrev pub entries_of : ℕ → Answer TypeValue → List Entry

@@ -47,8 +47,8 @@ pub record AreGapRows (spans : List Span) (size : ℕ) (virtual : Bool) (rows : 
   pub kinds : All (λ row. AreOfKind spans size virtual row.kind row.bits) rows
 
 -- the bytes of which a span of bits has some
-abbrev pub bytes_of : Span → Span
-bytes_of bits = if nat_lt bits.start bits.end then record
+abbrev pub bytes_touched : Span → Span
+bytes_touched bits = if nat_lt bits.start bits.end then record
     { start = bits.start / 8; end = (bits.end - 1) / 8 + 1 } else record { start = 0; end = 0 }
 
 -- the greatest end of spans

@@ -35,10 +35,10 @@ abbrev pub AreSizes : Table → Sizes → Type 0
 AreSizes table sizes = (index : ℕ) → sizes index ≡ one_size table sizes index
 
 -- the size of a type, along at most as many types as the first argument
-unfoldable pub along : ℕ → Table → ℕ → Answer (Option ℕ)
-along zero table index = Ok None
-along (suc most) table index = one_size table (along most table) index
+unfoldable pub size_along : ℕ → Table → ℕ → Answer (Option ℕ)
+size_along zero table index = Ok None
+size_along (suc most) table index = one_size table (size_along most table) index
 
 -- the size of the type of an index, if there is one
 unfoldable pub size_of : Table → ℕ → Answer (Option ℕ)
-size_of table index = along (suc index) table index
+size_of table index = size_along (suc index) table index

@@ -2,7 +2,7 @@
 
 ghost use Rattle.std.specs.Prelude.{◌≡◌, IfOk};
 ghost use Rattle.pdb_base.specs.Answer.{Answers};
-ghost use Rattle.pdb_types.specs.Definition.{walked};
+ghost use Rattle.pdb_types.specs.Definition.{whole_table};
 ghost use Rattle.pdb_types.specs.DefinitionIndex.{IsIndexOf, index_kept};
 
 use crate::definition_walk::DefinitionWalk;
@@ -27,15 +27,15 @@ impl DefinitionIndex {
     /// Makes the index of a table.
     pub(crate) fn new(alloc: Global, types: &OpenTable<TypeIndex>) -> Result<Self>
         ensures index { IfOk result (IsIndexOf types.now.table) }
-        ensures walked { Answers (λ _. types.now.table) result (walked types.now.table) }
+        ensures walked { Answers (λ _. types.now.table) result (whole_table types.now.table) }
     {
-        let walk = DefinitionWalk::sorted(alloc, types.items())?;
+        let walk = DefinitionWalk::read_sorted(alloc, types.items())?;
         let index = DefinitionIndex {
             entries: walk.entries,
             shortcuts: Vec::new(alloc),
         };
         let has_names = walk.has_wide_enumeration;
-        let shortcuts = Definitions::lent(types, &index).new_shortcuts(
+        let shortcuts = Definitions::borrow_from(types, &index).new_shortcuts(
             alloc,
             has_names,
             &walk.modified,

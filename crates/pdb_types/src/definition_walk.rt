@@ -3,10 +3,10 @@
 ghost use Rattle.std.specs.Prelude.{◌≡◌, ◌++◌, IfOk, Ok, OnOk};
 ghost use Rattle.pdb_base.specs.Answer.{Answers};
 ghost use Rattle.pdb_base.specs.Memory.{FailsOnlyForMemory};
-ghost use Rattle.pdb_tpi.specs.Item.{bytes_of, index_of};
+ghost use Rattle.pdb_tpi.specs.Item.{item_bytes, index_of};
 ghost use Rattle.pdb_tpi.specs.Record.{type_of};
 ghost use Rattle.pdb_tpi.specs.Steps.{walk_rest};
-ghost use Rattle.pdb_types.specs.Definition.{if_none_left, walked};
+ghost use Rattle.pdb_types.specs.Definition.{if_none_left, whole_table};
 ghost use Rattle.pdb_values.specs.TypeView.{type_value};
 ghost use Rattle.pdb_types.specs.Entries.{IsIndexed, all_entries, entries_of, is_list};
 
@@ -85,7 +85,7 @@ impl DefinitionWalk {
     /// Notes the type of an item, if it can be read.
     fn note_read(&mut self, alloc: Global, item: &Type<'_>, least: u32) -> Result<()>
         ensures ok { OnOk result (self.new.entries.items ≡ self.old.entries.items
-            ++ entries_of (index_of item.now).0 (type_of (index_of item.now).0 (bytes_of item.now))) }
+            ++ entries_of (index_of item.now).0 (type_of (index_of item.now).0 (item_bytes item.now))) }
         ensures memory { FailsOnlyForMemory result }
     {
         match item.parse(alloc) {
@@ -98,7 +98,7 @@ impl DefinitionWalk {
     /// Notes the type of an item. A list has no name, and isn't read.
     fn note(&mut self, alloc: Global, item: &Type<'_>, least: u32) -> Result<()>
         ensures ok { OnOk result (self.new.entries.items ≡ self.old.entries.items
-            ++ entries_of (index_of item.now).0 (type_of (index_of item.now).0 (bytes_of item.now))) }
+            ++ entries_of (index_of item.now).0 (type_of (index_of item.now).0 (item_bytes item.now))) }
         ensures memory { FailsOnlyForMemory result }
     {
         if is_list(item.raw_kind()) {
@@ -133,9 +133,9 @@ impl DefinitionWalk {
     ///
     /// # Errors
     /// Fails as `along` does.
-    pub(crate) fn sorted(alloc: Global, table: &TypeInformation) -> Result<Self>
+    pub(crate) fn read_sorted(alloc: Global, table: &TypeInformation) -> Result<Self>
         ensures indexed { IfOk result (λ walk. IsIndexed table.now walk.entries.items) }
-        ensures walked { Answers (λ _. table.now) result (walked table.now) }
+        ensures walked { Answers (λ _. table.now) result (whole_table table.now) }
     {
         let mut walk = DefinitionWalk::along(alloc, table)?;
         walk.entries.sort_unstable_by_key(|entry| entry.rank());

@@ -4,7 +4,7 @@ ghost use Rattle.std.specs.Prelude.{◌≡◌, ◌≤◌, length, drop, map, Ok}
 ghost use Rattle.std.specs.Option.{option_map};
 ghost use Rattle.pdb_base.specs.Answer.{Answers};
 ghost use Rattle.pdb_types.specs.Declaration.{source_name, type_name};
-ghost use Rattle.pdb_types.specs.Definition.{all_definitions, defines, definition_by, definition_of, first_definition, walked};
+ghost use Rattle.pdb_types.specs.Definition.{all_definitions, defines, definition_by, definition_of, first_definition, whole_table};
 ghost use Rattle.pdb_types.specs.DefinitionIndex.{IsIndexOf};
 ghost use Rattle.pdb_types.specs.Entries.{AreCandidates, IsIndexed};
 ghost use Rattle.pdb_types.specs.Shortcut.{AreShortcuts, IsAsLarge};
@@ -64,14 +64,14 @@ impl<'t> Definitions<'t> {
     /// Fails with the fault at which the walk stops if that is before the end of the table, and
     /// with `OutOfMemory` if an allocation fails.
     pub fn new(alloc: Global, types: &'t OpenTable<TypeIndex>) -> Result<Self>
-        ensures { Answers (λ definitions. definitions) result (walked types.now.table) }
+        ensures { Answers (λ definitions. definitions) result (whole_table types.now.table) }
     {
         let index = KeptIndex::Own(DefinitionIndex::new(alloc, types)?);
         Ok(Definitions { types, index })
     }
 
     /// Returns the definitions of a table whose index another keeps.
-    pub(crate) fn lent(types: &'t OpenTable<TypeIndex>, index: &'t DefinitionIndex) -> Self
+    pub(crate) fn borrow_from(types: &'t OpenTable<TypeIndex>, index: &'t DefinitionIndex) -> Self
         requires { IsIndexOf types.now.table index.now }
         ensures { result ≡ types.now.table }
     {

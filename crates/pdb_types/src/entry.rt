@@ -3,7 +3,7 @@
 ghost use Rattle.std.specs.Prelude.{◌≡◌, ◌++◌, OnOk, Ok};
 ghost use Rattle.pdb_base.specs.Memory.{FailsOnlyForMemory};
 ghost use Rattle.pdb_types.specs.Declaration.{declaration_value, type_name};
-ghost use Rattle.pdb_types.specs.Entries.{entries_of, entry_of, names_entries, rank};
+ghost use Rattle.pdb_types.specs.Entries.{entries_of, name_entry, names_entries, rank};
 ghost use Rattle.pdb_values.specs.TypeView.{type_value};
 
 use crate::declaration::{Declaration, declaration_of};
@@ -25,7 +25,7 @@ pub(crate) struct Entry {
 impl Entry {
     /// Returns the entry of a name of a definition.
     fn of(index: TypeIndex, name: TypeName<'_>) -> Self
-        ensures { result ≡ entry_of index.0 (type_name name.entry) }
+        ensures { result ≡ name_entry index.0 (type_name name.entry) }
     {
         Entry {
             hash: name_hash(name),

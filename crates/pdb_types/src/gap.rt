@@ -3,7 +3,7 @@
 ghost use Rattle.std.specs.Prelude.{◌≡◌, ◌++◌, ◌≤◌, ◌<◌, ◌^◌, IfOk, OnOk, map};
 ghost use Rattle.std.specs.List.{All};
 ghost use Rattle.pdb_base.specs.Memory.{FailsOnlyForMemory};
-ghost use Rattle.pdb_types.specs.Gap.{AreGapRows, bytes_of, end_of, hole_row, tail_row, tail_start, unused_row};
+ghost use Rattle.pdb_types.specs.Gap.{AreGapRows, bytes_touched, end_of, hole_row, tail_row, tail_start, unused_row};
 ghost use Rattle.pdb_types.specs.Span.{AreGaps, gap_of};
 
 use crate::span::{Span, gaps, greatest};
@@ -36,7 +36,7 @@ pub struct Gap {
 
 /// Returns the bytes of which a span of bits has some.
 fn bytes_of(bits: Span) -> Span
-    ensures { result ≡ bytes_of bits }
+    ensures { result ≡ bytes_touched bits }
 {
     if bits.start < bits.end {
         Span {
@@ -50,7 +50,7 @@ fn bytes_of(bits: Span) -> Span
 
 /// Returns the bytes of which spans of bits have some, a span for each.
 fn bytes_of_all(alloc: Global, spans: &[Span]) -> Result<Vec<Span>>
-    ensures ok { IfOk result (λ bytes. bytes.items ≡ map bytes_of spans.now) }
+    ensures ok { IfOk result (λ bytes. bytes.items ≡ map bytes_touched spans.now) }
     ensures memory { FailsOnlyForMemory result }
 {
     let bytes = spans.iter().map(|span| bytes_of(*span)).collect(alloc)?;

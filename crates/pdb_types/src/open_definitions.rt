@@ -2,7 +2,7 @@
 
 ghost use Rattle.std.specs.Prelude.{◌≡◌};
 ghost use Rattle.pdb_base.specs.Answer.{Answers};
-ghost use Rattle.pdb_types.specs.Definition.{walked};
+ghost use Rattle.pdb_types.specs.Definition.{whole_table};
 
 use crate::definition_index::DefinitionIndex;
 use crate::definitions::Definitions;
@@ -37,7 +37,7 @@ impl OpenDefinitions {
     /// # Errors
     /// Fails as `Definitions::new` does.
     pub fn new(alloc: Global, types: OpenTable<TypeIndex>) -> Result<Self>
-        ensures { Answers (λ definitions. definitions) result (walked types.table) }
+        ensures { Answers (λ definitions. definitions) result (whole_table types.table) }
     {
         let mut types = types;
         let last = types.items().header().maximum_index.saturating_sub(1);
@@ -50,6 +50,6 @@ impl OpenDefinitions {
     pub fn definitions(&self) -> Definitions<'_>
         ensures { result ≡ self.now }
     {
-        Definitions::lent(&self.types, &self.index)
+        Definitions::borrow_from(&self.types, &self.index)
     }
 }

@@ -285,7 +285,7 @@ impl<'t> Definitions<'t> {
                     text.extend_from_slice("...".as_bytes())?;
                     continue;
                 }
-                let declared = self.declared(alloc, *argument, &[], depth - 1, most)?;
+                let declared = self.declare(alloc, *argument, &[], depth - 1, most)?;
                 text.extend_from_slice(&declared)?;
             }
         }
@@ -295,7 +295,7 @@ impl<'t> Definitions<'t> {
 
     /// Returns the declaration of a name that has a type, reading at most so many types.
     #[cycle(text)]
-    fn declared(
+    fn declare(
         &self,
         alloc: Global,
         index: TypeIndex,
@@ -342,6 +342,6 @@ impl<'t> Definitions<'t> {
         ensures { FailsAsTable self.now result }
     {
         let mut most = MOST_TYPES;
-        self.declared(alloc, index, name, MOST_DEPTH, &mut most)
+        self.declare(alloc, index, name, MOST_DEPTH, &mut most)
     }
 }

@@ -6,12 +6,12 @@ use Rattle.std.specs.List.{flat_map, range_with_len}
 use Rattle.std.specs.Option.{option_map, option_to_list}
 use Rattle.std.proofs.Math.Nat.{le-min, min-le_right}
 use Rattle.std.proofs.lemmas.Bool.{cases_lt, false≢true, lt-ltb, le-ltb}
-use Rattle.pdb_base.specs.Answer.{Answer, Answers, ◌>>=◌, required}
+use Rattle.pdb_base.specs.Answer.{Answer, Answers, ◌>>=◌, ok_if}
 use Rattle.pdb_base.specs.Refusal.{Refusal, stream_not_found}
 use Rattle.pdb_base.specs.declared.error.Error.{Error}
 use Rattle.pdb_base.proofs.lemmas.Collected.{ok_is}
-use Rattle.pdb_msf.specs.Directory.{entry_of, place_in, stream_count_in}
-use Rattle.pdb_msf.specs.Header.{Head, opened}
+use Rattle.pdb_msf.specs.Directory.{stream_entry_of, stream_place_in, stream_count_in}
+use Rattle.pdb_msf.specs.Header.{Head, file_head}
 use Rattle.pdb_msf.specs.Layout.{LayoutValue, layout_of, stream_by}
 use Rattle.pdb_msf.specs.Pages.{present, words}
 use Rattle.pdb_base.specs.Index.{no_stream, stream_number}
@@ -163,19 +163,19 @@ no_number n least below = omega (arith, least, below)
 
 past_word : {A : Type 0} (word : Option ℕ) (n : ℕ) (more : ℕ → Unit {0} → Answer A) → nameable (present word) ≤ n
     → n < 0xffff
-    → (present word >>= λ count. required (nat_lt n count) (stream_not_found n) >>= more count)
+    → (present word >>= λ count. ok_if (nat_lt n count) (stream_not_found n) >>= more count)
     ≡ Err (stream_not_found n)
 past_word None n more least below = absurd (no_number n least below)
 past_word (Some count) n more least below = let test = le-ltb n count (not_over count n least below) in rw test refl
 
 past_place : (page_size n : ℕ) (directory : List ℕ) → nameable (stream_count_in directory) ≤ n → n < 0xffff
-    → place_in page_size n directory ≡ Err (stream_not_found n)
-unfolding place_in
+    → stream_place_in page_size n directory ≡ Err (stream_not_found n)
+unfolding stream_place_in
 past_place page_size n directory least below = past_word (slice_get (words directory) 0) n _ least below
 
 absent_past : (layout : LayoutValue) (file : List ℕ) (n : ℕ) → streams_nameable layout ≤ n → n < 0xffff
     → stream_by layout file n None ≡ Err (stream_not_found n)
-unfolding stream_by entry_of
+unfolding stream_by stream_entry_of
 absent_past layout file n least below =
     let place = past_place layout.head.geometry.page_size n layout.directory least below in rw place refl
 
@@ -644,17 +644,17 @@ first_ok : (file : List ℕ) (answer : Answer Head) (more : Head → Answer Layo
 first_ok file (Ok head) more whole = refl
 first_ok file (Err refusal) more whole = absurd whole
 
-opened_by : (file : List ℕ) → IsWholeBehind file (layout_of file) → IsOk (opened file)
+opened_by : (file : List ℕ) → IsWholeBehind file (layout_of file) → IsOk (file_head file)
 unfolding layout_of
-opened_by file whole = first_ok file (opened file) _ whole
+opened_by file whole = first_ok file (file_head file) _ whole
 
 pub no_errors : (extent : Extent) (file : List ℕ) → errors_in (faults_of extent file) ≡ [] → IsWhole file
 unfolding faults_of
-no_errors extent file is = none_behind_header extent file (opened file) is
+no_errors extent file is = none_behind_header extent file (file_head file) is
 
 pub whole_file : (extent : Extent) (file : List ℕ) → IsWhole file → errors_in (faults_of extent file) ≡ []
 unfolding faults_of
-whole_file extent file whole = whole_behind_header extent file (opened file) (opened_by file whole.parts) whole
+whole_file extent file whole = whole_behind_header extent file (file_head file) (opened_by file whole.parts) whole
 
 abbrev said : List Fault → Answer (List Fault)
 said faults = Ok faults

@@ -12,9 +12,9 @@ use Rattle.pdb_validation.specs.declared.finding.Part.{Part}
 use Rattle.pdb_validation.specs.declared.finding.Part.TheVariants as parts
 
 -- the value or the error of a call for which there was memory
-abbrev pub answered : {X : Type 0} → Result X Error → Answer X
-answered (Ok x) = Ok x
-answered (Err e) = Err (refusal_of e)
+abbrev pub answer_of_call : {X : Type 0} → Result X Error → Answer X
+answer_of_call (Ok x) = Ok x
+answer_of_call (Err e) = Err (refusal_of e)
 
 -- What is wrong within the bytes of a stream, if they can be read, and else nothing: that they can't is a fault of
 -- the part that the bytes of streams are.

@@ -2,13 +2,13 @@
 use Rattle.std.specs.Prelude.{ℕ, ◌+◌, ◌-◌, ◌==◌, nat_lt, if◌then◌else◌, List, [], ◌∷◌, ◌++◌, length}
 use Rattle.std.specs.Prelude.{Option, Some, None, Ok, Err}
 use Rattle.std.specs.Option.{option_to_list}
-use Rattle.pdb_base.specs.Answer.{Answer, ◌>>=◌, required}
+use Rattle.pdb_base.specs.Answer.{Answer, ◌>>=◌, ok_if}
 use Rattle.pdb_base.specs.Refusal.{Refusal, unexpected_eof, unimplemented_type_kind}
 use Rattle.pdb_records.specs.Fields.{field_list_leaf}
 use Rattle.pdb_consistency.specs.Records.{is_not_read}
 use Rattle.pdb_tpi.specs.Chain.{not_below}
 use Rattle.pdb_tpi.specs.Finder.{item_of}
-use Rattle.pdb_tpi.specs.OpenTable.{position_of}
+use Rattle.pdb_tpi.specs.OpenTable.{item_position}
 use Rattle.pdb_tpi.specs.Record.{id_of, kind_of, type_of}
 use Rattle.pdb_tpi.specs.StepLaws.{first_stand}
 use Rattle.pdb_tpi.specs.Steps.{WalkPosition, walk, walk_rest}
@@ -31,9 +31,9 @@ refusal_in (Err refusal) = Some refusal
 -- A field list is continued by the list of an index, which must be below its own.
 unfoldable pub continues_at : Table → ℕ → ℕ → Answer (Unit {0})
 continues_at table index next = do
-  below ← required (nat_lt next index) not_below
+  below ← ok_if (nat_lt next index) not_below
   item ← item_of table next
-  required (kind_of item == field_list_leaf) (unimplemented_type_kind (kind_of item))
+  ok_if (kind_of item == field_list_leaf) (unimplemented_type_kind (kind_of item))
 
 -- the same for a type that may be a field list with a continuation
 abbrev pub continued_in : Table → ℕ → TypeValue → Answer (Unit {0})
@@ -45,8 +45,8 @@ unfoldable pub read_in : Table → ℕ → List ℕ → Answer (Unit {0})
 read_in table index item = type_of index item >>= continued_in table index
 
 -- the answer with this error
-abbrev pub refused : Refusal → Answer (Unit {0})
-refused refusal = Err refusal
+abbrev pub fail_with : Refusal → Answer (Unit {0})
+fail_with refusal = Err refusal
 
 -- an answer for a record, or success if the kind of the record is not read by this library
 abbrev pub unless_unread : {A : Type 0} → ℕ → Answer A → Answer (Unit {0})
@@ -77,7 +77,7 @@ item_faults fault means index (item ∷ items) behind =
 
 -- the byte of its stream at which the item of an index begins, behind the header and the items before it
 abbrev pub byte_of : Table → ℕ → ℕ
-byte_of table index = position_of table (index - table.header.minimum_index)
+byte_of table index = item_position table (index - table.header.minimum_index)
 
 -- the fault of the record of an index, which begins at that byte of a stream that has those pages
 abbrev pub fault_at : Part → ℕ → PagesValue → ℕ → ℕ → Refusal → Fault

@@ -3,7 +3,7 @@ use Rattle.std.specs.Prelude.{ℕ, nat_lt, if◌then◌else◌, List, [], ◌∷
 use Rattle.std.specs.Option.{option_to_list}
 use Rattle.pdb_base.specs.Answer.{Answer}
 use Rattle.pdb_consistency.specs.declared.inconsistency.Inconsistency.TheVariants as kinds
-use Rattle.pdb_msf.specs.Header.{Head, opened}
+use Rattle.pdb_msf.specs.Header.{Head, file_head}
 use Rattle.pdb_msf.specs.Layout.{LayoutValue, layout_of, stream_by}
 use Rattle.pdb_file.specs.declared.debug_header.DBIExtraStreams.{DBIExtraStreams}
 use Rattle.pdb_validation.specs.Finding.{Fault, by_extent, file_fault}
@@ -82,4 +82,4 @@ faults_behind extent file (Err refusal) = file_fault parts.Header (failure refus
 
 -- what is found wrong in a file: of each part the first fault, or every one
 unfoldable pub faults_of : Extent → List ℕ → List Fault
-faults_of extent file = faults_behind extent file (opened file)
+faults_of extent file = faults_behind extent file (file_head file)

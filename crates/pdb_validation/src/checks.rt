@@ -3,7 +3,7 @@
 ghost use Rattle.std.specs.Prelude.{◌≡◌, ◌≤◌, ◌<◌, ◌↔◌, [], ◌∷◌, ◌++◌, length, map, Ok, IfOk, IsOk};
 ghost use Rattle.std.specs.Option.{option_to_list};
 ghost use Rattle.pdb_base.specs.Answer.{Answers};
-ghost use Rattle.pdb_msf.specs.Header.{opened};
+ghost use Rattle.pdb_msf.specs.Header.{file_head};
 ghost use Rattle.pdb_msf.specs.Layout.{layout_of};
 ghost use Rattle.pdb_validation.specs.Finding.{by_extent, error_count, file_fault, finding_view};
 ghost use Rattle.pdb_validation.specs.IsWhole.{IsWhole};
@@ -199,7 +199,7 @@ fn check_directory(alloc: Global, file: &[u8], extent: Extent) -> Result<Vec<Fin
 /// file, or those of the directory and of the other parts.
 #[tactic(auto, unfolding(crate::specs::Whole::opened_faults))]
 fn check_opened(alloc: Global, file: &[u8], extent: Extent) -> Result<Vec<Finding>>
-    requires { IsOk (opened file.now) }
+    requires { IsOk (file_head file.now) }
     ensures { Answers (λ findings. map finding_view findings.items) result
         (Ok (opened_faults extent file.now)) }
 {
@@ -212,7 +212,7 @@ fn check_opened(alloc: Global, file: &[u8], extent: Extent) -> Result<Vec<Findin
 
 /// Opens a file in memory.
 fn open<'f>(alloc: Global, file: &'f [u8]) -> Result<PDB<&'f [u8]>>
-    ensures { Answers (λ pdb. pdb.head) result (opened file.now) }
+    ensures { Answers (λ pdb. pdb.head) result (file_head file.now) }
 {
     PDB::open(alloc, file)
 }

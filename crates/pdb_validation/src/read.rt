@@ -3,7 +3,7 @@
 ghost use Rattle.std.specs.Prelude.{None, Ok};
 ghost use Rattle.pdb_base.specs.Answer.{Answers};
 ghost use Rattle.pdb_msf.specs.Layout.{stream_by};
-ghost use Rattle.pdb_validation.specs.Streams.{answered};
+ghost use Rattle.pdb_validation.specs.Streams.{answer_of_call};
 
 use pdb_base::{Error, Result, Stream};
 use pdb_msf::Layout;
@@ -19,7 +19,7 @@ pub(crate) fn read(
     file: &[u8],
     number: u32,
 ) -> Result<Result<Stream>>
-    ensures { Answers answered result (Ok (stream_by layout.now file.now number None)) }
+    ensures { Answers answer_of_call result (Ok (stream_by layout.now file.now number None)) }
 {
     match layout.stream(alloc, file, number, None) {
         Ok(stream) => Ok(Ok(stream)),

@@ -5,12 +5,12 @@ ghost use Rattle.std.specs.Option.{option_map};
 ghost use Rattle.pdb_base.specs.Answer.{Answers, Gives};
 ghost use Rattle.pdb_base.specs.Refusal.{refusal_of};
 ghost use Rattle.pdb_base.specs.declared.error.Error.{Error};
-ghost use Rattle.pdb_tpi.specs.Item.{bytes_of, index_of};
+ghost use Rattle.pdb_tpi.specs.Item.{item_bytes, index_of};
 ghost use Rattle.pdb_values.specs.TypeView.{type_value};
 ghost use Rattle.pdb_validation.specs.Finding.{by_extent, finding_view};
 ghost use Rattle.pdb_validation.specs.Tables.{continued_in, continues_at, fault_at, id_faults, id_in, ids_faults};
 ghost use Rattle.pdb_validation.specs.Tables.{missing_fault, opened_table, read_in, refusal_fault};
-ghost use Rattle.pdb_validation.specs.Tables.{refusal_in, refused, type_faults, type_in, types_faults, unless_unread};
+ghost use Rattle.pdb_validation.specs.Tables.{refusal_in, fail_with, type_faults, type_in, types_faults, unless_unread};
 ghost use Rattle.pdb_validation.specs.declared.finding.Part.TheVariants as parts;
 
 use crate::finding::{Finding, Part, add, add_until, in_stream};
@@ -65,7 +65,7 @@ fn without_value(read: Result<TypeData<'_>>) -> Result<()>
 /// Reads the record of a type, and checks its continuation.
 #[tactic(auto, unfolding(crate::specs::Tables::read_in))]
 fn read_type(alloc: Global, types: &OpenTable<TypeIndex>, item: &Item<'_, TypeIndex>) -> Result<()>
-    ensures { Answers (λ done. done) result (read_in types.now.table (index_of item.now).0 (bytes_of item.now)) }
+    ensures { Answers (λ done. done) result (read_in types.now.table (index_of item.now).0 (item_bytes item.now)) }
 {
     let read = item.parse(alloc);
     // The value is borrowed where it is, since it is large to move.
@@ -77,7 +77,7 @@ fn read_type(alloc: Global, types: &OpenTable<TypeIndex>, item: &Item<'_, TypeIn
 
 /// Returns an error of a record of a kind, unless that kind is not read.
 fn unless_unread(kind: u16, error: Error) -> Option<Error>
-    ensures { option_map refusal_of result ≡ refusal_in (unless_unread kind (refused (refusal_of error))) }
+    ensures { option_map refusal_of result ≡ refusal_in (unless_unread kind (fail_with (refusal_of error))) }
 {
     if is_not_read(kind, &error) {
         return None;
@@ -93,7 +93,7 @@ fn type_error(
     item: &Item<'_, TypeIndex>,
 ) -> Result<Option<Error>>
     ensures { Answers (option_map refusal_of) result
-        (Ok (refusal_in (type_in types.now.table (index_of item.now).0 (bytes_of item.now)))) }
+        (Ok (refusal_in (type_in types.now.table (index_of item.now).0 (item_bytes item.now)))) }
 {
     match read_type(alloc, types, item) {
         Ok(()) => Ok(None),
@@ -106,7 +106,7 @@ fn type_error(
 #[tactic(auto, unfolding(crate::specs::Tables::id_in))]
 fn id_error(alloc: Global, item: &Item<'_, IdIndex>) -> Result<Option<Error>>
     ensures { Answers (option_map refusal_of) result
-        (Ok (refusal_in (id_in (index_of item.now).0 (bytes_of item.now)))) }
+        (Ok (refusal_in (id_in (index_of item.now).0 (item_bytes item.now)))) }
 {
     match item.parse(alloc) {
         Ok(_) => Ok(None),
@@ -148,7 +148,7 @@ fn check_type(
 ) -> Result<Option<Finding>>
     ensures { Answers (option_map finding_view) result
         (Ok (refusal_fault (fault_at parts.Types 2 pages.now index byte)
-        (type_in types.now.table (index_of item.now).0 (bytes_of item.now)))) }
+        (type_in types.now.table (index_of item.now).0 (item_bytes item.now)))) }
 {
     match type_error(alloc, types, item)? {
         Some(error) => Ok(Some(at_record(Part::Types, TYPE_STREAM, pages, index, byte, error))),
@@ -166,7 +166,7 @@ fn check_id(
 ) -> Result<Option<Finding>>
     ensures { Answers (option_map finding_view) result
         (Ok (refusal_fault (fault_at parts.Ids 4 pages.now index byte)
-        (id_in (index_of item.now).0 (bytes_of item.now)))) }
+        (id_in (index_of item.now).0 (item_bytes item.now)))) }
 {
     match id_error(alloc, item)? {
         Some(error) => Ok(Some(at_record(Part::Ids, ID_STREAM, pages, index, byte, error))),

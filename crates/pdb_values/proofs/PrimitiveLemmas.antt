@@ -13,7 +13,7 @@ use Rattle.pdb_values.specs.declared.primitive.Indirection.TheVariants as pointe
 use Rattle.pdb_values.specs.declared.primitive.PrimitiveKind.{PrimitiveKind}
 use Rattle.pdb_values.specs.declared.primitive.PrimitiveKind.TheVariants as kinds
 use Rattle.pdb_values.specs.declared.primitive.PrimitiveType.{PrimitiveType}
-use Rattle.pdb_values.specs.Primitive.{first_record, primitive_kinds, indirections, found, numbered, primitive_kind}
+use Rattle.pdb_values.specs.Primitive.{first_record, primitive_kinds, indirections, value_or_not_found, beside_number, primitive_kind}
 use Rattle.pdb_values.specs.Primitive.{primitive_indirection, primitive_type}
 use Rattle.pdb_values.specs.Laws.{HasOneIndex, IsRefusedByIndex}
 
@@ -73,7 +73,7 @@ pointer_number (Some pointers.Far32) = 5
 pointer_number (Some pointers.Near64) = 6
 pointer_number (Some pointers.Near128) = 7
 
-kind_row : (kind : PrimitiveKind) → numbered primitive_kinds (kind_number kind) ≡ Some kind
+kind_row : (kind : PrimitiveKind) → beside_number primitive_kinds (kind_number kind) ≡ Some kind
 unfolding kind_number
 kind_row kinds.NoType = refl
 kind_row kind = refl
@@ -83,7 +83,7 @@ unfolding kind_number
 kind_number-lt kinds.NoType = lit< tt
 kind_number-lt kind = lit< tt
 
-pointer_row : (pointer : Option Indirection) → numbered indirections (pointer_number pointer) ≡ Some pointer
+pointer_row : (pointer : Option Indirection) → beside_number indirections (pointer_number pointer) ≡ Some pointer
 unfolding pointer_number
 pointer_row None = refl
 pointer_row (Some pointers.Near16) = refl
@@ -97,7 +97,7 @@ pointer_number-lt (Some pointer) = lit< tt
 
 -- what a table says under a number, where each row has the number of what it says
 found_number : {A : Type 0} (number : A → ℕ) (rows : List (ℕ × A)) (n : ℕ) (x : A)
-    → list_all (λ (row : ℕ × A). row.0 == number row.1) rows ≡ true → numbered rows n ≡ Some x → n ≡ number x
+    → list_all (λ (row : ℕ × A). row.0 == number row.1) rows ≡ true → beside_number rows n ≡ Some x → n ≡ number x
 found_number number [] n x all is = absurd cc
 found_number {A} number (row ∷ rows) n x all is =
     let rest = found_number number rows n x in
@@ -112,7 +112,7 @@ unfolding pointer_number
 pointers_numbered = refl
 
 -- what was found was in the table
-found_there : {A : Type 0} (index : ℕ) (row : Option A) (x : A) → found index row ≡ Ok x → row ≡ Some x
+found_there : {A : Type 0} (index : ℕ) (row : Option A) (x : A) → value_or_not_found index row ≡ Ok x → row ≡ Some x
 found_there {A} index (Some y) x e = ap (λ (z : A). Some z) (ok_is y x e)
 found_there index None x e = absurd cc
 
@@ -148,9 +148,9 @@ unfolding primitive_kind primitive_indirection
 index_is index type small is =
     let read = both index type is in
     let kind = found_number kind_number primitive_kinds (bits index 0 8) type.kind kinds_numbered
-    (found_there index (numbered primitive_kinds (bits index 0 8)) type.kind read.0) in
+    (found_there index (beside_number primitive_kinds (bits index 0 8)) type.kind read.0) in
     let pointer = found_number pointer_number indirections (bits index 8 4) type.indirection pointers_numbered
-    (found_there index (numbered indirections (bits index 8 4)) type.indirection read.1) in
+    (found_there index (beside_number indirections (bits index 8 4)) type.indirection read.1) in
     omega (arith, split index small, kind, pointer)
 
 -- and the index that is made of them stands for it
@@ -175,7 +175,7 @@ has_one_index type = record {
 }
 
 -- what is not found is refused as the index
-not_found : {A : Type 0} (index : ℕ) (row : Option A) (e : Refusal) → found index row ≡ Err e → e ≡ type_not_found index
+not_found : {A : Type 0} (index : ℕ) (row : Option A) (e : Refusal) → value_or_not_found index row ≡ Err e → e ≡ type_not_found index
 not_found {A} index (Some x) e is = absurd (ok_is_no_err x e is)
 not_found {A} index None e is = sym (err_is {A = A} (type_not_found index) e is)
 
@@ -190,8 +190,8 @@ unfolding primitive_type primitive_kind primitive_indirection
 is_refused_by_index index = λ e is.
     refused_step (primitive_kind index) (λ k. primitive_indirection index
     >>= λ i. Ok (record { kind = k; indirection = i })) e (type_not_found index)
-    (not_found index (numbered primitive_kinds (bits index 0 8)))
+    (not_found index (beside_number primitive_kinds (bits index 0 8)))
     (λ k. refused_step (primitive_indirection index) (λ i. Ok (record { kind = k; indirection = i })) e
-    (type_not_found index) (not_found index (numbered indirections (bits index 8 4)))
+    (type_not_found index) (not_found index (beside_number indirections (bits index 8 4)))
     (λ i no. absurd (ok_is_no_err _ e no)))
     is

@@ -1,7 +1,7 @@
 -- The names of leaves, as Microsoft's cvinfo.h has them in `LEAF_ENUM_e`.
 use Rattle.std.specs.Prelude.{ℕ, List, [], ◌∷◌, codes, Option}
 use Rattle.std.specs.Option.{option_or}
-use Rattle.pdb_values.specs.Primitive.{numbered}
+use Rattle.pdb_values.specs.Primitive.{beside_number}
 
 -- leaves of records with indexes of 16 bits, and a few as old: of types that symbols refer to, of types
 -- that only other types refer to, and of entries of a list of fields
@@ -151,5 +151,5 @@ later_leafs =
 
 -- the name of a leaf
 unfoldable pub leaf_text : ℕ → Option (List ℕ)
-leaf_text number = option_or (numbered narrow_leafs number)
-    (option_or (numbered wide_leafs number) (numbered later_leafs number))
+leaf_text number = option_or (beside_number narrow_leafs number)
+    (option_or (beside_number wide_leafs number) (beside_number later_leafs number))

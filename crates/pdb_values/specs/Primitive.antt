@@ -80,22 +80,22 @@ indirections =
     ∷ []
 
 -- the value that was found for an index, or the refusal `type_not_found` if there is none
-abbrev pub found : {A : Type 0} → ℕ → Option A → Answer A
-found index (Some x) = Ok x
-found index None = Err (type_not_found index)
+abbrev pub value_or_not_found : {A : Type 0} → ℕ → Option A → Answer A
+value_or_not_found index (Some x) = Ok x
+value_or_not_found index None = Err (type_not_found index)
 
 -- the value beside this number in a table, if there is one
-abbrev pub numbered : {A : Type 0} → List (ℕ × A) → ℕ → Option A
-numbered rows number = lookup (λ row. row == number) rows
+abbrev pub beside_number : {A : Type 0} → List (ℕ × A) → ℕ → Option A
+beside_number rows number = lookup (λ row. row == number) rows
 
 -- the type that the low byte of an index stands for, or the refusal `type_not_found`
 unfoldable pub primitive_kind : ℕ → Answer PrimitiveKind
-primitive_kind index = found index (numbered primitive_kinds (bits index 0 8))
+primitive_kind index = value_or_not_found index (beside_number primitive_kinds (bits index 0 8))
 
 -- the kind of pointer that bits 8 to 11 of an index stand for, if they stand for one, or the refusal
 -- `type_not_found` if no mode has their number
 unfoldable pub primitive_indirection : ℕ → Answer (Option Indirection)
-primitive_indirection index = found index (numbered indirections (bits index 8 4))
+primitive_indirection index = value_or_not_found index (beside_number indirections (bits index 8 4))
 
 -- the primitive type that an index stands for, or the refusal `type_not_found` if it stands for none
 unfoldable pub primitive_type : ℕ → Answer PrimitiveType

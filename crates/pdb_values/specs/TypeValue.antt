@@ -80,6 +80,6 @@ plain_name (union value) = Some value.name
 plain_name value = None
 
 -- the name of any type or member; a list has none
-abbrev pub name_of : TypeValue → Option (List ℕ)
-name_of (plain value) = plain_name value
-name_of value = None
+abbrev pub name_of_type : TypeValue → Option (List ℕ)
+name_of_type (plain value) = plain_name value
+name_of_type value = None

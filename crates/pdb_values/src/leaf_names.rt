@@ -3,7 +3,7 @@
 ghost use Rattle.std.specs.Prelude.{◌≡◌};
 ghost use Rattle.std.specs.Option.{option_map};
 ghost use Rattle.pdb_values.specs.LeafNames.{narrow_leafs, wide_leafs, later_leafs, leaf_text};
-ghost use Rattle.pdb_values.specs.Primitive.{numbered};
+ghost use Rattle.pdb_values.specs.Primitive.{beside_number};
 
 use crate::constants::*;
 
@@ -20,7 +20,7 @@ macro_rules! name_among {
 /// Returns the name of a record kind whose records have indexes of 16 bits.
 #[tactic(auto, unfolding(crate::specs::LeafNames::narrow_leafs))]
 fn narrow_leaf(leaf: u16) -> Option<&'static str>
-    ensures { option_map (λ name. name.now) result ≡ numbered narrow_leafs leaf }
+    ensures { option_map (λ name. name.now) result ≡ beside_number narrow_leafs leaf }
 {
     name_among!(leaf:
         LF_MODIFIER_16t LF_POINTER_16t LF_ARRAY_16t LF_CLASS_16t LF_STRUCTURE_16t LF_UNION_16t
@@ -39,7 +39,7 @@ fn narrow_leaf(leaf: u16) -> Option<&'static str>
 /// length.
 #[tactic(auto, unfolding(crate::specs::LeafNames::wide_leafs))]
 fn wide_leaf(leaf: u16) -> Option<&'static str>
-    ensures { option_map (λ name. name.now) result ≡ numbered wide_leafs leaf }
+    ensures { option_map (λ name. name.now) result ≡ beside_number wide_leafs leaf }
 {
     name_among!(leaf:
         LF_MODIFIER LF_POINTER LF_ARRAY_ST LF_CLASS_ST LF_STRUCTURE_ST LF_UNION_ST LF_ENUM_ST
@@ -54,7 +54,7 @@ fn wide_leaf(leaf: u16) -> Option<&'static str>
 /// Returns the name of a record kind whose names end at a NUL, or of an id.
 #[tactic(auto, unfolding(crate::specs::LeafNames::later_leafs))]
 fn later_leaf(leaf: u16) -> Option<&'static str>
-    ensures { option_map (λ name. name.now) result ≡ numbered later_leafs leaf }
+    ensures { option_map (λ name. name.now) result ≡ beside_number later_leafs leaf }
 {
     name_among!(leaf:
         LF_TYPESERVER LF_ENUMERATE LF_ARRAY LF_CLASS LF_STRUCTURE LF_UNION LF_ENUM LF_DIMARRAY

@@ -3,7 +3,7 @@
 ghost use Rattle.std.specs.Prelude.{◌≡◌, ◌<◌};
 ghost use Rattle.pdb_base.specs.Answer.{Gives};
 ghost use Rattle.pdb_base.specs.Bits.{bits};
-ghost use Rattle.pdb_values.specs.Primitive.{primitive_kinds, indirections, numbered, first_record};
+ghost use Rattle.pdb_values.specs.Primitive.{primitive_kinds, indirections, beside_number, first_record};
 ghost use Rattle.pdb_values.specs.TypeView.{type_value, primitive_of};
 
 use crate::type_data::TypeData;
@@ -47,8 +47,8 @@ pub enum Indirection {
 impl Indirection {
     /// Returns the indirection with this number: `Some(None)` for 0, which is no pointer, or None
     /// for a number above 7, which means nothing.
-    fn numbered(number: u32) -> Option<Option<Self>>
-        ensures { result ≡ numbered indirections number }
+    fn from_number(number: u32) -> Option<Option<Self>>
+        ensures { result ≡ beside_number indirections number }
     {
         match number {
             0 => Some(None),
@@ -196,8 +196,8 @@ pub enum PrimitiveKind {
 
 impl PrimitiveKind {
     /// Returns the primitive type with this number, or None if there is none.
-    fn numbered(number: u32) -> Option<Self>
-        ensures { result ≡ numbered primitive_kinds number }
+    fn from_number(number: u32) -> Option<Self>
+        ensures { result ≡ beside_number primitive_kinds number }
     {
         match number {
             0x00 => Some(PrimitiveKind::NoType),
@@ -261,8 +261,8 @@ pub fn type_data_for_primitive<'t>(index: TypeIndex) -> Result<TypeData<'t>>
     ensures { Gives type_value result (primitive_of index.0) }
 {
     let kind = bit_field(index.0, 0, 8);
-    let kind = PrimitiveKind::numbered(kind).ok_or(Error::TypeNotFound(index.0))?;
+    let kind = PrimitiveKind::from_number(kind).ok_or(Error::TypeNotFound(index.0))?;
     let indirection = bit_field(index.0, 8, 4);
-    let indirection = Indirection::numbered(indirection).ok_or(Error::TypeNotFound(index.0))?;
+    let indirection = Indirection::from_number(indirection).ok_or(Error::TypeNotFound(index.0))?;
     Ok(TypeData::Primitive(PrimitiveType { kind, indirection }))
 }

@@ -6,7 +6,7 @@ ghost use Rattle.pdb_base.specs.Answer.{Answers};
 ghost use Rattle.pdb_base.specs.Memory.{LacksOnlyIf};
 ghost use Rattle.pdb_values.specs.Text.{text_bytes};
 ghost use Rattle.pdb_values.specs.Items.{HasListItem, HasField, IsPlain};
-ghost use Rattle.pdb_values.specs.TypeValue.{name_of};
+ghost use Rattle.pdb_values.specs.TypeValue.{name_of_type};
 ghost use Rattle.pdb_values.specs.TypeView.{type_value, fields_value, field_list_value};
 
 use crate::array::ArrayType;
@@ -105,7 +105,7 @@ impl<'t> TypeData<'t> {
     /// a nested type, of overloaded methods, or of a value of an enumeration. Returns None for
     /// everything else, also for a method that shares its name with no other.
     pub fn name(&self) -> Option<RawString<'t>>
-        ensures { option_map text_bytes result ≡ name_of (type_value self.now) }
+        ensures { option_map text_bytes result ≡ name_of_type (type_value self.now) }
     {
         match self {
             TypeData::Class(class) => Some(class.name),

@@ -2,7 +2,7 @@
 
 ghost use Rattle.std.specs.Prelude.{◌≡◌, ◌==◌, IfErr, MatchBool, IsErrAnd};
 ghost use Rattle.std.specs.IoError.{error_kind};
-ghost use Rattle.pdb_msf.specs.Source.{HasFailed, IsKept, IsLastFault, IsOther, Shows, bytes_at, positions};
+ghost use Rattle.pdb_msf.specs.Source.{HasFailed, IsKept, IsLastFault, IsOther, ShowsBytes, bytes_at, positions};
 ghost use Rattle.pdb_vectors.specs.Failing.{counted_down, state_of};
 
 use pdb_msf::{ReadView, Source, SourceSlice};
@@ -44,7 +44,7 @@ impl Failing {
 
     /// Returns the source that `new` returns, except that its view fails with kind
     /// `PermissionDenied`.
-    pub fn denied(bytes: Vec<u8>, n: u64) -> Self
+    pub fn denying(bytes: Vec<u8>, n: u64) -> Self
         ensures { result ≡ record { bytes = bytes.items; until = n; kind = ErrorKind.PermissionDenied; faults = 0 } }
     {
         Failing::of_kind(bytes, n, ErrorKind::PermissionDenied)
@@ -71,13 +71,13 @@ impl Source for Failing {
     /// Returns the bytes that the slices name, or an error of the source's kind if this is the view
     /// that fails.
     fn view(&mut self, alloc: Global, slices: &[SourceSlice]) -> Result<ReadView, io::Error>
-        ensures view { Shows (HasFailed (state_of self.old) (state_of self.new)) (λ v. v) result
+        ensures view { ShowsBytes (HasFailed (state_of self.old) (state_of self.new)) (λ v. v) result
             (bytes_at self.old.bytes (positions slices.now)) }
         ensures kind { IfErr result (λ e. IsLastFault (state_of self.new) (error_kind e)) }
         ensures kept { IsKept (state_of self.old) (state_of self.new) }
         ensures counts { self.new ≡ counted_down self.old }
         ensures fails { MatchBool (self.old.until == 1) (IsErrAnd result (λ e. error_kind e ≡ self.old.kind))
-            (Shows ⊥ (λ v. v) result (bytes_at self.old.bytes (positions slices.now))) }
+            (ShowsBytes ⊥ (λ v. v) result (bytes_at self.old.bytes (positions slices.now))) }
     {
         if self.until == 1 {
             self.until = 0;

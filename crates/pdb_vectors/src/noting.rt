@@ -3,7 +3,7 @@
 ghost use Rattle.std.specs.Prelude.{◌≡◌, ◌⊎◌, ◌∷◌, ◌++◌, [], map, IfErr, IsErrAnd};
 ghost use Rattle.std.specs.IoError.{error_kind};
 ghost use Rattle.std.specs.declared.io.ErrorKind.TheVariants.{OutOfMemory};
-ghost use Rattle.pdb_msf.specs.Source.{HasFailed, IsKept, IsLastFault, Shows, bytes_at, positions};
+ghost use Rattle.pdb_msf.specs.Source.{HasFailed, IsKept, IsLastFault, ShowsBytes, bytes_at, positions};
 ghost use Rattle.pdb_vectors.specs.Noting.{state_of};
 
 use pdb_msf::{ReadView, Source, SourceSlice};
@@ -52,7 +52,7 @@ impl Source for Noting {
     /// Notes the slices, and then returns the bytes that they name. If the allocation for the note
     /// fails, the view fails with kind `OutOfMemory`, and nothing is noted.
     fn view(&mut self, alloc: Global, slices: &[SourceSlice]) -> Result<ReadView, io::Error>
-        ensures view { Shows (HasFailed (state_of self.old) (state_of self.new)) (λ v. v) result
+        ensures view { ShowsBytes (HasFailed (state_of self.old) (state_of self.new)) (λ v. v) result
             (bytes_at self.old.bytes (positions slices.now)) }
         ensures kind { IfErr result (λ e. IsLastFault (state_of self.new) (error_kind e)) }
         ensures kept { IsKept (state_of self.old) (state_of self.new) }

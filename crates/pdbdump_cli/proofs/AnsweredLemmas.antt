@@ -16,7 +16,7 @@ use Rattle.pdb_output.specs.Output.{OutputState, Writes, done_of}
 use Rattle.pdbdump_rows.specs.declared.form.Form.{Form}
 use Rattle.pdbdump_cli.specs.Answers.{answered_text, answers_text, are_answers, is_answer, next_reply}
 use Rattle.pdbdump_cli.specs.Asked.{AreAnswered, AreLinesOf, IsAnsweredThen, IsAsked}
-use Rattle.pdbdump_cli.specs.Questions.{Asking, asked, asking, queries_in}
+use Rattle.pdbdump_cli.specs.Questions.{Asking, asking_of, asking, queries_in}
 use Rattle.pdbdump_cli.specs.declared.question.Question.{Question}
 
 -- never: a vector of bytes is sound
@@ -67,8 +67,8 @@ answers_of form file head ((line, Some query) ∷ questions) (reply ∷ all) is 
 pub answers_next : (form : Form) (questions : List Question) (i : ℕ) (d : Question) (left rest : List Reply)
     (reply : Option Reply) → i < length questions
     → reply ≡ (next_reply (get_or questions i d).query left).0 → rest ≡ (next_reply (get_or questions i d).query left).1
-    → answers_text form (map asked (drop i questions)) left ≡ answered_text form (get_or questions i d).line.now reply
-    ++ answers_text form (map asked (drop (i + 1) questions)) rest
+    → answers_text form (map asking_of (drop i questions)) left ≡ answered_text form (get_or questions i d).line.now reply
+    ++ answers_text form (map asking_of (drop (i + 1) questions)) rest
 unfolding answers_text
 answers_next form questions i d left rest reply within is others =
     rw (add-one, drop-cons questions i d, is, others) refl
@@ -82,22 +82,22 @@ and_swap false false a = refl
 pub all_next : (questions : List Question) (i : ℕ) (d : Question) (left rest : List Reply) (reply : Option Reply)
     (all : Bool) → i < length questions
     → reply ≡ (next_reply (get_or questions i d).query left).0 → rest ≡ (next_reply (get_or questions i d).query left).1
-    → (are_answers (map asked (drop i questions)) left && all)
-    ≡ (are_answers (map asked (drop (i + 1) questions)) rest && (is_answer reply && all))
+    → (are_answers (map asking_of (drop i questions)) left && all)
+    ≡ (are_answers (map asking_of (drop (i + 1) questions)) rest && (is_answer reply && all))
 unfolding are_answers
 all_next questions i d left rest reply all within is others =
     rw (add-one, drop-cons questions i d, is, others)
     (and_swap (is_answer (next_reply (get_or questions i d).query left).0)
-    (are_answers (map asked (drop (suc i) questions)) (next_reply (get_or questions i d).query left).1) all)
+    (are_answers (map asking_of (drop (suc i) questions)) (next_reply (get_or questions i d).query left).1) all)
 
 -- no question is left
 pub answers_end : (form : Form) (questions : List Question) (i : ℕ) (left : List Reply) → length questions ≤ i
-    → answers_text form (map asked (drop i questions)) left ≡ []
+    → answers_text form (map asking_of (drop i questions)) left ≡ []
 unfolding answers_text
 answers_end form questions i left over = rw (drop_all i questions over) refl
 
 pub all_end : (questions : List Question) (i : ℕ) (left : List Reply) (all : Bool) → length questions ≤ i
-    → (are_answers (map asked (drop i questions)) left && all) ≡ all
+    → (are_answers (map asking_of (drop i questions)) left && all) ≡ all
 unfolding are_answers
 all_end questions i left all over = rw (drop_all i questions over) refl
 
@@ -118,7 +118,7 @@ flat_next f xs i d x within is = rw (add-one, drop-cons xs i d, is) refl
 
 -- the queries of questions of the code
 pub queries_of : (questions : List Question)
-    → filter_map (λ (question : Question). question.query) questions ≡ queries_in (map asked questions)
+    → filter_map (λ (question : Question). question.query) questions ≡ queries_in (map asking_of questions)
 queries_of [] = refl
 queries_of (question ∷ questions) = ap (λ (queries : List Query). cons_option question.query queries)
     (queries_of questions)

@@ -7,7 +7,7 @@ use Rattle.pdb_base.specs.Refusal.{refusal_of}
 use Rattle.pdb_container.specs.declared.query.Query.{Query}
 use Rattle.pdb_container.specs.declared.query.Reply.{Reply}
 use Rattle.pdb_container.specs.Reply.{IsReply, reply_of}
-use Rattle.pdb_msf.specs.Header.{Head, opened}
+use Rattle.pdb_msf.specs.Header.{Head, file_head}
 use Rattle.pdbdump_rows.specs.declared.form.Form.{Form}
 use Rattle.pdb_output.specs.Output.{OutputState, Gets, IsCutShort}
 use Rattle.pdbdump_cli.specs.Answers.{answered_text, is_answer}
@@ -41,7 +41,7 @@ AreAnswered form file head (question ∷ questions) lines all =
 -- the lines of all answers to the questions of a text, and whether all are answered
 pub record AreLinesOf (form : Form) (file questions : List ℕ) (lines : List ℕ) (all : Bool) : Type 0 where
   pub head : Head
-  pub is_head : opened file ≡ Ok head
+  pub is_head : file_head file ≡ Ok head
   pub are_answered : AreAnswered form file head (questions_in questions) lines all
 
 -- A file was asked the questions in a text: the lines of all answers were written, and the result is
@@ -51,6 +51,6 @@ abbrev pub IsAsked : Form → List ℕ → List ℕ → OutputState → OutputSt
 IsAsked form file questions old new (Ok all) = (lines : List ℕ) × AreLinesOf form file questions lines all
     × Gets old new lines
 IsAsked form file questions old new (Err e) =
-    ((opened file ≡ Err (refusal_of e)) × (new ≡ old))
+    ((file_head file ≡ Err (refusal_of e)) × (new ≡ old))
     ⊎ (((e ≡ OutOfMemory) × (new ≡ old)) ⊎ ((lines : List ℕ) × (all : Bool) × AreLinesOf form file questions lines all
     × IsCutShort lines old new e))

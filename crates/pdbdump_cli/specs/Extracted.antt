@@ -6,7 +6,7 @@ use Rattle.pdb_base.specs.Answer.{Answer}
 use Rattle.pdb_base.specs.Refusal.{refusal_of}
 use Rattle.pdb_cli.specs.Channels.{IsTold, IsUnread}
 use Rattle.pdb_cli.specs.Words.{number_of}
-use Rattle.pdb_msf.specs.Header.{Head, opened}
+use Rattle.pdb_msf.specs.Header.{Head, file_head}
 use Rattle.pdb_output.specs.Output.{OutputState}
 use Rattle.pdbdump_tables.specs.Extracted.{extraction, stream_meant}
 use Rattle.pdbdump_tables.specs.Listing.{IsListed, Listing, listed_of}
@@ -28,8 +28,8 @@ extraction_in file head asked = listed_of (λ number. extraction file head numbe
 -- What `extract` does with a file: it writes that part; or the header is refused, or memory for it, and nothing is
 -- written.
 pub data IsExtracted (asked : ExtractValue) (file : List ℕ) (out out' : OutputState) (result : Result (Unit {0}) Error) : Type 0 where
-  extracted : (head : Head) → opened file ≡ Ok head → IsListed (extraction_in file head asked) out out' result → IsExtracted asked file out out' result
-  refused : (fault : Error) → result ≡ Err fault → (opened file ≡ Err (refusal_of fault)) ⊎ (fault ≡ OutOfMemory) → out' ≡ out → IsExtracted asked file out out' result
+  extracted : (head : Head) → file_head file ≡ Ok head → IsListed (extraction_in file head asked) out out' result → IsExtracted asked file out out' result
+  refused : (fault : Error) → result ≡ Err fault → (file_head file ≡ Err (refusal_of fault)) ⊎ (fault ≡ OutOfMemory) → out' ≡ out → IsExtracted asked file out out' result
 
 -- What the program did for `extract`: it reported why the input can't be read, and wrote no output; or it wrote
 -- a part of the bytes of a stream, flushed the output, and ended. If the bytes of the input are known, these are

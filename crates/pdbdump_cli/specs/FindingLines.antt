@@ -48,21 +48,21 @@ unfoldable pub label_and_number : List ℕ → ℕ → List ℕ
 label_and_number label n = label ++ hexadecimal n
 
 -- the same, if there is a number
-abbrev pub labelled : List ℕ → Option ℕ → List ℕ
-labelled label None = []
-labelled label (Some n) = label_and_number label n
+abbrev pub labelled_number : List ℕ → Option ℕ → List ℕ
+labelled_number label None = []
+labelled_number label (Some n) = label_and_number label n
 
 -- where a fault in a stream is: the number of the stream, the index and the byte of its record, and the byte of the
 -- file, as far as there are such
-unfoldable pub place_in : ℕ → Option ℕ → Option ℕ → Option ℕ → List ℕ
-place_in stream index byte file_byte =
-    codes " [stream " ++ decimal stream ++ labelled (codes " index ") index ++ labelled (codes " byte ") byte
-    ++ labelled (codes ", file byte ") file_byte ++ codes "]"
+unfoldable pub finding_place : ℕ → Option ℕ → Option ℕ → Option ℕ → List ℕ
+finding_place stream index byte file_byte =
+    codes " [stream " ++ decimal stream ++ labelled_number (codes " index ") index ++ labelled_number (codes " byte ") byte
+    ++ labelled_number (codes ", file byte ") file_byte ++ codes "]"
 
 -- where a fault is, as far as it has a place
 abbrev pub place_of : Option ℕ → Option ℕ → Option ℕ → Option ℕ → List ℕ
 place_of None index byte file_byte = []
-place_of (Some stream) index byte file_byte = place_in stream index byte file_byte
+place_of (Some stream) index byte file_byte = finding_place stream index byte file_byte
 
 abbrev pub place_text : Fault → List ℕ
 place_text fault = place_of fault.stream fault.index fault.byte fault.file_byte
@@ -78,11 +78,11 @@ fault_line path fault =
     ++ line_feed ∷ []
 
 -- a number of things
-unfoldable pub counted : ℕ → List ℕ → List ℕ
-counted n thing = decimal n ++ codes " " ++ thing ++ (if n == 1 then [] else codes "s")
+unfoldable pub count_of_things : ℕ → List ℕ → List ℕ
+count_of_things n thing = decimal n ++ codes " " ++ thing ++ (if n == 1 then [] else codes "s")
 
 unfoldable pub counts_text : Counts → List ℕ
-counts_text counts = counted counts.errors (codes "error") ++ codes ", " ++ counted counts.warnings (codes "warning")
+counts_text counts = count_of_things counts.errors (codes "error") ++ codes ", " ++ count_of_things counts.warnings (codes "warning")
 
 -- the same behind a colon, if there are any
 abbrev pub counts_if_any : Counts → List ℕ

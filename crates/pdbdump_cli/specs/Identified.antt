@@ -10,7 +10,7 @@ use Rattle.pdb_identity.specs.Identity.{file_identity}
 use Rattle.pdb_identity.specs.declared.format.Format.{Format}
 use Rattle.pdb_identity.specs.declared.format.Format.TheVariants as formats
 use Rattle.pdb_identity.specs.declared.identity.Identity.{Identity}
-use Rattle.pdb_msf.specs.Header.{opened}
+use Rattle.pdb_msf.specs.Header.{file_head}
 use Rattle.pdb_output.specs.Output.{GetsUnlessFailed, OutputState, Writes, done_of}
 use Rattle.pdbdump_rows.specs.declared.form.Form.{Form}
 use Rattle.pdbdump_tables.specs.Identity.{IsKey, identity_line}
@@ -19,7 +19,7 @@ use Rattle.pdbdump_cli.specs.Served.{IsEnded}
 
 -- what identifies a file
 unfoldable pub identity_in : List ℕ → Answer Identity
-identity_in file = opened file >>= file_identity file
+identity_in file = file_head file >>= file_identity file
 
 -- the file has the key that is expected, if any is
 abbrev pub IsExpected : Option (List ℕ) → Identity → Type 0
@@ -48,14 +48,14 @@ other_format formats.Image = Some (codes "a program or a library, and not its pr
 other_format formats.Unknown = Some (codes "no program database\n")
 
 -- what is written if the file is not the expected one
-unfoldable pub unexpected : List ℕ
-unexpected = codes "the file has another key than the expected one\n"
+unfoldable pub unexpected_line : List ℕ
+unexpected_line = codes "the file has another key than the expected one\n"
 
 -- How the program ends after a file was identified: as behind a listing; or, if the file is not the expected one,
 -- it says so behind that, with status 1.
 pub data IsConcluded (result : Result Bool Error) (written out' err err' : OutputState) (status : ℕ) : Type 0 where
   ended : (result ≡ Ok false → ⊥) → IsEnded (done_of result) written out' err err' status → IsConcluded result written out' err err' status
-  differs : (told : OutputState) (ended : ℕ) → result ≡ Ok false → IsEnded (Ok tt) written out' err told ended → GetsUnlessFailed told err' unexpected → status ≡ 1
+  differs : (told : OutputState) (ended : ℕ) → result ≡ Ok false → IsEnded (Ok tt) written out' err told ended → GetsUnlessFailed told err' unexpected_line → status ≡ 1
       → IsConcluded result written out' err err' status
 
 -- What the program did for `id`: it reported why the input can't be read, or what else the file is, and wrote

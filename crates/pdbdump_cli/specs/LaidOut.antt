@@ -3,14 +3,14 @@ use Rattle.std.specs.Prelude.{◌≡◌, ℕ, Bool, true, false, List, Option, R
 use Rattle.pdb_base.specs.declared.error.Error.{Error}
 use Rattle.pdb_cli.specs.Channels.{IsTold, IsUnread}
 use Rattle.pdbdump_layouts.specs.Shown.{IsAnswered}
-use Rattle.pdb_msf.specs.Header.{Head, opened}
+use Rattle.pdb_msf.specs.Header.{Head, file_head}
 use Rattle.pdb_output.specs.Output.{OutputState}
 use Rattle.pdbdump_cli.specs.Served.{IsEnded}
 
 -- Layouts of a file were shown: if that gave an answer, the file has a header; and the answer is true if nothing was
 -- told on the error channel, and false if something was.
 pub record AreLaidOut (file : List ℕ) (result : Result Bool Error) (err told : OutputState) : Type 0 where
-  pub opens : IfOk result (λ whole. (head : Head) × (opened file ≡ Ok head))
+  pub opens : IfOk result (λ whole. (head : Head) × (file_head file ≡ Ok head))
   pub answered : IsAnswered result err told
 
 -- How the program ends behind layouts: as behind a listing, but with status 1 if something was told.

@@ -8,7 +8,7 @@ use Rattle.pdbdump_tables.specs.Listed as records
 use Rattle.pdbdump_tables.specs.Given.{map_in}
 use Rattle.pdbdump_tables.specs.Mapped.{IsMapped}
 use Rattle.pdb_msf.specs.File.{stream_of}
-use Rattle.pdb_msf.specs.Header.{Head, opened}
+use Rattle.pdb_msf.specs.Header.{Head, file_head}
 use Rattle.pdbdump_rows.specs.declared.form.Form.{Form}
 use Rattle.pdbdump_tables.specs.Summary.{summary_listing}
 use Rattle.pdbdump_tables.specs.Files.{file_frames, file_names, file_omap, file_sections, frames_in}
@@ -54,5 +54,5 @@ DoesIn form (commands.Map address streams) file head = IsMapped form (map_in fil
 
 -- What a command does with a file; or the header is refused, or memory for it, and nothing is written.
 pub data Does (form : Form) (command : Command) (file : List ℕ) (out out' : OutputState) (result : Result (Unit {0}) Error) : Type 0 where
-  listed : (head : Head) → opened file ≡ Ok head → DoesIn form command file head out out' result → Does form command file out out' result
-  refused : (fault : Error) → result ≡ Err fault → (opened file ≡ Err (refusal_of fault)) ⊎ (fault ≡ OutOfMemory) → out' ≡ out → Does form command file out out' result
+  listed : (head : Head) → file_head file ≡ Ok head → DoesIn form command file head out out' result → Does form command file out out' result
+  refused : (fault : Error) → result ≡ Err fault → (file_head file ≡ Err (refusal_of fault)) ⊎ (fault ≡ OutOfMemory) → out' ≡ out → Does form command file out out' result

@@ -38,8 +38,8 @@ abbrev pub Asking : Type 0
 Asking = List ℕ × Option Query
 
 -- the line and the query of a `Question`
-abbrev pub asked : Question → Asking
-asked question = (question.line.now, question.query)
+abbrev pub asking_of : Question → Asking
+asking_of question = (question.line.now, question.query)
 
 -- the question that a line is
 abbrev pub asking : List ℕ → Asking

@@ -6,7 +6,7 @@ ghost use Rattle.std.specs.List.{flat_map};
 ghost use Rattle.std.specs.Option.{option_copied, option_map};
 ghost use Rattle.pdb_base.specs.Refusal.{refusal_of};
 ghost use Rattle.pdb_output.specs.Output.{Writes};
-ghost use Rattle.pdbdump_rows.specs.Line.{Shows};
+ghost use Rattle.pdbdump_rows.specs.Line.{ShowsFields};
 ghost use Rattle.pdbdump_rows.specs.Lines.{row_text};
 ghost use Rattle.pdbdump_rows.specs.Refused.{refusal_shown};
 ghost use Rattle.pdbdump_rows.specs.Row.{text as shown_text};
@@ -41,7 +41,7 @@ fn write_text<W: Write>(
 
 /// Adds the index of a record, its kind and its name, if it has one.
 fn show_record(line: &mut Line, index: u32, leaf: u16, name: Option<&[u8]>) -> Result<()>
-    ensures { Shows (record_shown index leaf (option_map (λ name. name.now) name.entry)) line.old line.new result }
+    ensures { ShowsFields (record_shown index leaf (option_map (λ name. name.now) name.entry)) line.old line.new result }
 {
     line.field("index", Value::Hexadecimal(index))?;
     line.field("kind", Value::Kind(leaf))?;
@@ -83,7 +83,7 @@ fn write_refused<W: Write>(
 
 /// Adds the bytes of a stream, in hexadecimal digits.
 fn show_bytes(alloc: Global, line: &mut Line, stream: &[u8]) -> Result<()>
-    ensures { Shows (bytes_shown stream.now) line.old line.new result }
+    ensures { ShowsFields (bytes_shown stream.now) line.old line.new result }
 {
     let digits = hex::encode(alloc, stream)?;
     line.field("bytes", Value::Text(RawString::from(digits.as_bytes())))
@@ -138,7 +138,7 @@ fn write_names<W: Write>(
 
 /// Adds the start of a range and its end.
 fn show_range(line: &mut Line, range: &Range<u32>) -> Result<()>
-    ensures { Shows (range_shown range.now) line.old line.new result }
+    ensures { ShowsFields (range_shown range.now) line.old line.new result }
 {
     line.field("start", Value::Hexadecimal(range.start))?;
     line.field("end", Value::Hexadecimal(range.end))

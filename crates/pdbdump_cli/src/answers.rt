@@ -3,7 +3,7 @@
 ghost use Rattle.std.specs.Prelude.{◌≡◌, map, IfOk};
 ghost use Rattle.pdbdump_cli.specs.Answers.{answers_text, are_answers, next_reply};
 ghost use Rattle.pdbdump_cli.specs.Asked.{IsAsked};
-ghost use Rattle.pdbdump_cli.specs.Questions.{asked, queries_in};
+ghost use Rattle.pdbdump_cli.specs.Questions.{asking_of, queries_in};
 ghost use Rattle.std.specs.Option.{option_copied};
 ghost use Rattle.pdb_base.specs.Memory.{FailsOnlyForMemory};
 ghost use Rattle.pdb_output.specs.Output.{Writes, done_of};
@@ -18,7 +18,7 @@ use std::io::Write;
 
 /// Returns the queries of questions, in order.
 fn queries_in(alloc: Global, questions: &[Question<'_>]) -> Result<Vec<Query>>
-    ensures queries { IfOk result (λ queries. queries.items ≡ queries_in (map asked questions.now)) }
+    ensures queries { IfOk result (λ queries. queries.items ≡ queries_in (map asking_of questions.now)) }
     ensures memory { FailsOnlyForMemory result }
 {
     let queries = questions
@@ -51,9 +51,9 @@ fn write_answers<W: Write>(
     replies: &[Reply],
     out: &mut Output<W>,
 ) -> Result<bool>
-    ensures lines { Writes (answers_text form (map asked questions.now) replies.now)
+    ensures lines { Writes (answers_text form (map asking_of questions.now) replies.now)
         out.old out.new (done_of result) }
-    ensures all { IfOk result (λ all. all ≡ are_answers (map asked questions.now) replies.now) }
+    ensures all { IfOk result (λ all. all ≡ are_answers (map asking_of questions.now) replies.now) }
 {
     let mut line = Line::new(alloc);
     let mut replies = replies;

@@ -4,13 +4,13 @@ ghost use Rattle.std.specs.Prelude.{◌≡◌, ◌≤◌, ◌++◌, length, map,
 ghost use Rattle.std.specs.List.{flat_map};
 ghost use Rattle.pdb_base.specs.Memory.{FailsOnlyForMemory};
 ghost use Rattle.pdbdump_rows.specs.Fields.{optional_number};
-ghost use Rattle.pdbdump_rows.specs.Line.{Adds, Shows};
+ghost use Rattle.pdbdump_rows.specs.Line.{Adds, ShowsFields};
 ghost use Rattle.pdbdump_rows.specs.Row.{value_shown};
 ghost use Rattle.pdb_validation.specs.Finding.{fault_code, finding_view, warning_count};
 ghost use Rattle.pdb_validation.specs.Problem.{is_tolerated, problem_view};
-ghost use Rattle.pdbdump_cli.specs.FindingLines.{counted, counts_if_any, counts_of, counts_text, fault_in, fault_line};
+ghost use Rattle.pdbdump_cli.specs.FindingLines.{count_of_things, counts_if_any, counts_of, counts_text, fault_in, fault_line};
 ghost use Rattle.pdbdump_cli.specs.FindingLines.{fault_shown, fault_text, file_in, file_line, file_shown};
-ghost use Rattle.pdbdump_cli.specs.FindingLines.{label_and_number, labelled, lines_unless, place_in, place_text};
+ghost use Rattle.pdbdump_cli.specs.FindingLines.{label_and_number, labelled_number, lines_unless, finding_place, place_text};
 ghost use Rattle.pdbdump_cli.specs.FindingLines.{problem_words, severity, tally_view, validate_lines, whole_text};
 
 use crate::names::{
@@ -35,7 +35,7 @@ fn push_number(alloc: Global, label: &str, number: u64, out: &mut Vec<u8>) -> Re
 
 /// Appends a label and a number behind it, if there is one.
 fn push_labelled(alloc: Global, label: &str, number: Option<u64>, out: &mut Vec<u8>) -> Result<()>
-    ensures ok { OnOk result (out.new.items ≡ out.old.items ++ labelled label.now number) }
+    ensures ok { OnOk result (out.new.items ≡ out.old.items ++ labelled_number label.now number) }
     ensures memory { FailsOnlyForMemory result }
 {
     match number {
@@ -45,10 +45,10 @@ fn push_labelled(alloc: Global, label: &str, number: Option<u64>, out: &mut Vec<
 }
 
 /// Appends where a fault in a stream is, as far as it has a place there.
-#[tactic(auto, unfolding(crate::specs::FindingLines::place_in))]
+#[tactic(auto, unfolding(crate::specs::FindingLines::finding_place))]
 fn push_place_in(alloc: Global, stream: u32, finding: &Finding, out: &mut Vec<u8>) -> Result<()>
     ensures ok { OnOk result (out.new.items
-        ≡ out.old.items ++ place_in stream finding.now.index finding.now.byte finding.now.file_byte) }
+        ≡ out.old.items ++ finding_place stream finding.now.index finding.now.byte finding.now.file_byte) }
     ensures memory { FailsOnlyForMemory result }
 {
     let text = format!(in alloc; " [stream {stream}")?;
@@ -143,7 +143,7 @@ fn number_value<'t>(number: Option<u64>) -> Value<'t>
 /// Adds what is told of a finding in the file at a path.
 #[tactic(auto, unfolding(crate::specs::FindingLines::fault_shown))]
 fn show_finding(alloc: Global, line: &mut Line, path: &str, finding: &Finding) -> Result<()>
-    ensures { Shows (fault_shown path.now (finding_view finding.now)) line.old line.new result }
+    ensures { ShowsFields (fault_shown path.now (finding_view finding.now)) line.old line.new result }
 {
     let words = problem_text(alloc, &finding.problem)?;
     let code = code_text(alloc, finding)?;
@@ -233,9 +233,9 @@ pub(crate) fn counts_of(findings: &[Finding]) -> Tally
 }
 
 /// Appends a number of things.
-#[tactic(auto, unfolding(crate::specs::FindingLines::counted))]
+#[tactic(auto, unfolding(crate::specs::FindingLines::count_of_things))]
 fn push_counted(alloc: Global, count: usize, thing: &str, out: &mut Vec<u8>) -> Result<()>
-    ensures ok { OnOk result (out.new.items ≡ out.old.items ++ counted count thing.now) }
+    ensures ok { OnOk result (out.new.items ≡ out.old.items ++ count_of_things count thing.now) }
     ensures memory { FailsOnlyForMemory result }
 {
     let ending = if count == 1 { "" } else { "s" };
@@ -293,7 +293,7 @@ fn push_file_line(alloc: Global, path: &str, tally: Tally, out: &mut Vec<u8>) ->
 /// Adds what is told of a file in which so much was found.
 #[tactic(auto, unfolding(crate::specs::FindingLines::file_shown))]
 fn show_file(line: &mut Line, path: &str, tally: Tally) -> Result<()>
-    ensures { Shows (file_shown path.now (tally_view tally)) line.old line.new result }
+    ensures { ShowsFields (file_shown path.now (tally_view tally)) line.old line.new result }
 {
     line.field(FILE, Value::Text(RawString::from(path)))?;
     line.field(WHOLE, Value::Flag(tally.errors == 0))?;

@@ -144,7 +144,7 @@ fn has_option(words: &[&str]) -> bool
 }
 
 /// Returns how layouts are shown with options.
-fn shown_with(options: LayoutOptions) -> Options
+fn show_options(options: LayoutOptions) -> Options
     ensures { result ≡ shown_with options }
 {
     Options {
@@ -171,7 +171,7 @@ fn with_path<'w>(options: LayoutOptions, words: &'w [&'w str]) -> Option<Layouts
     Some(Layouts {
         path,
         names,
-        options: shown_with(options),
+        options: show_options(options),
     })
 }
 

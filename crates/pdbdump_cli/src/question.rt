@@ -3,7 +3,7 @@
 ghost use Rattle.std.specs.Prelude.{◌≡◌, map, IfOk};
 ghost use Rattle.std.specs.Option.{option_map};
 ghost use Rattle.pdb_base.specs.Memory.{FailsOnlyForMemory};
-ghost use Rattle.pdbdump_cli.specs.Questions.{asked, lines_of, query_in, questions_in, texts_of, words_of};
+ghost use Rattle.pdbdump_cli.specs.Questions.{asking_of, lines_of, query_in, questions_in, texts_of, words_of};
 
 use pdb_cli::query;
 use pdb_container::{Error, Query, Result};
@@ -78,7 +78,7 @@ fn query_in(alloc: Global, line: &[u8]) -> Result<Option<Query>>
 /// Fails with `OutOfMemory` if an allocation fails.
 #[tactic(auto, unfolding(crate::specs::Questions::questions_in))]
 pub fn questions_in<'t>(alloc: Global, text: &'t [u8]) -> Result<Vec<Question<'t>>>
-    ensures questions { IfOk result (λ questions. map asked questions.items ≡ questions_in text.now) }
+    ensures questions { IfOk result (λ questions. map asking_of questions.items ≡ questions_in text.now) }
     ensures memory { FailsOnlyForMemory result }
 {
     let lines = lines_of(alloc, text)?;

@@ -17,7 +17,7 @@ use Rattle.pdb_types.specs.Layout.{LayoutValue, layout_of, layout_value}
 use Rattle.pdb_types.specs.TypeAt.{type_at}
 use Rattle.pdb_types.specs.declared.layout.Layout.{Layout}
 use Rattle.pdb_values.specs.TypeValue.{TypeValue}
-use Rattle.pdbdump_layouts.specs.Classes.{IsClass, IsClassIn, class_layout, layout_along, layout_or, unmodified}
+use Rattle.pdbdump_layouts.specs.Classes.{IsClass, IsClassIn, class_layout, layout_along, layout_or, modified_type}
 
 -- the types that are left lead on from an index
 abbrev LeadsOn : Table → ℕ → ℕ → ℕ → Type 0
@@ -38,14 +38,14 @@ by_one table start k index answer leads below is =
 
 -- a type with a modifier
 pub along_other : (table : Table) (start k index : ℕ) (value : TypeValue) (other : ℕ) → LeadsOn table start k index
-    → k < 16 → type_at table index ≡ Ok value → Some other ≡ unmodified value → LeadsOn table start (k + 1) other
+    → k < 16 → type_at table index ≡ Ok value → Some other ≡ modified_type value → LeadsOn table start (k + 1) other
 along_other table start k index value other leads below is has =
     by_one table start k index (Ok value) leads below is
     ∙ ap (λ (o : Option ℕ). option_map_or (layout_along (16 - (k + 1)) table) o (layout_of table index)) (sym has)
 
 -- a type without one
 pub along_last : (table : Table) (start k index : ℕ) (value : TypeValue) → LeadsOn table start k index → k < 16
-    → type_at table index ≡ Ok value → None ≡ unmodified value → class_layout table start ≡ layout_of table index
+    → type_at table index ≡ Ok value → None ≡ modified_type value → class_layout table start ≡ layout_of table index
 along_last table start k index value leads below is has =
     by_one table start k index (Ok value) leads below is
     ∙ ap (λ (o : Option ℕ). option_map_or (layout_along (16 - (k + 1)) table) o (layout_of table index)) (sym has)

@@ -8,7 +8,7 @@ use Rattle.pdb_base.specs.declared.error.Error.TheVariants.{OutOfMemory}
 use Rattle.pdb_output.specs.Output.{OutputState}
 use Rattle.pdbdump_rows.specs.declared.form.Form.{Form}
 use Rattle.pdb_tpi.specs.Table.{Table, table_of}
-use Rattle.pdb_types.specs.Definition.{walked}
+use Rattle.pdb_types.specs.Definition.{whole_table}
 use Rattle.pdbdump_layouts.specs.Shown.{Accounts, AreLayoutsShown, AreNamesMeant, AreTypesShown, IsNameMeant, IsShowResult}
 use Rattle.pdbdump_layouts.specs.Shown.{IsTold, IsTypeShown, IsWritten, ShowState, Tells}
 use Rattle.pdbdump_layouts.specs.declared.options.Options.{Options}
@@ -19,14 +19,14 @@ pub table_refused : (stream : List ℕ) (names : List (List ℕ)) (options : Opt
     (e : Error) → (table_of stream ≡ Err (refusal_of e)) ⊎ (e ≡ OutOfMemory)
     → IsShowResult stream names options form out out err err (Err e)
 table_refused stream names options form out err e (inl is) =
-    IsShowResult.refused e (ap (λ (a : Answer Table). a >>= walked) is) refl refl
+    IsShowResult.refused e (ap (λ (a : Answer Table). a >>= whole_table) is) refl refl
 table_refused stream names options form out err e (inr memory) = IsShowResult.stopped e (inr memory)
 
 pub walk_refused : (stream : List ℕ) (names : List (List ℕ)) (options : Options) (form : Form) (out err : OutputState)
-    (table : Table) (e : Error) → table_of stream ≡ Ok table → (walked table ≡ Err (refusal_of e)) ⊎ (e ≡ OutOfMemory)
+    (table : Table) (e : Error) → table_of stream ≡ Ok table → (whole_table table ≡ Err (refusal_of e)) ⊎ (e ≡ OutOfMemory)
     → IsShowResult stream names options form out out err err (Err e)
 walk_refused stream names options form out err table e read (inl is) =
-    IsShowResult.refused e (ap (λ (a : Answer Table). a >>= walked) read ∙ is) refl refl
+    IsShowResult.refused e (ap (λ (a : Answer Table). a >>= whole_table) read ∙ is) refl refl
 walk_refused stream names options form out err table e read (inr memory) = IsShowResult.stopped e (inr memory)
 
 -- ---- what was told

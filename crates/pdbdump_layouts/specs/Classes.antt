@@ -18,13 +18,13 @@ abbrev pub plain_unmodified : PlainValue → Option ℕ
 plain_unmodified (modifier type) = Some type.underlying_type.0
 plain_unmodified value = None
 
-abbrev pub unmodified : TypeValue → Option ℕ
-unmodified (plain value) = plain_unmodified value
-unmodified value = None
+abbrev pub modified_type : TypeValue → Option ℕ
+modified_type (plain value) = plain_unmodified value
+modified_type value = None
 
 -- the layout of a type, if `others` says those of types without a modifier
 abbrev pub layout_or : Table → (ℕ → Answer (Option LayoutValue)) → ℕ → TypeValue → Answer (Option LayoutValue)
-layout_or table others index value = option_map_or others (unmodified value) (layout_of table index)
+layout_or table others index value = option_map_or others (modified_type value) (layout_of table index)
 
 -- the layout of a type or of the one without its modifiers, along at most so many types
 unfoldable pub layout_along : ℕ → Table → ℕ → Answer (Option LayoutValue)

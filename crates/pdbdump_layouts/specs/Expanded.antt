@@ -8,7 +8,7 @@ use Rattle.pdb_types.specs.declared.layout.LayoutField.{LayoutField}
 use Rattle.pdb_types.specs.FieldPlace.{FieldRole, base, field_role, member}
 use Rattle.pdb_types.specs.Layout.{HasGaps, layout_value}
 use Rattle.pdbdump_layouts.specs.Classes.{class_layout}
-use Rattle.pdbdump_layouts.specs.GapPlace.{capped}
+use Rattle.pdbdump_layouts.specs.GapPlace.{cap_at_64_bits}
 use Rattle.pdbdump_layouts.specs.declared.expanded.Expansion.{Expansion}
 use Rattle.pdbdump_layouts.specs.declared.expanded.ShownRow.{ShownRow}
 use Rattle.pdbdump_layouts.specs.declared.layout_row.LayoutRow.{LayoutRow}
@@ -61,7 +61,7 @@ shown_row depth start row = record { depth = depth; start = start; row = row }
 
 -- where the class within a row begins
 abbrev pub inner_start : ℕ → LayoutRow → ℕ
-inner_start start (rows.Field field) = capped (start + field.place.offset)
+inner_start start (rows.Field field) = cap_at_64_bits (start + field.place.offset)
 inner_start start (rows.Gap gap) = start
 
 -- Rows of a class that is so deep and begins at an offset are shown, and behind each those of the class within it, if

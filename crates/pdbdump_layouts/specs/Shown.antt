@@ -12,7 +12,7 @@ use Rattle.pdbdump_rows.specs.declared.form.Form.{Form}
 use Rattle.pdbdump_rows.specs.declared.form.Form.TheVariants as forms
 use Rattle.pdb_tpi.specs.Table.{Table, table_of}
 use Rattle.pdb_types.specs.Declaration.{source_name}
-use Rattle.pdb_types.specs.Definition.{all_definitions, walked}
+use Rattle.pdb_types.specs.Definition.{all_definitions, whole_table}
 use Rattle.pdb_types.specs.Layout.{HasGaps, layout_value}
 use Rattle.pdb_types.specs.declared.layout.Layout.{Layout}
 use Rattle.pdbdump_layouts.specs.Classes.{AreClasses, class_layout}
@@ -24,7 +24,7 @@ use Rattle.pdbdump_layouts.specs.declared.show.Progress.{Progress}
 
 -- the table of types in a stream, if it can be walked to its end
 abbrev pub opened_table : List ℕ → Answer Table
-opened_table stream = table_of stream >>= walked
+opened_table stream = table_of stream >>= whole_table
 
 -- how far layouts are shown, and both channels
 pub record ShowState : Type 0 where

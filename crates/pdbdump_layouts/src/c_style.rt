@@ -5,7 +5,7 @@ use crate::expanded::{Expansion, ShownRow};
 use crate::gap_place::gap_place;
 use crate::head::head_of;
 use crate::layout_row::LayoutRow;
-use crate::text::{plural, push_commented, push_indent, push_remark, shown};
+use crate::text::{escape_text, plural, push_commented, push_indent, push_remark};
 use crate::totals::totals_of;
 use pdb_base::Result;
 use pdb_types::{Definitions, Extent, FieldKind, Gap, GapKind, Layout, LayoutField};
@@ -82,7 +82,7 @@ fn push_role<'t>(
         FieldKind::VirtualBasePointer(base) => {
             let name = definitions.text_of(alloc, base.base_class, b"")?;
             comment.extend_from_slice(b"  of virtual base ")?;
-            comment.extend_from_slice(&shown(alloc, &name)?)?;
+            comment.extend_from_slice(&escape_text(alloc, &name)?)?;
         }
         FieldKind::VirtualFunctionPointer | FieldKind::Member(_) => {}
     }
@@ -99,7 +99,7 @@ fn push_field<'t>(
     text: &mut Vec<u8>,
 ) -> Result<()> {
     let declared = declaration(alloc, definitions, field)?;
-    line.extend_from_slice(&shown(alloc, &declared)?)?;
+    line.extend_from_slice(&escape_text(alloc, &declared)?)?;
     line.push(b';')?;
     let mut comment = field_place(alloc, start, field)?;
     push_role(alloc, definitions, field, &mut comment)?;

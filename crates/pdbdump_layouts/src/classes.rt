@@ -4,14 +4,14 @@ ghost use Rattle.std.specs.Prelude.{◌≡◌, ◌↔◌, map, Ok, IfOk, IfSome,
 ghost use Rattle.std.specs.Option.{option_map};
 ghost use Rattle.pdb_base.specs.Answer.{Answers};
 ghost use Rattle.pdb_base.specs.Memory.{FailsOnlyForMemory};
-ghost use Rattle.pdb_tpi.specs.Item.{bytes_of, index_of};
+ghost use Rattle.pdb_tpi.specs.Item.{item_bytes, index_of};
 ghost use Rattle.pdb_tpi.specs.Record.{type_of};
 ghost use Rattle.pdb_types.specs.Layout.{HasGaps, layout_value};
 ghost use Rattle.pdb_types.specs.TypeAt.{type_at};
 ghost use Rattle.pdb_values.specs.Text.{text_bytes};
 ghost use Rattle.pdb_values.specs.TypeView.{type_value};
 ghost use Rattle.pdbdump_layouts.specs.Classes.{AreClasses, IsClassIn, IsNameWanted, class_defined};
-ghost use Rattle.pdbdump_layouts.specs.Classes.{class_layout, class_of, class_value, unmodified};
+ghost use Rattle.pdbdump_layouts.specs.Classes.{class_layout, class_of, class_value, modified_type};
 
 use crate::pattern::matches;
 use pdb_base::{Error, RawString, Result, TypeIndex};
@@ -65,7 +65,7 @@ pub(crate) fn class_of<'t>(value: &TypeData<'t>) -> Option<Class<'t>>
 }
 
 /// Returns the class or union that a record defines, or None if it defines none.
-fn defined<'t>(value: &TypeData<'t>) -> Option<Class<'t>>
+fn defined_class<'t>(value: &TypeData<'t>) -> Option<Class<'t>>
     ensures { option_map class_value result ≡ class_defined (Ok (type_value value.now)) }
 {
     let class = class_of(value)?;
@@ -79,11 +79,11 @@ fn defined<'t>(value: &TypeData<'t>) -> Option<Class<'t>>
 /// be read defines none.
 fn class_defined<'t>(alloc: Global, item: &Type<'t>) -> Result<Option<Class<'t>>>
     ensures class { IfOk result (λ class. option_map class_value class
-        ≡ class_defined (type_of (index_of item.now).0 (bytes_of item.now))) }
+        ≡ class_defined (type_of (index_of item.now).0 (item_bytes item.now))) }
     ensures memory { FailsOnlyForMemory result }
 {
     match item.parse(alloc) {
-        Ok(value) => Ok(defined(&value)),
+        Ok(value) => Ok(defined_class(&value)),
         Err(Error::OutOfMemory) => Err(Error::OutOfMemory),
         Err(_) => Ok(None),
     }
@@ -102,7 +102,7 @@ fn is_name_wanted(pattern: Option<&[u8]>, name: RawString<'_>) -> bool
 /// Returns whether a record is that of a class or a union that is defined and whose name is wanted.
 fn is_class(alloc: Global, item: &Type<'_>, pattern: Option<&[u8]>) -> Result<bool>
     ensures is { IfOk result (λ is. IsTrue is ↔ IsClassIn (option_map (λ signs. signs.now) pattern.entry)
-        (type_of (index_of item.now).0 (bytes_of item.now))) }
+        (type_of (index_of item.now).0 (item_bytes item.now))) }
     ensures memory { FailsOnlyForMemory result }
 {
     match class_defined(alloc, item)? {
@@ -156,8 +156,8 @@ pub(crate) fn type_at<'t>(
 }
 
 /// Returns the type that a type with a modifier is without it, or None for another type.
-fn unmodified(value: &TypeData<'_>) -> Option<TypeIndex>
-    ensures { option_map (λ index. index.0) result ≡ unmodified (type_value value.now) }
+fn modified_type(value: &TypeData<'_>) -> Option<TypeIndex>
+    ensures { option_map (λ index. index.0) result ≡ modified_type (type_value value.now) }
 {
     match value {
         TypeData::Modifier(modifier) => Some(modifier.underlying_type),
@@ -181,7 +181,7 @@ pub(crate) fn class_layout<'t>(
     let mut index = index;
     for _ in 0..MOST_TYPES {
         let value = type_at(alloc, definitions.types(), index)?;
-        match unmodified(&value) {
+        match modified_type(&value) {
             Some(other) => index = other,
             None => return definitions.layout_of(alloc, index),
         }

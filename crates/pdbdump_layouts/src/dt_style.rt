@@ -4,7 +4,7 @@ use crate::classes::Class;
 use crate::dt_type::dt_type;
 use crate::expanded::{Expansion, ShownRow};
 use crate::layout_row::LayoutRow;
-use crate::text::{plural, push_indent, push_named, shown};
+use crate::text::{escape_text, plural, push_indent, push_named};
 use pdb_base::Result;
 use pdb_types::{Definitions, Extent, FieldKind, LayoutField};
 use std::alloc::Global;
@@ -18,7 +18,7 @@ fn field_name(alloc: Global, field: &LayoutField<'_>) -> Result<Vec<u8>> {
         FieldKind::Base => Ok(Vec::from_slice(alloc, b"__BaseClass")?),
         FieldKind::VirtualBasePointer(_) => Ok(Vec::from_slice(alloc, b"__VBptr")?),
         FieldKind::VirtualFunctionPointer => Ok(Vec::from_slice(alloc, b"__VFN_table")?),
-        FieldKind::Member(name) => shown(alloc, name.as_bytes()),
+        FieldKind::Member(name) => escape_text(alloc, name.as_bytes()),
     }
 }
 
@@ -83,7 +83,7 @@ pub(crate) fn dt_text<'t>(
 ) -> Result<Vec<u8>> {
     let mut text = Vec::new(alloc);
     if let Some(class) = class {
-        text.extend_from_slice(&shown(alloc, class.name.as_bytes())?)?;
+        text.extend_from_slice(&escape_text(alloc, class.name.as_bytes())?)?;
         text.push(b'\n')?;
     }
     for row in &expansion.rows {

@@ -1,7 +1,7 @@
 //! Types as WinDbg's `dt` writes them.
 
 use crate::classes::type_at;
-use crate::text::shown;
+use crate::text::escape_text;
 use pdb_base::{Result, TypeIndex};
 use pdb_flags::PointerMode;
 use pdb_types::Definitions;
@@ -116,7 +116,7 @@ fn push_last<'t>(
         }
     }
     let spelled = definitions.text_of(alloc, index, b"")?;
-    text.extend_from_slice(&shown(alloc, &spelled)?)?;
+    text.extend_from_slice(&escape_text(alloc, &spelled)?)?;
     Ok(())
 }
 

@@ -199,7 +199,7 @@ fn push_rows<'t>(
 /// # Errors
 /// Fails as `Definitions::layout_of` does for a class within, and with `OutOfMemory` if an
 /// allocation fails.
-pub(crate) fn expanded<'t>(
+pub(crate) fn expand<'t>(
     alloc: Global,
     definitions: &Definitions<'t>,
     layout: &Layout<'t>,

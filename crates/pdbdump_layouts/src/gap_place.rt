@@ -1,7 +1,7 @@
 //! Where gaps are in what is shown.
 
 ghost use Rattle.std.specs.Prelude.{◌≡◌};
-ghost use Rattle.pdbdump_layouts.specs.GapPlace.{capped, gap_place};
+ghost use Rattle.pdbdump_layouts.specs.GapPlace.{cap_at_64_bits, gap_place};
 
 use pdb_types::Gap;
 
@@ -22,8 +22,8 @@ pub(crate) struct GapPlace {
 }
 
 /// Returns a number, or 2^64 - 1 if that is less.
-fn capped(number: u128) -> u64
-    ensures { result ≡ capped number }
+fn cap_at_64_bits(number: u128) -> u64
+    ensures { result ≡ cap_at_64_bits number }
 {
     u64::try_from(number).unwrap_or(u64::MAX)
 }
@@ -34,9 +34,9 @@ pub(crate) fn gap_place(start: u64, gap: &Gap) -> GapPlace
 {
     let width = gap.bits.end.saturating_sub(gap.bits.start);
     GapPlace {
-        offset: start.saturating_add(capped(gap.bits.start / 8)),
+        offset: start.saturating_add(cap_at_64_bits(gap.bits.start / 8)),
         bit: (gap.bits.start % 8) as u64,
-        bytes: capped(width / 8),
-        bits: capped(width),
+        bytes: cap_at_64_bits(width / 8),
+        bits: cap_at_64_bits(width),
     }
 }

@@ -1,7 +1,7 @@
 //! The line with which the declaration of a class begins.
 
 use crate::classes::Class;
-use crate::text::shown;
+use crate::text::escape_text;
 use pdb_base::{Result, TypeIndex};
 use pdb_types::{Definitions, FieldKind, LayoutField};
 use std::alloc::Global;
@@ -36,7 +36,7 @@ fn push_bases<'t>(
         is_first = false;
         head.extend_from_slice(word.as_bytes())?;
         let name = definitions.text_of(alloc, index, b"")?;
-        head.extend_from_slice(&shown(alloc, &name)?)?;
+        head.extend_from_slice(&escape_text(alloc, &name)?)?;
     }
     Ok(())
 }
@@ -52,7 +52,7 @@ pub(crate) fn head_of<'t>(
     if let Some(class) = class {
         head.extend_from_slice(class.word.as_bytes())?;
         head.push(b' ')?;
-        head.extend_from_slice(&shown(alloc, class.name.as_bytes())?)?;
+        head.extend_from_slice(&escape_text(alloc, class.name.as_bytes())?)?;
     }
     push_bases(alloc, definitions, fields, &mut head)?;
     head.extend_from_slice(b" {")?;

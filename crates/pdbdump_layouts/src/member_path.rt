@@ -3,7 +3,7 @@
 use crate::classes::class_layout;
 use crate::cut::cut_at;
 use crate::object::show_field;
-use crate::text::shown;
+use crate::text::escape_text;
 use pdb_base::{Result, TypeIndex};
 use pdb_types::{Definitions, Extent, FieldKind, Layout, LayoutField};
 use pdbdump_rows::{Form, Line};
@@ -71,7 +71,7 @@ fn text_line(
     type_text: &[u8],
     found: &FoundMember<'_>,
 ) -> Result<Vec<u8>> {
-    let mut line = shown(alloc, path)?;
+    let mut line = escape_text(alloc, path)?;
     let offset = found.offset;
     let place = match found.field.extent {
         Extent::Bytes(size) => format!(in alloc; ": offset 0x{offset:x}, size 0x{size:x}, ")?,
@@ -82,7 +82,7 @@ fn text_line(
         Extent::Unknown => format!(in alloc; ": offset 0x{offset:x}, ")?,
     };
     line.extend_from_slice(place.as_bytes())?;
-    line.extend_from_slice(&shown(alloc, type_text)?)?;
+    line.extend_from_slice(&escape_text(alloc, type_text)?)?;
     line.push(b'\n')?;
     Ok(line)
 }

@@ -3,7 +3,7 @@
 ghost use Rattle.std.specs.Prelude.{◌≡◌};
 ghost use Rattle.std.specs.Option.{option_map};
 ghost use Rattle.pdb_values.specs.Text.{text_bytes};
-ghost use Rattle.pdbdump_rows.specs.Line.{Shows};
+ghost use Rattle.pdbdump_rows.specs.Line.{ShowsFields};
 ghost use Rattle.pdb_types.specs.FieldPlace.{field_role};
 ghost use Rattle.pdb_types.specs.Layout.{field_value};
 ghost use Rattle.pdbdump_layouts.specs.Object.{extent_fields, field_object, gap_object, gap_word};
@@ -41,7 +41,7 @@ fn role_name<'t>(kind: &FieldKind<'t>) -> Option<RawString<'t>>
 /// Adds the size of a field in bytes, if something says it; or the bit at which a bit field begins,
 /// and how many it has.
 fn show_extent(line: &mut Line, extent: &Extent) -> Result<()>
-    ensures { Shows (extent_fields extent.now) line.old line.new result }
+    ensures { ShowsFields (extent_fields extent.now) line.old line.new result }
 {
     match extent {
         Extent::Bytes(size) => line.field(SIZE, Value::Number(*size)),
@@ -56,7 +56,7 @@ fn show_extent(line: &mut Line, extent: &Extent) -> Result<()>
 /// Adds which virtual base class a field leads to, if it leads to one: whether the class itself
 /// names it, and its position in the table of virtual bases.
 fn show_virtual_base(line: &mut Line, kind: &FieldKind<'_>) -> Result<()>
-    ensures { Shows (virtual_base_fields (field_role kind.now)) line.old line.new result }
+    ensures { ShowsFields (virtual_base_fields (field_role kind.now)) line.old line.new result }
 {
     match kind {
         FieldKind::VirtualBasePointer(base) => {
@@ -83,7 +83,7 @@ pub(crate) fn show_field(
     type_text: &[u8],
     declaration: &[u8],
 ) -> Result<()>
-    ensures { Shows (field_object depth offset (field_value part.now) type_text.now declaration.now)
+    ensures { ShowsFields (field_object depth offset (field_value part.now) type_text.now declaration.now)
         line.old line.new result }
 {
     let kind = &part.place.kind;
@@ -117,7 +117,7 @@ fn gap_word(kind: GapKind) -> &'static str
 /// Fails with `OutOfMemory` if an allocation fails.
 #[tactic(auto, unfolding(crate::specs::Object::gap_object))]
 pub(crate) fn show_gap(line: &mut Line, depth: u32, start: u64, gap: &Gap) -> Result<()>
-    ensures { Shows (gap_object depth start gap.now) line.old line.new result }
+    ensures { ShowsFields (gap_object depth start gap.now) line.old line.new result }
 {
     let place = gap_place(start, gap);
     line.field(KIND, Value::Word(gap_word(gap.kind)))?;

@@ -14,11 +14,11 @@ ghost use Rattle.pdbdump_layouts.specs.Shown.{IsTypeShown, is_wanted, separator}
 use crate::c_style::c_text;
 use crate::classes::{class_layout, class_of, classes_in, type_at};
 use crate::dt_style::dt_text;
-use crate::expanded::expanded;
+use crate::expanded::expand;
 use crate::json::json_text;
 use crate::named::{member_line, types_named};
 use crate::options::{Options, Order, Style};
-use crate::text::shown;
+use crate::text::escape_text;
 use crate::totals::totals_of;
 use pdb_base::{Error, Result, Stream, TypeIndex};
 use pdb_output::Output;
@@ -61,7 +61,7 @@ fn layout_text<'t>(
 ) -> Result<Vec<u8>> {
     let class = class_of(&type_at(alloc, definitions.types(), layout.index)?);
     let class = class.as_ref();
-    let expansion = expanded(alloc, definitions, layout, options.depth)?;
+    let expansion = expand(alloc, definitions, layout, options.depth)?;
     match (form, options.style) {
         (Form::Json, _) => json_text(alloc, definitions, layout, class, &expansion),
         (Form::Text, Style::C) => c_text(alloc, definitions, layout, class, &expansion),
@@ -82,7 +82,7 @@ fn tell<E: Write>(
         (record { progress = progress.new; out = out; err = err.new })) }
     ensures memory { FailsOnlyForMemory result }
 {
-    let mut line = shown(alloc, what)?;
+    let mut line = escape_text(alloc, what)?;
     line.extend_from_slice(b": ")?;
     line.extend_from_slice(why)?;
     line.push(b'\n')?;
@@ -339,7 +339,7 @@ fn types_of(alloc: Global, ranks: &[Rank<'_>]) -> Result<Vec<TypeIndex>>
 }
 
 /// Returns types in an order.
-fn sorted(
+fn sort_types(
     alloc: Global,
     definitions: &Definitions<'_>,
     indexes: Vec<TypeIndex>,
@@ -458,7 +458,7 @@ fn show_asked<O: Write, E: Write>(
         out,
         err,
     )?;
-    let ordered = sorted(alloc, definitions, found, options.order)?;
+    let ordered = sort_types(alloc, definitions, found, options.order)?;
     show_types(
         alloc,
         definitions,
@@ -472,7 +472,7 @@ fn show_asked<O: Write, E: Write>(
 }
 
 /// Returns a table that knows where all its types are.
-fn opened(alloc: Global, stream: Stream) -> Result<OpenTable<TypeIndex>>
+fn learn_table(alloc: Global, stream: Stream) -> Result<OpenTable<TypeIndex>>
     ensures { Answers (λ types. types.table) result (table_of stream) }
 {
     let table = TypeInformation::parse(stream)?;
@@ -504,7 +504,7 @@ pub fn show_layouts<O: Write, E: Write>(
         out.old out.new err.old err.new result }
     ensures answered { IsAnswered result err.old err.new }
 {
-    let types = opened(alloc, stream)?;
+    let types = learn_table(alloc, stream)?;
     let definitions = Definitions::new(alloc, &types)?;
     let mut progress = Progress {
         has_shown: false,

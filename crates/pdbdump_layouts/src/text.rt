@@ -13,7 +13,7 @@ const COMMENT: usize = 44;
 const NAME: usize = 17;
 
 /// Returns a text of a file as lines show it, with escapes for control characters.
-pub(crate) fn shown(alloc: Global, text: &[u8]) -> Result<Vec<u8>>
+pub(crate) fn escape_text(alloc: Global, text: &[u8]) -> Result<Vec<u8>>
     ensures { FailsOnlyForMemory result }
 {
     let mut line = Line::new(alloc);

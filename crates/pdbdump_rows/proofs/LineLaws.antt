@@ -12,10 +12,10 @@ use Rattle.pdbdump_rows.specs.declared.form.Form.{Form}
 use Rattle.pdbdump_rows.specs.declared.form.Form.TheVariants.{Text, Json}
 use Rattle.pdbdump_rows.specs.Laws.{IsEscape, IsLine, short, long, is_hexadecimal, is_short}
 use Rattle.pdbdump_rows.specs.Lines.{field_line, field_text, fields_text, front_text, index_text, is_leading, is_shown}
-use Rattle.pdbdump_rows.specs.Lines.{kind_text, list_text, row_text, separated, separator, value_text}
+use Rattle.pdbdump_rows.specs.Lines.{kind_text, list_text, row_text, separate, separator, value_text}
 use Rattle.pdbdump_rows.specs.Row as rows
 use Rattle.pdbdump_rows.specs.Row.{ShownField, ShownRow, ShownValue}
-use Rattle.pdbdump_rows.specs.Text.{escape, is_escaped, quoted, shown_char, shown_text}
+use Rattle.pdbdump_rows.specs.Text.{escape, is_escaped, in_quotes, shown_char, shown_text}
 use Rattle.pdbdump_rows.proofs.StringLaws.{and_both, escape_is, wide_bytes}
 
 -- whether no byte is below 0x20
@@ -79,8 +79,8 @@ text_printable : (form : Form) (bytes : List ℕ) → printable (shown_text form
 unfolding shown_text
 text_printable form bytes = all_joined (shown_char form) (lossy_chars bytes) (char_printable form)
 
-quoted_printable : (form : Form) (bytes : List ℕ) → printable (quoted form bytes) ≡ true
-unfolding quoted
+quoted_printable : (form : Form) (bytes : List ℕ) → printable (in_quotes form bytes) ≡ true
+unfolding in_quotes
 quoted_printable Text bytes = text_printable Text bytes
 quoted_printable Json bytes = and_both refl (joined (shown_text Json bytes) (34 ∷ []) (text_printable Json bytes) refl)
 
@@ -113,7 +113,7 @@ index_printable Text n = joined (codes "0x") (digits 16 false n) refl (digits_pr
 index_printable Json n = digits_printable 10 n
 
 separated_printable : {A : Type 0} (between : List ℕ) (text : A → List ℕ) (items : List A) → printable between ≡ true
-    → ((item : A) → printable (text item) ≡ true) → printable (separated between text items) ≡ true
+    → ((item : A) → printable (text item) ≡ true) → printable (separate between text items) ≡ true
 separated_printable between text [] good each = refl
 separated_printable between text (item ∷ items) good each =
     joined (text item) (flat_map (λ next. between ++ text next) items) (each item)
@@ -123,8 +123,8 @@ list_printable : {A : Type 0} (text : A → List ℕ) (items : List A) → ((ite
     → printable (list_text text items) ≡ true
 unfolding list_text
 list_printable text items each =
-    joined (codes "[" ++ separated (codes ",") text items) (codes "]")
-    (joined (codes "[") (separated (codes ",") text items) refl
+    joined (codes "[" ++ separate (codes ",") text items) (codes "]")
+    (joined (codes "[") (separate (codes ",") text items) refl
     (separated_printable (codes ",") text items refl each)) refl
 
 value_printable : (form : Form) (value : ShownValue) → printable (value_text form value) ≡ true
@@ -135,7 +135,7 @@ value_printable form (rows.kind leaf) = quoted_printable form (kind_text leaf)
 value_printable form (rows.flag true) = refl
 value_printable form (rows.flag false) = refl
 value_printable form (rows.text bytes) = quoted_printable form bytes
-value_printable form (rows.words names) = list_printable (quoted form) names (quoted_printable form)
+value_printable form (rows.words names) = list_printable (in_quotes form) names (quoted_printable form)
 value_printable form (rows.numbers list) = list_printable decimal list (digits_printable 10)
 value_printable form (rows.indexes list) = list_printable (index_text form) list (index_printable form)
 value_printable form rows.absent = refl
@@ -147,7 +147,7 @@ front_printable Text name = elim (is_leading name) as
       | false ↦
           joined (shown_text Text name) (codes "=") (text_printable Text name) refl
     ]
-front_printable Json name = joined (quoted Json name) (codes ":") (quoted_printable Json name) refl
+front_printable Json name = joined (in_quotes Json name) (codes ":") (quoted_printable Json name) refl
 
 field_printable : (form : Form) (field : ShownField) → printable (field_text form field) ≡ true
 unfolding field_text

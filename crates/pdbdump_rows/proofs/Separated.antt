@@ -5,7 +5,7 @@ use Rattle.std.specs.List.{flat_map}
 use Rattle.std.proofs.lemmas.Grind.{flat_map-append}
 use Rattle.std.proofs.lemmas.List.Folds.{flat_map-map}
 use Rattle.std.proofs.lemmas.List.{append-nil, take_all, take_more}
-use Rattle.pdbdump_rows.specs.Lines.{is_none, separated}
+use Rattle.pdbdump_rows.specs.Lines.{is_none, separate}
 
 -- one item more
 pub one_more : {A : Type 0} (text : A → List ℕ) (items : List A) (i : ℕ) (d : A) → i < length items
@@ -21,7 +21,7 @@ before separator items = cond (is_none items) [] separator
 
 -- one item more behind those that are separated
 pub separated_more : {A : Type 0} (separator : List ℕ) (text : A → List ℕ) (items : List A) (item : A)
-    → separated separator text (items ++ item ∷ []) ≡ separated separator text items
+    → separate separator text (items ++ item ∷ []) ≡ separate separator text items
     ++ (before separator items ++ text item)
 separated_more separator text [] item = append-nil (text item)
 separated_more separator text (first ∷ items) item =

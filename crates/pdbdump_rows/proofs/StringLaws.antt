@@ -10,7 +10,7 @@ use Rattle.std.proofs.lemmas.Bool.Decides.{nat_tests}
 use lib.Utf8.{encode}
 use Rattle.bstr.specs.Utf8.{lossy_chars}
 use Rattle.pdbdump_rows.specs.declared.form.Form.TheVariants.{Json}
-use Rattle.pdbdump_rows.specs.Text.{backslash, behind_backslash, escape, is_escaped, shown_char, shown_text, quoted}
+use Rattle.pdbdump_rows.specs.Text.{backslash, behind_backslash, escape, is_escaped, shown_char, shown_text, in_quotes}
 use Rattle.pdbdump_rows.specs.Laws.{IsEscape, IsInside, IsString, is_hexadecimal, is_unescaped, short, long, ended}
 use Rattle.pdbdump_rows.specs.Laws.{unescaped, escaped}
 
@@ -105,8 +105,8 @@ chars_inside : (cs : List ℕ) → IsInside (flat_map (shown_char Json) cs)
 chars_inside [] = ended
 chars_inside (c ∷ cs) = char_inside c (flat_map (shown_char Json) cs) (chars_inside cs)
 
-pub text_is_string : (bytes : List ℕ) → IsString (quoted Json bytes)
-unfolding quoted shown_text
+pub text_is_string : (bytes : List ℕ) → IsString (in_quotes Json bytes)
+unfolding in_quotes shown_text
 text_is_string bytes = record {
   inside = flat_map (shown_char Json) (lossy_chars bytes);
   good =

@@ -5,7 +5,7 @@ use Rattle.pdb_values.specs.TypeValue as values
 use Rattle.pdb_values.specs.TypeValue.{TypeValue, PlainValue}
 use Rattle.pdb_values.specs.declared.class.ClassKind.{ClassKind}
 use Rattle.pdb_values.specs.declared.class.ClassKind.TheVariants.{Class, Struct, Interface}
-use Rattle.pdbdump_rows.specs.Fields.{headed}
+use Rattle.pdbdump_rows.specs.Fields.{begin_row}
 use Rattle.pdbdump_rows.specs.Row.{ShownRow}
 use Rattle.pdbdump_rows.specs.TypeRows.{type_fields}
 
@@ -57,4 +57,4 @@ leaf_of (values.method_list methods) = 0x1206  -- LF_METHODLIST
 
 -- the row of an entry
 unfoldable pub field_row : TypeValue → ShownRow
-field_row type = headed None (leaf_of type) (type_fields type)
+field_row type = begin_row None (leaf_of type) (type_fields type)

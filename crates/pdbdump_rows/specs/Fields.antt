@@ -39,5 +39,5 @@ optional_text (Some bytes) = text bytes
 optional_text None = absent
 
 -- what the row of a record begins with: its index, which an entry of a list doesn't have, and its leaf
-abbrev pub headed : Option ℕ → ℕ → ShownRow → ShownRow
-headed index leaf fields = (INDEX.now, optional_hexadecimal index) ∷ (KIND.now, kind leaf) ∷ fields
+abbrev pub begin_row : Option ℕ → ℕ → ShownRow → ShownRow
+begin_row index leaf fields = (INDEX.now, optional_hexadecimal index) ∷ (KIND.now, kind leaf) ∷ fields

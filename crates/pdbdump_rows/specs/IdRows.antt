@@ -10,7 +10,7 @@ use Rattle.pdb_values.specs.declared.source_id.UserDefinedTypeSourceFileRef.TheV
 use Rattle.pdb_values.specs.declared.source_id.UserDefinedTypeSourceId.{UserDefinedTypeSourceId}
 use Rattle.pdbdump_rows.specs.declared.names.TheConstants.{ARGUMENTS, FUNCTION_TYPE, LINE, MODULE, NAME, PARENT}
 use Rattle.pdbdump_rows.specs.declared.names.TheConstants.{SCOPE, SOURCE_FILE, SUBSTRINGS, UDT}
-use Rattle.pdbdump_rows.specs.Fields.{type_index, optional_id, headed}
+use Rattle.pdbdump_rows.specs.Fields.{type_index, optional_id, begin_row}
 use Rattle.pdbdump_rows.specs.Row.{ShownValue, ShownRow, number, hexadecimal, text, indexes, absent}
 
 -- a function
@@ -78,4 +78,4 @@ id_fields (values.string_list substrings) = string_list_fields substrings
 
 -- the row of the id of an index, whose record has this leaf
 unfoldable pub id_row : ℕ → ℕ → IdValue → ShownRow
-id_row index leaf id = headed (Some index) leaf (id_fields id)
+id_row index leaf id = begin_row (Some index) leaf (id_fields id)

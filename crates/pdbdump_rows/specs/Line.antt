@@ -42,28 +42,28 @@ abbrev pub field_bytes : LineState → ShownField → List ℕ
 field_bytes line field = if line.is_full then field_line field else between line ++ field_text line.form field
 
 -- a line with one field more; a field that its form does not show changes nothing
-unfoldable pub shown : LineState → ShownField → LineState
-shown line field = if is_shown line.form field
+unfoldable pub add_field : LineState → ShownField → LineState
+add_field line field = if is_shown line.form field
     then record { form = line.form; is_full = line.is_full; bytes = line.bytes ++ field_bytes line field; is_empty = false }
     else line
 
 -- a line with more fields, one after another
 abbrev pub all_shown : LineState → ShownRow → LineState
 all_shown line [] = line
-all_shown line (field ∷ row) = all_shown (shown line field) row
+all_shown line (field ∷ row) = all_shown (add_field line field) row
 
 -- what the end of a line adds
 abbrev pub end_bytes : LineState → List ℕ
 end_bytes line = if line.is_full then [] else (if line.is_empty then opening line.form else []) ++ ending line.form
 
 -- the bytes of a line that has ended
-unfoldable pub ended : LineState → List ℕ
-ended line = line.bytes ++ end_bytes line
+unfoldable pub line_bytes : LineState → List ℕ
+line_bytes line = line.bytes ++ end_bytes line
 
 -- Fields were added to a line; or memory was refused.
-abbrev pub Shows : ShownRow → LineState → LineState → Result (Unit {0}) Error → Type 0
-Shows row old new (Ok done) = new ≡ all_shown old row
-Shows row old new (Err e) = e ≡ OutOfMemory
+abbrev pub ShowsFields : ShownRow → LineState → LineState → Result (Unit {0}) Error → Type 0
+ShowsFields row old new (Ok done) = new ≡ all_shown old row
+ShowsFields row old new (Err e) = e ≡ OutOfMemory
 
 -- A line has ended with this text; or memory was refused.
 abbrev pub Ends : List ℕ → LineState → Result (Unit {0}) Error → Type 0
@@ -78,19 +78,19 @@ Adds text old new (Err e) = e ≡ OutOfMemory
 -- The line of the fields that were added has ended, as one line or in full, whichever they are; or memory was refused.
 pub record IsLineEnded (old : LineState) (added : Result (Unit {0}) Error) (new : LineState)
     (result : Result (Unit {0}) Error) : Type 0 where
-  pub row : (form : Form) (start : LineState) (row : ShownRow) → Shows row start old added → start ≡ begun form
+  pub row : (form : Form) (start : LineState) (row : ShownRow) → ShowsFields row start old added → start ≡ begun form
       → Ends (row_text form row) new result
-  pub full : (form : Form) (start : LineState) (row : ShownRow) → Shows row start old added → start ≡ begun_full form
+  pub full : (form : Form) (start : LineState) (row : ShownRow) → ShowsFields row start old added → start ≡ begun_full form
       → Ends (full_text form row) new result
 
 -- The line of the fields that were added was written, whichever they are; or it was cut short.
 pub record IsLineWritten (line : LineState) (added : Result (Unit {0}) Error) (old new : OutputState)
     (result : Result (Unit {0}) Error) : Type 0 where
-  pub row : (form : Form) (start : LineState) (row : ShownRow) → Shows row start line added → start ≡ begun form
+  pub row : (form : Form) (start : LineState) (row : ShownRow) → ShowsFields row start line added → start ≡ begun form
       → Writes (row_text form row) old new result
 
 -- The line of the fields that were added was appended to a text, whichever they are; or memory was refused.
 pub record IsLineAppended (line : LineState) (added : Result (Unit {0}) Error) (old new : List ℕ)
     (result : Result (Unit {0}) Error) : Type 0 where
-  pub row : (form : Form) (start : LineState) (row : ShownRow) → Shows row start line added → start ≡ begun form
+  pub row : (form : Form) (start : LineState) (row : ShownRow) → ShowsFields row start line added → start ≡ begun form
       → Adds (row_text form row) old new result

@@ -9,7 +9,7 @@ use Rattle.pdbdump_rows.specs.declared.form.Form.TheVariants.{Text, Json}
 use Rattle.pdb_values.specs.LeafNames.{leaf_text}
 use Rattle.pdbdump_rows.specs.Row as rows
 use Rattle.pdbdump_rows.specs.Row.{ShownValue, ShownField, ShownRow}
-use Rattle.pdbdump_rows.specs.Text.{four_digits, shown_text, quoted}
+use Rattle.pdbdump_rows.specs.Text.{four_digits, shown_text, in_quotes}
 
 -- whether there is no item
 abbrev pub is_none : {A : Type 0} → List A → Bool
@@ -17,13 +17,13 @@ is_none [] = true
 is_none (item ∷ items) = false
 
 -- the texts of items, with a separator between each two
-abbrev pub separated : {A : Type 0} → List ℕ → (A → List ℕ) → List A → List ℕ
-separated separator text [] = []
-separated separator text (item ∷ items) = text item ++ flat_map (λ next. separator ++ text next) items
+abbrev pub separate : {A : Type 0} → List ℕ → (A → List ℕ) → List A → List ℕ
+separate separator text [] = []
+separate separator text (item ∷ items) = text item ++ flat_map (λ next. separator ++ text next) items
 
 -- a list: in brackets, with commas between its items
 unfoldable pub list_text : {A : Type 0} → (A → List ℕ) → List A → List ℕ
-list_text text items = codes "[" ++ separated (codes ",") text items ++ codes "]"
+list_text text items = codes "[" ++ separate (codes ",") text items ++ codes "]"
 
 -- an index or an address: in hexadecimal in text, and in decimal in JSON
 abbrev pub index_text : Form → ℕ → List ℕ
@@ -44,11 +44,11 @@ abbrev pub value_text : Form → ShownValue → List ℕ
 value_text form (rows.number n) = decimal n
 value_text form (rows.signed z) = signed_decimal z
 value_text form (rows.hexadecimal n) = index_text form n
-value_text form (rows.kind leaf) = quoted form (kind_text leaf)
+value_text form (rows.kind leaf) = in_quotes form (kind_text leaf)
 value_text form (rows.flag true) = codes "true"
 value_text form (rows.flag false) = codes "false"
-value_text form (rows.text bytes) = quoted form bytes
-value_text form (rows.words names) = list_text (quoted form) names
+value_text form (rows.text bytes) = in_quotes form bytes
+value_text form (rows.words names) = list_text (in_quotes form) names
 value_text form (rows.numbers list) = list_text decimal list
 value_text form (rows.indexes list) = list_text (index_text form) list
 value_text form rows.absent = []
@@ -71,7 +71,7 @@ is_leading name = bytes_eq name (codes "index") || bytes_eq name (codes "number"
 -- what stands before a field's value on a line
 abbrev pub front_text : Form → List ℕ → List ℕ
 front_text Text name = if is_leading name then [] else shown_text Text name ++ codes "="
-front_text Json name = quoted Json name ++ codes ":"
+front_text Json name = in_quotes Json name ++ codes ":"
 
 -- a field on a line
 unfoldable pub field_text : Form → ShownField → List ℕ
@@ -84,7 +84,7 @@ separator Json = codes ","
 
 -- the fields that a line shows
 unfoldable pub fields_text : Form → ShownRow → List ℕ
-fields_text form row = separated (separator form) (field_text form) (filter (is_shown form) row)
+fields_text form row = separate (separator form) (field_text form) (filter (is_shown form) row)
 
 -- the byte that ends a line
 abbrev pub line_feed : ℕ

@@ -3,7 +3,7 @@
 use Rattle.std.specs.Prelude.{ℕ, ℤ, Bool, List, map}
 use Rattle.pdbdump_rows.specs.declared.value.Value.{Value}
 use Rattle.pdbdump_rows.specs.declared.value.Value.TheVariants as values
-use Rattle.pdbdump_rows.specs.Words.{chosen}
+use Rattle.pdbdump_rows.specs.Words.{words_beside_true}
 
 -- the value that a field shows
 pub data ShownValue : Type 0 where
@@ -35,7 +35,7 @@ value_shown (values.Kind leaf) = kind leaf
 value_shown (values.Flag holds) = flag holds
 value_shown (values.Text name) = text name.0.now
 value_shown (values.Word name) = text name.now
-value_shown (values.Words flags) = words (chosen (map (λ flag. (flag.0, flag.1.now)) flags.now))
+value_shown (values.Words flags) = words (words_beside_true (map (λ flag. (flag.0, flag.1.now)) flags.now))
 value_shown (values.Numbers list) = numbers list.now
 value_shown (values.Indexes list) = indexes list.now
 value_shown values.Absent = absent

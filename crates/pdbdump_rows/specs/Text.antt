@@ -67,6 +67,6 @@ unfoldable pub shown_text : Form → List ℕ → List ℕ
 shown_text form bytes = flat_map (shown_char form) (lossy_chars bytes)
 
 -- the same, in quotes in JSON
-unfoldable pub quoted : Form → List ℕ → List ℕ
-quoted Text bytes = shown_text Text bytes
-quoted Json bytes = quote ∷ shown_text Json bytes ++ quote ∷ []
+unfoldable pub in_quotes : Form → List ℕ → List ℕ
+in_quotes Text bytes = shown_text Text bytes
+in_quotes Json bytes = quote ∷ shown_text Json bytes ++ quote ∷ []

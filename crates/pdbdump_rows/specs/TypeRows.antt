@@ -40,7 +40,7 @@ use Rattle.pdbdump_rows.specs.declared.names.TheConstants.{PRIMITIVE_KIND, PROPE
 use Rattle.pdbdump_rows.specs.declared.names.TheConstants.{TABLE, THIS_ADJUSTMENT, THIS_POINTER_TYPE, UNDERLYING_TYPE}
 use Rattle.pdbdump_rows.specs.declared.names.TheConstants.{UNIQUE_NAME, VALUE, VIRTUAL_BASE_OFFSET, VTABLE_OFFSET}
 use Rattle.pdbdump_rows.specs.declared.names.TheConstants.{VTABLE_SHAPE}
-use Rattle.pdbdump_rows.specs.Fields.{type_index, optional_type, optional_number, optional_text, nonzero, headed}
+use Rattle.pdbdump_rows.specs.Fields.{type_index, optional_type, optional_number, optional_text, nonzero, begin_row}
 use Rattle.pdbdump_rows.specs.Row.{ShownValue, ShownRow, number, signed, flag, text, words, numbers, indexes}
 use Rattle.pdbdump_rows.specs.Words.{access_word, field_words, function_words, indirection_word, kind_word, mode_word}
 use Rattle.pdbdump_rows.specs.Words.{modifier_words, pointer_words, primitive_word, property_words}
@@ -308,4 +308,4 @@ type_fields (values.method_list methods) = method_list_fields methods
 
 -- the row of the type of an index, whose record has this leaf
 unfoldable pub type_row : ℕ → ℕ → TypeValue → ShownRow
-type_row index leaf type = headed (Some index) leaf (type_fields type)
+type_row index leaf type = begin_row (Some index) leaf (type_fields type)

@@ -16,12 +16,12 @@ use Rattle.pdb_values.specs.declared.primitive.PrimitiveKind.{PrimitiveKind}
 use Rattle.pdb_values.specs.declared.primitive.PrimitiveKind.TheVariants as primitives
 
 -- the words beside true, in order
-unfoldable pub chosen : List (Bool × List ℕ) → List (List ℕ)
-chosen flags = map (λ flag. flag.1) (filter (λ flag. flag.0) flags)
+unfoldable pub words_beside_true : List (Bool × List ℕ) → List (List ℕ)
+words_beside_true flags = map (λ flag. flag.1) (filter (λ flag. flag.0) flags)
 
 -- the names of the properties that a type has
 unfoldable pub property_words : ℕ → List (List ℕ)
-property_words word = chosen (
+property_words word = words_beside_true (
     (properties.packed word, codes "packed")
     ∷ (properties.constructors word, codes "constructors")
     ∷ (properties.overloaded_operators word, codes "overloaded_operators")
@@ -43,7 +43,7 @@ access_word word = lookup (λ row. row == members.access word)
 
 -- the names of the attributes that a member has
 unfoldable pub field_words : ℕ → List (List ℕ)
-field_words word = chosen (
+field_words word = words_beside_true (
     (members.is_virtual word, codes "is_virtual")
     ∷ (members.is_static word, codes "is_static")
     ∷ (members.is_pure_virtual word, codes "is_pure_virtual")
@@ -52,7 +52,7 @@ field_words word = chosen (
 
 -- the names of the attributes that a function has
 unfoldable pub function_words : ℕ → List (List ℕ)
-function_words word = chosen (
+function_words word = words_beside_true (
     (functions.cxx_return_udt word, codes "cxx_return_udt")
     ∷ (functions.is_constructor word, codes "is_constructor")
     ∷ (functions.is_constructor_with_virtual_bases word, codes "is_constructor_with_virtual_bases")
@@ -60,7 +60,7 @@ function_words word = chosen (
 
 -- the names of the modifiers that a type has
 unfoldable pub modifier_words : ModifierType → List (List ℕ)
-modifier_words modifier = chosen (
+modifier_words modifier = words_beside_true (
     (modifier.constant, codes "constant")
     ∷ (modifier.volatile, codes "volatile")
     ∷ (modifier.unaligned, codes "unaligned")
@@ -68,7 +68,7 @@ modifier_words modifier = chosen (
 
 -- the names of the attributes that a pointer has
 unfoldable pub pointer_words : ℕ → List (List ℕ)
-pointer_words word = chosen (
+pointer_words word = words_beside_true (
     (pointers.is_flat_32 word, codes "is_flat_32")
     ∷ (pointers.is_volatile word, codes "is_volatile")
     ∷ (pointers.is_const word, codes "is_const")
@@ -79,7 +79,7 @@ pointer_words word = chosen (
 
 -- the names of the flags that a section has
 unfoldable pub section_words : ℕ → List (List ℕ)
-section_words word = chosen (
+section_words word = words_beside_true (
     (sections.executable word, codes "executable")
     ∷ (sections.initialized_data word, codes "initialized_data")
     ∷ (sections.uninitialized_data word, codes "uninitialized_data")

@@ -3,7 +3,7 @@
 ghost use Rattle.std.specs.Prelude.{◌≡◌};
 ghost use Rattle.pdb_values.specs.TypeView.{type_value};
 ghost use Rattle.pdbdump_rows.specs.EntryRows.{base_class_leaf, class_leaf, field_row, leaf_of, virtual_base_leaf};
-ghost use Rattle.pdbdump_rows.specs.Line.{Shows};
+ghost use Rattle.pdbdump_rows.specs.Line.{ShowsFields};
 
 use crate::line::Line;
 use crate::type_rows::{show_fields, show_head};
@@ -83,7 +83,7 @@ fn leaf_of(data: &TypeData<'_>) -> u16
 /// Fails with `OutOfMemory` if an allocation fails.
 #[tactic(auto, unfolding(crate::specs::EntryRows::field_row))]
 pub fn show_entry(alloc: Global, line: &mut Line, data: &TypeData<'_>) -> Result<()>
-    ensures { Shows (field_row (type_value «data».now)) line.old line.new result }
+    ensures { ShowsFields (field_row (type_value «data».now)) line.old line.new result }
 {
     show_head(line, None, leaf_of(data))?;
     show_fields(alloc, line, data)

@@ -2,7 +2,7 @@
 
 ghost use Rattle.std.specs.Prelude.{◌≡◌};
 ghost use Rattle.pdb_frames.specs.FrameNumbers.{kind_text};
-ghost use Rattle.pdbdump_rows.specs.Line.{Shows};
+ghost use Rattle.pdbdump_rows.specs.Line.{ShowsFields};
 ghost use Rattle.pdbdump_rows.specs.Row.{value_shown};
 ghost use Rattle.pdbdump_rows.specs.TableRows.{frame_row, program_place};
 
@@ -47,7 +47,7 @@ fn program<'t>(place: Option<StringRef>) -> Value<'t>
 /// Fails with `OutOfMemory` if an allocation fails.
 #[tactic(auto, unfolding(crate::specs::TableRows::frame_row))]
 pub fn show_frame(line: &mut Line, frame: &FrameData) -> Result<()>
-    ensures { Shows (frame_row frame.now) line.old line.new result }
+    ensures { ShowsFields (frame_row frame.now) line.old line.new result }
 {
     line.field(CODE_START, Value::Hexadecimal(frame.code_start.0))?;
     line.field(CODE_SIZE, Value::Number(frame.code_size as u64))?;

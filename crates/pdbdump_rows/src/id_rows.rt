@@ -2,7 +2,7 @@
 
 ghost use Rattle.std.specs.Prelude.{◌≡◌};
 ghost use Rattle.pdb_values.specs.IdValue.{build_arguments, function_value, id_value, member_function_value, string_value, text_parts};
-ghost use Rattle.pdbdump_rows.specs.Line.{Shows};
+ghost use Rattle.pdbdump_rows.specs.Line.{ShowsFields};
 ghost use Rattle.pdbdump_rows.specs.IdRows.{build_info_fields, function_fields, id_fields, id_row, member_function_fields, source_fields, source_file, source_module, string_fields, string_list_fields};
 ghost use Rattle.pdbdump_rows.specs.Row.{value_shown};
 
@@ -23,7 +23,7 @@ use std::alloc::Global;
 /// Adds the fields of a function.
 #[tactic(auto, unfolding(crate::specs::IdRows::function_fields))]
 fn show_function(line: &mut Line, id: &FunctionId<'_>) -> Result<()>
-    ensures { Shows (function_fields (function_value id.now)) line.old line.new result }
+    ensures { ShowsFields (function_fields (function_value id.now)) line.old line.new result }
 {
     line.field(NAME, Value::Text(id.name))?;
     line.field(SCOPE, optional_id(id.scope))?;
@@ -34,7 +34,7 @@ fn show_function(line: &mut Line, id: &FunctionId<'_>) -> Result<()>
 /// Adds the fields of a method.
 #[tactic(auto, unfolding(crate::specs::IdRows::member_function_fields))]
 fn show_member_function(line: &mut Line, id: &MemberFunctionId<'_>) -> Result<()>
-    ensures { Shows (member_function_fields (member_function_value id.now)) line.old line.new result }
+    ensures { ShowsFields (member_function_fields (member_function_value id.now)) line.old line.new result }
 {
     line.field(NAME, Value::Text(id.name))?;
     line.field(PARENT, type_index(id.parent))?;
@@ -45,7 +45,7 @@ fn show_member_function(line: &mut Line, id: &MemberFunctionId<'_>) -> Result<()
 /// Adds the fields of what a module was built with.
 #[tactic(auto, unfolding(crate::specs::IdRows::build_info_fields))]
 fn show_build_info(alloc: Global, line: &mut Line, id: &BuildInfoId) -> Result<()>
-    ensures { Shows (build_info_fields (build_arguments id.now)) line.old line.new result }
+    ensures { ShowsFields (build_info_fields (build_arguments id.now)) line.old line.new result }
 {
     let arguments = id_numbers(alloc, &id.arguments)?;
     line.field(ARGUMENTS, Value::Indexes(&arguments))?;
@@ -55,7 +55,7 @@ fn show_build_info(alloc: Global, line: &mut Line, id: &BuildInfoId) -> Result<(
 /// Adds the fields of the parts of a text.
 #[tactic(auto, unfolding(crate::specs::IdRows::string_list_fields))]
 fn show_string_list(alloc: Global, line: &mut Line, id: &StringListId) -> Result<()>
-    ensures { Shows (string_list_fields (text_parts id.now)) line.old line.new result }
+    ensures { ShowsFields (string_list_fields (text_parts id.now)) line.old line.new result }
 {
     let substrings = type_numbers(alloc, &id.substrings)?;
     line.field(SUBSTRINGS, Value::Indexes(&substrings))?;
@@ -65,7 +65,7 @@ fn show_string_list(alloc: Global, line: &mut Line, id: &StringListId) -> Result
 /// Adds the fields of a text.
 #[tactic(auto, unfolding(crate::specs::IdRows::string_fields))]
 fn show_string(line: &mut Line, id: &StringId<'_>) -> Result<()>
-    ensures { Shows (string_fields (string_value id.now)) line.old line.new result }
+    ensures { ShowsFields (string_fields (string_value id.now)) line.old line.new result }
 {
     line.field(NAME, Value::Text(id.name))?;
     line.field(SUBSTRINGS, optional_id(id.substrings))?;
@@ -96,7 +96,7 @@ fn source_file<'t>(file: UserDefinedTypeSourceFileRef) -> Value<'t>
 /// Adds the fields of the place where a type is declared.
 #[tactic(auto, unfolding(crate::specs::IdRows::source_fields))]
 fn show_source(line: &mut Line, id: &UserDefinedTypeSourceId) -> Result<()>
-    ensures { Shows (source_fields id.now) line.old line.new result }
+    ensures { ShowsFields (source_fields id.now) line.old line.new result }
 {
     line.field(UDT, type_index(id.udt))?;
     line.field(SOURCE_FILE, source_file(id.source_file))?;
@@ -107,7 +107,7 @@ fn show_source(line: &mut Line, id: &UserDefinedTypeSourceId) -> Result<()>
 
 /// Adds the fields of an id.
 fn show_fields(alloc: Global, line: &mut Line, data: &IdData<'_>) -> Result<()>
-    ensures { Shows (id_fields (id_value «data».now)) line.old line.new result }
+    ensures { ShowsFields (id_fields (id_value «data».now)) line.old line.new result }
 {
     match data {
         IdData::Function(id) => show_function(line, id),
@@ -131,7 +131,7 @@ pub fn show_id(
     leaf: u16,
     data: &IdData<'_>,
 ) -> Result<()>
-    ensures { Shows (id_row index leaf (id_value «data».now)) line.old line.new result }
+    ensures { ShowsFields (id_row index leaf (id_value «data».now)) line.old line.new result }
 {
     show_head(line, Some(index), leaf)?;
     show_fields(alloc, line, data)

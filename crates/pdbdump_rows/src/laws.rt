@@ -3,10 +3,10 @@
 ghost use Rattle.std.specs.Prelude.{◌≡◌, ℕ, List};
 ghost use Rattle.pdbdump_rows.specs.declared.form.Form.{Form};
 ghost use Rattle.pdbdump_rows.specs.Laws.{IsLine, IsString};
-ghost use Rattle.pdbdump_rows.specs.Line.{all_shown, begun, begun_full, ended};
+ghost use Rattle.pdbdump_rows.specs.Line.{all_shown, begun, begun_full, line_bytes};
 ghost use Rattle.pdbdump_rows.specs.Lines.{field_line, full_text, row_text};
 ghost use Rattle.pdbdump_rows.specs.Row.{ShownField, ShownRow};
-ghost use Rattle.pdbdump_rows.specs.Text.{quoted};
+ghost use Rattle.pdbdump_rows.specs.Text.{in_quotes};
 
 /// A record is one line in either form, and so is a field alone, whatever bytes names hold: the only
 /// control character is the line feed at its end.
@@ -18,13 +18,13 @@ pub fn lines()
 
 /// What is written field by field is the one line of its fields, or in full a line for each.
 #[tactic(auto, using(crate::proofs::lemmas::Line::line_is, crate::proofs::lemmas::Line::full_is))]
-pub fn written()
-    ensures lines { (form : Form) (row : ShownRow) → ended (all_shown (begun form) row) ≡ row_text form row }
-    ensures full { (form : Form) (row : ShownRow) → ended (all_shown (begun_full form) row) ≡ full_text form row }
+pub fn line_is_its_fields()
+    ensures lines { (form : Form) (row : ShownRow) → line_bytes (all_shown (begun form) row) ≡ row_text form row }
+    ensures full { (form : Form) (row : ShownRow) → line_bytes (all_shown (begun_full form) row) ≡ full_text form row }
 {}
 
 /// A text in JSON is a string of RFC 8259, whatever bytes it holds.
 #[tactic(auto, using(crate::proofs::StringLaws::text_is_string))]
 pub fn strings()
-    ensures { (bytes : List ℕ) → IsString (quoted Form.Json bytes) }
+    ensures { (bytes : List ℕ) → IsString (in_quotes Form.Json bytes) }
 {}

@@ -1,7 +1,7 @@
 //! A line that is written field by field.
 
 ghost use Rattle.std.specs.Prelude.{◌≡◌, ◌∷◌, []};
-ghost use Rattle.pdbdump_rows.specs.Line.{Ends, IsLineAppended, IsLineEnded, IsLineWritten, Shows, begun, begun_full, ended};
+ghost use Rattle.pdbdump_rows.specs.Line.{Ends, IsLineAppended, IsLineEnded, IsLineWritten, ShowsFields, begun, begun_full, line_bytes};
 ghost use Rattle.pdbdump_rows.specs.Row.{value_shown};
 
 use crate::form::Form;
@@ -75,9 +75,9 @@ impl Line {
     ///
     /// # Errors
     /// Fails with `OutOfMemory` if an allocation fails. A part of the field may then be there.
-    #[tactic(auto, unfolding(crate::specs::Line::shown))]
+    #[tactic(auto, unfolding(crate::specs::Line::add_field))]
     pub fn field(&mut self, name: &'static str, value: Value<'_>) -> Result<()>
-        ensures { Shows ((name.now, value_shown value.entry) ∷ []) self.old self.new result }
+        ensures { ShowsFields ((name.now, value_shown value.entry) ∷ []) self.old self.new result }
     {
         if !is_shown(self.form, &value) {
             return Ok(());
@@ -92,9 +92,9 @@ impl Line {
     }
 
     /// Ends the line, with its line feed.
-    #[tactic(auto, unfolding(crate::specs::Line::ended))]
+    #[tactic(auto, unfolding(crate::specs::Line::line_bytes))]
     fn end(&mut self) -> Result<()>
-        ensures { Ends (ended self.old) self.new result }
+        ensures { Ends (line_bytes self.old) self.new result }
     {
         if self.is_full {
             return Ok(());

@@ -1,6 +1,6 @@
 //! Records of OMAP tables, field by field.
 
-ghost use Rattle.pdbdump_rows.specs.Line.{Shows};
+ghost use Rattle.pdbdump_rows.specs.Line.{ShowsFields};
 ghost use Rattle.pdbdump_rows.specs.TableRows.{omap_row};
 
 use crate::line::Line;
@@ -15,7 +15,7 @@ use pdb_space::OMAPRecord;
 /// Fails with `OutOfMemory` if an allocation fails.
 #[tactic(auto, unfolding(crate::specs::TableRows::omap_row))]
 pub fn show_omap(line: &mut Line, mapping: OMAPRecord) -> Result<()>
-    ensures { Shows (omap_row mapping) line.old line.new result }
+    ensures { ShowsFields (omap_row mapping) line.old line.new result }
 {
     line.field(SOURCE_ADDRESS, Value::Hexadecimal(mapping.source_address()))?;
     line.field(TARGET_ADDRESS, Value::Hexadecimal(mapping.target_address()))?;

@@ -5,8 +5,8 @@ ghost use Rattle.pdb_base.specs.Memory.{FailsOnlyForMemory};
 ghost use Rattle.pdbdump_rows.specs.Line.{ending, opening};
 ghost use Rattle.pdbdump_rows.specs.Lines.{field_line, field_text, index_text, is_leading, is_none, is_shown_value, kind_text, list_text, separator, value_text};
 ghost use Rattle.pdbdump_rows.specs.Row.{value_shown};
-ghost use Rattle.pdbdump_rows.specs.Text.{quoted};
-ghost use Rattle.pdbdump_rows.specs.Words.{chosen};
+ghost use Rattle.pdbdump_rows.specs.Text.{in_quotes};
+ghost use Rattle.pdbdump_rows.specs.Words.{words_beside_true};
 
 use crate::form::Form;
 use crate::number::{four_digits, push_decimal, push_hexadecimal, push_signed};
@@ -29,7 +29,7 @@ fn push_index(form: Form, number: u32, out: &mut Vec<u8>) -> Result<()>
 /// Appends a record kind by its name, or in hexadecimal if it has none.
 #[tactic(auto, unfolding(crate::specs::Lines::kind_text))]
 fn push_kind(form: Form, leaf: u16, out: &mut Vec<u8>) -> Result<()>
-    ensures ok { OnOk result (out.new.items ≡ out.old.items ++ quoted form (kind_text leaf)) }
+    ensures ok { OnOk result (out.new.items ≡ out.old.items ++ in_quotes form (kind_text leaf)) }
     ensures memory { FailsOnlyForMemory result }
 {
     match leaf_name(leaf) {
@@ -42,9 +42,9 @@ fn push_kind(form: Form, leaf: u16, out: &mut Vec<u8>) -> Result<()>
 }
 
 /// Returns whether a flag is set.
-#[tactic(auto, using(crate::proofs::WordLemmas::chosen_more), unfolding(crate::specs::Words::chosen))]
+#[tactic(auto, using(crate::proofs::WordLemmas::chosen_more), unfolding(crate::specs::Words::words_beside_true))]
 fn is_any_set(flags: &[Flag]) -> bool
-    ensures { result ≡ not (is_none (chosen (map (λ flag. (flag.0, flag.1.now)) flags.now))) }
+    ensures { result ≡ not (is_none (words_beside_true (map (λ flag. (flag.0, flag.1.now)) flags.now))) }
 {
     for (is_set, _) in flags {
         if *is_set {
@@ -57,7 +57,7 @@ fn is_any_set(flags: &[Flag]) -> bool
 /// Appends a word of a list, the first one or one after others.
 fn push_word(form: Form, is_first: bool, word: &str, out: &mut Vec<u8>) -> Result<()>
     ensures ok { OnOk result (out.new.items
-        ≡ out.old.items ++ ((if is_first then [] else codes ",") ++ quoted form word.now)) }
+        ≡ out.old.items ++ ((if is_first then [] else codes ",") ++ in_quotes form word.now)) }
     ensures memory { FailsOnlyForMemory result }
 {
     let before: &[u8] = if is_first { b"" } else { b"," };
@@ -69,7 +69,7 @@ fn push_word(form: Form, is_first: bool, word: &str, out: &mut Vec<u8>) -> Resul
 #[tactic(auto, unfolding(crate::specs::Lines::list_text))]
 fn push_words(form: Form, flags: &[Flag], out: &mut Vec<u8>) -> Result<()>
     ensures ok { OnOk result (out.new.items
-        ≡ out.old.items ++ list_text (quoted form) (chosen (map (λ flag. (flag.0, flag.1.now)) flags.now))) }
+        ≡ out.old.items ++ list_text (in_quotes form) (words_beside_true (map (λ flag. (flag.0, flag.1.now)) flags.now))) }
     ensures memory { FailsOnlyForMemory result }
 {
     out.push(b'[')?;

@@ -3,7 +3,7 @@
 ghost use Rattle.std.specs.Prelude.{◌≡◌, [], ◌∷◌, IfOk};
 ghost use Rattle.pdb_base.specs.Memory.{FailsOnlyForMemory};
 ghost use Rattle.pdb_base.specs.Refusal.{refusal_of};
-ghost use Rattle.pdbdump_rows.specs.Line.{Shows};
+ghost use Rattle.pdbdump_rows.specs.Line.{ShowsFields};
 ghost use Rattle.pdbdump_rows.specs.Refused.{refusal_shown, refusal_text};
 
 use crate::line::Line;
@@ -32,7 +32,7 @@ pub fn error_text(alloc: Global, error: &Error) -> Result<Vec<u8>>
 /// # Errors
 /// Fails with `OutOfMemory` if an allocation fails.
 pub fn show_error(alloc: Global, line: &mut Line, error: &Error) -> Result<()>
-    ensures { Shows (refusal_shown (refusal_of error.now) ∷ []) line.old line.new result }
+    ensures { ShowsFields (refusal_shown (refusal_of error.now) ∷ []) line.old line.new result }
 {
     let text = error_text(alloc, error)?;
     line.field(ERROR, Value::Text(RawString::from(text.as_slice())))?;

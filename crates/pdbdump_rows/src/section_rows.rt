@@ -2,7 +2,7 @@
 
 ghost use Rattle.std.specs.Prelude.{◌≡◌};
 ghost use Rattle.pdb_space.specs.SectionHeader.{section_name};
-ghost use Rattle.pdbdump_rows.specs.Line.{Shows};
+ghost use Rattle.pdbdump_rows.specs.Line.{ShowsFields};
 ghost use Rattle.pdbdump_rows.specs.Fields.{optional_number};
 ghost use Rattle.pdbdump_rows.specs.Row.{value_shown};
 ghost use Rattle.pdbdump_rows.specs.TableRows.{section_row};
@@ -44,7 +44,7 @@ fn alignment<'t>(multiple: Option<u16>) -> Value<'t>
 /// Fails with `OutOfMemory` if an allocation fails.
 #[tactic(auto, unfolding(crate::specs::TableRows::section_row))]
 pub fn show_section(line: &mut Line, number: u32, header: &ImageSectionHeader) -> Result<()>
-    ensures { Shows (section_row number header.now) line.old line.new result }
+    ensures { ShowsFields (section_row number header.now) line.old line.new result }
 {
     let name = RawString::from(name_bytes(header));
     let characteristics = section_flags(header.characteristics);

@@ -3,7 +3,7 @@
 ghost use Rattle.std.specs.Prelude.{◌≡◌, ◌<◌, ◌↔◌, ◌++◌, IsTrue, OnOk};
 ghost use Rattle.std.specs.List.{list_all};
 ghost use Rattle.pdb_base.specs.Memory.{FailsOnlyForMemory};
-ghost use Rattle.pdbdump_rows.specs.Text.{escape, is_escaped, is_plain, short_escape, quoted, shown_char, shown_text};
+ghost use Rattle.pdbdump_rows.specs.Text.{escape, is_escaped, is_plain, short_escape, in_quotes, shown_char, shown_text};
 
 use crate::form::Form;
 use crate::number::four_digits;
@@ -104,9 +104,9 @@ pub(crate) fn push_text(form: Form, text: &[u8], out: &mut Vec<u8>) -> Result<()
 }
 
 /// Appends a text, in quotes if the form is JSON.
-#[tactic(auto, unfolding(crate::specs::Text::quoted))]
+#[tactic(auto, unfolding(crate::specs::Text::in_quotes))]
 pub(crate) fn push_quoted(form: Form, text: &[u8], out: &mut Vec<u8>) -> Result<()>
-    ensures ok { OnOk result (out.new.items ≡ out.old.items ++ quoted form text.now) }
+    ensures ok { OnOk result (out.new.items ≡ out.old.items ++ in_quotes form text.now) }
     ensures memory { FailsOnlyForMemory result }
 {
     match form {

@@ -2,7 +2,7 @@
 
 ghost use Rattle.pdb_values.specs.TypeView.{type_value};
 ghost use Rattle.pdbdump_rows.specs.Fields.{optional_hexadecimal};
-ghost use Rattle.pdbdump_rows.specs.Line.{Shows};
+ghost use Rattle.pdbdump_rows.specs.Line.{ShowsFields};
 ghost use Rattle.pdbdump_rows.specs.Row.{kind};
 ghost use Rattle.pdbdump_rows.specs.TypeRows.{type_fields, type_row};
 ghost use Rattle.std.specs.Prelude.{[], ◌∷◌};
@@ -39,7 +39,7 @@ use std::alloc::Global;
 /// Adds what the fields of a record begin with: its index, which an entry of a list doesn't have,
 /// and the record kind.
 pub(crate) fn show_head(line: &mut Line, index: Option<u32>, leaf: u16) -> Result<()>
-    ensures { Shows ((INDEX.now, optional_hexadecimal index) ∷ (KIND.now, kind leaf) ∷ [])
+    ensures { ShowsFields ((INDEX.now, optional_hexadecimal index) ∷ (KIND.now, kind leaf) ∷ [])
         line.old line.new result }
 {
     line.field(INDEX, optional_hexadecimal(index))?;
@@ -49,7 +49,7 @@ pub(crate) fn show_head(line: &mut Line, index: Option<u32>, leaf: u16) -> Resul
 
 /// Adds the fields of a type.
 pub(crate) fn show_fields(alloc: Global, line: &mut Line, data: &TypeData<'_>) -> Result<()>
-    ensures { Shows (type_fields (type_value «data».now)) line.old line.new result }
+    ensures { ShowsFields (type_fields (type_value «data».now)) line.old line.new result }
 {
     match data {
         TypeData::Primitive(primitive) => show_primitive(line, *primitive),
@@ -90,7 +90,7 @@ pub fn show_type(
     leaf: u16,
     data: &TypeData<'_>,
 ) -> Result<()>
-    ensures { Shows (type_row index leaf (type_value «data».now)) line.old line.new result }
+    ensures { ShowsFields (type_row index leaf (type_value «data».now)) line.old line.new result }
 {
     show_head(line, Some(index), leaf)?;
     show_fields(alloc, line, data)

@@ -9,7 +9,7 @@ use Rattle.std.proofs.lemmas.Bool.{cases_Bool, eqb-true, eqb-false, ne_eqb}
 use Rattle.std.proofs.lemmas.Bool.Decides.{nat_tests}
 use Rattle.std.proofs.lemmas.List.{append-nil}
 use Rattle.std.proofs.lemmas.List.Sorted.{All-permutation}
-use Rattle.pdbdump_tables.specs.Kinds.{count_of, equally, kinds_of, of_count, present, ranked}
+use Rattle.pdbdump_tables.specs.Kinds.{count_of, equally, kinds_of, of_count, present, by_frequency}
 use Rattle.pdbdump_tables.specs.declared.kinds.KindCount.{KindCount}
 
 -- the kinds of which there are so many
@@ -104,8 +104,8 @@ of_present count n (leaf ∷ leaves) = elim (cases_Bool (count leaf == 0)) [
 ]
 
 grouped_present : (count : ℕ → ℕ) (most : ℕ)
-    → grouped most (present count (range_with_len 0 0x10000)) ≡ ranked count most
-unfolding ranked
+    → grouped most (present count (range_with_len 0 0x10000)) ≡ by_frequency count most
+unfolding by_frequency
 grouped_present count zero = refl
 grouped_present count (suc most) =
     ap (λ (front : List KindCount). front ++ grouped most (present count (range_with_len 0 0x10000)))
@@ -186,7 +186,7 @@ pub ranked_sorted : (count : ℕ → ℕ) (most : ℕ) (all kinds : List KindCou
     → all ≡ present count (range_with_len 0 0x10000) → IsPermutation all kinds
     → ((k : ℕ) (d : KindCount) → 0 ≤ k → k + 1 < length kinds
     → is_above (get_or kinds (k + 1) d) (get_or kinds k d) ≡ false)
-    → ((kind : KindCount) → filter (ties kind) kinds ≡ filter (ties kind) all) → kinds ≡ ranked count most
+    → ((kind : KindCount) → filter (ties kind) kinds ≡ filter (ties kind) all) → kinds ≡ by_frequency count most
 ranked_sorted count most all kinds few is moved up stable =
     let leaves : List ℕ = range_with_len 0 0x10000 in
     let within : Within most kinds =
@@ -264,17 +264,17 @@ equally_same count other n end leaf (suc most) within same =
 
 -- counts that agree rank the same
 pub ranked_same : (count other : ℕ → ℕ) (most : ℕ) → ((l : ℕ) → l < 0x10000 → count l ≡ other l)
-    → ranked count most ≡ ranked other most
-unfolding ranked
+    → by_frequency count most ≡ by_frequency other most
+unfolding by_frequency
 ranked_same count other zero same = refl
 ranked_same count other (suc most) same =
-    ap (λ (front : List KindCount). front ++ ranked count most)
+    ap (λ (front : List KindCount). front ++ by_frequency count most)
     (equally_same count other (suc most) 0x10000 0 0x10000 (omega arith) same)
     ∙ ap (λ (rest : List KindCount). equally other (suc most) (range_with_len 0 0x10000) ++ rest)
     (ranked_same count other most same)
 
 -- the kinds of items are ranked by their counts
 pub kinds_by : (count : ℕ → ℕ) (items : List (List ℕ)) → ((l : ℕ) → l < 0x10000 → count l ≡ count_of items l)
-    → ranked count (length items) ≡ kinds_of items
+    → by_frequency count (length items) ≡ kinds_of items
 unfolding kinds_of
 kinds_by count items same = ranked_same count (count_of items) (length items) same

@@ -7,7 +7,7 @@ use Rattle.pdb_base.specs.Answer.{Answer, ◌>>=◌, RefusesUnless}
 use Rattle.pdb_base.specs.Refusal.{refusal_of}
 use Rattle.pdb_output.specs.Output.{OutputState, Gets, IsCutShort, Writes}
 use Rattle.pdb_output.proofs.lemmas.Written.{first_cut, lacks_all, second_writes}
-use Rattle.pdbdump_tables.specs.Listing.{Listing, IsListed, followed_by, headed, listed_of, whole}
+use Rattle.pdbdump_tables.specs.Listing.{Listing, IsListed, followed_by, with_lines_before, listed_of, whole}
 
 -- nothing is written
 pub gets_none : (old : OutputState) → Gets old old []
@@ -43,7 +43,7 @@ writes_listed lines old new (Err e) writes = inr writes
 
 -- a listing behind lines
 pub listed_headed : (front : List ℕ) (listing : Listing) (old mid new : OutputState) (result : Result (Unit {0}) Error)
-    → Gets old mid front → IsListed listing mid new result → IsListed (headed front listing) old new result
+    → Gets old mid front → IsListed listing mid new result → IsListed (with_lines_before front listing) old new result
 listed_headed front listing old mid new (Ok done) got (ends, lines) =
     (ends, second_writes old mid new front listing.lines (Ok done) got lines)
 listed_headed front listing old mid new (Err e) got (inl (ends, lines)) =
@@ -53,10 +53,10 @@ listed_headed front listing old mid new (Err e) got (inr cut) =
 
 -- the lines before a listing are cut short
 pub head_cut : (front : List ℕ) (listing : Listing) (old new : OutputState) (e : Error) → IsCutShort front old new e
-    → IsListed (headed front listing) old new (Err e)
+    → IsListed (with_lines_before front listing) old new (Err e)
 head_cut front listing old new e cut = inr (first_cut old new front listing.lines e cut)
 
-behind_whole : (first next : Listing) → first.end ≡ Ok tt → followed_by first next ≡ headed first.lines next
+behind_whole : (first next : Listing) → first.end ≡ Ok tt → followed_by first next ≡ with_lines_before first.lines next
 behind_whole first next ends = rw ends refl
 
 behind_refused : (first next : Listing) (e : Error) → first.end ≡ Err (refusal_of e)

@@ -5,8 +5,8 @@ use Rattle.std.proofs.Common.{Err, refl, sym, ap, ◌∙◌, arith}
 use Rattle.std.proofs.lemmas.Bool.{ne_eqb, cases_Bool, false≢true, and_from, le-leb}
 use Rattle.std.specs.List.{slice_get}
 use Rattle.std.specs.Option.{option_map_or}
-use Rattle.pdb_base.specs.Answer.{required}
-use Rattle.pdb_base.specs.Records.{spelled}
+use Rattle.pdb_base.specs.Answer.{ok_if}
+use Rattle.pdb_base.specs.Records.{values_of_size}
 use Rattle.pdb_base.specs.Refusal.{Refusal, unexpected_eof}
 use Rattle.pdb_base.proofs.lemmas.Records.{spelled_none}
 use Rattle.pdb_space.specs.Omap.{OmapValue, IsSortedBySource}
@@ -60,23 +60,23 @@ given_first {A} (y ∷ ys) rest x first others =
 -- a header that is read is the first
 pub read_first : (bytes : List ℕ) (header : ImageSectionHeader) (rest : List ℕ) → 40 ≤ length bytes
     → section_header_at bytes ≡ Ok (header, rest)
-    → (spelled 40 section_header bytes ≡ header ∷ spelled 40 section_header rest) × (length rest ≡ length bytes - 40)
+    → (values_of_size 40 section_header bytes ≡ header ∷ values_of_size 40 section_header rest) × (length rest ≡ length bytes - 40)
 read_first bytes header rest long read = header_step [] bytes header rest long read
 
 -- bytes of less than a header have no line
 pub no_section : (form : Form) (number : ℕ) (bytes : List ℕ) → length bytes < 40
-    → section_lines form number (spelled 40 section_header bytes) ≡ []
+    → section_lines form number (values_of_size 40 section_header bytes) ≡ []
 no_section form number bytes short = ap (section_lines form number) (spelled_none 40 section_header bytes short)
 
 -- whether headers end well
 pub whole_end : (stream : List ℕ) {size : ℕ} → length stream ≡ size → size % 40 ≡ 0
-    → required (length stream % 40 == 0) unexpected_eof ≡ Ok tt
+    → ok_if (length stream % 40 == 0) unexpected_eof ≡ Ok tt
 whole_end stream {size} is whole =
     let test : (length stream % 40 == 0) ≡ true = eq-eqb (length stream % 40) 0 (ap (λ (n : ℕ). n % 40) is ∙ whole) in
     rw test refl
 
 pub cut_end : (stream : List ℕ) {size : ℕ} → length stream ≡ size → (size % 40 ≡ 0 → ⊥)
-    → required (length stream % 40 == 0) unexpected_eof ≡ Err unexpected_eof
+    → ok_if (length stream % 40 == 0) unexpected_eof ≡ Err unexpected_eof
 cut_end stream {size} is cut =
     let test : (length stream % 40 == 0) ≡ false =
     ne_eqb (length stream % 40) 0 (λ whole. cut (sym (ap (λ (n : ℕ). n % 40) is) ∙ whole)) in

@@ -15,7 +15,7 @@ use Rattle.pdb_base.specs.declared.error.Error.{Error}
 use Rattle.pdb_base.specs.Refusal.{Refusal, refusal_of}
 use Rattle.pdb_base.proofs.lemmas.Collected.{ok_is, ok_is_no_err, err_is}
 use Rattle.pdb_tpi.specs.Record.{kind_of}
-use Rattle.pdb_tpi.specs.Steps.{WalkPosition, IsStep, body, steps_taken, room, stopped, walk, walk_rest}
+use Rattle.pdb_tpi.specs.Steps.{WalkPosition, IsStep, body, steps_taken, room, step_at_end, walk, walk_rest}
 use Rattle.pdb_tpi.specs.Table.{Table}
 use Rattle.pdb_tpi.specs.Walk.{behind, fault_of, first_item, items}
 use Rattle.pdb_tpi.proofs.StepLemmas.{step_err, step_gives, step_none, step_some, step_stops}
@@ -240,7 +240,7 @@ counted_all table stand counts records continued counting past =
           omega (arith, counting.lists, no)),
     )
 
-stop_at : (stand : WalkPosition) (rest : List ℕ) (fault : Refusal) → stopped stand rest ≡ Err fault
+stop_at : (stand : WalkPosition) (rest : List ℕ) (fault : Refusal) → step_at_end stand rest ≡ Err fault
     → stop_of rest ≡ Some fault
 stop_at stand [] fault e = let none : Option (ℕ × List ℕ) = None in absurd (ok_is_no_err (none, stand) fault e)
 stop_at stand (byte ∷ rest) fault e = ap (λ (f : Refusal). Some f)

@@ -12,7 +12,7 @@ use Rattle.pdbdump_rows.specs.declared.form.Form.{Form}
 use Rattle.pdbdump_rows.specs.Lines.{row_text}
 use Rattle.pdbdump_rows.specs.Row.{ShownRow, text}
 use Rattle.pdbdump_rows.specs.Row as rows
-use Rattle.pdbdump_tables.specs.Listing.{Listing, whole, headed, followed_by, listed_of}
+use Rattle.pdbdump_tables.specs.Listing.{Listing, whole, with_lines_before, followed_by, listed_of}
 use Rattle.pdbdump_tables.specs.Tables.{sections_listing, omap_listing, frames_listing, name_lines, all_names}
 
 -- the number of the stream of section headers: the given one, or that of the stream with this role
@@ -41,7 +41,7 @@ numbered_omap form file head n = listed_of (omap_listing form) (stream_of file h
 -- the OMAP records of the stream with a role, behind a line with that role; an empty listing if there is
 -- none
 unfoldable pub role_omap : Form → List ℕ → Head → List ℕ → Option ℕ → Listing
-role_omap form file head role (Some n) = headed (row_text form (role_shown role n)) (numbered_omap form file head n)
+role_omap form file head role (Some n) = with_lines_before (row_text form (role_shown role n)) (numbered_omap form file head n)
 role_omap form file head role None = whole []
 
 -- The OMAP records that move addresses of the image as it is loaded to those of the original image, and

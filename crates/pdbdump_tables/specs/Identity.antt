@@ -12,7 +12,7 @@ use Rattle.pdbdump_rows.specs.declared.form.Form.{Form}
 use Rattle.pdbdump_rows.specs.declared.form.Form.TheVariants as forms
 use Rattle.pdbdump_rows.specs.Lines.{line_feed, row_text}
 use Rattle.pdbdump_rows.specs.Row.{ShownRow, ShownValue, absent, flag, number, text, words}
-use Rattle.pdbdump_rows.specs.Words.{chosen}
+use Rattle.pdbdump_rows.specs.Words.{words_beside_true}
 use Rattle.pdbdump_tables.specs.declared.identity.TheConstants.{AGE, AGE_FROM, CPU, FEATURES, FORMAT, GUID}
 use Rattle.pdbdump_tables.specs.declared.identity.TheConstants.{INFORMATION_AGE, KEY, MACHINE, NAME, SIGNATURE}
 use Rattle.pdbdump_tables.specs.declared.identity.TheConstants.{STRIPPED, VERSION}
@@ -68,7 +68,7 @@ optional_flag None = absent
 
 -- the words for the features that a file tells of itself
 unfoldable pub feature_words : Features → List (List ℕ)
-feature_words features = chosen (
+feature_words features = words_beside_true (
     (features.vc110, codes "vc110")
     ∷ (features.vc140, codes "vc140")
     ∷ (features.no_type_merge, codes "no-type-merge")

@@ -39,13 +39,13 @@ equally count n leaves = map (of_count n) (filter (λ leaf. count leaf == n) lea
 
 -- The kinds that occur, but no more often than the second argument says: the most frequent first, and of
 -- equally frequent kinds the one with the lower leaf first. Each leaf is a number of 16 bits.
-unfoldable pub ranked : (ℕ → ℕ) → ℕ → List KindCount
-ranked count zero = []
-ranked count (suc most) = equally count (suc most) (range_with_len 0 0x10000) ++ ranked count most
+unfoldable pub by_frequency : (ℕ → ℕ) → ℕ → List KindCount
+by_frequency count zero = []
+by_frequency count (suc most) = equally count (suc most) (range_with_len 0 0x10000) ++ by_frequency count most
 
 -- the kinds of some items
 unfoldable pub kinds_of : List (List ℕ) → List KindCount
-kinds_of items = ranked (count_of items) (length items)
+kinds_of items = by_frequency (count_of items) (length items)
 
 -- whether a record holds a field list that another list continues
 abbrev pub is_continued : Answer TypeValue → Bool

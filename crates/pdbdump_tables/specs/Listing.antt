@@ -15,17 +15,17 @@ abbrev pub whole : List ℕ → Listing
 whole lines = record { lines = lines; end = Ok tt }
 
 -- a refusal with no line before it
-abbrev pub refused : Refusal → Listing
-refused fault = record { lines = []; end = Err fault }
+abbrev pub refusal_alone : Refusal → Listing
+refusal_alone fault = record { lines = []; end = Err fault }
 
 -- the listing of a value, or the refusal if there is no value
 abbrev pub listed_of : {A : Type 0} → (A → Listing) → Answer A → Listing
 listed_of listing (Ok value) = listing value
-listed_of listing (Err fault) = refused fault
+listed_of listing (Err fault) = refusal_alone fault
 
 -- a listing with further lines before its own
-abbrev pub headed : List ℕ → Listing → Listing
-headed front listing = record { lines = front ++ listing.lines; end = listing.end }
+abbrev pub with_lines_before : List ℕ → Listing → Listing
+with_lines_before front listing = record { lines = front ++ listing.lines; end = listing.end }
 
 -- the lines that follow a listing: none, if it ends with a refusal
 abbrev pub lines_behind : Answer (Unit {0}) → List ℕ → List ℕ

@@ -49,8 +49,8 @@ role_of roles n =
     else listed_role roles n
 
 -- the first name of a stream
-abbrev pub name_of : List Named → ℕ → Option (List ℕ)
-name_of names n = option_map (λ named. named.name) (find (λ named. named.stream == n) names)
+abbrev pub name_of_stream : List Named → ℕ → Option (List ℕ)
+name_of_stream names n = option_map (λ named. named.name) (find (λ named. named.stream == n) names)
 
 -- the number of pages that hold so many bytes; absent if the size of a page isn't known, which is then 0
 abbrev pub pages_held : ℕ → ℕ → ShownValue
@@ -72,7 +72,7 @@ pub record Known : Type 0 where
 -- the line of a stream with this number and this size
 abbrev pub size_line : Form → Known → ℕ → ℕ → List ℕ
 size_line form known n size = row_text form
-    (stream_shown known.layout.head.geometry.page_size n size (role_of known.roles n) (name_of known.names n))
+    (stream_shown known.layout.head.geometry.page_size n size (role_of known.roles n) (name_of_stream known.names n))
 
 -- the line of the stream with this number, by its size; nothing, if there is no such stream
 abbrev pub sized_line : Form → Known → ℕ → Answer ℕ → List ℕ

@@ -40,9 +40,9 @@ said_or empty (Ok said) = said
 said_or empty (Err refusal) = empty
 
 -- the line of the refusal of a part, if it is refused
-abbrev pub told : {A : Type 0} → Form → Part → Answer A → List ℕ
-told form part (Ok said) = []
-told form part (Err refusal) = refused_line form part refusal
+abbrev pub refusal_line : {A : Type 0} → Form → Part → Answer A → List ℕ
+refusal_line form part (Ok said) = []
+refusal_line form part (Err refusal) = refused_line form part refusal
 
 -- no stream, and the roles if no stream has one
 abbrev pub none : StreamIndex
@@ -70,13 +70,13 @@ names_of file head = file_information file head >>= stream_names_of
 -- the lines of the streams of a file, behind the line of the refusal of their names, if these are refused
 abbrev pub named_part : Form → LayoutValue → DBIExtraStreams → Answer (List Named) → List ℕ
 named_part form layout roles names =
-    told form parts.Names names
+    refusal_line form parts.Names names
     ++ stream_lines form (record { layout = layout; roles = roles; names = said_or [] names })
 
 -- the lines of the streams of a file, behind the lines of the refusals of their roles and names
 unfoldable pub streams_part : Form → LayoutValue → List ℕ → Head → List ℕ
 streams_part form layout file head =
-    told form parts.Roles (file_roles file head)
+    refusal_line form parts.Roles (file_roles file head)
     ++ named_part form layout (said_or no_roles (file_roles file head)) (names_of file head)
 
 -- the lines of the tables of types and of ids

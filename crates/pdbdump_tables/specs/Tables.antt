@@ -4,8 +4,8 @@ use Rattle.std.specs.Prelude.{[], ◌∷◌, ◌++◌, length, codes, Option, So
 use Rattle.std.specs.Option.{option_map_or}
 use Rattle.std.specs.Result.{result_ok}
 use Rattle.std.specs.List.{flat_map}
-use Rattle.pdb_base.specs.Answer.{required}
-use Rattle.pdb_base.specs.Records.{spelled}
+use Rattle.pdb_base.specs.Answer.{ok_if}
+use Rattle.pdb_base.specs.Records.{values_of_size}
 use Rattle.pdb_base.specs.Refusal.{unexpected_eof}
 use Rattle.pdb_space.specs.Omap.{OmapValue, omap_table_of}
 use Rattle.pdb_space.specs.StringTable.{name_of}
@@ -29,8 +29,8 @@ section_lines form n (header ∷ headers) = row_text form (section_row n header)
 -- ends with `unexpected_eof` behind the others.
 unfoldable pub sections_listing : Form → List ℕ → Listing
 sections_listing form stream = record {
-  lines = section_lines form 1 (spelled 40 section_header stream);
-  end = required (length stream % 40 == 0) unexpected_eof;
+  lines = section_lines form 1 (values_of_size 40 section_header stream);
+  end = ok_if (length stream % 40 == 0) unexpected_eof;
 }
 
 -- the lines of OMAP records

@@ -31,7 +31,7 @@ pub struct OfInternal {
 }
 
 /// Returns what a map makes of an address in the image as it is loaded.
-pub fn made_of_loaded(map: &AddressMap, address: Rva) -> OfLoaded
+pub fn conversions_of_loaded(map: &AddressMap, address: Rva) -> OfLoaded
     ensures { IsMadeOfLoaded map.now address result }
 {
     OfLoaded {
@@ -42,7 +42,7 @@ pub fn made_of_loaded(map: &AddressMap, address: Rva) -> OfLoaded
 }
 
 /// Returns what a map makes of an address in the original image.
-pub fn made_of_internal(map: &AddressMap, address: PdbInternalRva) -> OfInternal
+pub fn conversions_of_internal(map: &AddressMap, address: PdbInternalRva) -> OfInternal
     ensures { IsMadeOfInternal map.now address result }
 {
     OfInternal {

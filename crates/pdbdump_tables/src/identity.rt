@@ -5,9 +5,9 @@ ghost use Rattle.std.specs.Char.{to_ascii_lowercase};
 ghost use Rattle.uuid.specs.Text.{hyphenated_text, upper};
 ghost use Rattle.pdb_base.specs.Memory.{FailsOnlyForMemory};
 ghost use Rattle.pdb_output.specs.Output.{Writes};
-ghost use Rattle.pdbdump_rows.specs.Line.{Shows};
+ghost use Rattle.pdbdump_rows.specs.Line.{ShowsFields};
 ghost use Rattle.pdbdump_rows.specs.Row.{value_shown};
-ghost use Rattle.pdbdump_rows.specs.Words.{chosen};
+ghost use Rattle.pdbdump_rows.specs.Words.{words_beside_true};
 ghost use Rattle.pdb_identity.specs.Header.{cpu_of};
 ghost use Rattle.pdbdump_tables.specs.Identity.{IsKey, age_source, feature_words, guid_line, identity_line, identity_shown, key_line, lower_key_of, module_line, module_text, optional_features, optional_flag, optional_machine, store_path, upper_key_of};
 
@@ -180,7 +180,7 @@ fn optional_flag<'t>(flag: Option<bool>) -> Value<'t>
 /// Returns the flags of the features that a file tells of itself.
 #[tactic(auto, unfolding(crate::specs::Identity::feature_words))]
 fn feature_flags(features: Features) -> [Flag; 4]
-    ensures { chosen (map (λ flag. (flag.0, flag.1.now)) result) ≡ feature_words features }
+    ensures { words_beside_true (map (λ flag. (flag.0, flag.1.now)) result) ≡ feature_words features }
 {
     [
         (features.vc110, "vc110"),
@@ -192,7 +192,7 @@ fn feature_flags(features: Features) -> [Flag; 4]
 
 /// Adds the features, if there are any to be found.
 fn show_features(line: &mut Line, features: Option<Features>) -> Result<()>
-    ensures { Shows ((FEATURES.now, optional_features features) ∷ []) line.old line.new result }
+    ensures { ShowsFields ((FEATURES.now, optional_features features) ∷ []) line.old line.new result }
 {
     match features {
         Some(features) => line.field(FEATURES, Value::Words(&feature_flags(features))),
@@ -210,7 +210,7 @@ fn show_identity(
 ) -> Result<()>
     requires guid { guid.now ≡ hyphenated_text upper identity.now.guid }
     requires key { key.now ≡ upper_key_of identity.now }
-    ensures { Shows (identity_shown name.now identity.now) line.old line.new result }
+    ensures { ShowsFields (identity_shown name.now identity.now) line.old line.new result }
 {
     line.field(NAME, Value::Text(RawString::from(name)))?;
     line.field(FORMAT, Value::Word("MSF 7.00"))?;

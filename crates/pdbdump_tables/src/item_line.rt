@@ -1,8 +1,8 @@
 //! The line of an item of a table.
 
-ghost use Rattle.pdbdump_rows.specs.Line.{Ends, Shows};
+ghost use Rattle.pdbdump_rows.specs.Line.{Ends, ShowsFields};
 ghost use Rattle.pdbdump_tables.specs.Lines.{id_answer_row, id_line, type_answer_row, type_line};
-ghost use Rattle.pdb_tpi.specs.Item.{bytes_of, index_of};
+ghost use Rattle.pdb_tpi.specs.Item.{item_bytes, index_of};
 ghost use Rattle.pdb_tpi.specs.Record.{id_of, kind_of, type_of};
 
 use crate::refused_record::show_refused;
@@ -13,8 +13,8 @@ use std::alloc::Global;
 
 /// Adds the fields of the type of an item, or of why it can't be parsed.
 fn show_type_item(alloc: Global, item: &Item<'_, TypeIndex>, line: &mut Line) -> Result<()>
-    ensures { Shows (type_answer_row (index_of item.now).0 (kind_of (bytes_of item.now))
-        (type_of (index_of item.now).0 (bytes_of item.now))) line.old line.new result }
+    ensures { ShowsFields (type_answer_row (index_of item.now).0 (kind_of (item_bytes item.now))
+        (type_of (index_of item.now).0 (item_bytes item.now))) line.old line.new result }
 {
     let index = item.index().0;
     let leaf = item.raw_kind();
@@ -36,7 +36,7 @@ pub(crate) fn make_type(
     item: &Item<'_, TypeIndex>,
     line: &mut Line,
 ) -> Result<()>
-    ensures { Ends (type_line form (index_of item.now).0 (bytes_of item.now)) line.new result }
+    ensures { Ends (type_line form (index_of item.now).0 (item_bytes item.now)) line.new result }
 {
     line.begin(form);
     let added = show_type_item(alloc, item, line);
@@ -45,8 +45,8 @@ pub(crate) fn make_type(
 
 /// Adds the fields of the id of an item, or of why it can't be parsed.
 fn show_id_item(alloc: Global, item: &Item<'_, IdIndex>, line: &mut Line) -> Result<()>
-    ensures { Shows (id_answer_row (index_of item.now).0 (kind_of (bytes_of item.now))
-        (id_of (bytes_of item.now))) line.old line.new result }
+    ensures { ShowsFields (id_answer_row (index_of item.now).0 (kind_of (item_bytes item.now))
+        (id_of (item_bytes item.now))) line.old line.new result }
 {
     let index = item.index().0;
     let leaf = item.raw_kind();
@@ -68,7 +68,7 @@ pub(crate) fn make_id(
     item: &Item<'_, IdIndex>,
     line: &mut Line,
 ) -> Result<()>
-    ensures { Ends (id_line form (index_of item.now).0 (bytes_of item.now)) line.new result }
+    ensures { Ends (id_line form (index_of item.now).0 (item_bytes item.now)) line.new result }
 {
     line.begin(form);
     let added = show_id_item(alloc, item, line);

@@ -3,9 +3,9 @@
 ghost use Rattle.std.specs.Prelude.{◌≡◌, ℕ, ◌+◌, ◌<◌, ◌≤◌, ◌^◌, length, slice_index_or, slice_set, vec_len, IfOk, if◌then◌else◌};
 ghost use Rattle.std.specs.List.{range_with_len};
 ghost use Rattle.pdb_base.specs.Memory.{FailsOnlyForMemory};
-ghost use Rattle.pdbdump_tables.specs.Kinds.{goes_on, present, ranked};
+ghost use Rattle.pdbdump_tables.specs.Kinds.{goes_on, present, by_frequency};
 ghost use Rattle.pdbdump_tables.specs.Tally.{IsTally, IsWalked};
-ghost use Rattle.pdb_tpi.specs.Item.{bytes_of, index_of};
+ghost use Rattle.pdb_tpi.specs.Item.{item_bytes, index_of};
 
 use pdb_base::{Error, FallibleIterator, Result, TypeIndex};
 use pdb_tpi::{Item, TypeInformation};
@@ -27,7 +27,7 @@ pub struct KindCount {
 }
 
 /// Returns the kinds that have records, the lowest number first.
-fn present(alloc: Global, counts: &[u64]) -> Result<Vec<KindCount>>
+fn kinds_present(alloc: Global, counts: &[u64]) -> Result<Vec<KindCount>>
     requires { length counts.now ≡ 0x10000 }
     ensures present { IfOk result (λ kinds. kinds.items ≡
         present (λ leaf. slice_index_or counts.now leaf 0) (range_with_len 0 0x10000)) }
@@ -50,10 +50,10 @@ fn present(alloc: Global, counts: &[u64]) -> Result<Vec<KindCount>>
 fn rank(alloc: Global, counts: &[u64]) -> Result<Vec<KindCount>>
     requires { length counts.now ≡ 0x10000 }
     ensures ranked { (most : ℕ) → ((leaf : ℕ) → slice_index_or counts.now leaf 0 ≤ most)
-        → IfOk result (λ kinds. kinds.items ≡ ranked (λ leaf. slice_index_or counts.now leaf 0) most) }
+        → IfOk result (λ kinds. kinds.items ≡ by_frequency (λ leaf. slice_index_or counts.now leaf 0) most) }
     ensures memory { FailsOnlyForMemory result }
 {
-    let mut kinds = present(alloc, counts)?;
+    let mut kinds = kinds_present(alloc, counts)?;
     kinds.sort_by_key(|kind| Reverse(kind.count))?;
     Ok(kinds)
 }
@@ -94,7 +94,7 @@ fn zeros(alloc: Global, count: usize) -> Result<Vec<u64>>
 /// Returns whether a record is a list of fields that another list continues.
 #[tactic(auto, unfolding(crate::specs::Kinds::goes_on))]
 fn goes_on(alloc: Global, item: &Item<'_, TypeIndex>) -> Result<bool>
-    ensures ok { IfOk result (λ is. is ≡ goes_on (index_of item.now).0 (bytes_of item.now)) }
+    ensures ok { IfOk result (λ is. is ≡ goes_on (index_of item.now).0 (item_bytes item.now)) }
     ensures memory { FailsOnlyForMemory result }
 {
     if item.raw_kind() != LF_FIELDLIST {

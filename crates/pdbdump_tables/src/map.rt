@@ -4,7 +4,7 @@ ghost use Rattle.pdbdump_tables.specs.Given.{map_in};
 ghost use Rattle.pdbdump_tables.specs.Mapped.{IsMapped};
 ghost use Rattle.std.specs.Prelude.{Ok};
 
-use crate::conversions::{made_of_internal, made_of_loaded};
+use crate::conversions::{conversions_of_internal, conversions_of_loaded};
 use crate::map_lines::write_made;
 use crate::map_source::{MapStreams, map_in};
 use pdb_base::Result;
@@ -26,8 +26,8 @@ fn write_map<W: Write>(
 ) -> Result<()>
     ensures { IsMapped form (Ok map.now) address out.old out.new result }
 {
-    let loaded = made_of_loaded(map, Rva(address));
-    let internal = made_of_internal(map, PdbInternalRva(address));
+    let loaded = conversions_of_loaded(map, Rva(address));
+    let internal = conversions_of_internal(map, PdbInternalRva(address));
     write_made(&loaded, &internal, form, &mut Line::new(alloc), out)
 }
 

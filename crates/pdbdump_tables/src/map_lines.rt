@@ -4,7 +4,7 @@ ghost use Rattle.std.specs.Prelude.{◌≡◌, ◌++◌, codes};
 ghost use Rattle.std.specs.Option.{option_map};
 ghost use Rattle.pdbdump_tables.specs.Mapped.{address_shown, crossed_text, internal_text, loaded_text, place_shown};
 ghost use Rattle.pdbdump_rows.specs.Lines.{row_text};
-ghost use Rattle.pdbdump_rows.specs.Line.{Shows};
+ghost use Rattle.pdbdump_rows.specs.Line.{ShowsFields};
 ghost use Rattle.pdb_output.specs.Output.{Writes};
 
 use crate::conversions::{OfInternal, OfLoaded};
@@ -21,7 +21,7 @@ fn show_address(
     to: &'static str,
     address: Option<u32>,
 ) -> Result<()>
-    ensures { Shows (address_shown from.now to.now address) line.old line.new result }
+    ensures { ShowsFields (address_shown from.now to.now address) line.old line.new result }
 {
     line.field("from", Value::Word(from))?;
     line.field("to", Value::Word(to))?;
@@ -57,7 +57,7 @@ fn show_place(
     to: &'static str,
     place: Option<SectionOffset>,
 ) -> Result<()>
-    ensures { Shows (place_shown from.now to.now place) line.old line.new result }
+    ensures { ShowsFields (place_shown from.now to.now place) line.old line.new result }
 {
     line.field("from", Value::Word(from))?;
     line.field("to", Value::Word(to))?;

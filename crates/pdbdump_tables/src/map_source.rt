@@ -42,7 +42,11 @@ impl MapStreams {
 /// Reads the address map from the given streams. Without original section headers, the original
 /// image has no sections.
 #[tactic(auto, unfolding(crate::specs::Given::given_map))]
-fn given_map<S: Source>(alloc: Global, file: &mut PDB<S>, streams: MapStreams) -> Result<AddressMap>
+fn map_of_streams<S: Source>(
+    alloc: Global,
+    file: &mut PDB<S>,
+    streams: MapStreams,
+) -> Result<AddressMap>
     ensures { ReadsFile S.state file.old file.new (λ map. map) result (λ file head. given_map file head streams) }
 {
     let sections = file.numbered_sections(alloc, streams.sections)?;
@@ -65,6 +69,6 @@ pub(crate) fn map_in(
     if streams.is_empty() {
         file.address_map(alloc)
     } else {
-        given_map(alloc, file, streams)
+        map_of_streams(alloc, file, streams)
     }
 }

@@ -1,7 +1,7 @@
 //! The names of string tables.
 
 ghost use Rattle.std.specs.Prelude.{◌≡◌};
-ghost use Rattle.pdbdump_rows.specs.Line.{Shows};
+ghost use Rattle.pdbdump_rows.specs.Line.{ShowsFields};
 ghost use Rattle.pdbdump_tables.specs.Listing.{IsListed, whole};
 ghost use Rattle.pdbdump_tables.specs.Tables.{all_names, name_lines, name_shown, next_place};
 
@@ -23,7 +23,7 @@ fn next_place(place: u32, size: usize) -> Option<u32>
 
 /// Adds the fields of a name: its offset and its text.
 fn show_name(line: &mut Line, place: u32, name: RawString<'_>) -> Result<()>
-    ensures { Shows (name_shown (place, name.entry.0.now)) line.old line.new result }
+    ensures { ShowsFields (name_shown (place, name.entry.0.now)) line.old line.new result }
 {
     line.field("offset", Value::Hexadecimal(place))?;
     line.field("name", Value::Text(name))?;

@@ -1,7 +1,7 @@
 //! The OMAP tables of a file, by the roles of their streams.
 
 ghost use Rattle.std.specs.Prelude.{◌≡◌};
-ghost use Rattle.pdbdump_rows.specs.Line.{Shows};
+ghost use Rattle.pdbdump_rows.specs.Line.{ShowsFields};
 ghost use Rattle.pdbdump_rows.specs.Lines.{row_text};
 ghost use Rattle.pdb_output.specs.Output.{Writes};
 ghost use Rattle.pdbdump_tables.specs.Files.{both_omaps, file_omap, numbered_omap, role_omap, role_shown};
@@ -18,7 +18,7 @@ use std::io::Write;
 
 /// Adds the fields of the role of the table that follows, and the number of its stream.
 fn show_role(line: &mut Line, role: &'static str, number: u32) -> Result<()>
-    ensures { Shows (role_shown role.now number) line.old line.new result }
+    ensures { ShowsFields (role_shown role.now number) line.old line.new result }
 {
     line.field("role", Value::Word(role))?;
     line.field("stream", Value::Number(number as u64))?;

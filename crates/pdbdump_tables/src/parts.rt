@@ -3,7 +3,7 @@
 ghost use Rattle.std.specs.Prelude.{[], ◌∷◌};
 ghost use Rattle.pdb_base.specs.Refusal.{refusal_of};
 ghost use Rattle.pdb_output.specs.Output.{Writes};
-ghost use Rattle.pdbdump_rows.specs.Line.{Shows};
+ghost use Rattle.pdbdump_rows.specs.Line.{ShowsFields};
 ghost use Rattle.pdbdump_rows.specs.Refused.{refusal_shown};
 ghost use Rattle.pdbdump_tables.specs.Refused.{part_shown, refused_line};
 
@@ -32,7 +32,7 @@ pub enum Part {
 
 /// Adds the field that names a part.
 fn show_part(line: &mut Line, part: Part) -> Result<()>
-    ensures { Shows (part_shown part ∷ []) line.old line.new result }
+    ensures { ShowsFields (part_shown part ∷ []) line.old line.new result }
 {
     match part {
         Part::Header => line.field("part", Value::Word("header")),
@@ -46,7 +46,7 @@ fn show_part(line: &mut Line, part: Part) -> Result<()>
 
 /// Adds the fields of a part that has an error.
 fn show_refused(alloc: Global, line: &mut Line, part: Part, error: &Error) -> Result<()>
-    ensures { Shows (part_shown part ∷ refusal_shown (refusal_of error.now) ∷ []) line.old line.new result }
+    ensures { ShowsFields (part_shown part ∷ refusal_shown (refusal_of error.now) ∷ []) line.old line.new result }
 {
     show_part(line, part)?;
     show_error(alloc, line, error)

@@ -1,7 +1,7 @@
 //! A record that can't be parsed.
 
 ghost use Rattle.pdb_base.specs.Refusal.{refusal_of};
-ghost use Rattle.pdbdump_rows.specs.Line.{Shows};
+ghost use Rattle.pdbdump_rows.specs.Line.{ShowsFields};
 ghost use Rattle.pdbdump_tables.specs.Lines.{refused_row};
 
 use pdb_base::{Error, Result};
@@ -20,7 +20,7 @@ pub(crate) fn show_refused(
     leaf: u16,
     fault: &Error,
 ) -> Result<()>
-    ensures { Shows (refused_row index leaf (refusal_of fault.now)) line.old line.new result }
+    ensures { ShowsFields (refused_row index leaf (refusal_of fault.now)) line.old line.new result }
 {
     line.field("index", Value::Hexadecimal(index))?;
     line.field("kind", Value::Kind(leaf))?;

@@ -3,7 +3,7 @@
 ghost use Rattle.std.specs.Prelude.{◌≡◌, map};
 ghost use Rattle.std.specs.Option.{option_map};
 ghost use Rattle.pdb_file.specs.StreamNames.{named_view};
-ghost use Rattle.pdbdump_tables.specs.Streams.{is_of, listed_role, name_of, role_of};
+ghost use Rattle.pdbdump_tables.specs.Streams.{is_of, listed_role, name_of_stream, role_of};
 
 use pdb_base::{RawString, StreamIndex};
 use pdb_file::{DBIExtraStreams, StreamName};
@@ -66,7 +66,7 @@ pub fn role_of(roles: &DBIExtraStreams, number: u32) -> Option<&'static str>
 
 /// Returns the first name of a stream, if it has one.
 pub fn name_of<'n>(names: &[StreamName<'n>], number: u32) -> Option<RawString<'n>>
-    ensures { option_map (λ name. name.0.now) result ≡ name_of (map named_view names.now) number }
+    ensures { option_map (λ name. name.0.now) result ≡ name_of_stream (map named_view names.now) number }
 {
     for named in names {
         if named.stream_id.0 as u32 == number {

@@ -6,7 +6,7 @@ ghost use Rattle.pdb_base.specs.Answer.{Answers};
 ghost use Rattle.pdb_msf.specs.Directory.{stream_count_in};
 ghost use Rattle.pdb_msf.specs.File.{stream_of};
 ghost use Rattle.pdb_file.specs.StreamNames.{named_view};
-ghost use Rattle.pdbdump_rows.specs.Line.{Shows};
+ghost use Rattle.pdbdump_rows.specs.Line.{ShowsFields};
 ghost use Rattle.pdbdump_rows.specs.Row.{value_shown};
 ghost use Rattle.pdb_output.specs.Output.{Writes};
 ghost use Rattle.pdbdump_tables.specs.Known.{known_view};
@@ -66,7 +66,7 @@ fn show_stream(
     role: Option<&'static str>,
     name: Option<RawString<'_>>,
 ) -> Result<()>
-    ensures { Shows (stream_shown page_size number size (option_map (λ role. role.now) role.entry)
+    ensures { ShowsFields (stream_shown page_size number size (option_map (λ role. role.now) role.entry)
         (option_map (λ name. name.0.now) name.entry)) line.old line.new result }
 {
     line.field("stream", Value::Number(number as u64))?;

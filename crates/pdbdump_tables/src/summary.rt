@@ -5,12 +5,12 @@ ghost use Rattle.pdb_base.specs.Answer.{Answers, Gives};
 ghost use Rattle.pdb_base.specs.Refusal.{refusal_of};
 ghost use Rattle.pdb_file.specs.File.{file_roles};
 ghost use Rattle.pdb_file.specs.StreamNames.{stream_names_of};
-ghost use Rattle.pdbdump_rows.specs.Line.{Shows};
+ghost use Rattle.pdbdump_rows.specs.Line.{ShowsFields};
 ghost use Rattle.pdb_output.specs.Output.{Writes, done_of};
 ghost use Rattle.pdbdump_tables.specs.Known.{known_view};
 ghost use Rattle.pdbdump_tables.specs.Refused.{refused_line};
 ghost use Rattle.pdbdump_tables.specs.Streams.{stream_lines};
-ghost use Rattle.pdbdump_tables.specs.Summary.{counted_layout, named_part, names_of, no_roles, pages_line, pages_of, pages_shown, parts_lines, said_or, streams_part, summary_listing, tables_part, told};
+ghost use Rattle.pdbdump_tables.specs.Summary.{counted_layout, named_part, names_of, no_roles, pages_line, pages_of, pages_shown, parts_lines, said_or, streams_part, summary_listing, tables_part, refusal_line};
 ghost use Rattle.pdbdump_tables.specs.declared.parts.Part.TheVariants as parts;
 ghost use Rattle.pdbdump_tables.specs.Listing.{IsListed};
 
@@ -44,7 +44,7 @@ fn pages_of(file: &[u8]) -> Result<(u32, u32)>
 /// Adds the fields of a file: the size of its pages in bytes, how many pages it uses, and its own
 /// size in bytes.
 fn show_pages(line: &mut Line, page_size: u32, pages: u32, size: usize) -> Result<()>
-    ensures { Shows (pages_shown (page_size, pages) size) line.old line.new result }
+    ensures { ShowsFields (pages_shown (page_size, pages) size) line.old line.new result }
 {
     line.field("page_size", Value::Number(page_size as u64))?;
     line.field("pages", Value::Number(pages as u64))?;
@@ -83,7 +83,7 @@ fn known_roles<W: Write>(
     out: &mut Output<W>,
 ) -> Result<DBIExtraStreams>
     ensures roles { IfOk result (λ roles. roles ≡ said_or no_roles (file_roles file.old.source.items file.old.head)) }
-    ensures told { Writes (told form parts.Roles (file_roles file.old.source.items file.old.head))
+    ensures told { Writes (refusal_line form parts.Roles (file_roles file.old.source.items file.old.head))
         out.old out.new (done_of result) }
     ensures bytes { file.new.source.items ≡ file.old.source.items }
     ensures head { file.new.head ≡ file.old.head }

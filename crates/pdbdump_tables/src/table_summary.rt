@@ -4,7 +4,7 @@ ghost use Rattle.std.specs.Prelude.{◌≡◌, ◌++◌};
 ghost use Rattle.std.specs.Option.{option_map};
 ghost use Rattle.pdb_base.specs.Answer.{Answers};
 ghost use Rattle.pdb_base.specs.Refusal.{refusal_of};
-ghost use Rattle.pdbdump_rows.specs.Line.{Shows};
+ghost use Rattle.pdbdump_rows.specs.Line.{ShowsFields};
 ghost use Rattle.pdbdump_rows.specs.Lines.{row_text};
 ghost use Rattle.pdb_output.specs.Output.{Writes};
 ghost use Rattle.pdbdump_tables.specs.Kinds.{kind_lines, kind_shown, stop_line, table_found, table_lines, table_part, table_shown};
@@ -23,7 +23,7 @@ use std::io::Write;
 /// Adds the fields of a table: the number of its stream, how many records it has and how many of
 /// them are lists of fields that another list continues, and the indexes that its header counts.
 fn show_table(line: &mut Line, number: u32, walked: &Walked, least: u32, end: u32) -> Result<()>
-    ensures { Shows (table_shown number walked.now.records walked.now.continued least end)
+    ensures { ShowsFields (table_shown number walked.now.records walked.now.continued least end)
         line.old line.new result }
 {
     line.field("table", Value::Number(number as u64))?;
@@ -64,7 +64,7 @@ fn write_head<W: Write>(
 
 /// Adds the fields of a kind of a table's records, and how many there are.
 fn show_kind(line: &mut Line, number: u32, kind: KindCount) -> Result<()>
-    ensures { Shows (kind_shown number kind) line.old line.new result }
+    ensures { ShowsFields (kind_shown number kind) line.old line.new result }
 {
     line.field("table", Value::Number(number as u64))?;
     line.field("kind", Value::Kind(kind.leaf))?;

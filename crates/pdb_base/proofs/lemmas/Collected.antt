@@ -4,7 +4,7 @@ use Rattle.std.specs.List.{range_with_len}
 use Rattle.std.proofs.lemmas.List.{map-append}
 use Rattle.std.proofs.lemmas.List.FromFn.{map-range_with_len_more}
 use Rattle.pdb_base.specs.Refusal.{Refusal}
-use Rattle.pdb_base.specs.Answer.{Answer, ◌>>=◌, collected}
+use Rattle.pdb_base.specs.Answer.{Answer, ◌>>=◌, values_of_all}
 use Rattle.pdb_base.specs.Laws.{CollectsAll, RefusesAsFirst}
 
 abbrev pub ok : {A : Type 0} → A → Answer A
@@ -33,50 +33,50 @@ bind_err : {A B : Type 0} (r : Answer A) (f : A → B) (e : Refusal) → (r >>= 
 bind_err (Ok x) f e h = absurd cc
 bind_err (Err d) f e h = cc
 
-pub collected-append_ok : {A : Type 0} (answers more : List (Answer A)) (xs ys : List A) → collected answers ≡ Ok xs
-    → collected more ≡ Ok ys → collected (answers ++ more) ≡ Ok (xs ++ ys)
-collected-append_ok {A} [] more xs ys e f = f ∙ ap (λ (zs : List A). Ok (zs ++ ys)) (ok_is [] xs e)
-collected-append_ok {A} (Ok x ∷ answers) more xs ys e f =
-    let b = bind_ok (collected answers) (λ zs. Ok (x ∷ zs)) xs e in
-    rw (collected-append_ok answers more b.0 ys b.1 f) (ap (λ (zs : List A). Ok (zs ++ ys)) (ok_is (x ∷ b.0) xs b.2))
-collected-append_ok {A} (Err d ∷ answers) more xs ys e f = absurd cc
+pub values_of_all-append_ok : {A : Type 0} (answers more : List (Answer A)) (xs ys : List A) → values_of_all answers ≡ Ok xs
+    → values_of_all more ≡ Ok ys → values_of_all (answers ++ more) ≡ Ok (xs ++ ys)
+values_of_all-append_ok {A} [] more xs ys e f = f ∙ ap (λ (zs : List A). Ok (zs ++ ys)) (ok_is [] xs e)
+values_of_all-append_ok {A} (Ok x ∷ answers) more xs ys e f =
+    let b = bind_ok (values_of_all answers) (λ zs. Ok (x ∷ zs)) xs e in
+    rw (values_of_all-append_ok answers more b.0 ys b.1 f) (ap (λ (zs : List A). Ok (zs ++ ys)) (ok_is (x ∷ b.0) xs b.2))
+values_of_all-append_ok {A} (Err d ∷ answers) more xs ys e f = absurd cc
 
-pub collected-append_err : {A : Type 0} (answers more : List (Answer A)) (xs : List A) (r : Refusal)
-    → collected answers ≡ Ok xs → collected more ≡ Err r → collected (answers ++ more) ≡ Err r
-collected-append_err [] more xs r e f = f
-collected-append_err (Ok x ∷ answers) more xs r e f =
-    let b = bind_ok (collected answers) (λ zs. Ok (x ∷ zs)) xs e in
-    rw (collected-append_err answers more b.0 r b.1 f) refl
-collected-append_err (Err d ∷ answers) more xs r e f = absurd cc
+pub values_of_all-append_err : {A : Type 0} (answers more : List (Answer A)) (xs : List A) (r : Refusal)
+    → values_of_all answers ≡ Ok xs → values_of_all more ≡ Err r → values_of_all (answers ++ more) ≡ Err r
+values_of_all-append_err [] more xs r e f = f
+values_of_all-append_err (Ok x ∷ answers) more xs r e f =
+    let b = bind_ok (values_of_all answers) (λ zs. Ok (x ∷ zs)) xs e in
+    rw (values_of_all-append_err answers more b.0 r b.1 f) refl
+values_of_all-append_err (Err d ∷ answers) more xs r e f = absurd cc
 
 -- values that are there are collected
-collected-values : {A : Type 0} (xs : List A) → collected (map ok xs) ≡ Ok xs
-collected-values [] = refl
-collected-values (x ∷ xs) = rw (collected-values xs) refl
+values_of_all-values : {A : Type 0} (xs : List A) → values_of_all (map ok xs) ≡ Ok xs
+values_of_all-values [] = refl
+values_of_all-values (x ∷ xs) = rw (values_of_all-values xs) refl
 
 -- what was collected is there
-values-collected : {A : Type 0} (answers : List (Answer A)) (xs : List A) → collected answers ≡ Ok xs
+values-values_of_all : {A : Type 0} (answers : List (Answer A)) (xs : List A) → values_of_all answers ≡ Ok xs
     → answers ≡ map ok xs
-values-collected {A} [] xs e = ap (λ (ys : List A). map ok ys) (ok_is [] xs e)
-values-collected {A} (Ok x ∷ answers) xs e =
-    let b = bind_ok (collected answers) (λ zs. Ok (x ∷ zs)) xs e in
-    ap (λ (r : List (Answer A)). ok x ∷ r) (values-collected answers b.0 b.1)
+values-values_of_all {A} [] xs e = ap (λ (ys : List A). map ok ys) (ok_is [] xs e)
+values-values_of_all {A} (Ok x ∷ answers) xs e =
+    let b = bind_ok (values_of_all answers) (λ zs. Ok (x ∷ zs)) xs e in
+    ap (λ (r : List (Answer A)). ok x ∷ r) (values-values_of_all answers b.0 b.1)
     ∙ ap (λ (ys : List A). map ok ys) (ok_is (x ∷ b.0) xs b.2)
-values-collected (Err d ∷ answers) xs e = absurd cc
+values-values_of_all (Err d ∷ answers) xs e = absurd cc
 
 pub collects_all : {A : Type 0} (answers : List (Answer A)) → CollectsAll answers
 collects_all {A} answers = (
-  values-collected answers,
-  λ xs e. ap (λ (r : List (Answer A)). collected r) e
-      ∙ collected-values xs,
+  values-values_of_all answers,
+  λ xs e. ap (λ (r : List (Answer A)). values_of_all r) e
+      ∙ values_of_all-values xs,
 )
 
 -- the first that refuses is found
-first_refusal : {A : Type 0} (answers : List (Answer A)) (e : Refusal) → collected answers ≡ Err e → (before : List A)
+first_refusal : {A : Type 0} (answers : List (Answer A)) (e : Refusal) → values_of_all answers ≡ Err e → (before : List A)
     × (behind : List (Answer A)) × (answers ≡ map ok before ++ err e ∷ behind)
 first_refusal [] e h = absurd cc
 first_refusal {A} (Ok x ∷ answers) e h =
-    let rest = first_refusal answers e (bind_err (collected answers) (λ zs. x ∷ zs) e h) in
+    let rest = first_refusal answers e (bind_err (values_of_all answers) (λ zs. x ∷ zs) e h) in
     (x ∷ rest.0, rest.1, ap (λ (r : List (Answer A)). ok x ∷ r) rest.2)
 first_refusal {A} (Err d ∷ answers) e h =
     ([], answers, ap (λ (r : Refusal). err r ∷ answers) (err_is {A = List A} d e h))
@@ -84,8 +84,8 @@ first_refusal {A} (Err d ∷ answers) e h =
 pub refuses_as_first : {A : Type 0} (answers : List (Answer A)) → RefusesAsFirst answers
 refuses_as_first {A} answers = (
   first_refusal answers,
-  λ e before behind is. ap (λ (r : List (Answer A)). collected r) is
-      ∙ collected-append_err (map ok before) (err e ∷ behind) before e (collected-values before) refl,
+  λ e before behind is. ap (λ (r : List (Answer A)). values_of_all r) is
+      ∙ values_of_all-append_err (map ok before) (err e ∷ behind) before e (values_of_all-values before) refl,
 )
 
 -- ---- answers in turn
@@ -106,21 +106,21 @@ range_split from (suc i) more =
 
 -- the answers in turn, one more of which gives a value
 pub collected_more : {A : Type 0} (f : ℕ → Answer A) (i : ℕ) (xs : List A) (x : A)
-    → collected (map f (range_with_len 0 i)) ≡ Ok xs → f i ≡ Ok x
-    → collected (map f (range_with_len 0 (i + 1))) ≡ Ok (xs ++ x ∷ [])
+    → values_of_all (map f (range_with_len 0 i)) ≡ Ok xs → f i ≡ Ok x
+    → values_of_all (map f (range_with_len 0 (i + 1))) ≡ Ok (xs ++ x ∷ [])
 collected_more f i xs x so_far here =
-    ap collected (map-range_with_len_more f 0 i i (omega arith))
-    ∙ collected-append_ok (map f (range_with_len 0 i)) (f i ∷ []) xs (x ∷ []) so_far (rw here refl)
+    ap values_of_all (map-range_with_len_more f 0 i i (omega arith))
+    ∙ values_of_all-append_ok (map f (range_with_len 0 i)) (f i ∷ []) xs (x ∷ []) so_far (rw here refl)
 
 -- the first of them that refuses is the refusal of all
 pub collected_stops : {A : Type 0} (f : ℕ → Answer A) (i count : ℕ) (xs : List A) (r : Refusal) → i < count
-    → collected (map f (range_with_len 0 i)) ≡ Ok xs → f i ≡ Err r → collected (map f (range_with_len 0 count)) ≡ Err r
+    → values_of_all (map f (range_with_len 0 i)) ≡ Ok xs → f i ≡ Err r → values_of_all (map f (range_with_len 0 count)) ≡ Err r
 collected_stops f i count xs r within so_far here =
     let all : count ≡ i + suc (count - i - 1) = omega arith in
-    ap (λ (n : ℕ). collected (map f (range_with_len 0 n))) all
-    ∙ ap (λ (r : List ℕ). collected (map f r))
+    ap (λ (n : ℕ). values_of_all (map f (range_with_len 0 n))) all
+    ∙ ap (λ (r : List ℕ). values_of_all (map f r))
     (range_split 0 i (count - i - 1) ∙ ap (λ (n : ℕ). range_with_len 0 i ++ n
     ∷ range_with_len (n + 1) (count - i - 1)) (omega arith))
-    ∙ ap collected (map-append f (range_with_len 0 i) (i ∷ range_with_len (i + 1) (count - i - 1)))
-    ∙ collected-append_err (map f (range_with_len 0 i))
+    ∙ ap values_of_all (map-append f (range_with_len 0 i) (i ∷ range_with_len (i + 1) (count - i - 1)))
+    ∙ values_of_all-append_err (map f (range_with_len 0 i))
     (f i ∷ map f (range_with_len (i + 1) (count - i - 1))) xs r so_far (rw here refl)

@@ -10,7 +10,7 @@ use Rattle.pdb_base.specs.Refusal.{Refusal, unexpected_eof, unexpected_numeric_p
 use Rattle.pdb_base.specs.Answer.{Answer, ◌>>=◌}
 use Rattle.pdb_base.specs.Reading.{number_at}
 use Rattle.pdb_base.specs.Numeric.{NumberKind, u16, Numeral, least_leaf, numeric_leaves, unsigned_leaves, kind_behind}
-use Rattle.pdb_base.specs.Numeric.{bytes_of, variant_of, number_of_kind, numeral_behind, numeral_at, num_at, variant_at}
+use Rattle.pdb_base.specs.Numeric.{number_width, variant_of, number_of_kind, numeral_behind, numeral_at, num_at, variant_at}
 use Rattle.pdb_base.specs.Spelling.{SpellsNumber, SpellsItself, SpellsPrefixed, SpellsNumeral, SpellsNum, SpellsVariant}
 use Rattle.pdb_base.specs.Spelling.{Begins, ReadsWhatIsSpelled}
 use Rattle.pdb_base.specs.Laws.{BeginsBadly, RefusesPrefixFirst}
@@ -62,16 +62,16 @@ large_unsigned_leaves prefix small =
 -- a number of a kind that was read
 of_kind : (prefix : ℕ) (found : Option NumberKind) (bytes : List ℕ) (numeral : Numeral) (rest : List ℕ)
     → number_of_kind prefix found bytes ≡ Ok (numeral, rest) → (found ≡ Some numeral.kind)
-    × Begins (SpellsNumber (bytes_of numeral.kind)) bytes numeral.number rest
+    × Begins (SpellsNumber (number_width numeral.kind)) bytes numeral.number rest
 of_kind prefix None bytes numeral rest e = absurd cc
 of_kind prefix (Some kind) bytes numeral rest e =
-    let read = bind_ok (number_at (bytes_of kind) bytes) (λ n. Ok (record { kind = kind; number = n.0 }, n.1))
+    let read = bind_ok (number_at (number_width kind) bytes) (λ n. Ok (record { kind = kind; number = n.0 }, n.1))
     (numeral, rest) e in
-    let begins = (numbers (bytes_of kind)).found bytes read.0.0 read.0.1 read.1 in
+    let begins = (numbers (number_width kind)).found bytes read.0.0 read.0.1 read.1 in
     let is : (record { kind = kind; number = read.0.0 }, read.0.1) ≡ (numeral, rest) =
     ok_is (record { kind = kind; number = read.0.0 }, read.0.1) (numeral, rest) read.2 in
     subst (λ (x : Numeral × List ℕ). (Some kind ≡ Some x.0.kind)
-    × Begins (SpellsNumber (bytes_of x.0.kind)) bytes x.0.number x.1) is (refl, begins)
+    × Begins (SpellsNumber (number_width x.0.kind)) bytes x.0.number x.1) is (refl, begins)
 
 found : (leaves : List (ℕ × NumberKind)) (bytes : List ℕ) (numeral : Numeral) (rest : List ℕ)
     → numeral_at leaves bytes ≡ Ok (numeral, rest) → Begins (SpellsNumeral leaves) bytes numeral rest
@@ -135,8 +135,8 @@ only_prefixed leaves large bytes numeral rest begins =
     let first : number_at 2 bytes ≡ Ok (spelled.prefix, spelled.tail ++ rest) =
     (numbers 2).only bytes spelled.prefix (spelled.tail ++ rest)
     (record { front = spelled.head; spelled = spelled.head_spelled; is = whole }) in
-    let second : number_at (bytes_of numeral.kind) (spelled.tail ++ rest) ≡ Ok (numeral.number, rest) =
-    (numbers (bytes_of numeral.kind)).only (spelled.tail ++ rest) numeral.number rest
+    let second : number_at (number_width numeral.kind) (spelled.tail ++ rest) ≡ Ok (numeral.number, rest) =
+    (numbers (number_width numeral.kind)).only (spelled.tail ++ rest) numeral.number rest
     (record { front = spelled.tail; spelled = spelled.tail_spelled; is = refl }) in
     let says : kind_behind leaves spelled.prefix ≡ Some numeral.kind = spelled.says in
     elim (cases_lt spelled.prefix least_leaf) [
@@ -214,8 +214,8 @@ short_kind : (prefix : ℕ) (found : Option NumberKind) (bytes : List ℕ) (e : 
     → number_of_kind prefix found bytes ≡ Err e → (found ≡ None) ⊎ (e ≡ unexpected_eof)
 short_kind prefix None bytes e refused = inl refl
 short_kind prefix (Some kind) bytes e refused =
-    elim (bind_err (number_at (bytes_of kind) bytes) (λ n. Ok (record { kind = kind; number = n.0 }, n.1)) e refused) [
-      | inl cut ↦ inr (short (bytes_of kind) bytes e cut)
+    elim (bind_err (number_at (number_width kind) bytes) (λ n. Ok (record { kind = kind; number = n.0 }, n.1)) e refused) [
+      | inl cut ↦ inr (short (number_width kind) bytes e cut)
       | inr read ↦ absurd (ok_is_no_err (record { kind = kind; number = read.0.0 }, read.0.1) e read.2)
     ]
 

@@ -9,7 +9,7 @@ use Rattle.std.proofs.lemmas.List.FromFn.{length-map-range_with_len, get_or-map-
 use Rattle.std.proofs.lemmas.Option.{slice_get_within, slice_get-get_or}
 use Rattle.std.proofs.lemmas.Bool.{cases_lt, eqb-true, le-ltb}
 use Rattle.pdb_base.specs.Reading.{front_at}
-use Rattle.pdb_base.specs.Records.{spelled}
+use Rattle.pdb_base.specs.Records.{values_of_size}
 use Rattle.pdb_base.specs.Laws.{AreReadInTurn}
 use Rattle.pdb_base.specs.Refusal.{unexpected_eof}
 use Rattle.pdb_base.proofs.lemmas.Collected.{ok_is, ok_is_no_err}
@@ -21,14 +21,14 @@ cons_is_not_nil e = cc
 -- ---- their number, and the record at a place
 
 pub spelled_length : {A : Type 0} (size : ℕ) (value : List ℕ → A) (bytes : List ℕ)
-    → length (spelled size value bytes) ≡ length bytes / size
-unfolding spelled
+    → length (values_of_size size value bytes) ≡ length bytes / size
+unfolding values_of_size
 spelled_length size value bytes = length-map-range_with_len (λ k. value (take size (drop (size * k) bytes))) 0
     (length bytes / size)
 
 pub spelled_at : {A : Type 0} (size : ℕ) (value : List ℕ → A) (bytes : List ℕ) (k : ℕ) (d : A) → k < length bytes / size
-    → get_or (spelled size value bytes) k d ≡ value (take size (drop (size * k) bytes))
-unfolding spelled
+    → get_or (values_of_size size value bytes) k d ≡ value (take size (drop (size * k) bytes))
+unfolding values_of_size
 spelled_at size value bytes k d within = get_or-map-range_with_len (λ j. value (take size (drop (size * j) bytes))) 0
     (length bytes / size) k k d within (omega arith)
 
@@ -58,16 +58,16 @@ map-range_with_len_later f g from (suc count) same =
 
 -- bytes of less than a record spell none
 pub spelled_none : {A : Type 0} (size : ℕ) (value : List ℕ → A) (bytes : List ℕ) → length bytes < size
-    → spelled size value bytes ≡ []
-unfolding spelled
+    → values_of_size size value bytes ≡ []
+unfolding values_of_size
 spelled_none size value bytes short =
     let none : length bytes / size ≡ 0 = div-eq_of_lt short in
     rw none refl
 
 -- other bytes spell a first record, and those behind it
 pub spelled_first : {A : Type 0} (size : ℕ) (value : List ℕ → A) (bytes : List ℕ) → 0 < size → size ≤ length bytes
-    → spelled size value bytes ≡ value (take size bytes) ∷ spelled size value (drop size bytes)
-unfolding spelled
+    → values_of_size size value bytes ≡ value (take size bytes) ∷ values_of_size size value (drop size bytes)
+unfolding values_of_size
 spelled_first {A} size value bytes some long =
     let len : length (drop size bytes) ≡ length bytes - size = length-drop size bytes in
     let one : length bytes / size ≡ suc (length (drop size bytes) / size) =
@@ -84,7 +84,7 @@ spelled_first {A} size value bytes some long =
 
 -- behind the bytes of some records stand the other ones
 pub spelled_behind : {A : Type 0} (size : ℕ) (value : List ℕ → A) (k : ℕ) (bytes : List ℕ) → 0 < size
-    → spelled size value (drop (size * k) bytes) ≡ drop k (spelled size value bytes)
+    → values_of_size size value (drop (size * k) bytes) ≡ drop k (values_of_size size value bytes)
 spelled_behind size value zero bytes some =
     let start : size * 0 ≡ 0 = omega arith in
     rw start refl
@@ -97,7 +97,7 @@ spelled_behind {A} size value (suc k) bytes some = elim (cases_lt (length bytes)
       let place : size * suc k ≡ size + size * k = omega arith in
       let behind : drop (size * suc k) bytes ≡ drop (size * k) (drop size bytes) =
       rw place (sym (drop-drop (size * k) size bytes)) in
-      ap (λ (rest : List ℕ). spelled size value rest) behind
+      ap (λ (rest : List ℕ). values_of_size size value rest) behind
       ∙ spelled_behind size value k (drop size bytes) some
       ∙ ap (λ (records : List A). drop (suc k) records) (sym (spelled_first size value bytes some long))
 ]
@@ -106,7 +106,7 @@ spelled_behind {A} size value (suc k) bytes some = elim (cases_lt (length bytes)
 
 -- whole records are none just where there are no bytes
 pub none_spelled : {A : Type 0} (size : ℕ) (value : List ℕ → A) (bytes : List ℕ) → 0 < size → length bytes % size ≡ 0
-    → spelled size value bytes ≡ [] → bytes ≡ []
+    → values_of_size size value bytes ≡ [] → bytes ≡ []
 none_spelled size value [] some whole none = refl
 none_spelled size value (byte ∷ bytes) some whole none = elim (cases_lt (length (byte ∷ bytes)) size) [
   | inl short ↦
@@ -115,12 +115,12 @@ none_spelled size value (byte ∷ bytes) some whole none = elim (cases_lt (lengt
   | inr long ↦ absurd (cons_is_not_nil (sym (spelled_first size value (byte ∷ bytes) some long) ∙ none))
 ]
 
-pub spelled_nothing : {A : Type 0} (size : ℕ) (value : List ℕ → A) → 0 < size → spelled size value [] ≡ []
+pub spelled_nothing : {A : Type 0} (size : ℕ) (value : List ℕ → A) → 0 < size → values_of_size size value [] ≡ []
 spelled_nothing size value some = spelled_none size value [] some
 
 -- whether there are no bytes is whether there are no records
 pub none_where_empty : {A : Type 0} (size : ℕ) (value : List ℕ → A) (bytes : List ℕ) (empty : Bool) → 0 < size
-    → length bytes % size ≡ 0 → empty ≡ (length bytes == 0) → IsTrue empty ↔ (spelled size value bytes ≡ [])
+    → length bytes % size ≡ 0 → empty ≡ (length bytes == 0) → IsTrue empty ↔ (values_of_size size value bytes ≡ [])
 none_where_empty {A} size value [] empty some whole test = (λ _. spelled_nothing size value some, λ _. test)
 none_where_empty size value (byte ∷ bytes) empty some whole test = (
   λ t. absurd (omega (arith, eqb-true (length (byte ∷ bytes)) 0 (sym test ∙ t))),
@@ -141,12 +141,12 @@ read_in_turn {A} size value bytes = record {
   count = spelled_length size value bytes;
   each = λ k x is.
       let within : k < length bytes / size = rw spelled_length at
-      (slice_get_within (spelled size value bytes) k x is) in
+      (slice_get_within (values_of_size size value bytes) k x is) in
       let test : ltb (length (drop (size * k) bytes)) size ≡ false =
       le-ltb (length (drop (size * k) bytes)) size (record_within size k bytes within) in
       let here : x ≡ value (take size (drop (size * k) bytes)) =
-      some_is (sym is ∙ slice_get-get_or (spelled size value bytes) k x
-      (slice_get_within (spelled size value bytes) k x is))
+      some_is (sym is ∙ slice_get-get_or (values_of_size size value bytes) k x
+      (slice_get_within (values_of_size size value bytes) k x is))
       ∙ spelled_at size value bytes k x within in
       let place : size * (k + 1) ≡ size * k + size = omega arith in
       rw (test, drop-drop size (size * k) bytes, place, here) refl;

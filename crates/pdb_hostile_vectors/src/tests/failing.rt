@@ -3,7 +3,7 @@
 
 ghost use Rattle.pdb_vectors.specs.Failing.{state_of};
 
-use super::rows::{ROWS, Row, edited, is_front};
+use super::rows::{ROWS, Row, edit_s1, is_front};
 use pdb_base::{Error, Result, Stream};
 use pdb_container::{Query, Reply, run};
 use pdb_msf::{BigMSF, Msf, ReadView, Source, SourceSlice, open_msf};
@@ -49,7 +49,7 @@ fn is_gone(alloc: Global, error: &Error, kind: ErrorKind) -> bool {
 
 /// Whether a case's stream has the expected result, or None if the call returns the error of the
 /// source.
-fn told(row: &Row, answer: Result<Stream>) -> Option<bool> {
+fn answer_matches(row: &Row, answer: Result<Stream>) -> Option<bool> {
     match &answer {
         Err(error) if is_fault(error) => None,
         answer => Some(row.fits(answer)),
@@ -58,33 +58,36 @@ fn told(row: &Row, answer: Result<Stream>) -> Option<bool> {
 
 /// Whether the case's stream has the expected result, where a call that returns the error of the
 /// source is repeated once; and how many calls returned it.
-fn asked(alloc: Global, file: &mut BigMSF<Failing>, row: &Row) -> (bool, u64) {
+fn ask_case(alloc: Global, file: &mut BigMSF<Failing>, row: &Row) -> (bool, u64) {
     let Row(_, number, limit, ..) = row;
-    match told(row, file.get(alloc, *number, *limit)) {
+    match answer_matches(row, file.get(alloc, *number, *limit)) {
         Some(is) => (is, 0),
-        None => (told(row, file.get(alloc, *number, *limit)) == Some(true), 1),
+        None => (
+            answer_matches(row, file.get(alloc, *number, *limit)) == Some(true),
+            1,
+        ),
     }
 }
 
 /// Whether two calls, one after the other, have the expected result, apart from so many errors of
 /// the source.
 fn is_asked_twice(alloc: Global, file: &mut BigMSF<Failing>, row: &Row, wanted: u64) -> bool {
-    let (once, faults) = asked(alloc, file, row);
-    let (again, more) = asked(alloc, file, row);
+    let (once, faults) = ask_case(alloc, file, row);
+    let (again, more) = ask_case(alloc, file, row);
     once && again && faults.saturating_add(more) == wanted
 }
 
 /// Opens a case's file, of whose views the one of this number fails, or none if the number is 0.
-fn opened(alloc: Global, row: &Row, n: u64) -> Result<BigMSF<Failing>> {
+fn open_case(alloc: Global, row: &Row, n: u64) -> Result<BigMSF<Failing>> {
     let Row(edits, ..) = row;
-    open_msf(alloc, Failing::new(edited(alloc, edits)?, n))
+    open_msf(alloc, Failing::new(edit_s1(alloc, edits)?, n))
 }
 
 /// Whether a case has the expected result if the view of this number fails: one error of the source
 /// if the case takes that many views, and none otherwise. The first view opens the file.
 fn is_answered(alloc: Global, row: &Row, n: u64) -> bool {
     let Row(.., views) = row;
-    match opened(alloc, row, n) {
+    match open_case(alloc, row, n) {
         Ok(mut file) => n != 1
             && is_asked_twice(alloc, &mut file, row, u64::from(0 < n && n <= *views)),
         Err(error) => n == 1 && is_fault(&error),

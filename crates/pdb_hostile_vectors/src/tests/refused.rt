@@ -4,7 +4,7 @@
 ghost use Rattle.std.specs.Prelude.{◌≡◌};
 ghost use Rattle.pdb_msf.specs.Source.{in_memory};
 
-use super::rows::{ROWS, Row, edited, list_of, stream_of};
+use super::rows::{ROWS, Row, edit_s1, list_of, stream_of};
 use pdb_base::{Error, FallibleIterator, IdIndex, Result, Stream, TypeIndex, Variant};
 use pdb_cli::{Outcome, act, read_all};
 use pdb_container::{Query, Reply, run};
@@ -18,7 +18,7 @@ use std::io;
 use std::test::Fail;
 
 /// Whether a result is the expected one, or None if it is `OutOfMemory`.
-fn told(row: &Row, answer: Result<Stream>) -> Option<bool> {
+fn answer_matches(row: &Row, answer: Result<Stream>) -> Option<bool> {
     match &answer {
         Err(Error::OutOfMemory) => None,
         answer => Some(row.fits(answer)),
@@ -27,33 +27,33 @@ fn told(row: &Row, answer: Result<Stream>) -> Option<bool> {
 
 /// Whether an open file has the expected result for a case. A call that returns `OutOfMemory` is
 /// repeated once.
-fn told_again(alloc: Global, file: &mut BigMSF<Vec<u8>>, row: &Row) -> Option<bool> {
+fn ask_again(alloc: Global, file: &mut BigMSF<Vec<u8>>, row: &Row) -> Option<bool> {
     let Row(_, number, limit, ..) = row;
-    match told(row, file.get(alloc, *number, *limit)) {
-        None => told(row, file.get(alloc, *number, *limit)),
+    match answer_matches(row, file.get(alloc, *number, *limit)) {
+        None => answer_matches(row, file.get(alloc, *number, *limit)),
         answer => answer,
     }
 }
 
 /// Whether an open file has the expected result for a case in two calls, each repeated once if it
 /// returns `OutOfMemory`.
-fn told_twice(alloc: Global, file: &mut BigMSF<Vec<u8>>, row: &Row) -> Option<bool> {
-    match told_again(alloc, file, row) {
-        Some(true) => told_again(alloc, file, row),
+fn ask_twice(alloc: Global, file: &mut BigMSF<Vec<u8>>, row: &Row) -> Option<bool> {
+    match ask_again(alloc, file, row) {
+        Some(true) => ask_again(alloc, file, row),
         answer => answer,
     }
 }
 
 /// Opens a case's file.
-fn opened(alloc: Global, row: &Row) -> Result<BigMSF<Vec<u8>>> {
+fn open_case(alloc: Global, row: &Row) -> Result<BigMSF<Vec<u8>>> {
     let Row(edits, ..) = row;
-    open_msf(alloc, edited(alloc, edits)?)
+    open_msf(alloc, edit_s1(alloc, edits)?)
 }
 
 /// Whether a case's file has the expected result twice, or None if an open file returns
 /// `OutOfMemory` again.
-fn told_of(alloc: Global, row: &Row) -> Result<Option<bool>> {
-    Ok(told_twice(alloc, &mut opened(alloc, row)?, row))
+fn ask_case(alloc: Global, row: &Row) -> Result<Option<bool>> {
+    Ok(ask_twice(alloc, &mut open_case(alloc, row)?, row))
 }
 
 /// Like `told_of`, with a file that is opened again if opening it returns `OutOfMemory`.
@@ -61,7 +61,7 @@ fn told_of(alloc: Global, row: &Row) -> Result<Option<bool>> {
 /// # Errors
 /// `OutOfMemory` if an allocation fails again.
 fn is_told(alloc: Global, row: &Row) -> Result<bool> {
-    match settled!(told_of(alloc, row)) {
+    match settled!(ask_case(alloc, row)) {
         Ok(Some(is)) => Ok(is),
         Ok(None) => Err(Error::OutOfMemory),
         Err(error) => Err(error),

@@ -55,7 +55,7 @@ pub(crate) const ROWS: &[Row] = &[
 ];
 
 /// The file S1 with some bytes set to others.
-pub(crate) fn edited(alloc: Global, edits: &[(usize, u8)]) -> Result<Vec<u8>> {
+pub(crate) fn edit_s1(alloc: Global, edits: &[(usize, u8)]) -> Result<Vec<u8>> {
     let mut file = s1(alloc)?;
     for (place, byte) in edits {
         if let Some(at) = file.get_mut(*place) {

@@ -3,7 +3,7 @@
 
 ghost use Rattle.std.specs.Prelude.{◌≡◌};
 
-use super::rows::{edited, list_of, stream_of};
+use super::rows::{edit_s1, list_of, stream_of};
 use pdb_base::{
     Count, Error, FallibleIterator, IdIndex, ParseBuffer, RawString, Result, Stream, StreamIndex,
     TypeIndex, Variant,
@@ -139,8 +139,8 @@ fn locate(alloc: Global, file: &mut BigMSF<Vec<u8>>) -> Result<()> {
 }
 
 /// S1 with a directory of so many bytes.
-fn opened(alloc: Global, size: u8) -> Result<BigMSF<Vec<u8>>> {
-    open_msf(alloc, edited(alloc, &[(DIRECTORY_SIZE, size)])?)
+fn open_s1(alloc: Global, size: u8) -> Result<BigMSF<Vec<u8>>> {
+    open_msf(alloc, edit_s1(alloc, &[(DIRECTORY_SIZE, size)])?)
 }
 
 /// Whether a stream has an error: the directory ends too soon for it if `is_ended`, and otherwise
@@ -469,7 +469,7 @@ fn is_stream(alloc: Global, stream: Stream, kind: &Kind, calls: bool) -> Result<
 /// Whether a fixture can be made and has the expected results. There is a function for each kind of
 /// fixture, since the proof of a single one takes long.
 fn has_directory(alloc: Global, size: u8, refused: &[(u32, bool)], calls: bool) -> Result<bool> {
-    is_located(alloc, &mut opened(alloc, size)?, size, refused, calls)
+    is_located(alloc, &mut open_s1(alloc, size)?, size, refused, calls)
 }
 
 fn has_pages(alloc: Global, pages: &[u32], calls: bool) -> Result<bool> {

@@ -148,7 +148,7 @@ fn whole(rt: HostRuntime) -> Result<(), Fail> {
 }
 
 #[test]
-fn damaged(rt: HostRuntime) -> Result<(), Fail> {
+fn damaged_files(rt: HostRuntime) -> Result<(), Fail> {
     for (offset, byte, part) in DAMAGES.iter() {
         let mut file = small_file(rt.alloc())?;
         if let Some(place) = file.get_mut(*offset) {

@@ -71,7 +71,7 @@ fn hostile_name(rt: HostRuntime) -> std::result::Result<(), Fail> {
 }
 
 #[test]
-fn asked(rt: HostRuntime) -> std::result::Result<(), Fail> {
+fn each_question(rt: HostRuntime) -> std::result::Result<(), Fail> {
     for row in ASKED {
         let (questions, _, lines, _) = row;
         let is_answered = answers(rt.alloc(), row)?;

@@ -191,7 +191,7 @@ fn lists(alloc: Global, row: &Listed) -> Result<bool> {
 }
 
 #[test]
-fn listed(rt: HostRuntime) -> std::result::Result<(), Fail> {
+fn each_listing(rt: HostRuntime) -> std::result::Result<(), Fail> {
     for row in LISTED {
         assert!(rt; lists(rt.alloc(), row)?, "{}{}", row.2, row.3);
     }
@@ -226,7 +226,7 @@ fn is_cut(alloc: Global, room: usize) -> Result<bool> {
 }
 
 #[test]
-fn cut(rt: HostRuntime) -> std::result::Result<(), Fail> {
+fn cut_tables(rt: HostRuntime) -> std::result::Result<(), Fail> {
     for room in [1000, 0, 1, 4, 5, 6, 100] {
         assert!(rt; is_cut(rt.alloc(), room)?, "{room}");
     }

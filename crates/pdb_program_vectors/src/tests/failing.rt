@@ -1,6 +1,6 @@
 //! Outputs and inputs that fail at each of their calls in turn.
 
-use super::uses::file::built;
+use super::uses::file::build_file;
 use pdb_base::Result;
 use pdb_output::Output;
 use pdb_vectors::s1_with;
@@ -172,7 +172,7 @@ type Calls = (usize, usize, usize, ErrorKind);
 /// Runs a program with these calls.
 fn end_of(alloc: Global, served: Served, calls: Calls) -> Result<Ended> {
     let (reads, writes, messages, kind) = calls;
-    let mut input = Failing::new(built(alloc)?, reads, ErrorKind::BrokenPipe);
+    let mut input = Failing::new(build_file(alloc)?, reads, ErrorKind::BrokenPipe);
     let mut out = Output::new(Failing::new(Vec::new(alloc), writes, kind));
     let mut err = Output::new(Failing::new(Vec::new(alloc), messages, ErrorKind::StorageFull));
     let status = run(alloc, served, &mut input, &mut out, &mut err)?;

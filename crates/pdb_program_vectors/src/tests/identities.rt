@@ -53,7 +53,7 @@ fn push_page(file: &mut Vec<u8>, front: &[u8]) -> Result<()> {
 }
 
 /// Returns bytes with a number among them.
-fn around(alloc: Global, front: &[u8], number: u32, back: &[u8]) -> Result<Vec<u8>> {
+fn bytes_around(alloc: Global, front: &[u8], number: u32, back: &[u8]) -> Result<Vec<u8>> {
     let mut bytes = Vec::from_slice(alloc, front)?;
     bytes.extend_from_slice(&number.to_le_bytes())?;
     bytes.extend_from_slice(back)?;
@@ -63,7 +63,7 @@ fn around(alloc: Global, front: &[u8], number: u32, back: &[u8]) -> Result<Vec<u
 /// Returns stream 3.
 fn debug_stream(alloc: Global, debug: Debug) -> Result<Vec<u8>> {
     match debug {
-        Debug::Aged(age) => around(alloc, DEBUG_FRONT, age, DEBUG_BACK),
+        Debug::Aged(age) => bytes_around(alloc, DEBUG_FRONT, age, DEBUG_BACK),
         Debug::Empty | Debug::Missing => Ok(Vec::new(alloc)),
     }
 }
@@ -88,7 +88,7 @@ fn file_with(alloc: Global, age: u32, debug: Debug) -> Result<Vec<u8>> {
     push_page(&mut file, b"")?;
     push_page(&mut file, &directory)?;
     push_page(&mut file, b"\x02\0\0\0")?;
-    push_page(&mut file, &around(alloc, FRONT, age, BACK)?)?;
+    push_page(&mut file, &bytes_around(alloc, FRONT, age, BACK)?)?;
     push_page(&mut file, &debug_stream(alloc, debug)?)?;
     push_page(&mut file, b"")?;
     push_page(&mut file, b"")?;
@@ -190,7 +190,7 @@ fn is_identified(alloc: Global, row: &Identified) -> Result<bool> {
 }
 
 #[test]
-fn identified(rt: HostRuntime) -> std::result::Result<(), Fail> {
+fn each_identity(rt: HostRuntime) -> std::result::Result<(), Fail> {
     for row in IDENTIFIED {
         assert!(rt; is_identified(rt.alloc(), row)?, "{}", row.3);
     }
@@ -251,7 +251,7 @@ fn is_extracted(alloc: Global, row: &Extracted) -> Result<bool> {
 }
 
 #[test]
-fn extracted(rt: HostRuntime) -> std::result::Result<(), Fail> {
+fn each_extract(rt: HostRuntime) -> std::result::Result<(), Fail> {
     for row in EXTRACTED {
         assert!(rt; is_extracted(rt.alloc(), row)?, "{:?} {}", row.1, row.2);
     }

@@ -1,7 +1,7 @@
 //! The programs on the channels of a process in memory.
 
 use super::printed::{ABSENT_2, USAGE};
-use super::uses::file::built;
+use super::uses::file::build_file;
 use pdb_vectors::s1_with;
 use std::alloc::{AllocError, Allocator, Global};
 use std::cell::RefCell;
@@ -406,7 +406,7 @@ fn is_shown(
 
 #[test]
 fn commands(rt: HostRuntime) -> Result<(), Fail> {
-    let file = built(rt.alloc())?;
+    let file = build_file(rt.alloc())?;
     for row in COMMANDS {
         for is_json in [false, true] {
             for is_piped in [false, true] {

@@ -430,7 +430,7 @@ fn add_lists(alloc: Global, data: &mut Vec<TypeData<'static>>) -> Result<()> {
 
 /// Types without a name: a primitive type, a modifier and a bit field, each followed by another
 /// one.
-fn unnamed(alloc: Global) -> Result<Vec<TypeData<'static>>> {
+fn types_without_names(alloc: Global) -> Result<Vec<TypeData<'static>>> {
     Ok(vec![in alloc;
         TypeData::Primitive(PrimitiveType {
             kind: PrimitiveKind::I32,
@@ -535,7 +535,7 @@ fn pointer(underlying_type: u32) -> Option<TypeData<'static>> {
 
 /// Adds the types without a name or a list.
 fn add_others(alloc: Global, data: &mut Vec<TypeData<'static>>) -> Result<()> {
-    for value in unnamed(alloc)? {
+    for value in types_without_names(alloc)? {
         data.push(value)?;
     }
     for number in [0u16, 1] {

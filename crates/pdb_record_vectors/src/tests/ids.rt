@@ -142,7 +142,7 @@ fn text_id(substrings: Option<IdIndex>) -> IdData<'static> {
 }
 
 /// What a record says.
-fn wanted(alloc: Global, said: &Said) -> Result<IdData<'static>> {
+fn expected_id(alloc: Global, said: &Said) -> Result<IdData<'static>> {
     match said {
         Said::BuildInfo(arguments) => Ok(IdData::BuildInfo(BuildInfoId {
             arguments: Vec::from_slice(alloc, arguments)?,
@@ -252,7 +252,7 @@ fn is_told(alloc: Global, record: &[u8], want: &IdData<'_>) -> std::result::Resu
 
 /// Whether a record says what its case has, and what it says is copied.
 fn is_row(alloc: Global, record: &[u8], said: &Said) -> std::result::Result<bool, Fail> {
-    let want = wanted(alloc, said)?;
+    let want = expected_id(alloc, said)?;
     Ok(is_told(alloc, record, &want)? && is_parsed(alloc, record, &want)?)
 }
 

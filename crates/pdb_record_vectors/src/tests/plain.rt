@@ -560,7 +560,7 @@ fn static_member<'t>() -> TypeData<'t> {
 }
 
 /// A type that is declared in a class.
-fn nested<'t>(attributes: u16) -> TypeData<'t> {
+fn nested_type_value<'t>(attributes: u16) -> TypeData<'t> {
     TypeData::Nested(NestedType {
         attributes: FieldAttributes::new(attributes),
         nested_type: TypeIndex(0x101c),
@@ -569,7 +569,7 @@ fn nested<'t>(attributes: u16) -> TypeData<'t> {
 }
 
 /// Methods of one name.
-fn overloaded<'t>() -> TypeData<'t> {
+fn overloaded_method_value<'t>() -> TypeData<'t> {
     TypeData::OverloadedMethod(OverloadedMethodType {
         count: 0x0203,
         method_list: TypeIndex(0x101f),
@@ -662,8 +662,8 @@ impl Says for Want {
             Want::Enumerate(value) => Ok(enumerate(*value)),
             Want::Member => Ok(member()),
             Want::StaticMember => Ok(static_member()),
-            Want::Nested(attributes) => Ok(nested(*attributes)),
-            Want::Overloaded => Ok(overloaded()),
+            Want::Nested(attributes) => Ok(nested_type_value(*attributes)),
+            Want::Overloaded => Ok(overloaded_method_value()),
             Want::Method(attributes, vtable_offset) => Ok(method(*attributes, *vtable_offset)),
             Want::MemberFunction(this_pointer_type) => Ok(member_function(*this_pointer_type)),
             Want::Procedure(return_type) => Ok(procedure(*return_type)),

@@ -51,7 +51,7 @@ const PRIMITIVES: &[(u32, PrimitiveKind, Option<Indirection>)] = &[
 ];
 
 /// The primitive type that is read, or the number in the error, which is 0 if it has none.
-fn told(read: &pdb_base::Result<TypeData<'_>>) -> Result<PrimitiveType, u32> {
+fn primitive_or_index(read: &pdb_base::Result<TypeData<'_>>) -> Result<PrimitiveType, u32> {
     match read {
         Ok(TypeData::Primitive(primitive)) => Ok(*primitive),
         Err(Error::TypeNotFound(number)) => Err(*number),
@@ -64,7 +64,7 @@ fn primitive(index: u32) -> Result<PrimitiveType, u32> {
     if index >= 0x1000 {
         return Err(0);
     }
-    told(&type_data_for_primitive(TypeIndex(index)))
+    primitive_or_index(&type_data_for_primitive(TypeIndex(index)))
 }
 
 #[test]

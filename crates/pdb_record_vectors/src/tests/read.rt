@@ -95,11 +95,11 @@ pub(crate) fn is_read_with<S: Says>(
     more: &[u8],
     said: &S,
 ) -> Result<bool, Fail> {
-    is_read(alloc, &joined(alloc, record, more)?, said)
+    is_read(alloc, &join_bytes(alloc, record, more)?, said)
 }
 
 /// A record with more bytes behind it.
-fn joined(alloc: Global, record: &[u8], more: &[u8]) -> Result<Vec<u8>, Fail> {
+fn join_bytes(alloc: Global, record: &[u8], more: &[u8]) -> Result<Vec<u8>, Fail> {
     let mut longer = Vec::from_slice(alloc, record)?;
     longer.extend_from_slice(more)?;
     Ok(longer)
@@ -139,7 +139,7 @@ pub(crate) fn is_refused_with(
     more: &[u8],
     want: &Error,
 ) -> Result<bool, Fail> {
-    is_refused_at(alloc, &joined(alloc, record, more)?, 0x1000, want)
+    is_refused_at(alloc, &join_bytes(alloc, record, more)?, 0x1000, want)
 }
 
 /// Whether a prefix of a record ends too soon.

@@ -447,7 +447,7 @@ fn bytes_of(alloc: Global, source: &Source) -> Answer<Vec<u8>> {
 }
 
 /// The table of a stream, of which there are less than 2^32 - 1 bytes.
-fn parsed(alloc: Global, source: &Source) -> Answer<TypeInformation> {
+fn parse_table(alloc: Global, source: &Source) -> Answer<TypeInformation> {
     let mut bytes = bytes_of(alloc, source)?;
     if bytes.len() >= 0xffff_ffff {
         bytes.clear();
@@ -691,7 +691,7 @@ fn is_refusal(error: &Error, ask: &Ask) -> bool {
 
 /// Whether the table of a stream answers so, or has the expected error.
 fn is_row(alloc: Global, source: &Source, ask: &Ask) -> Result<bool, Fail> {
-    match parsed(alloc, source) {
+    match parse_table(alloc, source) {
         Ok(table) => owned_answers(alloc, table, ask),
         Err(error) => Ok(is_refusal(&error, ask)),
     }

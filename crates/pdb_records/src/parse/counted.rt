@@ -5,7 +5,7 @@ ghost use Rattle.pdb_base.specs.Answer.{Answers, Gives};
 ghost use Rattle.pdb_base.specs.Memory.{LacksOnlyIf, HasItem};
 ghost use Rattle.pdb_base.specs.Place.{left};
 ghost use Rattle.pdb_base.specs.Reading.{number_at};
-ghost use Rattle.pdb_base.specs.Repeated.{repeated};
+ghost use Rattle.pdb_base.specs.Repeated.{read_times};
 ghost use Rattle.pdb_records.specs.Shape.{index_at};
 ghost use Rattle.pdb_records.specs.Counted.{count_bytes, counted_at};
 
@@ -41,7 +41,7 @@ fn parse_held_indexes<I: Index>(
 ) -> Result<Vec<I>>
     requires { 4 * count ≤ length (left buffer.old) }
     ensures read { Answers (λ list. (list.items, left buffer.new)) result
-        (repeated (index_at I.said) count (left buffer.old)) }
+        (read_times (index_at I.said) count (left buffer.old)) }
     ensures memory { LacksOnlyIf result (0 < count) }
 {
     let mut indexes = Vec::new(alloc);
@@ -62,9 +62,9 @@ fn parse_indexes<I: Index>(
     count: usize,
 ) -> Result<Vec<I>>
     ensures read { Answers (λ list. (list.items, left buffer.new)) result
-        (repeated (index_at I.said) count (left buffer.old)) }
+        (read_times (index_at I.said) count (left buffer.old)) }
     ensures memory { LacksOnlyIf result
-        (IsOkAnd (repeated (index_at I.said) count (left buffer.old)) (λ read. HasItem read.0)) }
+        (IsOkAnd (read_times (index_at I.said) count (left buffer.old)) (λ read. HasItem read.0)) }
 {
     if buffer.len() / 4 < count {
         return Err(Error::UnexpectedEof);

@@ -123,7 +123,7 @@ fn are_differences(to: u32, from: u32, want: Three) -> bool {
 type Order = (Option<Ordering>, bool);
 
 /// How an offset in section 1 and another place lie, and whether they are equal.
-fn compared(offset: u32, other: SectionOffset) -> Order {
+fn compare(offset: u32, other: SectionOffset) -> Order {
     let place = SectionOffset::new(1, offset);
     (place.partial_cmp(&other), place == other)
 }
@@ -136,7 +136,7 @@ fn internal_compared(offset: u32, other: PdbInternalSectionOffset) -> Order {
 
 /// Whether an offset in section 1 and one in another section lie so, in both ways.
 fn lie(offset: u32, section: u16, other: u32, want: Order) -> bool {
-    compared(offset, SectionOffset::new(section, other)) == want
+    compare(offset, SectionOffset::new(section, other)) == want
         && internal_compared(offset, PdbInternalSectionOffset::new(section, other)) == want
 }
 

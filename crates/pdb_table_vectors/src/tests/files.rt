@@ -35,7 +35,7 @@ fn set(bytes: &mut [u8], edits: &[(usize, u8)]) {
 }
 
 /// Returns the file S1 with some bytes set to others.
-fn edited(alloc: Global, edits: &[(usize, u8)]) -> pdb_base::Result<Vec<u8>> {
+fn edit_s1(alloc: Global, edits: &[(usize, u8)]) -> pdb_base::Result<Vec<u8>> {
     let mut file = s1(alloc)?;
     set(&mut file, edits);
     Ok(file)
@@ -49,7 +49,7 @@ fn front(alloc: Global, len: usize) -> pdb_base::Result<Vec<u8>> {
 }
 
 /// Returns these bytes, and then zeros up to a length.
-fn filled(alloc: Global, bytes: &[u8], len: usize) -> pdb_base::Result<Vec<u8>> {
+fn fill_up(alloc: Global, bytes: &[u8], len: usize) -> pdb_base::Result<Vec<u8>> {
     let mut file = Vec::from_slice(alloc, bytes)?;
     file.resize(len, 0)?;
     Ok(file)
@@ -65,9 +65,9 @@ fn zeros(alloc: Global, len: usize, edits: &[(usize, u8)]) -> pdb_base::Result<V
 /// Returns the bytes that are made so.
 fn bytes_of(alloc: Global, file: &Made) -> pdb_base::Result<Vec<u8>> {
     match file {
-        Made::S1(edits) => edited(alloc, edits),
+        Made::S1(edits) => edit_s1(alloc, edits),
         Made::Front(len) => front(alloc, *len),
-        Made::Filled(bytes, len) => filled(alloc, bytes, *len),
+        Made::Filled(bytes, len) => fill_up(alloc, bytes, *len),
         Made::Zeros(len, edits) => zeros(alloc, *len, edits),
     }
 }

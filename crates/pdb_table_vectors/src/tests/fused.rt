@@ -78,7 +78,7 @@ fn end_by_map(alloc: Global) -> Result<bool, Fail> {
 }
 
 #[test]
-fn ended(rt: HostRuntime) -> Result<(), Fail> {
+fn ended_iterators(rt: HostRuntime) -> Result<(), Fail> {
     assert!(rt; end_for_good(&table(rt.alloc())?));
     assert!(rt; end_by_map(rt.alloc())?);
     Ok(())

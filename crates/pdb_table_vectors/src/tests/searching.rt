@@ -31,7 +31,7 @@ fn ranges(alloc: Global, table: &OMAPTable, start: u32, end: u32) -> Result<Vec<
 }
 
 /// What a table answers of an address, and how many sources are compared.
-fn counted(table: &OMAPTable, address: u32) -> (Option<u32>, u64) {
+fn count_compared(table: &OMAPTable, address: u32) -> (Option<u32>, u64) {
     let mut count = Count::new();
     let moved = table.lookup_counted(address, &mut count);
     (moved, count.get())
@@ -45,7 +45,7 @@ const ADDRESSES: [u32; 6] = [0, 1, 2, 3, 0xffff_fffe, 0xffff_ffff];
 
 /// A table of so many records, each the pair of numbers that a digit of the code, to the base 16,
 /// encodes.
-fn numbered(alloc: Global, len: usize, code: usize) -> Result<Vec<(u32, u32)>, Fail> {
+fn table_by_code(alloc: Global, len: usize, code: usize) -> Result<Vec<(u32, u32)>, Fail> {
     let mut records = Vec::new(alloc);
     let mut left = code;
     for _ in 0..len {
@@ -119,7 +119,7 @@ fn answers_alike(alloc: Global, records: &[(u32, u32)]) -> Result<bool, Fail> {
     let table = omap(alloc, records)?;
     for start in ADDRESSES {
         let want = plain_lookup(records, start);
-        let (moved, compared) = counted(&table, start);
+        let (moved, compared) = count_compared(&table, start);
         if table.lookup(start) != want || moved != want || compared > 3 {
             return Ok(false);
         }
@@ -137,7 +137,7 @@ fn answers_alike(alloc: Global, records: &[(u32, u32)]) -> Result<bool, Fail> {
 fn small_tables(rt: HostRuntime) -> Result<(), Fail> {
     for (len, codes) in [(0, 1), (1, 16), (2, 0x100), (3, 0x1000), (4, 0x1_0000)] {
         for code in 0..codes {
-            let records = numbered(rt.alloc(), len, code)?;
+            let records = table_by_code(rt.alloc(), len, code)?;
             if is_sorted(&records) {
                 assert!(rt;
                     answers_alike(rt.alloc(), &records)?,

@@ -97,7 +97,7 @@ fn push(bytes: &mut Vec<u8>, source: u32, target: u32) -> Result<(), Fail> {
 }
 
 /// The bytes of records.
-fn listed(alloc: Global, records: &[(u32, u32)]) -> Result<Vec<u8>, Fail> {
+fn list_bytes(alloc: Global, records: &[(u32, u32)]) -> Result<Vec<u8>, Fail> {
     let mut bytes = Vec::new(alloc);
     for (source, target) in records {
         push(&mut bytes, *source, *target)?;
@@ -117,7 +117,7 @@ fn thousand(alloc: Global) -> Result<Vec<u8>, Fail> {
 /// The bytes of a table.
 fn bytes_of(alloc: Global, table: &Table) -> Result<Vec<u8>, Fail> {
     match table {
-        Table::Of(records) => listed(alloc, records),
+        Table::Of(records) => list_bytes(alloc, records),
         Table::Thousand => thousand(alloc),
     }
 }
@@ -503,7 +503,7 @@ const TO_INTERNAL: Table = Table::Of(&[(0x2000, 0x1000)]);
 const FROM_INTERNAL: Table = Table::Of(&[(0x1000, 0x2000)]);
 
 /// A map whose one section lay at 0x1000, and lies at 0x2000.
-fn rearranged(alloc: Global) -> Result<AddressMap, Fail> {
+fn rearranged_map(alloc: Global) -> Result<AddressMap, Fail> {
     let before = Vec::from_slice(alloc, &[section(0x1000, 0x1000)])?;
     let after = Vec::from_slice(alloc, &[section(0x2000, 0x1000)])?;
     let to_internal = table_of(alloc, &TO_INTERNAL)?;
@@ -570,7 +570,7 @@ fn moves(map: &AddressMap) -> bool {
 
 /// Whether the map whose section lay elsewhere moves all this.
 fn is_rearranged(alloc: Global) -> Result<bool, Fail> {
-    let map = rearranged(alloc)?;
+    let map = rearranged_map(alloc)?;
     Ok(moves(&map))
 }
 

@@ -5,21 +5,21 @@ use Rattle.std.proofs.lemmas.Bool.{cases_lt, lt-ltb, le-ltb}
 use Rattle.pdb_base.specs.declared.index.TypeIndex.{TypeIndex}
 use Rattle.pdb_base.specs.Answer.{Answer, ◌>>=◌}
 use Rattle.pdb_values.specs.TypeValue.{TypeValue}
-use Rattle.pdb_tpi.specs.Chain.{LookUp, list_of, not_below, in_front, continued, joined, along, fields_of}
+use Rattle.pdb_tpi.specs.Chain.{LookUp, list_of, not_below, in_front, fields_behind, join_fields, chain_along, fields_of}
 
 -- ---- where a list goes on
 
 pub goes_below : (behind : ℕ → Answer (List TypeValue)) (index : ℕ) (next : TypeIndex) → next.0 < index
-    → continued behind index (Some next) ≡ behind next.0
+    → fields_behind behind index (Some next) ≡ behind next.0
 goes_below behind index next below = rw (lt-ltb next.0 index below) refl
 
 pub goes_up : (behind : ℕ → Answer (List TypeValue)) (index : ℕ) (next : TypeIndex) → index ≤ next.0
-    → continued behind index (Some next) ≡ Err not_below
+    → fields_behind behind index (Some next) ≡ Err not_below
 goes_up behind index next above = rw (le-ltb next.0 index above) refl
 
 -- only what is below a list counts
 same_continued : (one other : ℕ → Answer (List TypeValue)) (index : ℕ) (continuation : Option TypeIndex)
-    → ((i : ℕ) → i < index → one i ≡ other i) → continued one index continuation ≡ continued other index continuation
+    → ((i : ℕ) → i < index → one i ≡ other i) → fields_behind one index continuation ≡ fields_behind other index continuation
 same_continued one other index None same = refl
 same_continued one other index (Some next) same = elim (cases_lt next.0 index) [
   | inl below ↦ goes_below one index next below ∙ same next.0 below ∙ sym (goes_below other index next below)
@@ -33,20 +33,20 @@ bind_same (Err e) one other same = refl
 
 -- how many lists are allowed does not matter, if they are enough
 same_along : (most more : ℕ) (look : LookUp) (index : ℕ) → index < most → index < more
-    → along most look index ≡ along more look index
+    → chain_along most look index ≡ chain_along more look index
 same_along zero more look index few enough = absurd (omega (arith, few))
 same_along (suc most) zero look index few enough = absurd (omega (arith, enough))
 same_along (suc most) (suc more) look index few enough =
-    bind_same (list_of look index) (joined (along most look) index) (joined (along more look) index)
-    (λ list. ap (in_front list.fields) (same_continued (along most look) (along more look) index list.continuation
+    bind_same (list_of look index) (join_fields (chain_along most look) index) (join_fields (chain_along more look) index)
+    (λ list. ap (in_front list.fields) (same_continued (chain_along most look) (chain_along more look) index list.continuation
     (λ i below. same_along most more look i (omega (arith, below, few)) (omega (arith, below, enough)))))
 
 -- the fields of an index are those of its list, and then those of the lists in which it goes on
 pub fields_step : (look : LookUp) (index : ℕ)
-    → fields_of look index ≡ (list_of look index >>= joined (λ i. fields_of look i) index)
+    → fields_of look index ≡ (list_of look index >>= join_fields (λ i. fields_of look i) index)
 unfolding fields_of
 fields_step look index =
-    bind_same (list_of look index) (joined (along index look) index) (joined (λ i. fields_of look i) index)
-    (λ list. ap (in_front list.fields) (same_continued (along index look)
+    bind_same (list_of look index) (join_fields (chain_along index look) index) (join_fields (λ i. fields_of look i) index)
+    (λ list. ap (in_front list.fields) (same_continued (chain_along index look)
     (λ i. fields_of look i) index list.continuation
     (λ i below. same_along index (suc i) look i below (omega arith))))

@@ -2,7 +2,7 @@
 
 ghost use Rattle.std.specs.Prelude.{◌≡◌, ◌↔◌, IsTrue};
 ghost use Rattle.pdb_base.specs.Derived.{DefaultsTo, TellsApart};
-ghost use Rattle.pdb_tpi.specs.Item.{bytes_of, index_of};
+ghost use Rattle.pdb_tpi.specs.Item.{item_bytes, index_of};
 ghost use Rattle.pdb_tpi.specs.declared.item.Item.{Item};
 ghost use Rattle.pdb_tpi.specs.Header.{empty_header, empty_slice};
 
@@ -23,8 +23,8 @@ pub fn headers()
 pub fn items()
     ensures types { (a b : Item TypeIndex) →
         IsTrue (⟦<Item<'static, TypeIndex> as PartialEq>⟧.eq a b) ↔
-        ((index_of a ≡ index_of b) × (bytes_of a ≡ bytes_of b)) }
+        ((index_of a ≡ index_of b) × (item_bytes a ≡ item_bytes b)) }
     ensures ids { (a b : Item IdIndex) →
         IsTrue (⟦<Item<'static, IdIndex> as PartialEq>⟧.eq a b) ↔
-        ((index_of a ≡ index_of b) × (bytes_of a ≡ bytes_of b)) }
+        ((index_of a ≡ index_of b) × (item_bytes a ≡ item_bytes b)) }
 {}

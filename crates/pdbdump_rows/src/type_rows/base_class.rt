@@ -1,6 +1,6 @@
 //! Base classes and pointers to tables of virtual functions, field by field.
 
-ghost use Rattle.pdbdump_rows.specs.Line.{Shows};
+ghost use Rattle.pdbdump_rows.specs.Line.{ShowsFields};
 ghost use Rattle.pdbdump_rows.specs.TypeRows.{base_class_fields, table_pointer_fields, virtual_base_fields};
 
 use crate::line::Line;
@@ -16,7 +16,7 @@ use pdb_values::{BaseClassType, VirtualBaseClassType, VirtualFunctionTablePointe
 /// Adds the fields of a base class.
 #[tactic(auto, unfolding(crate::specs::TypeRows::base_class_fields))]
 pub(crate) fn show_base_class(line: &mut Line, base: BaseClassType) -> Result<()>
-    ensures { Shows (base_class_fields base) line.old line.new result }
+    ensures { ShowsFields (base_class_fields base) line.old line.new result }
 {
     let attributes = field_flags(base.attributes);
     line.field(ACCESS, optional_word(access_word(base.attributes)))?;
@@ -29,7 +29,7 @@ pub(crate) fn show_base_class(line: &mut Line, base: BaseClassType) -> Result<()
 /// Adds the fields of a virtual base class.
 #[tactic(auto, unfolding(crate::specs::TypeRows::virtual_base_fields))]
 pub(crate) fn show_virtual_base(line: &mut Line, base: VirtualBaseClassType) -> Result<()>
-    ensures { Shows (virtual_base_fields base) line.old line.new result }
+    ensures { ShowsFields (virtual_base_fields base) line.old line.new result }
 {
     let attributes = field_flags(base.attributes);
     line.field(DIRECT, Value::Flag(base.direct))?;
@@ -54,7 +54,7 @@ pub(crate) fn show_table_pointer(
     line: &mut Line,
     pointer: VirtualFunctionTablePointerType,
 ) -> Result<()>
-    ensures { Shows (table_pointer_fields pointer) line.old line.new result }
+    ensures { ShowsFields (table_pointer_fields pointer) line.old line.new result }
 {
     line.field(TABLE, type_index(pointer.table))?;
     Ok(())

@@ -2,7 +2,7 @@
 
 ghost use Rattle.pdb_values.specs.Class.{class_value};
 ghost use Rattle.pdb_values.specs.Union.{union_value};
-ghost use Rattle.pdbdump_rows.specs.Line.{Shows};
+ghost use Rattle.pdbdump_rows.specs.Line.{ShowsFields};
 ghost use Rattle.pdbdump_rows.specs.TypeRows.{class_fields, union_fields};
 
 use crate::line::Line;
@@ -17,7 +17,7 @@ use pdb_values::{ClassType, UnionType};
 /// Adds the fields of a class, a structure or an interface.
 #[tactic(auto, unfolding(crate::specs::TypeRows::class_fields))]
 pub(crate) fn show_class(line: &mut Line, class: &ClassType<'_>) -> Result<()>
-    ensures { Shows (class_fields (class_value class.now)) line.old line.new result }
+    ensures { ShowsFields (class_fields (class_value class.now)) line.old line.new result }
 {
     let properties = property_flags(class.properties);
     line.field(NAME, Value::Text(class.name))?;
@@ -36,7 +36,7 @@ pub(crate) fn show_class(line: &mut Line, class: &ClassType<'_>) -> Result<()>
 /// Adds the fields of a union.
 #[tactic(auto, unfolding(crate::specs::TypeRows::union_fields))]
 pub(crate) fn show_union(line: &mut Line, union_type: &UnionType<'_>) -> Result<()>
-    ensures { Shows (union_fields (union_value union_type.now)) line.old line.new result }
+    ensures { ShowsFields (union_fields (union_value union_type.now)) line.old line.new result }
 {
     let properties = property_flags(union_type.properties);
     line.field(NAME, Value::Text(union_type.name))?;

@@ -2,7 +2,7 @@
 
 ghost use Rattle.std.specs.Prelude.{◌≡◌};
 ghost use Rattle.pdb_values.specs.Enumeration.{enumerate_value, enumeration_value};
-ghost use Rattle.pdbdump_rows.specs.Line.{Shows};
+ghost use Rattle.pdbdump_rows.specs.Line.{ShowsFields};
 ghost use Rattle.pdbdump_rows.specs.Row.{value_shown};
 ghost use Rattle.pdbdump_rows.specs.TypeRows.{enumerate_fields, enumeration_fields, variant_shown};
 
@@ -19,7 +19,7 @@ use pdb_values::{EnumerateType, EnumerationType};
 /// Adds the fields of an enumeration.
 #[tactic(auto, unfolding(crate::specs::TypeRows::enumeration_fields))]
 pub(crate) fn show_enumeration(line: &mut Line, enumeration: &EnumerationType<'_>) -> Result<()>
-    ensures { Shows (enumeration_fields (enumeration_value enumeration.now)) line.old line.new result }
+    ensures { ShowsFields (enumeration_fields (enumeration_value enumeration.now)) line.old line.new result }
 {
     let properties = property_flags(enumeration.properties);
     line.field(NAME, Value::Text(enumeration.name))?;
@@ -52,7 +52,7 @@ fn variant<'t>(number: Variant) -> Value<'t>
 /// Adds the fields of a value of an enumeration.
 #[tactic(auto, unfolding(crate::specs::TypeRows::enumerate_fields))]
 pub(crate) fn show_enumerate(line: &mut Line, value: &EnumerateType<'_>) -> Result<()>
-    ensures { Shows (enumerate_fields (enumerate_value value.now)) line.old line.new result }
+    ensures { ShowsFields (enumerate_fields (enumerate_value value.now)) line.old line.new result }
 {
     let attributes = field_flags(value.attributes);
     line.field(NAME, Value::Text(value.name))?;

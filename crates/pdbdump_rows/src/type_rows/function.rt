@@ -1,6 +1,6 @@
 //! Types of functions, field by field.
 
-ghost use Rattle.pdbdump_rows.specs.Line.{Shows};
+ghost use Rattle.pdbdump_rows.specs.Line.{ShowsFields};
 ghost use Rattle.pdbdump_rows.specs.TypeRows.{member_function_fields, procedure_fields};
 
 use crate::line::Line;
@@ -16,7 +16,7 @@ use pdb_values::{MemberFunctionType, ProcedureType};
 /// Adds the fields of the type of a function.
 #[tactic(auto, unfolding(crate::specs::TypeRows::procedure_fields))]
 pub(crate) fn show_procedure(line: &mut Line, procedure: ProcedureType) -> Result<()>
-    ensures { Shows (procedure_fields procedure) line.old line.new result }
+    ensures { ShowsFields (procedure_fields procedure) line.old line.new result }
 {
     let attributes = function_flags(procedure.attributes);
     line.field(RETURN_TYPE, optional_type(procedure.return_type))?;
@@ -36,7 +36,7 @@ pub(crate) fn show_procedure(line: &mut Line, procedure: ProcedureType) -> Resul
 /// Adds the fields of the type of a method.
 #[tactic(auto, unfolding(crate::specs::TypeRows::member_function_fields))]
 pub(crate) fn show_member_function(line: &mut Line, function: MemberFunctionType) -> Result<()>
-    ensures { Shows (member_function_fields function) line.old line.new result }
+    ensures { ShowsFields (member_function_fields function) line.old line.new result }
 {
     let attributes = function_flags(function.attributes);
     line.field(RETURN_TYPE, type_index(function.return_type))?;

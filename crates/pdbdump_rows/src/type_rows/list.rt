@@ -5,7 +5,7 @@ ghost use Rattle.pdb_values.specs.Function.{argument_types};
 ghost use Rattle.pdb_values.specs.Method.{listed_methods};
 ghost use Rattle.pdb_values.specs.TableShape.{table_shape_value};
 ghost use Rattle.pdb_values.specs.TypeView.{field_list_value};
-ghost use Rattle.pdbdump_rows.specs.Line.{Shows};
+ghost use Rattle.pdbdump_rows.specs.Line.{ShowsFields};
 ghost use Rattle.pdbdump_rows.specs.TypeRows.{argument_list_fields, array_fields, method_list_fields, table_shape_fields, type_fields};
 
 use crate::line::Line;
@@ -22,7 +22,7 @@ use std::alloc::Global;
 /// Adds the fields of an array.
 #[tactic(auto, unfolding(crate::specs::TypeRows::array_fields))]
 pub(crate) fn show_array(line: &mut Line, array: &ArrayType) -> Result<()>
-    ensures { Shows (array_fields (array_value array.now)) line.old line.new result }
+    ensures { ShowsFields (array_fields (array_value array.now)) line.old line.new result }
 {
     line.field(ELEMENT_TYPE, type_index(array.element_type))?;
     line.field(INDEXING_TYPE, type_index(array.indexing_type))?;
@@ -34,7 +34,7 @@ pub(crate) fn show_array(line: &mut Line, array: &ArrayType) -> Result<()>
 /// Adds the fields of a list of fields.
 #[tactic(auto, unfolding(crate::specs::TypeRows::field_list_fields), using(crate::proofs::RowLemmas::fields_counted))]
 pub(crate) fn show_field_list(line: &mut Line, list: &FieldList<'_>) -> Result<()>
-    ensures { Shows (type_fields (field_list_value list.now)) line.old line.new result }
+    ensures { ShowsFields (type_fields (field_list_value list.now)) line.old line.new result }
 {
     line.field(COUNT, Value::Number(list.fields.as_slice().len() as u64))?;
     line.field(CONTINUATION, optional_type(list.continuation))?;
@@ -44,7 +44,7 @@ pub(crate) fn show_field_list(line: &mut Line, list: &FieldList<'_>) -> Result<(
 /// Adds the fields of the types of a function's arguments.
 #[tactic(auto, unfolding(crate::specs::TypeRows::argument_list_fields))]
 pub(crate) fn show_argument_list(alloc: Global, line: &mut Line, list: &ArgumentList) -> Result<()>
-    ensures { Shows (argument_list_fields (argument_types list.now)) line.old line.new result }
+    ensures { ShowsFields (argument_list_fields (argument_types list.now)) line.old line.new result }
 {
     let arguments = type_numbers(alloc, &list.arguments)?;
     line.field(ARGUMENTS, Value::Indexes(&arguments))?;
@@ -54,7 +54,7 @@ pub(crate) fn show_argument_list(alloc: Global, line: &mut Line, list: &Argument
 /// Adds the fields of a list of methods.
 #[tactic(auto, unfolding(crate::specs::TypeRows::method_list_fields))]
 pub(crate) fn show_method_list(alloc: Global, line: &mut Line, list: &MethodList) -> Result<()>
-    ensures { Shows (method_list_fields (listed_methods list.now)) line.old line.new result }
+    ensures { ShowsFields (method_list_fields (listed_methods list.now)) line.old line.new result }
 {
     let methods = list.methods.as_slice();
     let numbers = method_numbers(alloc, methods)?;
@@ -70,7 +70,7 @@ pub(crate) fn show_table_shape(
     line: &mut Line,
     shape: VirtualTableShapeType<'_>,
 ) -> Result<()>
-    ensures { Shows (table_shape_fields (table_shape_value shape.entry)) line.old line.new result }
+    ensures { ShowsFields (table_shape_fields (table_shape_value shape.entry)) line.old line.new result }
 {
     let descriptors = byte_numbers(alloc, shape.descriptors)?;
     line.field(COUNT, Value::Number(shape.count as u64))?;

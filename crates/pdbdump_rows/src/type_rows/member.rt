@@ -1,7 +1,7 @@
 //! Data members and nested types, field by field.
 
 ghost use Rattle.pdb_values.specs.Member.{member_value, nested_value, static_member_value};
-ghost use Rattle.pdbdump_rows.specs.Line.{Shows};
+ghost use Rattle.pdbdump_rows.specs.Line.{ShowsFields};
 ghost use Rattle.pdbdump_rows.specs.TypeRows.{member_fields, nested_fields, static_member_fields};
 
 use crate::line::Line;
@@ -14,7 +14,7 @@ use pdb_values::{MemberType, NestedType, StaticMemberType};
 /// Adds the fields of a data member.
 #[tactic(auto, unfolding(crate::specs::TypeRows::member_fields))]
 pub(crate) fn show_member(line: &mut Line, member: &MemberType<'_>) -> Result<()>
-    ensures { Shows (member_fields (member_value member.now)) line.old line.new result }
+    ensures { ShowsFields (member_fields (member_value member.now)) line.old line.new result }
 {
     let attributes = field_flags(member.attributes);
     line.field(NAME, Value::Text(member.name))?;
@@ -28,7 +28,7 @@ pub(crate) fn show_member(line: &mut Line, member: &MemberType<'_>) -> Result<()
 /// Adds the fields of a static data member.
 #[tactic(auto, unfolding(crate::specs::TypeRows::static_member_fields))]
 pub(crate) fn show_static_member(line: &mut Line, member: &StaticMemberType<'_>) -> Result<()>
-    ensures { Shows (static_member_fields (static_member_value member.now)) line.old line.new result }
+    ensures { ShowsFields (static_member_fields (static_member_value member.now)) line.old line.new result }
 {
     let attributes = field_flags(member.attributes);
     line.field(NAME, Value::Text(member.name))?;
@@ -41,7 +41,7 @@ pub(crate) fn show_static_member(line: &mut Line, member: &StaticMemberType<'_>)
 /// Adds the fields of a type that is declared in a class.
 #[tactic(auto, unfolding(crate::specs::TypeRows::nested_fields))]
 pub(crate) fn show_nested(line: &mut Line, nested: &NestedType<'_>) -> Result<()>
-    ensures { Shows (nested_fields (nested_value nested.now)) line.old line.new result }
+    ensures { ShowsFields (nested_fields (nested_value nested.now)) line.old line.new result }
 {
     let attributes = field_flags(nested.attributes);
     line.field(NAME, Value::Text(nested.name))?;

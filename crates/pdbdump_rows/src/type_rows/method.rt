@@ -1,7 +1,7 @@
 //! Methods, field by field.
 
 ghost use Rattle.pdb_values.specs.Method.{method_value, overloaded_method_value};
-ghost use Rattle.pdbdump_rows.specs.Line.{Shows};
+ghost use Rattle.pdbdump_rows.specs.Line.{ShowsFields};
 ghost use Rattle.pdbdump_rows.specs.TypeRows.{listed_method_fields, method_fields, overloaded_method_fields};
 
 use crate::line::Line;
@@ -17,7 +17,7 @@ pub(crate) fn show_overloaded_method(
     line: &mut Line,
     methods: &OverloadedMethodType<'_>,
 ) -> Result<()>
-    ensures { Shows (overloaded_method_fields (overloaded_method_value methods.now)) line.old line.new result }
+    ensures { ShowsFields (overloaded_method_fields (overloaded_method_value methods.now)) line.old line.new result }
 {
     line.field(NAME, Value::Text(methods.name))?;
     line.field(COUNT, Value::Number(methods.count as u64))?;
@@ -28,7 +28,7 @@ pub(crate) fn show_overloaded_method(
 /// Adds the fields of a method that shares its name with no other.
 #[tactic(auto, unfolding(crate::specs::TypeRows::method_fields))]
 pub(crate) fn show_method(line: &mut Line, method: &MethodType<'_>) -> Result<()>
-    ensures { Shows (method_fields (method_value method.now)) line.old line.new result }
+    ensures { ShowsFields (method_fields (method_value method.now)) line.old line.new result }
 {
     let attributes = field_flags(method.attributes);
     line.field(NAME, Value::Text(method.name))?;
@@ -42,7 +42,7 @@ pub(crate) fn show_method(line: &mut Line, method: &MethodType<'_>) -> Result<()
 /// Adds the fields of one of the methods of a name.
 #[tactic(auto, unfolding(crate::specs::TypeRows::listed_method_fields))]
 pub fn show_listed_method(line: &mut Line, method: MethodListEntry) -> Result<()>
-    ensures { Shows (listed_method_fields method) line.old line.new result }
+    ensures { ShowsFields (listed_method_fields method) line.old line.new result }
 {
     let attributes = field_flags(method.attributes);
     line.field(ACCESS, optional_word(access_word(method.attributes)))?;

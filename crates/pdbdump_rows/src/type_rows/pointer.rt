@@ -1,6 +1,6 @@
 //! Pointers, modified types and bit fields, field by field.
 
-ghost use Rattle.pdbdump_rows.specs.Line.{Shows};
+ghost use Rattle.pdbdump_rows.specs.Line.{ShowsFields};
 ghost use Rattle.pdbdump_rows.specs.TypeRows.{bitfield_fields, modifier_fields, pointer_fields};
 
 use crate::line::Line;
@@ -16,7 +16,7 @@ use pdb_values::{BitfieldType, ModifierType, PointerType};
 /// Adds the fields of a pointer.
 #[tactic(auto, unfolding(crate::specs::TypeRows::pointer_fields))]
 pub(crate) fn show_pointer(line: &mut Line, pointer: PointerType) -> Result<()>
-    ensures { Shows (pointer_fields pointer) line.old line.new result }
+    ensures { ShowsFields (pointer_fields pointer) line.old line.new result }
 {
     let word = pointer.attributes;
     let attributes = pointer_flags(word);
@@ -32,7 +32,7 @@ pub(crate) fn show_pointer(line: &mut Line, pointer: PointerType) -> Result<()>
 /// Adds the fields of a type with modifiers.
 #[tactic(auto, unfolding(crate::specs::TypeRows::modifier_fields))]
 pub(crate) fn show_modifier(line: &mut Line, modifier: ModifierType) -> Result<()>
-    ensures { Shows (modifier_fields modifier) line.old line.new result }
+    ensures { ShowsFields (modifier_fields modifier) line.old line.new result }
 {
     let modifiers = modifier_flags(modifier);
     line.field(UNDERLYING_TYPE, type_index(modifier.underlying_type))?;
@@ -43,7 +43,7 @@ pub(crate) fn show_modifier(line: &mut Line, modifier: ModifierType) -> Result<(
 /// Adds the fields of a bit field, a member that takes some bits of its type.
 #[tactic(auto, unfolding(crate::specs::TypeRows::bitfield_fields))]
 pub(crate) fn show_bitfield(line: &mut Line, bitfield: BitfieldType) -> Result<()>
-    ensures { Shows (bitfield_fields bitfield) line.old line.new result }
+    ensures { ShowsFields (bitfield_fields bitfield) line.old line.new result }
 {
     line.field(UNDERLYING_TYPE, type_index(bitfield.underlying_type))?;
     line.field(LENGTH, Value::Number(bitfield.length as u64))?;

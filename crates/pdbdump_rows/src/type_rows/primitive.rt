@@ -2,7 +2,7 @@
 
 ghost use Rattle.std.specs.Prelude.{◌≡◌};
 ghost use Rattle.std.specs.Option.{option_map};
-ghost use Rattle.pdbdump_rows.specs.Line.{Shows};
+ghost use Rattle.pdbdump_rows.specs.Line.{ShowsFields};
 ghost use Rattle.pdbdump_rows.specs.Fields.{optional_text};
 ghost use Rattle.pdbdump_rows.specs.Row.{value_shown};
 ghost use Rattle.pdbdump_rows.specs.TypeRows.{primitive_fields};
@@ -28,7 +28,7 @@ fn indirection<'t>(pointer: Option<Indirection>) -> Value<'t>
 /// Adds the fields of a type that has no record.
 #[tactic(auto, unfolding(crate::specs::TypeRows::primitive_fields))]
 pub(crate) fn show_primitive(line: &mut Line, primitive: PrimitiveType) -> Result<()>
-    ensures { Shows (primitive_fields primitive) line.old line.new result }
+    ensures { ShowsFields (primitive_fields primitive) line.old line.new result }
 {
     line.field(PRIMITIVE_KIND, Value::Word(primitive_word(primitive.kind)))?;
     line.field(INDIRECTION, indirection(primitive.indirection))?;

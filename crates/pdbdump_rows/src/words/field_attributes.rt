@@ -2,7 +2,7 @@
 
 ghost use Rattle.std.specs.Prelude.{◌≡◌, map};
 ghost use Rattle.std.specs.Option.{option_map};
-ghost use Rattle.pdbdump_rows.specs.Words.{chosen, access_word, field_words};
+ghost use Rattle.pdbdump_rows.specs.Words.{words_beside_true, access_word, field_words};
 
 use crate::value::Flag;
 use pdb_flags::FieldAttributes;
@@ -24,7 +24,7 @@ pub(crate) fn access_word(word: FieldAttributes) -> Option<&'static str>
 /// Returns the flags of the attributes that a member has.
 #[tactic(auto, unfolding(crate::specs::Words::field_words))]
 pub(crate) fn field_flags(word: FieldAttributes) -> [Flag; 4]
-    ensures { chosen (map (λ flag. (flag.0, flag.1.now)) result) ≡ field_words word }
+    ensures { words_beside_true (map (λ flag. (flag.0, flag.1.now)) result) ≡ field_words word }
 {
     [
         (word.is_virtual(), "is_virtual"),

@@ -1,8 +1,8 @@
 //! Attributes of a pointer in words.
 
 ghost use Rattle.std.specs.Prelude.{◌≡◌, map};
-ghost use Rattle.pdb_flags.specs.PointerNumbers.{kind_number, mode_number};
-ghost use Rattle.pdbdump_rows.specs.Words.{chosen, kind_word, mode_word, pointer_words};
+ghost use Rattle.pdb_flags.specs.PointerNumbers.{pointer_kind_number, mode_number};
+ghost use Rattle.pdbdump_rows.specs.Words.{words_beside_true, kind_word, mode_word, pointer_words};
 
 use crate::value::Flag;
 use pdb_flags::{PointerAttributes, PointerKind, PointerMode};
@@ -10,7 +10,7 @@ use pdb_flags::{PointerAttributes, PointerKind, PointerMode};
 /// Returns the name of a pointer's kind.
 #[tactic(auto, unfolding(crate::specs::Words::kind_word))]
 pub(crate) fn kind_word(kind: PointerKind) -> &'static str
-    ensures { result.now ≡ kind_word (kind_number kind) }
+    ensures { result.now ≡ kind_word (pointer_kind_number kind) }
 {
     match kind {
         PointerKind::Near16 => "Near16",
@@ -46,7 +46,7 @@ pub(crate) fn mode_word(mode: PointerMode) -> &'static str
 /// Returns the flags of the attributes that a pointer has.
 #[tactic(auto, unfolding(crate::specs::Words::pointer_words))]
 pub(crate) fn pointer_flags(word: PointerAttributes) -> [Flag; 6]
-    ensures { chosen (map (λ flag. (flag.0, flag.1.now)) result) ≡ pointer_words word }
+    ensures { words_beside_true (map (λ flag. (flag.0, flag.1.now)) result) ≡ pointer_words word }
 {
     [
         (word.is_flat_32(), "is_flat_32"),

@@ -1,6 +1,6 @@
 use Rattle.std.proofs.Common.{ap, ◌∙◌}
 use Rattle.pdb_tpi.specs.declared.header.Header.{Header}
-use Rattle.pdb_tpi.specs.Table.{Table, count_of}
+use Rattle.pdb_tpi.specs.Table.{Table, count_in_header}
 use Rattle.pdb_consistency.specs.Hashes.{value_mismatch}
 use Rattle.pdb_consistency.proofs.HashLemmas.{values_told}
 use Rattle.pdb_consistency.proofs.PlaceLemmas.{places_more, places_none}
@@ -21,5 +21,5 @@ loop-place-preserved g c =
 pub returns : goal.returns
 returns g c =
     values_told c.args.extent c.args.number c.args.table.now.table c.args.values.now c.len.result c.loop-place.place
-    c.count_mismatch.result _ _ _ (c.len.ensures ∙ ap count_of c.items-2.ensures) c.count_mismatch.ensures
+    c.count_mismatch.result _ _ _ (c.len.ensures ∙ ap count_in_header c.items-2.ensures) c.count_mismatch.ensures
     c.in_ok-add.ensures c.loop-place.auto.place-end c.loop-place-test.false c.loop-place.invariant

@@ -68,7 +68,7 @@ const PAGES: &[(usize, &[u8])] = &[
 ];
 
 /// The file, each of whose streams has a page.
-pub fn built(alloc: Global) -> Result<Vec<u8>> {
+pub fn build_file(alloc: Global) -> Result<Vec<u8>> {
     let mut file = Vec::new(alloc);
     for (number, bytes) in PAGES {
         file.resize(PAGE_SIZE * (*number).min(16), 0)?;

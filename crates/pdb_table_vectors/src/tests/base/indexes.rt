@@ -82,7 +82,7 @@ fn is_printed(alloc: Global, index: &Index, text: &str, debug: &str) -> bool {
 }
 
 #[test]
-fn printed(rt: HostRuntime) {
+fn printed_texts(rt: HostRuntime) {
     for (index, text, debug) in PRINTED {
         assert!(rt; is_printed(rt.alloc(), index, text, debug), "{debug}");
     }

@@ -17,7 +17,7 @@ fn ends<T: Parse<Le> + Drop>(bytes: &[u8]) -> bool {
 }
 
 /// The value of the first so many bytes, if one byte less is too little.
-fn first<T: Parse<Le> + Drop>(len: usize) -> Option<T> {
+fn first_value<T: Parse<Le> + Drop>(len: usize) -> Option<T> {
     let bytes = &BYTES[..len.min(BYTES.len())];
     let mut buffer = ParseBuffer::from(bytes);
     let Ok(value) = buffer.parse_with(Le) else {
@@ -32,7 +32,7 @@ fn first<T: Parse<Le> + Drop>(len: usize) -> Option<T> {
 
 /// Whether the first so many bytes are this value.
 fn begins<T: Parse<Le> + PartialEq + Drop>(len: usize, want: T) -> bool {
-    matches!(first::<T>(len), Some(value) if value == want)
+    matches!(first_value::<T>(len), Some(value) if value == want)
 }
 
 #[test]

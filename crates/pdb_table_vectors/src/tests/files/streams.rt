@@ -1,6 +1,6 @@
 //! The streams of S1, also of one with some bytes set to others.
 
-use super::{Answer, STREAM_1, answers, edited};
+use super::{Answer, STREAM_1, answers, edit_s1};
 use pdb_base::Error;
 use pdb_msf::{BigMSF, Msf, open_msf};
 use std::alloc::Global;
@@ -62,8 +62,8 @@ const ASKED: &[(&[(usize, u8)], u32, Option<usize>, Answer)] = &[
 ];
 
 /// S1 with some bytes set to others, opened.
-fn opened(alloc: Global, edits: &[(usize, u8)]) -> pdb_base::Result<BigMSF<Vec<u8>>> {
-    open_msf(alloc, edited(alloc, edits)?)
+fn open_s1(alloc: Global, edits: &[(usize, u8)]) -> pdb_base::Result<BigMSF<Vec<u8>>> {
+    open_msf(alloc, edit_s1(alloc, edits)?)
 }
 
 /// Whether a file answers so for a stream, does so again, and does so when it is consumed for the
@@ -111,10 +111,10 @@ fn streams(rt: HostRuntime) -> Result<(), Fail> {
     let alloc = rt.alloc();
     for (edits, number, limit, answer) in ASKED {
         assert!(rt;
-            answers_twice(alloc, opened(alloc, edits)?, *number, *limit, answer),
+            answers_twice(alloc, open_s1(alloc, edits)?, *number, *limit, answer),
             "stream {number}, limit {limit:?}"
         );
     }
-    assert!(rt; answers_in_turn(alloc, opened(alloc, CLAIMED)?, OF_THE_CLAIMED));
+    assert!(rt; answers_in_turn(alloc, open_s1(alloc, CLAIMED)?, OF_THE_CLAIMED));
     Ok(())
 }

@@ -229,7 +229,7 @@ fn are_views(notes: &[Note], want: &[&[(u64, usize)]]) -> bool {
 
 /// Whether the calls of a case answer so over a file, with how many bytes the file counts then. The
 /// error of the first view is that of opening.
-fn asked(alloc: Global, row: &Row, notes: &mut Vec<Note>) -> pdb_base::Result<Option<u64>> {
+fn ask_case(alloc: Global, row: &Row, notes: &mut Vec<Note>) -> pdb_base::Result<Option<u64>> {
     let (n, calls, _) = row;
     match open_msf(alloc, Watched::new(file(alloc)?, *n, notes)) {
         Ok(mut file) => Ok(if answers_each(alloc, &mut file, calls) {
@@ -249,7 +249,7 @@ fn asked(alloc: Global, row: &Row, notes: &mut Vec<Note>) -> pdb_base::Result<Op
 /// all views but the first.
 fn is_row(alloc: Global, row: &Row) -> pdb_base::Result<bool> {
     let mut notes = Vec::new(alloc);
-    let counted = asked(alloc, row, &mut notes)?;
+    let counted = ask_case(alloc, row, &mut notes)?;
     let viewed = bytes_in(&notes).saturating_sub(4096);
     Ok(counted == Some(viewed) && are_views(&notes, row.2))
 }

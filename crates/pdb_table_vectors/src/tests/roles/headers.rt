@@ -82,7 +82,7 @@ fn are_roles(answer: Answer<DBIExtraStreams>, want: Option<usize>) -> bool {
 
 /// How many roles the list has if it has so many bytes: half a number is an error only among the
 /// first eleven.
-fn listed(len: usize) -> Option<usize> {
+fn roles_listed(len: usize) -> Option<usize> {
     if len < 22 && len % 2 == 1 {
         None
     } else {
@@ -92,7 +92,7 @@ fn listed(len: usize) -> Option<usize> {
 
 /// How many roles the stream has if it has so many bytes: an empty one has none, one that is cut
 /// before the third number's end ends too soon.
-fn told(len: usize) -> Option<usize> {
+fn roles_told(len: usize) -> Option<usize> {
     match len {
         0 => Some(0),
         1..154 => None,
@@ -110,12 +110,13 @@ fn is_header(answer: Answer<DBIHeader>, len: usize) -> bool {
 
 /// Whether a stream of so many bytes says its header and its roles.
 fn is_stream(stream: &Stream, len: usize) -> bool {
-    is_header(DBIHeader::parse(stream), len) && are_roles(DBIExtraStreams::new(stream), told(len))
+    is_header(DBIHeader::parse(stream), len)
+        && are_roles(DBIExtraStreams::new(stream), roles_told(len))
 }
 
 /// Whether the list and the stream are answered so if they have so many bytes.
 fn is_front(alloc: Global, len: usize) -> Result<bool, Fail> {
-    let list = are_roles(DBIExtraStreams::parse(front(LIST, len)), listed(len));
+    let list = are_roles(DBIExtraStreams::parse(front(LIST, len)), roles_listed(len));
     Ok(list && is_stream(&stream(alloc, front(STREAM, len))?, len))
 }
 

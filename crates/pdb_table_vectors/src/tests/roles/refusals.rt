@@ -86,7 +86,7 @@ fn is_refused(alloc: Global, file: &mut PDB<Vec<u8>>, call: &Call, want: &Error)
 }
 
 /// A file with a byte set to another.
-fn changed(alloc: Global, place: usize, byte: u8) -> Result<PDB<Vec<u8>>, Fail> {
+fn change_byte(alloc: Global, place: usize, byte: u8) -> Result<PDB<Vec<u8>>, Fail> {
     let mut bytes = bytes_of(alloc, &Roles::Frames([NONE, NONE]))?;
     if let Some(at) = bytes.get_mut(place) {
         *at = byte;
@@ -97,7 +97,7 @@ fn changed(alloc: Global, place: usize, byte: u8) -> Result<PDB<Vec<u8>>, Fail> 
 /// Whether a call fails so, and once more so.
 fn is_row(alloc: Global, row: &(usize, u8, Call, Error)) -> Result<bool, Fail> {
     let (place, byte, call, want) = row;
-    let mut file = changed(alloc, *place, *byte)?;
+    let mut file = change_byte(alloc, *place, *byte)?;
     let once = is_refused(alloc, &mut file, call, want);
     Ok(once && is_refused(alloc, &mut file, call, want))
 }
@@ -149,7 +149,7 @@ fn fails_at_each_view(alloc: Global, row: &(Roles, Call, u64)) -> Result<bool, F
 }
 
 #[test]
-fn refused(rt: HostRuntime) -> Result<(), Fail> {
+fn refused_headers(rt: HostRuntime) -> Result<(), Fail> {
     for (place, row) in ROWS.iter().enumerate() {
         assert!(rt; is_row(rt.alloc(), row)?, "row {place}");
     }

@@ -1,7 +1,7 @@
 use Rattle.std.proofs.Common.{List, ◌++◌, map, ap, ◌∙◌}
 use Rattle.pdb_types.specs.declared.gap.Gap.{Gap}
 use Rattle.pdb_types.specs.declared.span.Span.{Span}
-use Rattle.pdb_types.specs.Gap.{bytes_of, hole_row, tail_row, tail_start, unused_row}
+use Rattle.pdb_types.specs.Gap.{bytes_touched, hole_row, tail_row, tail_start, unused_row}
 use Rattle.pdb_types.specs.Span.{gap_of}
 use Rattle.pdb_types.proofs.GapLemmas.{row_bits, rows_found}
 use Rattle.pdb_types.proofs.gap.gap_rows.Goals as goal
@@ -12,7 +12,7 @@ returns-clause-rows c =
     let tail = c.tail_start-tail.result in
     rows_found c.args.spans.items c.in_ok-bytes.bytes.items c.in_ok-holes.holes.items c.in_ok-taken.taken.items
     c.in_ok-unused.unused.items size tail c.args.is_virtual c.push_tail.new.rows.items c.push_unused.new.rows.items
-    (c.in_ok-bytes.ensures.ok ∙ ap (map bytes_of) c.deref.ensures.value)
+    (c.in_ok-bytes.ensures.ok ∙ ap (map bytes_touched) c.deref.ensures.value)
     (c.tail_start-tail.ensures.is ∙ ap (λ
     (l : List Span). tail_start l size c.args.is_virtual) c.deref-2.ensures.value) c.in_ok-holes.ensures.gaps
     (c.in_ok-push_tail.ensures.ok ∙ ap (λ (l : List Gap). l ++ map tail_row (gap_of tail size))

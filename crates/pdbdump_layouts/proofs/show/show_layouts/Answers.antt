@@ -2,7 +2,7 @@ use Rattle.std.proofs.Common.{◌∙◌, ap, refl}
 use Rattle.pdb_base.specs.Answer.{Answer, ◌>>=◌}
 use Rattle.pdb_base.proofs.lemmas.Refused.{passed_on}
 use Rattle.pdb_tpi.specs.Table.{Table}
-use Rattle.pdb_types.specs.Definition.{walked}
+use Rattle.pdb_types.specs.Definition.{whole_table}
 use Rattle.pdbdump_layouts.specs.Shown.{IsShowResult}
 use Rattle.pdbdump_layouts.proofs.ResultLemmas.{accounted, table_refused, walk_refused}
 use Rattle.pdbdump_layouts.proofs.show.show_layouts.Goals as goal
@@ -22,7 +22,7 @@ returns-in_err-show_asked-clause-shown g c = rw (passed_on _ _ c.from_residual-i
 pub returns-clause-shown : goal.returns-clause-shown
 returns-clause-shown g c =
     IsShowResult.shown c.in_ok-definitions.definitions c.show_asked.new.progress
-    (ap (λ (a : Answer Table). a >>= walked) c.in_ok-types.ensures ∙ c.in_ok-definitions.ensures)
+    (ap (λ (a : Answer Table). a >>= whole_table) c.in_ok-types.ensures ∙ c.in_ok-definitions.ensures)
     c.in_ok-show_asked.ensures.shown
 
 pub returns-clause-answered : goal.returns-clause-answered

@@ -1,9 +1,9 @@
 use Rattle.std.proofs.Common.{flat_map, take}
 use Rattle.std.specs.Fmt.{HasWritten, IsPlainFormatter}
-use Rattle.pdb_base.specs.BufferText.{escaped}
+use Rattle.pdb_base.specs.BufferText.{escape_of}
 use Rattle.pdb_base.proofs.buffer_text.EscapedBytesDisplay.fmt.Given as goal
 
 abbrev pub invariant-loop-byte : goal.invariant-loop-byte
 invariant-loop-byte g l =
     IsPlainFormatter l.fn.f → HasWritten g.W.Write.write_str_gives l.fn.f
-    (flat_map escaped (take l.byte-index l.self.0.now)) l.f
+    (flat_map escape_of (take l.byte-index l.self.0.now)) l.f

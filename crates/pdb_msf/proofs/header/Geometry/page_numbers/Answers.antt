@@ -3,7 +3,7 @@ use Rattle.std.proofs.Common.{Global}
 use Rattle.pdb_base.specs.declared.error.Error.{Error}
 use Rattle.std.specs.List.{range_with_len}
 use Rattle.pdb_base.specs.Place.{left}
-use Rattle.pdb_base.specs.Answer.{collected}
+use Rattle.pdb_base.specs.Answer.{values_of_all}
 use Rattle.pdb_base.proofs.lemmas.Refused.{passed_on}
 use Rattle.pdb_base.specs.Refusal.{refusal_of}
 use Rattle.pdb_msf.specs.Pages.{words, page_number, page_numbers}
@@ -53,7 +53,7 @@ unfolding page_numbers
 returns-clause-numbers c =
     let all = words (left c.args.buffer.now) in
     let end : c.args.count ≡ c.loop.counter = omega arith in
-    ap (λ (n : ℕ). collected (map (page_number c.args.self.pages_used all) (range_with_len 0 n))) end
+    ap (λ (n : ℕ). values_of_all (map (page_number c.args.self.pages_used all) (range_with_len 0 n))) end
     ∙ c.loop.invariant.so_far
 
 pub returns-clause-rest : goal.returns-clause-rest

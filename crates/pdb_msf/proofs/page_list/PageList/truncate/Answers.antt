@@ -1,7 +1,7 @@
 use Rattle.std.proofs.Common.{◌≡◌, ℕ, ◌+◌, ◌-◌, [], ◌∷◌, ◌++◌, length, arith, ap, sym, ◌∙◌, List}
 use Rattle.pdb_msf.specs.declared.source.SourceSlice.{SourceSlice}
 use Rattle.pdb_msf.specs.Source.{positions}
-use Rattle.pdb_msf.specs.PageList.{first_of}
+use Rattle.pdb_msf.specs.PageList.{first_bytes_of}
 use Rattle.pdb_msf.proofs.PositionLemmas.{length-positions_push}
 use Rattle.pdb_msf.proofs.SliceLemmas.{first_of_all, first_of_fewer, first_of_cut, positions_first_of}
 use Rattle.pdb_msf.proofs.page_list.PageList.truncate.Goals as goal
@@ -29,8 +29,8 @@ loop-self-preserved-then-self-len c =
     (record { offset = last.offset; size = n - length (positions shorter) }) ∙ omega arith in
     record {
       counted = sym (ap (λ s. length (positions s)) now ∙ whole);
-      front = ap (first_of n) now ∙ first_of_all n cut (omega arith)
-          ∙ sym (first_of_cut n shorter last (omega arith) (omega arith)) ∙ sym (ap (first_of n) popped)
+      front = ap (first_bytes_of n) now ∙ first_of_all n cut (omega arith)
+          ∙ sym (first_of_cut n shorter last (omega arith) (omega arith)) ∙ sym (ap (first_bytes_of n) popped)
           ∙ c.loop-self.invariant.front;
       page_size = c.loop-self.invariant.page_size;
       page_size_fits = c.loop-self.invariant.page_size_fits;
@@ -47,7 +47,7 @@ loop-self-preserved c =
     ∙ ap (λ s. length (positions s)) popped ∙ length-positions_push shorter last in
     record {
       counted = omega arith;
-      front = first_of_fewer n shorter last (omega arith) (omega arith) ∙ sym (ap (first_of n) popped)
+      front = first_of_fewer n shorter last (omega arith) (omega arith) ∙ sym (ap (first_bytes_of n) popped)
           ∙ c.loop-self.invariant.front;
       page_size = c.loop-self.invariant.page_size;
       page_size_fits = c.loop-self.invariant.page_size_fits;
@@ -58,7 +58,7 @@ pub returns-clause-slices : goal.returns-clause-slices
 returns-clause-slices c =
     let n = c.args.len in
     let slices = c.loop-self.self-inside.slices.items in
-    let all : slices ≡ first_of n c.args.self.now.slices =
+    let all : slices ≡ first_bytes_of n c.args.self.now.slices =
     sym (first_of_all n slices (omega (arith, c.loop-self.invariant.counted))) ∙ c.loop-self.invariant.front in
     cc
 
@@ -66,6 +66,6 @@ pub returns-clause-positions : goal.returns-clause-positions
 returns-clause-positions c =
     let n = c.args.len in
     let slices = c.loop-self.self-inside.slices.items in
-    let all : slices ≡ first_of n c.args.self.now.slices =
+    let all : slices ≡ first_bytes_of n c.args.self.now.slices =
     sym (first_of_all n slices (omega (arith, c.loop-self.invariant.counted))) ∙ c.loop-self.invariant.front in
     ap positions all ∙ positions_first_of n c.args.self.now.slices

@@ -2,7 +2,7 @@ use Rattle.std.proofs.Common.{◌≡◌, ℕ, ◌+◌, ◌-◌, ◌<◌, ◌∷�
 use Rattle.std.proofs.lemmas.List.{length_push}
 use Rattle.pdb_base.specs.Place.{left}
 use Rattle.pdb_base.proofs.lemmas.Refused.{passed_on}
-use Rattle.pdb_base.specs.Repeated.{repeated}
+use Rattle.pdb_base.specs.Repeated.{read_times}
 use Rattle.pdb_records.specs.Shape.{index_at}
 use Rattle.pdb_records.proofs.StepLemmas.{behind, repeated_step, repeated_stops}
 use Rattle.pdb_records.proofs.parse.counted.parse_held_indexes.Goals as goal
@@ -28,6 +28,6 @@ loop-indexes-preserved g c =
     (left c.loop-indexes.buffer) x rest some c.in_ok-parse_index.ensures in
     rw c.in_ok-push.ensures.items (record {
       all = c.loop-indexes.invariant.all ∙ step
-          ∙ ap (λ (n : ℕ). behind (before ++ x ∷ []) (repeated (index_at said) n rest)) fewer;
+          ∙ ap (λ (n : ℕ). behind (before ++ x ∷ []) (read_times (index_at said) n rest)) fewer;
       most = omega (arith, more, some);
     })

@@ -2,7 +2,7 @@ use Rattle.std.proofs.Common.{◌≡◌, ◌+◌, ◌/◌, refl, sym, ap, ◌∙
 use Rattle.pdb_base.specs.Place.{left}
 use Rattle.pdb_base.specs.Reading.{number_at}
 use Rattle.pdb_base.specs.Refusal.{refusal_of}
-use Rattle.pdb_base.specs.Repeated.{repeated}
+use Rattle.pdb_base.specs.Repeated.{read_times}
 use Rattle.pdb_base.proofs.lemmas.Front.{front_is_bytes}
 use Rattle.pdb_base.proofs.lemmas.Refused.{passed_on}
 use Rattle.pdb_records.specs.Row.{row}
@@ -27,7 +27,7 @@ unfolding row table_shape_row
 returns-in_err-descriptors c =
     let size = (c.in_ok-count.count + 1) / 2 in
     let behind = left c.parse_u16.new.self in
-    let short : repeated (number_at 1) size behind ≡ Err (refusal_of c.in_err-descriptors.field-0.0) =
+    let short : read_times (number_at 1) size behind ≡ Err (refusal_of c.in_err-descriptors.field-0.0) =
     sym (front_is_bytes size behind) ∙ c.in_err-descriptors.ensures.read in
     rw (passed_on _ _ c.from_residual-in_err-descriptors.ensures.1, c.in_ok-count.ensures.read, short) refl
 
@@ -36,7 +36,7 @@ unfolding row table_shape_row
 returns c =
     let size = (c.in_ok-count.count + 1) / 2 in
     let behind = left c.parse_u16.new.self in
-    let bytes : repeated (number_at 1) size behind ≡ Ok (c.in_ok-descriptors.descriptors.now, left c.take.new.self) =
+    let bytes : read_times (number_at 1) size behind ≡ Ok (c.in_ok-descriptors.descriptors.now, left c.take.new.self) =
     sym (front_is_bytes size behind) ∙ c.in_ok-descriptors.ensures.read in
     rw (
       c.in_ok-count.ensures.read,

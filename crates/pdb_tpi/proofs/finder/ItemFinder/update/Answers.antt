@@ -1,6 +1,6 @@
 use Rattle.std.proofs.Common.{◌≡◌, length, sym, ap, ◌∙◌, arith}
 use Rattle.pdb_tpi.specs.declared.header.Header.{Header}
-use Rattle.pdb_tpi.specs.Finder.{FinderState, first_of}
+use Rattle.pdb_tpi.specs.Finder.{FinderState, first_of_block}
 use Rattle.pdb_tpi.specs.Place.{IsPlace}
 use Rattle.pdb_tpi.proofs.FinderLemmas.{room_for, places_push}
 use Rattle.pdb_tpi.proofs.finder.ItemFinder.update.Goals as goal
@@ -14,7 +14,7 @@ push_reserved-requires g c =
     rw (← table, c.place-index.ensures.index) c.place-index.ensures.place in
     let least = ap (λ (h : Header). h.minimum_index) c.header-header.ensures.header in
     let most = ap (λ (h : Header). h.maximum_index) c.header-header.ensures.header in
-    let first : c.place-index.result.0 ≡ first_of s.table.now (length s.positions.items) =
+    let first : c.place-index.result.0 ≡ first_of_block s.table.now (length s.positions.items) =
     omega (arith, least, c.if-index-first.true, c.len.ensures, s.positions.ok.0) in
     let room = room_for s.table.now (length s.positions.items) c.place-index.result.0 c.place-index.result.1 place first
     (omega (arith, most, c.if-index-header.true)) in
@@ -30,7 +30,7 @@ invariant_of-self g c =
     rw (← table, c.place-index.ensures.index) c.place-index.ensures.place in
     let least = ap (λ (h : Header). h.minimum_index) c.header-header.ensures.header in
     let most = ap (λ (h : Header). h.maximum_index) c.header-header.ensures.header in
-    let first : c.place-index.result.0 ≡ first_of s.table.now (length s.positions.items) =
+    let first : c.place-index.result.0 ≡ first_of_block s.table.now (length s.positions.items) =
     omega (arith, least, c.if-index-first.true, c.len.ensures, s.positions.ok.0) in
     rw (c.push_reserved.ensures.items, c.push_reserved.ensures.capacity)
     (places_push s.table.now s.positions.items _ c.place-index.result.0 c.place-index.result.1 c.self.invariant place

@@ -2,7 +2,7 @@ use Rattle.std.proofs.Common.{◌≡◌, ◌<◌, ℕ, false, List, vec_capacity
 use Rattle.std.specs.Prelude.{IsTrue}
 use Rattle.std.proofs.lemmas.Bool.{cases_lt, false≢true}
 use Rattle.pdb_tpi.specs.declared.header.Header.{Header}
-use Rattle.pdb_tpi.specs.Table.{count_of}
+use Rattle.pdb_tpi.specs.Table.{count_in_header}
 use Rattle.pdb_tpi.proofs.FinderLemmas.{some_blocks, no_blocks, places_none, places_first}
 use Rattle.pdb_tpi.proofs.item_information.ItemInformation.positions.Goals.{then-not-is_empty, else-not-is_empty}
 use Rattle.pdb_tpi.proofs.item_information.ItemInformation.positions.Goals as goal
@@ -13,14 +13,14 @@ some count not = elim (cases_lt 0 count) [ inl is ↦ is | inr none ↦ absurd (
 
 pub push_reserved-requires : goal.push_reserved-requires
 push_reserved-requires g c =
-    let room = some_blocks c.args.self.now (some (count_of c.args.self.now) c.if-not-is_empty.ensures.1) in
+    let room = some_blocks c.args.self.now (some (count_in_header c.args.self.now) c.if-not-is_empty.ensures.1) in
     omega (arith, room, c.most_blocks.ensures, c.in_ok-positions.ensures.len, c.in_ok-positions.ensures.exact)
 
 pub returns-clause-places : goal.returns-clause-places
 returns-clause-places g c = elim c.if-not-is_empty.branch [
   | then-not-is_empty w ↦
       let places = places_first c.args.self.now (vec_capacity w.push_reserved.new.self) c.header-header.ensures.sound
-      (some (count_of c.args.self.now) w.if-not-is_empty.ensures.1)
+      (some (count_in_header c.args.self.now) w.if-not-is_empty.ensures.1)
       (omega (arith, c.most_blocks.ensures, c.in_ok-positions.ensures.exact, w.push_reserved.ensures.capacity)) in
       let items : w.push_reserved.new.self.items ≡ c.args.self.now.header.header_size ∷ [] =
       w.push_reserved.ensures.items ∙ ap (λ (l : List ℕ). l ++ c.header-header.result.header_size

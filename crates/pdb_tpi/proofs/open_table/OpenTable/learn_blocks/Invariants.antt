@@ -1,6 +1,6 @@
 use Rattle.std.proofs.Common.{◌≡◌, ◌<◌, length, vec_capacity}
-use Rattle.pdb_tpi.specs.Finder.{first_of}
-use Rattle.pdb_tpi.specs.OpenTable.{IsOpen}
+use Rattle.pdb_tpi.specs.Finder.{first_of_block}
+use Rattle.pdb_tpi.specs.OpenTable.{IsOpenTable}
 use Rattle.pdb_tpi.proofs.open_table.OpenTable.learn_blocks.Given as goal
 
 abbrev pub invariant-loop-block : goal.invariant-loop-block
@@ -9,8 +9,8 @@ invariant-loop-block g l =
     let before = l.initial.self-inside in
     record {
       next : l.block ≡ length now.positions.items;
-      below : first_of now.items l.last < now.items.header.maximum_index;
-      stays : IsOpen now.items now.positions.items (vec_capacity now.positions) now.index now.position;
+      below : first_of_block now.items l.last < now.items.header.maximum_index;
+      stays : IsOpenTable now.items now.positions.items (vec_capacity now.positions) now.index now.position;
       table : now.items ≡ before.items;
       index : now.index ≡ before.index;
     }

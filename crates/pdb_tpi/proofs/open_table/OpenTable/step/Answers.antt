@@ -1,5 +1,5 @@
 use Rattle.std.proofs.Common.{◌≤◌, length, subst, sym, arith}
-use Rattle.pdb_tpi.specs.Item.{bytes_of}
+use Rattle.pdb_tpi.specs.Item.{item_bytes}
 use Rattle.pdb_tpi.specs.Steps.{WalkPosition}
 use Rattle.pdb_tpi.proofs.PositionLemmas.{step_goes, step_placed, step_stays}
 use Rattle.pdb_tpi.proofs.open_table.OpenTable.step.Goals as goal
@@ -14,7 +14,7 @@ record_before-requires-clause-before g c =
     c.self.invariant.place.least in
     let there = step_placed _ _ _ c.in-Some.item c.place-index.result.1 least (rw c.in-Some.is at c.in_ok-item.ensures)
     c.place-index.ensures.place in
-    let before : length (bytes_of c.in-Some.item) ≤ c.place-index.result.1 = there.before in
+    let before : length (item_bytes c.in-Some.item) ≤ c.place-index.result.1 = there.before in
     omega (arith, before, c.len.ensures)
 
 pub returns-clause-place : goal.returns-clause-place

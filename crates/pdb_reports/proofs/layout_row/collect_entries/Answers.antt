@@ -1,6 +1,6 @@
 use Rattle.std.proofs.Common.{arith}
 use Rattle.pdb_reports.proofs.LayoutRowLemmas.{gaps_order, gaps_within}
-use Rattle.pdb_reports.proofs.layout_row.listed.Goals as goal
+use Rattle.pdb_reports.proofs.layout_row.collect_entries.Goals as goal
 
 pub push_gaps-requires-clause-order : goal.push_gaps-requires-clause-order
 push_gaps-requires-clause-order c = gaps_order _ _ _ _ _ c.requires c.deref-2.ensures.value

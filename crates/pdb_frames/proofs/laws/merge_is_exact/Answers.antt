@@ -1,5 +1,5 @@
 use Rattle.pdb_frames.proofs.LawLemmas.{is_merged}
-use Rattle.pdb_frames.proofs.laws.merged.Goals as goal
+use Rattle.pdb_frames.proofs.laws.merge_is_exact.Goals as goal
 
 pub returns : goal.returns
 returns c = is_merged

@@ -2,7 +2,7 @@ use Rattle.std.proofs.Common.{◌≡◌, ℕ, ◌+◌, ◌*◌, ◌<◌, get_or,
 use Rattle.std.specs.Char.{digit_value}
 use Rattle.std.proofs.lemmas.Bool.Decides.{nat_tests}
 use Rattle.pdb_cli.proofs.WordLemmas.{HasRead, read_more, too_large, is_number}
-use Rattle.pdb_cli.proofs.words.spelled.Goals as goal
+use Rattle.pdb_cli.proofs.words.number_in_digits.Goals as goal
 
 pub loop-digit-preserved : goal.loop-digit-preserved
 loop-digit-preserved c =

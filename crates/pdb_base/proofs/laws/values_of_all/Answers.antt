@@ -1,5 +1,5 @@
 use Rattle.pdb_base.proofs.lemmas.Collected.{collects_all, refuses_as_first}
-use Rattle.pdb_base.proofs.laws.collected.Goals as goal
+use Rattle.pdb_base.proofs.laws.values_of_all.Goals as goal
 
 pub returns-clause-all : goal.returns-clause-all
 returns-clause-all g c answers = collects_all answers

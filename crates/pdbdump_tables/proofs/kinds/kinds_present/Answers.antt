@@ -3,8 +3,8 @@ use Rattle.std.specs.Prelude.{slice_index_or}
 use Rattle.std.specs.Global.{Vec}
 use Rattle.pdbdump_tables.specs.declared.kinds.KindCount.{KindCount}
 use Rattle.pdbdump_tables.proofs.KindLemmas.{present_end, present_first, present_more, present_none}
-use Rattle.pdbdump_tables.proofs.kinds.present.Goals.{then-count-ne0+in_ok-push, else-count-ne0}
-use Rattle.pdbdump_tables.proofs.kinds.present.Goals as goal
+use Rattle.pdbdump_tables.proofs.kinds.kinds_present.Goals.{then-count-ne0+in_ok-push, else-count-ne0}
+use Rattle.pdbdump_tables.proofs.kinds.kinds_present.Goals as goal
 
 pub loop-leaf-init : goal.loop-leaf-init
 loop-leaf-init c = present_first (λ leaf. slice_index_or c.args.counts.now leaf 0) 0x10000 _ c.new-kinds.ensures.items

@@ -3,7 +3,7 @@ use Rattle.std.proofs.lemmas.List.Sorted.{IsNonDecreasingBy-from_sort_by_key}
 use Rattle.pdb_base.proofs.lemmas.Refused.{passed_on}
 use Rattle.pdb_types.specs.Entries.{rank}
 use Rattle.pdb_types.proofs.EntryLemmas.{indexed, whole_refused, whole_walked, whole_entries}
-use Rattle.pdb_types.proofs.definition_walk.DefinitionWalk.sorted.Goals as goal
+use Rattle.pdb_types.proofs.definition_walk.DefinitionWalk.read_sorted.Goals as goal
 
 pub returns-in_err-walk-clause-walked : goal.returns-in_err-walk-clause-walked
 returns-in_err-walk-clause-walked c = rw (passed_on _ _ c.from_residual.ensures.1)

@@ -2,7 +2,7 @@ use Rattle.std.proofs.Common.{◌≡◌, map, take}
 use Rattle.std.specs.List.{flat_map}
 use Rattle.pdb_values.specs.TypeView.{type_value}
 use Rattle.pdb_handles.specs.Records.{field_row, name_bytes}
-use Rattle.pdb_handles.proofs.fields.listed.Given as goal
+use Rattle.pdb_handles.proofs.fields.collect_fields.Given as goal
 
 abbrev pub invariant-loop-field : goal.invariant-loop-field
 invariant-loop-field l =

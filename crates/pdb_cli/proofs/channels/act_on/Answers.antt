@@ -2,7 +2,7 @@ use Rattle.std.proofs.Common.{◌≡◌, ◌∙◌, ◌==◌, List, [], ◌∷�
 use Rattle.std.proofs.lemmas.Bool.Decides.{nat_tests}
 use Rattle.std.proofs.lemmas.Result.{IfOk-weaker}
 use Rattle.pdb_cli.proofs.ChannelLemmas.{shown_of, shown_of_nothing}
-use Rattle.pdb_cli.proofs.channels.acted.Goals as goal
+use Rattle.pdb_cli.proofs.channels.act_on.Goals as goal
 
 -- a list without length has no item
 none_of : {A : Type 0} (xs : List A) → (length xs == 0) ≡ true → xs ≡ []

@@ -5,7 +5,7 @@ use Rattle.pdb_values.specs.TypeView.{type_value}
 use Rattle.pdb_tpi.specs.Chain.{listed_value}
 use Rattle.pdb_tpi.specs.LookUp.{answers}
 use Rattle.pdb_tpi.proofs.ChainLemmas.{fields_listed, list_refused, next_refused, follows_more, not_ge}
-use Rattle.pdb_tpi.proofs.fields.joined.Goals as goal
+use Rattle.pdb_tpi.proofs.fields.join_fields.Goals as goal
 
 pub returns-in_err-list : goal.returns-in_err-list
 returns-in_err-list c = rw (passed_on _ _ c.from_residual.ensures.1)

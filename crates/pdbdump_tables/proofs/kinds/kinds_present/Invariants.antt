@@ -3,7 +3,7 @@ use Rattle.std.proofs.Common.{◌≡◌, ◌-◌, ◌++◌}
 use Rattle.std.specs.Prelude.{slice_index_or}
 use Rattle.std.specs.List.{range_with_len}
 use Rattle.pdbdump_tables.specs.Kinds.{present}
-use Rattle.pdbdump_tables.proofs.kinds.present.Given as goal
+use Rattle.pdbdump_tables.proofs.kinds.kinds_present.Given as goal
 
 abbrev pub invariant-loop-leaf : goal.invariant-loop-leaf
 invariant-loop-leaf l =

@@ -1,5 +1,5 @@
 use Rattle.pdbdump_layouts.proofs.ShownLemmas.{ordered_by}
-use Rattle.pdbdump_layouts.proofs.show.sorted.Goals as goal
+use Rattle.pdbdump_layouts.proofs.show.sort_types.Goals as goal
 
 pub returns-clause-ordered : goal.returns-clause-ordered
 returns-clause-ordered c =
